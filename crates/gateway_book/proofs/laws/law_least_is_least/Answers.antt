@@ -1,0 +1,5 @@
+use Rattle.gateway_book.specs.ApartLaws.{least_is_least}
+use Rattle.gateway_book.proofs.laws.law_least_is_least.Goals as goal
+
+pub returns : goal.returns
+returns c = least_is_least

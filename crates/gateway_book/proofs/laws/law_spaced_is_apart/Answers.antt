@@ -1,0 +1,5 @@
+use Rattle.gateway_book.specs.ApartLaws.{spaced_is_apart}
+use Rattle.gateway_book.proofs.laws.law_spaced_is_apart.Goals as goal
+
+pub returns : goal.returns
+returns c = spaced_is_apart

@@ -1,0 +1,111 @@
+use Rattle.std.specs.Prelude.{ℕ, ◌≡◌, min, ◌+◌, ◌<◌, ◌≤◌, nat_lt, Bool, true, false, ◌↔◌, ◌⊎◌, List, [], ◌∷◌, Option, Some, None, All, Contains, MatchOption, slice_get, find}
+use Rattle.std.specs.Option.{option_map}
+use Rattle.std.proofs.Common.{refl, sym, ap, ◌∙◌, arith, zero, suc, inl, inr, subst}
+use Rattle.std.proofs.lemmas.Bool.{ltb-true, ltb-false, cases_lt}
+use Rattle.radio_airtime.specs.Bounds.{airtime_of-positive}
+use Rattle.resv_list.specs.declared.reservation.Reservation.{Reservation}
+use Rattle.resv_list.specs.Sorted.{RisesFrom}
+use Rattle.resv_list.specs.Reservations.{start_of, end_of, IsByStart}
+use Rattle.gateway_book.specs.Disjoint.{AreDisjoint}
+use Rattle.gateway_book.specs.Lawful.{AreApart}
+use Rattle.gateway_book.specs.Least.{least, at_most, first_start}
+use Rattle.gateway_book.specs.Spaced.{SpacedFrom}
+use Rattle.gateway_book.specs.Spaced.{or_else, keep_if}
+use Rattle.gateway_book.specs.SpacedLaws.{least-find}
+use Rattle.gateway_book.specs.Overlap.{find-neighbours}
+use Rattle.gateway_book.specs.Answer.{overlap}
+use Rattle.resv_list.specs.Reservations.{member_before, member_from}
+
+-- Laws that tie the forms that the code looks at to the definitions.
+
+-- a reservation ends after it starts
+pub ends_later : (r : Reservation) → start_of r < end_of r
+ends_later r = omega (arith, airtime_of-positive r.rate r.len)
+
+-- neighbours of a list by start are spaced exactly where members at different places are disjoint
+abbrev pub SpacedIsApart : Type 0
+SpacedIsApart = (l : List Reservation) → IsByStart l → SpacedFrom start_of end_of 0 l ↔ AreApart l
+
+-- the first member of a list by start that passes a test has the least start of those that do
+abbrev pub FirstHasLeastStart : Type 0
+FirstHasLeastStart =
+    (test : Reservation → Bool) (l : List Reservation) → IsByStart l → first_start test l ≡ option_map start_of (find test l)
+
+-- the least of some numbers is one of them, and none of them is less; there is none of no numbers
+abbrev pub LeastIsLeast : Type 0
+LeastIsLeast = (ns : List ℕ) → MatchOption (least ns) (ns ≡ []) (λ m. Contains ns m × All (λ n. m ≤ n) ns)
+
+pub first_has_least_start : (test : Reservation → Bool) (l : List Reservation) → IsByStart l → first_start test l ≡ option_map start_of (find test l)
+first_has_least_start test l s = least-find start_of test 0 l s
+
+spaced_get : (low : ℕ) (l : List Reservation) (i : ℕ) (r : Reservation) → SpacedFrom start_of end_of low l → slice_get l i ≡ Some r → low ≤ r.start
+spaced_get low [] i r s e = absurd (cc)
+spaced_get low (x ∷ xs) zero r s e = let same : x ≡ r = cc in let k : x.start ≡ r.start = ap start_of same in omega (arith, s.0)
+spaced_get low (x ∷ xs) (suc i) r s e =
+    let h = spaced_get (end_of x) xs i r s.1 e in
+    let p = ends_later x in
+    omega (arith, s.0)
+
+spaced_pair : (low : ℕ) (l : List Reservation) (i j : ℕ) (r s : Reservation) → SpacedFrom start_of end_of low l → slice_get l i ≡ Some r → slice_get l j ≡ Some s → i < j → end_of r ≤ s.start
+spaced_pair low [] i j r s h e f g = absurd (cc)
+spaced_pair low (x ∷ xs) i zero r s h e f g = absurd (omega arith)
+spaced_pair low (x ∷ xs) zero (suc j) r s h e f g =
+    let same : x ≡ r = cc in
+    let k : end_of x ≡ end_of r = ap end_of same in
+    let t = spaced_get (end_of x) xs j s h.1 f in
+    omega arith
+spaced_pair low (x ∷ xs) (suc i) (suc j) r s h e f g = spaced_pair (end_of x) xs i j r s h.1 e f (omega arith)
+
+pub spaced_apart : (low : ℕ) (l : List Reservation) → SpacedFrom start_of end_of low l → AreApart l
+spaced_apart low l h i j r s e f n = by_order (nat_lt i j) refl
+  where
+    by_order : (t : Bool) → nat_lt i j ≡ t → AreDisjoint r s
+    by_order true o = inl (spaced_pair low l i j r s h e f (ltb-true i j o))
+    by_order false o =
+        let k : j ≤ i = ltb-false i j o in
+        inr (spaced_pair low l j i s r h f e (omega arith))
+
+first_two : (x y : Reservation) → x.start < y.start → AreDisjoint x y → end_of x ≤ y.start
+first_two x y h (inl a) = a
+first_two x y h (inr b) = let p = ends_later y in absurd (omega arith)
+
+pub apart_spaced : (low : ℕ) (l : List Reservation) → RisesFrom start_of low l → AreApart l → SpacedFrom start_of end_of low l
+apart_spaced low [] r a = tt
+apart_spaced low (x ∷ []) r a = (r.0, tt)
+apart_spaced low (x ∷ y ∷ ys) r a =
+    let rest = apart_spaced (x.start + 1) (y ∷ ys) r.1 (λ i j q s e f n. a (suc i) (suc j) q s e f (λ m. n (omega arith))) in
+    (r.0, (first_two x y (omega (arith, r.1.0)) (a zero (suc zero) x y refl refl (λ m. absurd (omega arith))), rest.1))
+
+pub spaced_is_apart : (l : List Reservation) → IsByStart l → SpacedFrom start_of end_of 0 l ↔ AreApart l
+spaced_is_apart l s = (λ h. spaced_apart 0 l h, λ a. apart_spaced 0 l s a)
+
+the_less : (n m : ℕ) (ns : List ℕ) → Contains ns m → (n ≤ m) ⊎ (m ≤ n) → Contains (n ∷ ns) (min n m)
+the_less n m ns c (inl h) =
+    let e : min n m ≡ n = omega arith in
+    let P : ℕ → Type 0 = λ x. Contains (n ∷ ns) x in
+    subst P (sym e) (zero, omega arith, refl)
+the_less n m ns c (inr h) =
+    let e : min n m ≡ m = omega arith in
+    let P : ℕ → Type 0 = λ x. Contains (n ∷ ns) x in
+    subst P (sym e) (suc c.0, omega (arith, c.1), c.2)
+
+none_less : (n m : ℕ) (ns : List ℕ) → m ≤ n → All (λ k. m ≤ k) ns → All (λ k. m ≤ k) (n ∷ ns)
+none_less n m ns h a zero d l = h
+none_less n m ns h a (suc k) d l = a k d (omega arith)
+
+order : (n m : ℕ) → (n ≤ m) ⊎ (m ≤ n)
+order n m = elim (cases_lt n m) [ inl h ↦ inl (omega arith) | inr h ↦ inr h ]
+
+least_cons : (n : ℕ) (ns : List ℕ) (o : Option ℕ) → MatchOption o (ns ≡ []) (λ m. Contains ns m × All (λ k. m ≤ k) ns) → Contains (n ∷ ns) (at_most n o) × All (λ k. at_most n o ≤ k) (n ∷ ns)
+least_cons n [] None h = ((zero, omega arith, refl), none_less n n [] (omega arith) (λ k d l. absurd (omega arith)))
+least_cons n (x ∷ ns) None h = absurd (cc)
+least_cons n ns (Some m) h = (the_less n m ns h.0 (order n m), none_less n (min n m) ns (omega arith) (λ k d l. let g = h.1 k d l in omega arith))
+
+pub least_is_least : (ns : List ℕ) → MatchOption (least ns) (ns ≡ []) (λ m. Contains ns m × All (λ n. m ≤ n) ns)
+least_is_least [] = refl
+least_is_least (n ∷ ns) = least_cons n ns (least ns) (least_is_least ns)
+
+-- only the last member that begins before what is asked for, and the first that doesn't, can overlap it
+pub overlap-neighbours : (l : List Reservation) (from to : ℕ) → IsByStart l → AreApart l → from < to → overlap l from to ≡ option_map start_of (or_else (keep_if (λ b. nat_lt from (end_of b)) (member_before from l)) (keep_if (λ n. nat_lt n.start to) (member_from from l)))
+overlap-neighbours l from to s a h =
+    first_has_least_start _ l s ∙ ap (option_map start_of) (find-neighbours start_of end_of ends_later 0 from to l h (apart_spaced 0 l s a))

@@ -1,0 +1,22 @@
+use Rattle.std.specs.Prelude.{ℕ, ◌≤◌, nat_le, Bool, not, ◌||◌, List, [], ◌∷◌, Option, Some, None, cond, ⊤}
+
+-- Lists whose members begin at a key and last until their end, in the form that the code looks at:
+-- neighbours are spaced.
+
+abbrev pub or_else : {X : Type 0} → Option X → Option X → Option X
+or_else None o = o
+or_else (Some x) o = Some x
+
+abbrev pub keep_if : {X : Type 0} → (X → Bool) → Option X → Option X
+keep_if test None = None
+keep_if test (Some x) = cond (test x) (Some x) None
+
+module _ {X : Type 0} (key end : X → ℕ) where
+  -- each member begins no earlier than the one before it ends, the first no earlier than `low`
+  abbrev pub SpacedFrom : ℕ → List X → Type 0
+  SpacedFrom low [] = ⊤
+  SpacedFrom low (x ∷ xs) = (low ≤ key x) × SpacedFrom (end x) xs
+
+  -- whether a member overlaps what covers `from` up to `to`
+  abbrev pub overlaps : ℕ → ℕ → X → Bool
+  overlaps from to x = not (nat_le (end x) from || nat_le to (key x))

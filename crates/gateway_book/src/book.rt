@@ -1,0 +1,212 @@
+ghost use Rattle.std.specs.Prelude.{◌≡◌, ℕ, ◌≤◌, ◌↔◌, [], ◌∷◌, IsOk, IfOk, OnOk, OnErr, MatchOption, IsOkUnless, IsOkAnd, nat_lt};
+ghost use Rattle.std.specs.Option.{option_map};
+ghost use Rattle.gateway_book.specs.Answer.{IsAsked, first_some, no_band, too_long, past_end, refusal_of, overlap};
+ghost use Rattle.gateway_book.specs.Book.{terms_of, state_of, with_booked, totals_of};
+ghost use Rattle.resv_list.specs.Reservations.{start_of, end_of};
+ghost use Rattle.gateway_book.specs.Spaced.{keep_if};
+ghost use Rattle.gateway_book.specs.Step.{book_step};
+
+use crate::{Ask, Refusal, Totals};
+use radio_bands::Band;
+use resv_list::{Reservation, Roster};
+use std::alloc::{AllocError, Allocator};
+use std::marker::Model;
+use thiserror::Error;
+
+/// The greatest number of transmissions that a book may keep.
+pub const MAX_CAP: u32 = 65_536;
+
+/// The greatest total of booked airtime, in microseconds.
+pub const TOTAL_LIMIT: u64 = 1 << 62;
+
+/// There was no memory for a list.
+pub type NoMemory = AllocError;
+
+/// Why no book was opened.
+#[derive(Clone, Copy, Debug, PartialEq, Eq, Error)]
+pub enum OpenFault {
+    #[error("the cap of a book is 1 to 65,536 transmissions")]
+    BadCap,
+}
+
+/// The airtime book of one gateway, over any roster: which transmissions it has reserved. Its type
+/// keeps that every member is fit, that members at different places are disjoint, and that the booked
+/// airtime is the sum of what was cancelled, what was retired and what is kept. Moments are in
+/// microseconds of the gateway's clock.
+#[derive(Drop)]
+pub struct GatewayBook<R: Roster> {
+    roster: R,
+    id: u16,
+    cap: u32,
+    floor: u64,
+    booked: u64,
+    cancelled: u64,
+    retired: u64,
+}
+
+impl<R: Roster> Model for GatewayBook<R> {
+    ghost use Rattle.gateway_book.specs.Book.{Book, IsSound};
+
+    ghost Value = { Book };
+
+    ghost view = { λ b. record { id = b.id; cap = b.cap; floor = b.floor; list = R.list b.roster; booked = b.booked; cancelled = b.cancelled; retired = b.retired } };
+
+    ghost invariant = { λ b. IsSound (record { id = b.id; cap = b.cap; floor = b.floor; list = R.list b.roster; booked = b.booked; cancelled = b.cancelled; retired = b.retired }) };
+}
+
+impl<R: Roster> GatewayBook<R> {
+    /// An empty book of gateway `id` that keeps at most `cap` transmissions, 1 to 65,536, over an empty
+    /// roster. Where the cap is outside, the roster is dropped.
+    pub fn new(roster: R, id: u16, cap: u32) -> Result<Self, OpenFault>
+    where
+        R: Drop,
+        requires { R.list roster ≡ [] }
+        ensures capped { IsOk result ↔ ((1 ≤ cap) × (cap ≤ MAX_CAP)) }
+        ensures empty { IfOk result (λ b. b ≡ record { id = id; cap = cap; floor = 0; list = []; booked = 0; cancelled = 0; retired = 0 }) }
+    {
+        if cap == 0 || cap > MAX_CAP {
+            return Err(OpenFault::BadCap);
+        }
+        Ok(GatewayBook {
+            roster,
+            id,
+            cap,
+            floor: 0,
+            booked: 0,
+            cancelled: 0,
+            retired: 0,
+        })
+    }
+
+    /// The gateway's number.
+    pub fn id(&self) -> u16
+        ensures { result ≡ self.now.id }
+    {
+        self.id
+    }
+
+    /// How many transmissions the book may keep.
+    pub fn cap(&self) -> u32
+        ensures { result ≡ self.now.cap }
+    {
+        self.cap
+    }
+
+    /// Reserves what is asked for, or answers the first refusal that holds, in the order of `Refusal`;
+    /// `NoMemory` comes last, where the roster found none. A refusal changes nothing.
+    pub fn book(&mut self, ask: Ask) -> Result<Reservation, Refusal>
+        ensures answer { MatchOption (refusal_of (terms_of self.old) self.old.list ask) (IsOkUnless result Refusal.NoMemory) (λ refusal. result ≡ Err refusal) }
+        ensures asked { IfOk result (IsAsked ask) }
+        ensures booked { IfOk result (λ r. self.new ≡ with_booked self.old r) }
+        ensures step { OnOk result (state_of self.new ≡ book_step self.old.cap (state_of self.old) ask) }
+        ensures refused { OnErr result (self.new ≡ self.old) }
+    {
+        let reservation = self.admitted(ask)?;
+        match self.roster.insert(reservation) {
+            Ok(()) => {
+                self.booked += reservation.airtime();
+                Ok(reservation)
+            }
+            Err(_) => Err(Refusal::NoMemory),
+        }
+    }
+
+    /// The reservation that an ask becomes if there is memory, or its refusal.
+    fn admitted(&self, ask: Ask) -> Result<Reservation, Refusal>
+        ensures { MatchOption (refusal_of (terms_of self.now) self.now.list ask) (IsOkAnd result (IsAsked ask)) (λ refusal. result ≡ Err refusal) }
+    {
+        let reservation = fitted(ask)?;
+        if ask.start < self.floor {
+            return Err(Refusal::Passed);
+        }
+        if let Some(start) = self.first_overlap(&reservation) {
+            return Err(Refusal::Taken { start });
+        }
+        if self.roster.len() >= self.cap as usize {
+            return Err(Refusal::Full);
+        }
+        if reservation.airtime() > TOTAL_LIMIT - self.booked {
+            return Err(Refusal::TotalsFull);
+        }
+        Ok(reservation)
+    }
+
+    /// The least start of a member that overlaps. Only two can: the last that begins before it, and the
+    /// first that doesn't.
+    fn first_overlap(&self, reservation: &Reservation) -> Option<u64>
+        ensures { result ≡ overlap self.now.list reservation.now.start (end_of reservation.now) }
+    {
+        let from = reservation.start;
+        match ending_after(self.roster.before(from), from) {
+            Some(before) => Some(before.start),
+            None => starting_before(self.roster.first_from(from), reservation.end()),
+        }
+    }
+
+    /// What the book has counted.
+    pub fn totals(&self) -> Totals
+        ensures { result ≡ totals_of self.now }
+    {
+        Totals {
+            booked: self.booked,
+            cancelled: self.cancelled,
+            retired: self.retired,
+            kept_airtime: self.booked - self.cancelled - self.retired,
+            kept: self.roster.len(),
+            floor: self.floor,
+        }
+    }
+
+    /// What the book keeps, by start.
+    pub fn list<A: Allocator>(&self, alloc: A) -> Result<Vec<Reservation, A>, NoMemory>
+        ensures { IfOk result (λ members. members.items ≡ self.now.list) }
+    {
+        members_of(alloc, &self.roster)
+    }
+}
+
+/// The members of a roster, from one to the next.
+fn members_of<R: Roster, A: Allocator>(
+    alloc: A,
+    roster: &R,
+) -> Result<Vec<Reservation, A>, NoMemory>
+    ensures { IfOk result (λ members. members.items ≡ R.list roster.now) }
+{
+    let mut members = Vec::with_capacity(alloc, roster.len())?;
+    let mut from = 0;
+    while let Some(member) = roster.first_from(from) {
+        members.push(member)?;
+        from = member.start + 1;
+    }
+    Ok(members)
+}
+
+/// The reservation with the asked fields, or why they are not fit for one.
+fn fitted(ask: Ask) -> Result<Reservation, Refusal>
+    ensures { MatchOption (first_some (no_band ask ∷ too_long ask ∷ past_end ask ∷ [])) (IsOkAnd result (IsAsked ask)) (λ refusal. result ≡ Err refusal) }
+{
+    if Band::of(ask.freq_hz, ask.rate).is_none() {
+        return Err(Refusal::NoBand);
+    }
+    if ask.len > ask.rate.max_phy() {
+        return Err(Refusal::TooLong);
+    }
+    Reservation::new(ask.number, ask.start, ask.freq_hz, ask.rate, ask.len).ok_or(Refusal::PastEnd)
+}
+
+/// The member, if it ends after `from`.
+fn ending_after(member: Option<Reservation>, from: u64) -> Option<Reservation>
+    ensures { result ≡ keep_if (λ b. nat_lt from (end_of b)) member }
+{
+    member.filter(|before| before.end() > from)
+}
+
+/// The member's start, if that lies before `to`.
+fn starting_before(member: Option<Reservation>, to: u64) -> Option<u64>
+    ensures { result ≡ option_map start_of (keep_if (λ n. nat_lt n.start to) member) }
+{
+    match member {
+        Some(next) if next.start < to => Some(next.start),
+        _ => None,
+    }
+}

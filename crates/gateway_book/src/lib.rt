@@ -1,0 +1,15 @@
+//! A gateway's airtime book: which transmissions it has reserved, and the answer to one more ask.
+#![tactic(auto)]
+
+mod ask;
+mod book;
+mod laws;
+mod refusal;
+mod totals;
+
+pub use ask::Ask;
+pub use book::{GatewayBook, MAX_CAP, NoMemory, OpenFault, TOTAL_LIMIT};
+pub use laws::{law_first_has_least_start, law_least_is_least, law_spaced_is_apart};
+pub use refusal::Refusal;
+pub use text_lines::{ByteIn, ByteOut, CallFailed, MemoryIn, MemoryOut, StdIn, StdOut};
+pub use totals::Totals;

@@ -1,0 +1,4 @@
+pub mod DataRate
+pub mod TimeOnAir
+pub mod WholeNumbers
+pub mod Bounds

@@ -1,0 +1,44 @@
+ghost use Rattle.std.specs.Prelude.{◌≡◌, ℕ, ◌-◌, ◌*◌, ◌/◌, ◌<◌};
+ghost use Rattle.radio_airtime.specs.DataRate.{spreading_factor_of};
+ghost use Rattle.radio_airtime.specs.TimeOnAir.{airtime_of, symbol_us, low_data_rate_optimisation};
+
+use crate::DataRate;
+
+/// The time on air in microseconds of a PHYPayload of `len` bytes, 0 to 255, from the first symbol of
+/// the preamble on (Semtech SX1276 datasheet, section 4.1.1.7, "Time on air"). Nothing is looked at
+/// but the length: a length above `max_phy` has its time too.
+pub fn airtime(rate: DataRate, len: u8) -> u64
+    ensures value { result ≡ airtime_of rate len }
+    ensures positive { 0 < result }
+    ensures short { result < 10000000 }
+{
+    let bits = (8 * u64::from(len) + 28).saturating_sub(4 * rate.spreading_factor());
+    let symbols = 8 + 5 * bits.div_ceil(bits_per_block(rate));
+    (49 + 4 * symbols) * quarter_symbol_us(rate)
+}
+
+/// The bits that a block of coded symbols carries: `4 (SF - 2 DE)`.
+fn bits_per_block(rate: DataRate) -> u64
+    ensures { result ≡ 4 * (spreading_factor_of rate - 2 * low_data_rate_optimisation rate) }
+{
+    let spreading_factor = rate.spreading_factor();
+    match rate {
+        DataRate::Dr0 | DataRate::Dr1 => 4 * (spreading_factor - 2),
+        _ => 4 * spreading_factor,
+    }
+}
+
+/// A quarter of a symbol in microseconds, the greatest step in which every time on air is whole.
+fn quarter_symbol_us(rate: DataRate) -> u64
+    ensures { result ≡ symbol_us rate / 4 }
+{
+    match rate {
+        DataRate::Dr0 => 8192,
+        DataRate::Dr1 => 4096,
+        DataRate::Dr2 => 2048,
+        DataRate::Dr3 => 1024,
+        DataRate::Dr4 => 512,
+        DataRate::Dr5 => 256,
+        DataRate::Dr6 => 128,
+    }
+}

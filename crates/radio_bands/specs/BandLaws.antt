@@ -1,0 +1,43 @@
+use Rattle.std.specs.Prelude.{◌≡◌, ℕ, ◌/◌, ◌<◌, true, Some}
+use Rattle.std.proofs.Common.{arith}
+use Rattle.std.proofs.lemmas.Bool.Decides.{nat_tests}
+use Rattle.radio_airtime.specs.declared.data_rate.DataRate.{DataRate}
+use Rattle.radio_airtime.specs.declared.data_rate.DataRate.TheVariants.{Dr0, Dr1, Dr2, Dr3, Dr4, Dr5, Dr6}
+use Rattle.radio_airtime.specs.DataRate.{bandwidth_of}
+use Rattle.radio_bands.specs.declared.band.Band.{Band}
+use Rattle.radio_bands.specs.declared.band.Band.TheVariants.{K, L, M, N, P, Q}
+use Rattle.radio_bands.specs.Band.{LiesIn, lies_in, band_of}
+
+-- the test says what the relation says
+pub LiesIn-test : (freq_hz : ℕ) (rate : DataRate) (band : Band) → LiesIn freq_hz rate band → lies_in freq_hz rate band ≡ true
+LiesIn-test f r b h = grind (arith, nat_tests)
+
+pub lies_in-true : (freq_hz : ℕ) (rate : DataRate) (band : Band) → lies_in freq_hz rate band ≡ true → LiesIn freq_hz rate band
+lies_in-true f r b h = record { from_low = grind (arith, nat_tests); to_high = grind (arith, nat_tests) }
+
+-- no channel is without width
+has_width : (rate : DataRate) → 0 < bandwidth_of rate / 2
+has_width Dr0 = omega arith
+has_width Dr1 = omega arith
+has_width Dr2 = omega arith
+has_width Dr3 = omega arith
+has_width Dr4 = omega arith
+has_width Dr5 = omega arith
+has_width Dr6 = omega arith
+
+-- a channel of positive half width `w` that keeps within a band's edges is found there, since the edges follow one another
+pub LiesIn-band_of : (freq_hz : ℕ) (rate : DataRate) (band : Band) → LiesIn freq_hz rate band → band_of freq_hz rate ≡ Some band
+unfolding band_of
+LiesIn-band_of f r K h = let w = has_width r in grind (arith, nat_tests)
+LiesIn-band_of f r L h = let w = has_width r in grind (arith, nat_tests)
+LiesIn-band_of f r M h = let w = has_width r in grind (arith, nat_tests)
+LiesIn-band_of f r N h = let w = has_width r in grind (arith, nat_tests)
+LiesIn-band_of f r P h = let w = has_width r in grind (arith, nat_tests)
+LiesIn-band_of f r Q h = let w = has_width r in grind (arith, nat_tests)
+
+-- no channel lies in two bands
+pub one_band : (freq_hz : ℕ) (rate : DataRate) (b c : Band) → LiesIn freq_hz rate b → LiesIn freq_hz rate c → b ≡ c
+one_band f r b c h g =
+    let e = LiesIn-band_of f r b h in
+    let d = LiesIn-band_of f r c g in
+    cc

@@ -1,0 +1,75 @@
+ghost use Rattle.std.specs.Prelude.{◌≡◌, ◌↔◌, IsTrue, find};
+
+use radio_airtime::DataRate;
+
+/// A sub-band of EU868. The letters follow the order of ETSI EN 300 220-2, annex B; edges and duty
+/// cycles are this project's profile.
+#[derive(Clone, Copy, Debug, PartialEq, Eq, Hash, PartialOrd, Ord)]
+pub enum Band {
+    K,
+    L,
+    M,
+    N,
+    P,
+    Q,
+}
+
+impl Band {
+    ghost use Rattle.radio_bands.specs.Band.{bands, low_of, high_of, LiesIn, lies_in, band_of};
+
+    /// The sub-bands in the order of their frequencies.
+    const ALL: [Band; 6] = [Band::K, Band::L, Band::M, Band::N, Band::P, Band::Q];
+
+    /// The sub-band that a channel lies in, half its bandwidth to either side of its centre `freq_hz`,
+    /// in Hz; `None` where it lies in none (RP002, EU863-870, "Physical layer", and ETSI EN 300 220-2,
+    /// annex B).
+    #[tactic(auto, unfolding(crate::specs::Band::band_of))]
+    pub fn of(freq_hz: u32, rate: DataRate) -> Option<Band>
+        ensures row { (band : Band) → (result ≡ Some band) ↔ LiesIn freq_hz rate band }
+        ensures value { result ≡ band_of freq_hz rate }
+    {
+        Self::first_of(&Self::ALL, freq_hz, rate)
+    }
+
+    fn first_of(bands: &[Band], freq_hz: u32, rate: DataRate) -> Option<Band>
+        ensures { result ≡ find (lies_in freq_hz rate) bands.now }
+    {
+        bands.iter().copied().find(|band| band.holds(freq_hz, rate))
+    }
+
+    /// Whether the channel round `freq_hz`, in Hz, lies in this sub-band.
+    pub fn holds(self, freq_hz: u32, rate: DataRate) -> bool
+        ensures channel { IsTrue result ↔ LiesIn freq_hz rate self }
+        ensures value { result ≡ lies_in freq_hz rate self }
+    {
+        let centre = u64::from(freq_hz);
+        let half = u64::from(rate.bandwidth_hz() / 2);
+        self.low_hz() + half <= centre && centre + half <= self.high_hz()
+    }
+
+    fn low_hz(self) -> u64
+        ensures { result ≡ low_of self }
+    {
+        match self {
+            Band::K => 863_000_000,
+            Band::L => 865_000_000,
+            Band::M => 868_000_000,
+            Band::N => 868_700_000,
+            Band::P => 869_400_000,
+            Band::Q => 869_700_000,
+        }
+    }
+
+    fn high_hz(self) -> u64
+        ensures { result ≡ high_of self }
+    {
+        match self {
+            Band::K => 865_000_000,
+            Band::L => 868_000_000,
+            Band::M => 868_600_000,
+            Band::N => 869_200_000,
+            Band::P => 869_650_000,
+            Band::Q => 870_000_000,
+        }
+    }
+}

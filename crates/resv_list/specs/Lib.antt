@@ -1,0 +1,11 @@
+pub mod Fit
+pub mod Sorted
+pub mod SortedLaws
+pub mod Walk
+pub mod SameFields
+pub mod Reservations
+pub use Rattle.radio_airtime.specs.DataRate
+pub use Rattle.radio_airtime.specs.TimeOnAir
+pub use Rattle.radio_airtime.specs.Bounds
+pub use Rattle.radio_bands.specs.Band
+pub use Rattle.radio_bands.specs.BandLaws

@@ -1,0 +1,68 @@
+use Rattle.std.specs.Prelude.{ℕ, ◌+◌, nat_lt, nat_le, ◌&&◌, if◌then◌else◌, Bool, List, [], ◌∷◌, Option, ◌≢◌, All, map}
+use Rattle.radio_airtime.specs.TimeOnAir.{airtime_of}
+use Rattle.radio_bands.specs.declared.band.Band.{Band}
+use Rattle.radio_bands.specs.Band.{lies_in, hour}
+use Rattle.resv_list.specs.declared.reservation.Reservation.{Reservation}
+use Rattle.resv_list.specs.Fit.{end_at}
+use Rattle.resv_list.specs.Sorted.{RisesFrom, place_by, sort_by, last_below, first_from}
+
+-- Words for lists of reservations.
+
+abbrev pub start_of : Reservation → ℕ
+start_of r = r.start
+
+-- how long it is on air
+abbrev pub airtime_us : Reservation → ℕ
+airtime_us r = airtime_of r.rate r.len
+
+-- when it ends
+abbrev pub end_of : Reservation → ℕ
+end_of r = end_at r.start r.rate r.len
+
+-- whether its channel lies in the sub-band
+abbrev pub is_in : Band → Reservation → Bool
+is_in band r = lies_in r.freq_hz r.rate band
+
+-- the starts rise, and no two are the same
+abbrev pub IsByStart : List Reservation → Type 0
+IsByStart l = RisesFrom start_of 0 l
+
+-- the list with the reservation in its place
+abbrev pub place : Reservation → List Reservation → List Reservation
+place r l = place_by start_of r l
+
+-- the list in the order of the starts
+abbrev pub by_start : List Reservation → List Reservation
+by_start l = sort_by start_of l
+
+-- the member with the greatest start below `start`, of a list that is by start
+abbrev pub member_before : ℕ → List Reservation → Option Reservation
+member_before start l = last_below start_of start l
+
+-- the member with the least start not below `start`, of a list that is by start
+abbrev pub member_from : ℕ → List Reservation → Option Reservation
+member_from start l = first_from start_of start l
+
+-- no member has this start
+abbrev pub IsFree : ℕ → List Reservation → Type 0
+IsFree start l = All (λ s. s ≢ start) (map start_of l)
+
+-- what a member adds to the airtime of the band that begins from `from` on and before `to`:
+-- a transmission counts whole where it begins
+abbrev pub share : Band → ℕ → ℕ → Reservation → ℕ
+share band from to r =
+    if is_in band r && nat_le from r.start && nat_lt r.start to then airtime_us r else 0
+
+-- the airtime of the band that begins from `from` on and before `to`
+unfoldable pub begun : Band → ℕ → ℕ → List Reservation → ℕ
+begun band from to [] = 0
+begun band from to (r ∷ rs) = share band from to r + begun band from to rs
+
+-- the airtime of the band that begins within the hour that opens at t
+abbrev pub spent : List Reservation → Band → ℕ → ℕ
+spent l band t = begun band t (t + hour) l
+
+-- the airtime of all members
+unfoldable pub net : List Reservation → ℕ
+net [] = 0
+net (r ∷ rs) = airtime_us r + net rs

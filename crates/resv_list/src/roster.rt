@@ -1,0 +1,46 @@
+ghost use Rattle.std.specs.Prelude.{◌≡◌, ℕ, ◌≤◌, ◌↔◌, List, length, IfErr, OnOk, OnErr, IsErrAnd};
+ghost use Rattle.resv_list.specs.declared.reservation.Reservation.{Reservation as Member};
+ghost use Rattle.resv_list.specs.Reservations.{IsByStart, IsFree, place, member_before, member_from};
+
+use crate::Reservation;
+use thiserror::Error;
+
+/// The greatest number of reservations in a roster.
+pub const MAX_MEMBERS: usize = 65_536;
+
+/// Why a roster took no reservation.
+#[derive(Clone, Copy, Debug, PartialEq, Eq, Hash, Error)]
+pub enum RosterFault {
+    #[error("the roster is full: it holds 65,536 reservations")]
+    Full,
+    #[error("there is no memory for one more reservation")]
+    NoMemory,
+}
+
+/// Reservations in the order of their starts, no two of which are the same. Moments are in
+/// microseconds of the gateway's clock.
+pub trait Roster {
+    ghost list: { Self → List Member };
+
+    /// How many there are.
+    fn len(&self) -> usize
+        ensures { result ≡ length (list self.now) };
+
+    /// The one with the greatest start below `start`.
+    fn before(&self, start: u64) -> Option<Reservation>
+        ensures { result ≡ member_before start (list self.now) };
+
+    /// The one with the least start not below `start`.
+    fn first_from(&self, start: u64) -> Option<Reservation>
+        ensures { result ≡ member_from start (list self.now) };
+
+    /// Puts one more in its place; on an `Err` it is handed back, and the roster is as it was.
+    fn insert(&mut self, reservation: Reservation) -> Result<(), (RosterFault, Reservation)>
+        requires { IsFree reservation.start (list self.old) }
+        ensures placed { OnOk result (list self.new ≡ place reservation (list self.old)) }
+        ensures full { IsErrAnd result (λ e. e.0 ≡ RosterFault.Full) ↔ (MAX_MEMBERS ≤ length (list self.old)) }
+        ensures handed_back { IfErr result (λ e. e.1 ≡ reservation) }
+        ensures unchanged { OnErr result (list self.new ≡ list self.old) };
+
+    ghost by_start: { (r : Self) → IsByStart (list r) };
+}

@@ -1,0 +1,90 @@
+ghost use Rattle.std.specs.Prelude.{◌≡◌, ◌≤◌, [], length, insert, nat_lt, slice_get};
+ghost use Rattle.resv_list.specs.declared.reservation.Reservation.{Reservation as Member};
+ghost use Rattle.resv_list.specs.Sorted.{RisesFrom-prop};
+ghost use Rattle.resv_list.specs.SortedLaws.{IsCut};
+ghost use Rattle.resv_list.specs.Reservations.{start_of, IsByStart, place, member_before, member_from};
+
+use crate::{MAX_MEMBERS, Reservation, Roster, RosterFault};
+use std::alloc::Allocator;
+
+/// A roster in one sorted vector: looking up takes a binary search, inserting moves the tail.
+#[derive(Drop)]
+pub struct VecRoster<A: Allocator> {
+    items: Vec<Reservation, A>,
+    ghost by_start: { IsByStart items.items } by { RisesFrom-prop start_of 0 items.items },
+}
+
+impl<A: Allocator> VecRoster<A> {
+    /// An empty roster on this allocator; takes no memory.
+    pub fn new(alloc: A) -> Self
+        ensures { ⟦<VecRoster<A> as Roster>⟧.list result ≡ [] }
+    {
+        VecRoster {
+            items: Vec::new(alloc),
+        }
+    }
+}
+
+impl<A: Allocator> Roster for VecRoster<A> {
+    ghost list = { λ r. r.items.items };
+
+    fn len(&self) -> usize {
+        self.items.len()
+    }
+
+    fn before(&self, start: u64) -> Option<Reservation> {
+        before_in(&self.items, start)
+    }
+
+    fn first_from(&self, start: u64) -> Option<Reservation> {
+        first_from_in(&self.items, start)
+    }
+
+    fn insert(&mut self, reservation: Reservation) -> Result<(), (RosterFault, Reservation)> {
+        if self.items.len() >= MAX_MEMBERS {
+            return Err((RosterFault::Full, reservation));
+        }
+        let place = place_of(&self.items, reservation.start);
+        match self.items.insert(place, reservation) {
+            Ok(()) => Ok(()),
+            Err(failed) => Err((RosterFault::NoMemory, failed.value)),
+        }
+    }
+
+    ghost by_start = { λ r. r.by_start };
+}
+
+/// How many of the members, which are by start, begin before `start`.
+fn place_of(members: &[Reservation], start: u64) -> usize
+    requires { IsByStart members.now }
+    ensures bound { result ≤ length members.now }
+    ensures cut { IsCut (λ r. nat_lt r.start start) members.now result }
+    ensures placed { (r : Member) → r.start ≡ start → place r members.now ≡ insert members.now result r }
+{
+    members.partition_point(|member| member.start < start)
+}
+
+/// The last of the members, which are by start, that begins before `start`.
+fn before_in(members: &[Reservation], start: u64) -> Option<Reservation>
+    requires { IsByStart members.now }
+    ensures { result ≡ member_before start members.now }
+{
+    match place_of(members, start) {
+        0 => None,
+        place => Some(members[place - 1]),
+    }
+}
+
+/// The first of the members, which are by start, that doesn't begin before `start`.
+fn first_from_in(members: &[Reservation], start: u64) -> Option<Reservation>
+    requires { IsByStart members.now }
+    ensures { result ≡ member_from start members.now }
+{
+    member_at(members, place_of(members, start))
+}
+
+fn member_at(members: &[Reservation], place: usize) -> Option<Reservation>
+    ensures { result ≡ slice_get members.now place }
+{
+    members.get(place).copied()
+}

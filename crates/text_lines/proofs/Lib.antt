@@ -1,0 +1,4 @@
+pub mod Held
+pub mod NumberLemmas
+pub mod Parts
+pub mod WordLemmas

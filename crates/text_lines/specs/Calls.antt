@@ -1,0 +1,10 @@
+-- What one call of a reader or a writer does to its count of failed calls.
+use Rattle.std.specs.Prelude.{◌≡◌, ℕ, ◌+◌, ◌%◌, ◌^◌, Result, MatchResult}
+
+-- One failed call more. The count is kept in 64 bits, so it starts again at 0 after 2^64 failed calls.
+abbrev pub next_count : ℕ → ℕ
+next_count count = (count + 1) % 2 ^ 64
+
+-- the count of failed calls rose by one exactly where the call answered `Err`, and else stayed
+abbrev pub CountsFailure : {T E : Type 0} → ℕ → ℕ → Result T E → Type 0
+CountsFailure old new result = MatchResult result (λ _. new ≡ old) (λ _. new ≡ next_count old)

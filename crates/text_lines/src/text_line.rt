@@ -1,0 +1,74 @@
+// A line of output, in a buffer of fixed size.
+ghost use Rattle.std.specs.Prelude.{◌≡◌, ℕ, ◌+◌, ◌≤◌, List, [], ◌++◌, length, take, decimal};
+
+use itoa::Buffer;
+use std::marker::Model;
+
+/// The most bytes of a line of output.
+pub const TEXT_LIMIT: usize = 1024;
+
+/// The most digits that `number` adds.
+pub const NUMBER_DIGITS: usize = 20;
+
+/// A text that is put together piece by piece, of at most 1,024 bytes.
+#[derive(Debug, Drop)]
+pub struct TextLine {
+    bytes: [u8; TEXT_LIMIT],
+    len: usize,
+}
+
+impl Model for TextLine {
+    ghost Value = { List ℕ };
+
+    ghost view = { λ s. take s.len s.bytes };
+
+    ghost invariant = { λ s. s.len ≤ 1024 };
+}
+
+impl TextLine {
+    /// An empty text.
+    pub fn new() -> Self
+        ensures { result ≡ [] }
+    {
+        TextLine {
+            bytes: [0; TEXT_LIMIT],
+            len: 0,
+        }
+    }
+
+    /// The bytes of the text.
+    pub fn as_slice(&self) -> &[u8]
+        ensures bytes { result.now ≡ self.now }
+        ensures short { length result.now ≤ TEXT_LIMIT }
+    {
+        &self.bytes[..self.len]
+    }
+
+    /// Begins again with an empty text.
+    pub fn clear(&mut self)
+        ensures { self.new ≡ [] }
+    {
+        self.len = 0;
+    }
+
+    /// Adds bytes.
+    pub fn text(&mut self, text: &[u8])
+        requires { length self.old + length text.now ≤ TEXT_LIMIT }
+        ensures text { self.new ≡ self.old ++ text.now }
+        ensures len { length self.new ≡ length self.old + length text.now }
+    {
+        let end = self.len + text.len();
+        self.bytes[self.len..end].copy_from_slice(text);
+        self.len = end;
+    }
+
+    /// Adds the decimal digits of a number, without leading zeros.
+    pub fn number(&mut self, number: u64)
+        requires { length self.old + NUMBER_DIGITS ≤ TEXT_LIMIT }
+        ensures text { self.new ≡ self.old ++ decimal number }
+        ensures len { length self.new ≤ length self.old + NUMBER_DIGITS }
+    {
+        let mut digits = Buffer::new();
+        self.text(digits.format(number).as_bytes());
+    }
+}
