@@ -1,4 +1,4 @@
-use Rattle.std.specs.Prelude.{ℕ, ◌≡◌, ◌+◌, ◌^◌, nat_lt, ◌==◌, Bool, not, if◌then◌else◌, is_some, List, [], ◌∷◌, length, Option, Some, None}
+use Rattle.std.specs.Prelude.{ℕ, ◌≡◌, ◌+◌, ◌^◌, nat_lt, ◌==◌, Bool, not, if◌then◌else◌, is_some, List, [], ◌∷◌, length, Option, Some, None, option_and_then}
 use Rattle.std.specs.Option.{option_map}
 use Rattle.radio_airtime.specs.DataRate.{max_phy_of}
 use Rattle.radio_airtime.specs.TimeOnAir.{airtime_of}
@@ -7,10 +7,13 @@ use Rattle.resv_list.specs.declared.reservation.Reservation.{Reservation}
 use Rattle.resv_list.specs.Fit.{end_at, last_end}
 use Rattle.gateway_book.specs.declared.ask.Ask.{Ask}
 use Rattle.gateway_book.specs.declared.refusal.Refusal.{Refusal}
-use Rattle.gateway_book.specs.declared.refusal.Refusal.TheVariants.{NoBand, TooLong, PastEnd, Passed, Taken, Full, TotalsFull}
+use Rattle.gateway_book.specs.declared.refusal.Refusal.TheVariants.{NoBand, TooLong, PastEnd, Passed, Taken, DutyFull, Full, TotalsFull}
 use Rattle.gateway_book.specs.Disjoint.{is_clear}
 use Rattle.gateway_book.specs.Kept.{kept}
 use Rattle.gateway_book.specs.Least.{first_start}
+use Rattle.gateway_book.specs.Duty.{full_hour}
+use Rattle.radio_bands.specs.declared.band.Band.{Band}
+use Rattle.resv_list.specs.Reservations.{spent}
 
 -- The answer of a book to an ask: the first of eight rows that holds, or none where it is accepted.
 
@@ -55,16 +58,21 @@ abbrev pub passed : Terms → Ask → Option Refusal
 passed terms ask = refused_if (nat_lt ask.start terms.floor) Passed
 
 -- the least start of a member that is not disjoint from what covers `from` up to `to`
-abbrev pub overlap : List Reservation → ℕ → ℕ → Option ℕ
+unfoldable pub overlap : List Reservation → ℕ → ℕ → Option ℕ
 overlap l from to = first_start (λ r. not (is_clear from to r)) l
 
 -- a member is not disjoint from it: the least start of such a member
 abbrev pub taken : List Reservation → Ask → Option Refusal
 taken l ask = option_map Taken (overlap l ask.start (ask_end ask))
 
--- an hour would have more airtime of its band than the limit: no limit is looked at
+-- an hour that holds its start would have more airtime of its band than the limit: the least opening
+-- of such an hour, and the airtime that begins in it without what is asked for
+abbrev pub overfull : List Reservation → ℕ → ℕ → Band → Option Refusal
+overfull l start airtime band =
+    option_map (λ from. DutyFull band from (spent l band from)) (full_hour l band start airtime)
+
 abbrev pub duty_full : List Reservation → Ask → Option Refusal
-duty_full l ask = None
+duty_full l ask = option_and_then (overfull l ask.start (ask_airtime ask)) (band_of ask.freq_hz ask.rate)
 
 -- as many members are kept as may be
 abbrev pub full : Terms → List Reservation → Option Refusal

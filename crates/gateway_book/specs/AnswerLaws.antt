@@ -1,5 +1,5 @@
-use Rattle.std.specs.Prelude.{ℕ, ◌≡◌, ◌≢◌, ◌+◌, ◌≤◌, nat_lt, ◌==◌, Bool, true, false, not, is_some, List, [], ◌∷◌, length, Option, Some, None, Ok, Err, MatchOption, IsOkAnd}
-use Rattle.std.specs.Option.{option_map}
+use Rattle.std.specs.Prelude.{ℕ, ◌≡◌, ◌≢◌, ◌+◌, ◌≤◌, nat_lt, ◌==◌, Bool, true, false, not, is_some, List, [], ◌∷◌, length, Option, Some, None, Ok, Err, Result, MatchOption, IsOkAnd, IsOkUnless}
+use Rattle.std.specs.Option.{option_map, option_and_then}
 use Rattle.std.proofs.Common.{refl, sym, ap, ◌∙◌, arith}
 use Rattle.std.proofs.lemmas.Bool.Decides.{nat_tests}
 use Rattle.radio_airtime.specs.DataRate.{max_phy_of}
@@ -7,12 +7,14 @@ use Rattle.radio_bands.specs.Band.{band_of}
 use Rattle.resv_list.specs.declared.reservation.Reservation.{Reservation}
 use Rattle.resv_list.specs.Fit.{last_end}
 use Rattle.resv_list.specs.SameFields.{same_fields}
-use Rattle.resv_list.specs.Reservations.{airtime_us, place}
+use Rattle.resv_list.specs.Reservations.{end_of, airtime_us, place, spent}
 use Rattle.gateway_book.specs.declared.ask.Ask.{Ask}
 use Rattle.gateway_book.specs.declared.refusal.Refusal.{Refusal}
-use Rattle.gateway_book.specs.declared.refusal.Refusal.TheVariants.{NoBand, TooLong, PastEnd, Passed, Taken, Full, TotalsFull}
+use Rattle.gateway_book.specs.declared.refusal.Refusal.TheVariants.{NoBand, TooLong, PastEnd, Passed, Taken, DutyFull, Full, TotalsFull, NoMemory}
+use Rattle.radio_bands.specs.declared.band.Band.{Band}
+use Rattle.gateway_book.specs.Duty.{full_hour}
 use Rattle.gateway_book.specs.Kept.{kept}
-use Rattle.gateway_book.specs.Answer.{Terms, ask_airtime, ask_end, IsAsked, refused_if, no_band, too_long, past_end, passed, overlap, taken, duty_full, full, total_limit, totals_full, first_some, refusal_of}
+use Rattle.gateway_book.specs.Answer.{Terms, ask_airtime, ask_end, IsAsked, refused_if, no_band, too_long, past_end, passed, overlap, taken, overfull, duty_full, full, total_limit, totals_full, first_some, refusal_of}
 use Rattle.gateway_book.specs.Step.{is_fit, made_if, reservation_of, placed, State, book_step, after_answer}
 
 -- What it means that an ask is accepted.
@@ -21,6 +23,7 @@ pub record IsAccepted (terms : Terms) (l : List Reservation) (ask : Ask) : Type 
   pub fit : is_fit ask ≡ true
   pub ahead : terms.floor ≤ ask.start
   pub clear : overlap l ask.start (ask_end ask) ≡ None
+  pub duty : (band : Band) → band_of ask.freq_hz ask.rate ≡ Some band → full_hour l band ask.start (ask_airtime ask) ≡ None
   pub spare : length (kept l terms.floor) ≢ terms.cap
   pub total : terms.booked + ask_airtime ask ≤ total_limit
 
@@ -35,6 +38,13 @@ no_refusal false r e = refl
 not_taken : (o : Option ℕ) → option_map Taken o ≡ None → o ≡ None
 not_taken None e = refl
 not_taken (Some s) e = absurd (cc)
+
+no_full : (l : List Reservation) (band : Band) (o : Option ℕ) → option_map (λ from. DutyFull band from (spent l band from)) o ≡ None → o ≡ None
+no_full l band None e = refl
+no_full l band (Some from) e = absurd (cc)
+
+not_full : (l : List Reservation) (ask : Ask) (band : Band) → overfull l ask.start (ask_airtime ask) band ≡ None → full_hour l band ask.start (ask_airtime ask) ≡ None
+not_full l ask band e = no_full l band (full_hour l band ask.start (ask_airtime ask)) e
 
 pub accepted : (terms : Terms) (l : List Reservation) (ask : Ask) → refusal_of terms l ask ≡ None → IsAccepted terms l ask
 accepted terms l ask e =
@@ -56,6 +66,7 @@ accepted terms l ask e =
       fit = fits banded sized timely;
       ahead = grind (arith, nat_tests);
       clear = not_taken (overlap l ask.start (ask_end ask)) f.0;
+      duty = λ band b. not_full l ask band (rw b at g.0);
       spare = λ same. grind (arith, nat_tests);
       total = grind (arith, nat_tests);
     }
@@ -75,6 +86,29 @@ reservation_of-asked ask r h a = asked_is ask r (is_fit ask) refl h a
 pub not_refused : (o : Option Refusal) (r : Reservation) (ask : Ask) → MatchOption o (IsOkAnd {E = Refusal} (Ok r) (IsAsked ask)) (λ e. Ok r ≡ Err e) → (o ≡ None) × IsAsked ask r
 not_refused None r ask h = (refl, h)
 not_refused (Some e) r ask h = absurd (cc)
+
+-- a duty refusal is the answer where the rows before it have none
+pub answer_duty : (terms : Terms) (l : List Reservation) (ask : Ask) (refusal : Refusal) → first_some (no_band ask ∷ too_long ask ∷ past_end ask ∷ []) ≡ None → nat_lt ask.start terms.floor ≡ false → overlap l ask.start (ask_end ask) ≡ None → duty_full l ask ≡ Some refusal → refusal_of terms l ask ≡ Some refusal
+answer_duty terms l ask refusal f p t d =
+    let a = first_none (no_band ask) (too_long ask ∷ past_end ask ∷ []) f in
+    let b = first_none (too_long ask) (past_end ask ∷ []) a.1 in
+    let c = first_none (past_end ask) [] b.1 in
+    let e : passed terms ask ≡ None = ap (λ (u : Bool). refused_if u Passed) p in
+    let g : taken l ask ≡ None = ap (option_map Taken) t in
+    rw (a.0, b.0, c.0, e, g, d) refl
+
+-- the rows on other members ask the same of an ask and of the reservation with its fields
+pub overlap_asked : (l : List Reservation) (ask : Ask) (r : Reservation) → IsAsked ask r → overlap l r.start (end_of r) ≡ None → overlap l ask.start (ask_end ask) ≡ None
+overlap_asked l ask r a e = rw (a.start, a.rate, a.len) at e
+
+pub duty_asked : (l : List Reservation) (ask : Ask) (r : Reservation) (refusal : Refusal) → IsAsked ask r → option_and_then (overfull l r.start (airtime_us r)) (band_of r.freq_hz r.rate) ≡ Some refusal → duty_full l ask ≡ Some refusal
+duty_asked l ask r refusal a e = rw (a.start, a.freq_hz, a.rate, a.len) at e
+
+abbrev refusing : Refusal → Result Reservation Refusal
+refusing e = Err e
+
+pub answer_match : (o : Option Refusal) (refusal : Refusal) (ask : Ask) → o ≡ Some refusal → MatchOption o (IsOkAnd (refusing refusal) (IsAsked ask)) (λ e. refusing refusal ≡ Err e)
+answer_match o refusal ask e = rw e refl
 
 -- an accepted ask is one step, by the reservation with its fields
 pub book_step-accepted : (cap : ℕ) (s : State) (ask : Ask) (r : Reservation) → refusal_of (record { floor = s.floor; cap = cap; booked = s.booked }) s.list ask ≡ None → IsAsked ask r → book_step cap s ask ≡ record s { list = place r s.list; booked = s.booked + airtime_us r }

@@ -31,10 +31,6 @@ abbrev pub FirstHasLeastStart : Type 0
 FirstHasLeastStart =
     (test : Reservation → Bool) (l : List Reservation) → IsByStart l → first_start test l ≡ option_map start_of (find test l)
 
--- the least of some numbers is one of them, and none of them is less; there is none of no numbers
-abbrev pub LeastIsLeast : Type 0
-LeastIsLeast = (ns : List ℕ) → MatchOption (least ns) (ns ≡ []) (λ m. Contains ns m × All (λ n. m ≤ n) ns)
-
 pub first_has_least_start : (test : Reservation → Bool) (l : List Reservation) → IsByStart l → first_start test l ≡ option_map start_of (find test l)
 first_has_least_start test l s = least-find start_of test 0 l s
 
@@ -79,33 +75,8 @@ apart_spaced low (x ∷ y ∷ ys) r a =
 pub spaced_is_apart : (l : List Reservation) → IsByStart l → SpacedFrom start_of end_of 0 l ↔ AreApart l
 spaced_is_apart l s = (λ h. spaced_apart 0 l h, λ a. apart_spaced 0 l s a)
 
-the_less : (n m : ℕ) (ns : List ℕ) → Contains ns m → (n ≤ m) ⊎ (m ≤ n) → Contains (n ∷ ns) (min n m)
-the_less n m ns c (inl h) =
-    let e : min n m ≡ n = omega arith in
-    let P : ℕ → Type 0 = λ x. Contains (n ∷ ns) x in
-    subst P (sym e) (zero, omega arith, refl)
-the_less n m ns c (inr h) =
-    let e : min n m ≡ m = omega arith in
-    let P : ℕ → Type 0 = λ x. Contains (n ∷ ns) x in
-    subst P (sym e) (suc c.0, omega (arith, c.1), c.2)
-
-none_less : (n m : ℕ) (ns : List ℕ) → m ≤ n → All (λ k. m ≤ k) ns → All (λ k. m ≤ k) (n ∷ ns)
-none_less n m ns h a zero d l = h
-none_less n m ns h a (suc k) d l = a k d (omega arith)
-
-order : (n m : ℕ) → (n ≤ m) ⊎ (m ≤ n)
-order n m = elim (cases_lt n m) [ inl h ↦ inl (omega arith) | inr h ↦ inr h ]
-
-least_cons : (n : ℕ) (ns : List ℕ) (o : Option ℕ) → MatchOption o (ns ≡ []) (λ m. Contains ns m × All (λ k. m ≤ k) ns) → Contains (n ∷ ns) (at_most n o) × All (λ k. at_most n o ≤ k) (n ∷ ns)
-least_cons n [] None h = ((zero, omega arith, refl), none_less n n [] (omega arith) (λ k d l. absurd (omega arith)))
-least_cons n (x ∷ ns) None h = absurd (cc)
-least_cons n ns (Some m) h = (the_less n m ns h.0 (order n m), none_less n (min n m) ns (omega arith) (λ k d l. let g = h.1 k d l in omega arith))
-
-pub least_is_least : (ns : List ℕ) → MatchOption (least ns) (ns ≡ []) (λ m. Contains ns m × All (λ n. m ≤ n) ns)
-least_is_least [] = refl
-least_is_least (n ∷ ns) = least_cons n ns (least ns) (least_is_least ns)
-
 -- only the last member that begins before what is asked for, and the first that doesn't, can overlap it
 pub overlap-neighbours : (l : List Reservation) (from to : ℕ) → IsByStart l → AreApart l → from < to → overlap l from to ≡ option_map start_of (or_else (keep_if (λ b. nat_lt from (end_of b)) (member_before from l)) (keep_if (λ n. nat_lt n.start to) (member_from from l)))
+unfolding overlap
 overlap-neighbours l from to s a h =
     first_has_least_start _ l s ∙ ap (option_map start_of) (find-neighbours start_of end_of ends_later 0 from to l h (apart_spaced 0 l s a))

@@ -1,11 +1,12 @@
-use Rattle.std.specs.Prelude.{ℕ, ◌≡◌, ◌<◌, ◌≤◌, ◌+◌, List, length}
+use Rattle.std.specs.Prelude.{ℕ, ◌≡◌, ◌<◌, ◌≤◌, ◌+◌, List, length, Result, Ok, Err}
 use Rattle.resv_list.specs.declared.reservation.Reservation.{Reservation}
 use Rattle.resv_list.specs.Reservations.{net, place, airtime_us}
 use Rattle.gateway_book.specs.declared.totals.Totals.{Totals}
 use Rattle.gateway_book.specs.Lawful.{IsLawful}
 use Rattle.gateway_book.specs.Kept.{kept}
 use Rattle.gateway_book.specs.Answer.{Terms, total_limit}
-use Rattle.gateway_book.specs.Step.{State}
+use Rattle.gateway_book.specs.Step.{State, without_named}
+use Rattle.gateway_book.specs.declared.cancel.CancelFault.{CancelFault}
 
 -- What callers see of a gateway's book: its kept list by start, and its totals.
 pub record Book : Type 0 where
@@ -27,6 +28,16 @@ state_of b = record { floor = b.floor; list = b.list; booked = b.booked; cancell
 abbrev pub with_booked : Book → Reservation → Book
 with_booked b r = record b { list = place r b.list; booked = b.booked + airtime_us r }
 
+-- the book without the reservation with this number and this start
+abbrev pub with_cancelled : Book → ℕ → ℕ → ℕ → Book
+with_cancelled b number start airtime =
+    record b { list = without_named b.list number start; cancelled = b.cancelled + airtime }
+
+-- what a caller is told of it
+abbrev pub airtime_answer : Result Reservation CancelFault → Result ℕ CancelFault
+airtime_answer (Ok r) = Ok (airtime_us r)
+airtime_answer (Err fault) = Err fault
+
 -- what it has counted
 abbrev pub totals_of : Book → Totals
 totals_of b =
@@ -46,5 +57,6 @@ pub record IsSound (b : Book) : Type 0 where
   pub counted : length b.list ≤ b.cap
   pub lawful : IsLawful b.list
   pub kept_whole : kept b.list b.floor ≡ b.list
+  pub none_retired : b.retired ≡ 0
   pub balanced : b.booked ≡ b.cancelled + b.retired + net b.list
   pub bounded : b.booked ≤ total_limit

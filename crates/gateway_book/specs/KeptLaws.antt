@@ -21,44 +21,6 @@ module _ {X : Type 0} (key : X → ℕ) where
   sort_by-rises low [] r = refl
   sort_by-rises low (x ∷ xs) r = rw (sort_by-rises (key x + 1) xs r.1) (place_by-first x xs r.1)
 
-  and_pass : (a b : Bool) → a ≡ true → b ≡ true → (a && b) ≡ true
-  and_pass a b h g = rw (h, g) refl
-
-  -- the test of each member, once x is put in its place
-  all_placed : (test : X → Bool) (x y : X) (ys : List X) (t : Bool) → (test y && list_all test ys) ≡ true → test x ≡ true → list_all test (place_by key x ys) ≡ true → list_all test (cond t (y ∷ place_by key x ys) (x ∷ y ∷ ys)) ≡ true
-  all_placed test x y ys true h p i = grind arith
-  all_placed test x y ys false h p i = grind arith
-
-  list_all-place_by : (test : X → Bool) (x : X) (xs : List X) → test x ≡ true → list_all test xs ≡ true → list_all test (place_by key x xs) ≡ true
-  list_all-place_by test x [] p h = grind arith
-  list_all-place_by test x (y ∷ ys) p h = all_placed test x y ys (nat_lt (key y) (key x)) h p (list_all-place_by test x ys p (grind arith))
-
-  filter_first : (test : X → Bool) (x : X) (xs : List X) (t : Bool) → test x ≡ t → list_all test (sort_by key (filter test xs)) ≡ true → list_all test (sort_by key (cond t (x ∷ filter test xs) (filter test xs))) ≡ true
-  filter_first test x xs true e h = list_all-place_by test x (sort_by key (filter test xs)) e h
-  filter_first test x xs false e h = h
-
-  -- all that is left by a test passes it, in any order
-  pub list_all-sort_by : (test : X → Bool) (xs : List X) → list_all test (sort_by key (filter test xs)) ≡ true
-  list_all-sort_by test [] = refl
-  list_all-sort_by test (x ∷ xs) = filter_first test x xs (test x) refl (list_all-sort_by test xs)
-
-  -- a test that all pass leaves all
-  filter_all : (test : X → Bool) (xs : List X) → list_all test xs ≡ true → filter test xs ≡ xs
-  filter_all test [] h = refl
-  filter_all test (x ∷ xs) h =
-      let e : test x ≡ true = grind arith in
-      rw (e, filter_all test xs (grind arith)) refl
-
-  -- what a test leaves of a list in order, when it leaves all, is the list
-  pub sort_filter_all : (test : X → Bool) (low : ℕ) (xs : List X) → RisesFrom key low xs → list_all test xs ≡ true → sort_by key (filter test xs) ≡ xs
-  sort_filter_all test low xs r h = rw (filter_all test xs h) (sort_by-rises low xs r)
-
-  -- a list that a test leaves whole is left whole with one more member that passes
-  pub sort_filter_place : (test : X → Bool) (low : ℕ) (x : X) (xs : List X) → test x ≡ true → sort_by key (filter test xs) ≡ xs → RisesFrom key low (place_by key x xs) → sort_by key (filter test (place_by key x xs)) ≡ place_by key x xs
-  sort_filter_place test low x xs p h r =
-      let P : List X → Type 0 = λ ys. list_all test ys ≡ true in
-      sort_filter_all test low (place_by key x xs) r (list_all-place_by test x xs p (subst P h (list_all-sort_by test xs)))
-
 -- one more member adds its airtime
 net_placed : (r s : Reservation) (ss : List Reservation) (t : Bool) → net (place r ss) ≡ airtime_us r + net ss → net (cond t (s ∷ place r ss) (r ∷ s ∷ ss)) ≡ airtime_us r + (airtime_us s + net ss)
 unfolding net

@@ -1,11 +1,13 @@
-use Rattle.std.specs.Prelude.{ℕ, ◌≡◌, ◌+◌, nat_le, Bool, true, false, ◌&&◌, is_some, refl, List, Option, Some, None}
+use Rattle.std.specs.Prelude.{ℕ, ◌≡◌, ◌+◌, nat_le, Bool, true, false, ◌&&◌, is_some, refl, List, Option, Some, None, ◌==◌, if◌then◌else◌, not, filter, find, max, Result, Ok, Err}
 use Rattle.std.proofs.Common.{arith}
 use Rattle.std.proofs.lemmas.Bool.Decides.{nat_tests}
 use Rattle.radio_airtime.specs.DataRate.{max_phy_of}
 use Rattle.radio_bands.specs.Band.{band_of}
 use Rattle.resv_list.specs.declared.reservation.Reservation.{Reservation}
 use Rattle.resv_list.specs.Fit.{IsFit, last_end}
-use Rattle.resv_list.specs.Reservations.{place}
+use Rattle.gateway_book.specs.declared.cancel.CancelFault.{CancelFault}
+use Rattle.gateway_book.specs.declared.cancel.CancelFault.TheVariants.{Begun, NotHere}
+use Rattle.resv_list.specs.Reservations.{place, airtime_us}
 use Rattle.gateway_book.specs.declared.ask.Ask.{Ask}
 use Rattle.gateway_book.specs.declared.refusal.Refusal.{Refusal}
 use Rattle.gateway_book.specs.Answer.{ask_airtime, ask_end, refusal_of}
@@ -51,3 +53,32 @@ after_answer (Some refusal) s ask = s
 abbrev pub book_step : ℕ → State → Ask → State
 book_step cap s ask =
     after_answer (refusal_of (record { floor = s.floor; cap = cap; booked = s.booked }) s.list ask) s ask
+
+-- whether a member has this number and this start
+abbrev pub is_named : ℕ → ℕ → Reservation → Bool
+is_named number start r = r.number == number && (r.start == start)
+
+-- the member that is taken out, or why there is none: it has begun, or it isn't there
+abbrev pub found_or : Option Reservation → Result Reservation CancelFault
+found_or None = Err NotHere
+found_or (Some r) = Ok r
+
+abbrev pub cancel_answer : ℕ → List Reservation → ℕ → ℕ → Result Reservation CancelFault
+cancel_answer floor l number start =
+    if nat_le start floor then Err Begun else found_or (find (is_named number start) l)
+
+-- the list without it
+abbrev pub without_named : List Reservation → ℕ → ℕ → List Reservation
+without_named l number start = filter (λ r. not (is_named number start r)) l
+
+abbrev pub after_cancel : Result Reservation CancelFault → State → ℕ → ℕ → State
+after_cancel (Ok r) s number start = record s { list = without_named s.list number start; cancelled = s.cancelled + airtime_us r }
+after_cancel (Err fault) s number start = s
+
+-- cancelling: the member leaves the list and adds to what is cancelled; otherwise nothing changes
+abbrev pub cancel_step : State → ℕ → ℕ → State
+cancel_step s number start = after_cancel (cancel_answer s.floor s.list number start) s number start
+
+-- a tick: the floor rises, and never falls
+abbrev pub tick_step : State → ℕ → State
+tick_step s now = record s { floor = max s.floor now }

@@ -1,12 +1,16 @@
-ghost use Rattle.std.specs.Prelude.{◌≡◌, ℕ, ◌≤◌, ◌↔◌, [], ◌∷◌, IsOk, IfOk, OnOk, OnErr, MatchOption, IsOkUnless, IsOkAnd, nat_lt};
-ghost use Rattle.std.specs.Option.{option_map};
-ghost use Rattle.gateway_book.specs.Answer.{IsAsked, first_some, no_band, too_long, past_end, refusal_of, overlap};
-ghost use Rattle.gateway_book.specs.Book.{terms_of, state_of, with_booked, totals_of};
-ghost use Rattle.resv_list.specs.Reservations.{start_of, end_of};
+ghost use Rattle.std.specs.Prelude.{◌≡◌, ℕ, ◌≤◌, ◌↔◌, [], ◌∷◌, IsOk, IfOk, OnOk, OnErr, MatchOption, IsOkUnless, IsOkAnd, nat_lt, max, find, OnSome};
+ghost use Rattle.std.specs.Option.{option_map, option_and_then};
+ghost use Rattle.gateway_book.specs.Answer.{IsAsked, first_some, no_band, too_long, past_end, refusal_of, overlap, overfull};
+ghost use Rattle.gateway_book.specs.Book.{terms_of, state_of, with_booked, with_cancelled, airtime_answer, totals_of};
+ghost use Rattle.radio_bands.specs.Band.{band_of};
+ghost use Rattle.resv_list.specs.Reservations.{start_of, end_of, airtime_us, without};
+ghost use Rattle.gateway_book.specs.Busiest.{IsBusiestAnswer, busiest_of};
 ghost use Rattle.gateway_book.specs.Spaced.{keep_if};
-ghost use Rattle.gateway_book.specs.Step.{book_step};
+ghost use Rattle.gateway_book.specs.Step.{book_step, cancel_answer, cancel_step, tick_step, is_named, without_named};
 
-use crate::{Ask, Refusal, Totals};
+use crate::busiest::busiest_hour;
+use crate::duty::{HOUR, full_hour};
+use crate::{Ask, CancelFault, Refusal, Totals};
 use radio_bands::Band;
 use resv_list::{Reservation, Roster};
 use std::alloc::{AllocError, Allocator};
@@ -122,6 +126,9 @@ impl<R: Roster> GatewayBook<R> {
         if let Some(start) = self.first_overlap(&reservation) {
             return Err(Refusal::Taken { start });
         }
+        if let Some(refusal) = self.duty_full(&reservation) {
+            return Err(refusal);
+        }
         if self.roster.len() >= self.cap as usize {
             return Err(Refusal::Full);
         }
@@ -143,6 +150,47 @@ impl<R: Roster> GatewayBook<R> {
         }
     }
 
+    /// The refusal of what would overfill an hour of its sub-band.
+    fn duty_full(&self, reservation: &Reservation) -> Option<Refusal>
+        ensures { result ≡ option_and_then (overfull self.now.list reservation.now.start (airtime_us reservation.now)) (band_of reservation.now.freq_hz reservation.now.rate) }
+    {
+        let band = reservation.band();
+        let from = full_hour(&self.roster, band, reservation.start, reservation.airtime())?;
+        let spent = self.roster.spent(band, from, from + HOUR);
+        Some(Refusal::DutyFull { band, from, spent })
+    }
+
+    /// Takes the transmission with this number and this start out of the book, and answers its airtime
+    /// in microseconds. What begins no later than the floor has begun, whether or not it is there. A
+    /// fault changes nothing.
+    pub fn cancel(&mut self, number: u64, start: u64) -> Result<u64, CancelFault>
+        ensures answer { result ≡ airtime_answer (cancel_answer self.old.floor self.old.list number start) }
+        ensures cancelled { IfOk result (λ airtime. self.new ≡ with_cancelled self.old number start airtime) }
+        ensures step { state_of self.new ≡ cancel_step (state_of self.old) number start }
+        ensures refused { OnErr result (self.new ≡ self.old) }
+    {
+        if start <= self.floor {
+            return Err(CancelFault::Begun);
+        }
+        match named(&self.roster, number, start) {
+            None => Err(CancelFault::NotHere),
+            Some(member) => {
+                self.roster.remove(start);
+                self.cancelled += member.airtime();
+                Ok(member.airtime())
+            }
+        }
+    }
+
+    /// Raises the floor to `now`, in microseconds of the gateway's clock; it never falls. Nothing that
+    /// begins before the floor is booked, and nothing that begins no later is cancelled.
+    pub fn tick(&mut self, now: u64)
+        ensures floor { self.new ≡ record self.old { floor = max self.old.floor now } }
+        ensures step { state_of self.new ≡ tick_step (state_of self.old) now }
+    {
+        self.floor = self.floor.max(now);
+    }
+
     /// What the book has counted.
     pub fn totals(&self) -> Totals
         ensures { result ≡ totals_of self.now }
@@ -155,6 +203,16 @@ impl<R: Roster> GatewayBook<R> {
             kept: self.roster.len(),
             floor: self.floor,
         }
+    }
+
+    /// The busiest hour of a sub-band: where it opens, the start of a kept transmission of the band, and
+    /// the airtime that begins in it, both in microseconds. No hour has more; of hours with as much the
+    /// first is answered. `None` where no transmission of the band is kept.
+    pub fn busiest(&self, band: Band) -> Option<(u64, u64)>
+        ensures hour { IsBusiestAnswer self.now.list band result }
+        ensures value { result ≡ busiest_of self.now.list band }
+    {
+        busiest_hour(&self.roster, band)
     }
 
     /// What the book keeps, by start.
@@ -179,6 +237,26 @@ fn members_of<R: Roster, A: Allocator>(
         from = member.start + 1;
     }
     Ok(members)
+}
+
+/// The member with this number and this start.
+fn named<R: Roster>(roster: &R, number: u64, start: u64) -> Option<Reservation>
+    ensures member { result ≡ find (is_named number start) (R.list roster.now) }
+    ensures alone { OnSome result (without start (R.list roster.now) ≡ without_named (R.list roster.now) number start) }
+{
+    let member = roster.first_from(start)?;
+    if is_named(&member, number, start) {
+        Some(member)
+    } else {
+        None
+    }
+}
+
+/// Whether a member has this number and this start.
+fn is_named(member: &Reservation, number: u64, start: u64) -> bool
+    ensures { result ≡ is_named number start member.now }
+{
+    member.number == number && member.start == start
 }
 
 /// The reservation with the asked fields, or why they are not fit for one.

@@ -1,4 +1,7 @@
-ghost use Rattle.gateway_book.specs.ApartLaws.{SpacedIsApart, FirstHasLeastStart, LeastIsLeast};
+ghost use Rattle.gateway_book.specs.ApartLaws.{SpacedIsApart, FirstHasLeastStart};
+ghost use Rattle.gateway_book.specs.LeastLaws.{LeastIsLeast};
+ghost use Rattle.gateway_book.specs.DutyLaws.{FewHoursSuffice, DutyRowIsExact};
+ghost use Rattle.gateway_book.specs.Busiest.{BusiestIsExact};
 
 /// Members at different places of a list by start are disjoint exactly where each begins no earlier
 /// than the one before it ends.
@@ -15,4 +18,23 @@ pub fn law_first_has_least_start()
 /// The least of some numbers is one of them, and none of them is less.
 pub fn law_least_is_least()
     ensures { LeastIsLeast }
+{}
+
+/// Of all hours that hold a start, only those want a look that open at it, or at the start of a member
+/// of its sub-band within the hour before it: where none of these would pass the limit, none would.
+pub fn law_few_hours_suffice()
+    ensures { FewHoursSuffice }
+{}
+
+/// The row of the duty cycle refuses exactly where some hour, wherever it opens, would pass the limit;
+/// it names the least start, of the ask or of a member of its sub-band, at which such an hour opens;
+/// and there is one such answer.
+pub fn law_duty_row_is_exact()
+    ensures { DutyRowIsExact }
+{}
+
+/// The busiest hour of a sub-band, over hours that open at any moment, is the one that is answered, and
+/// there is one such answer.
+pub fn law_busiest_is_exact()
+    ensures { BusiestIsExact }
 {}

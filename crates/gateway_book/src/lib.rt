@@ -3,13 +3,21 @@
 
 mod ask;
 mod book;
+mod busiest;
+mod cancel;
+mod duty;
 mod laws;
 mod refusal;
 mod totals;
 
 pub use ask::Ask;
 pub use book::{GatewayBook, MAX_CAP, NoMemory, OpenFault, TOTAL_LIMIT};
-pub use laws::{law_first_has_least_start, law_least_is_least, law_spaced_is_apart};
+pub use cancel::CancelFault;
+pub use duty::HOUR;
+pub use laws::{
+    law_busiest_is_exact, law_duty_row_is_exact, law_few_hours_suffice, law_first_has_least_start,
+    law_least_is_least, law_spaced_is_apart,
+};
 pub use refusal::Refusal;
 pub use text_lines::{ByteIn, ByteOut, CallFailed, MemoryIn, MemoryOut, StdIn, StdOut};
 pub use totals::Totals;

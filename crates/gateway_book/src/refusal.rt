@@ -1,3 +1,4 @@
+use radio_bands::Band;
 use thiserror::Error;
 
 /// Why a book refused an ask. Where several hold, the first in this order is answered.
@@ -14,6 +15,11 @@ pub enum Refusal {
     /// `start` is the least start of a reservation that overlaps, in microseconds.
     #[error("it overlaps the transmission that begins at {start}")]
     Taken { start: u64 },
+    /// `from` is the least opening of an hour that holds the start and would pass the sub-band's limit,
+    /// among the asked start and the starts of the band's members; `spent` is the airtime of the band
+    /// that begins in that hour without what is asked for. Both are in microseconds.
+    #[error("the hour from {from} of sub-band {band:?} has {spent} us of airtime and would pass its limit")]
+    DutyFull { band: Band, from: u64, spent: u64 },
     #[error("the book holds as many transmissions as it may")]
     Full,
     #[error("the booked airtime would pass 2^62 microseconds")]

@@ -1,9 +1,11 @@
 pub mod Fit
 pub mod Sorted
 pub mod SortedLaws
+pub mod Free
 pub mod Walk
 pub mod SameFields
 pub mod Reservations
+pub mod Begun
 pub use Rattle.radio_airtime.specs.DataRate
 pub use Rattle.radio_airtime.specs.TimeOnAir
 pub use Rattle.radio_airtime.specs.Bounds

@@ -1,4 +1,4 @@
-use Rattle.std.specs.Prelude.{ℕ, ◌+◌, nat_lt, nat_le, ◌&&◌, if◌then◌else◌, Bool, List, [], ◌∷◌, Option, ◌≢◌, All, map}
+use Rattle.std.specs.Prelude.{ℕ, ◌+◌, nat_lt, nat_le, ◌&&◌, if◌then◌else◌, Bool, List, [], ◌∷◌, Option, ◌≢◌, All, map, find, filter, not, ◌==◌}
 use Rattle.radio_airtime.specs.TimeOnAir.{airtime_of}
 use Rattle.radio_bands.specs.declared.band.Band.{Band}
 use Rattle.radio_bands.specs.Band.{lies_in, hour}
@@ -42,6 +42,14 @@ member_before start l = last_below start_of start l
 -- the member with the least start not below `start`, of a list that is by start
 abbrev pub member_from : ℕ → List Reservation → Option Reservation
 member_from start l = first_from start_of start l
+
+-- the member that begins at this very moment
+abbrev pub member_at : ℕ → List Reservation → Option Reservation
+member_at start l = find (λ r. r.start == start) l
+
+-- the list without what begins at this very moment
+abbrev pub without : ℕ → List Reservation → List Reservation
+without start l = filter (λ r. not (r.start == start)) l
 
 -- no member has this start
 abbrev pub IsFree : ℕ → List Reservation → Type 0

@@ -1,7 +1,9 @@
-use Rattle.std.specs.Prelude.{ℕ, ◌≡◌, ◌≢◌, ◌+◌, ◌<◌, ◌≤◌, nat_lt, Bool, true, false, not, List, [], ◌∷◌, ◌++◌, length, Some, filter, find, All, map, take, drop, ◌-◌, slice_get, cond}
+use Rattle.std.specs.Prelude.{ℕ, ◌≡◌, ◌≢◌, ◌+◌, ◌<◌, ◌≤◌, nat_lt, Bool, true, false, not, List, [], ◌∷◌, ◌++◌, length, Some, filter, find, All, map, take, drop, ◌-◌, slice_get, cond, ◌==◌, remove, None}
 use Rattle.std.specs.List.Sorted.{IsPartitionPoint, IsNonDecreasingBy}
 use Rattle.std.proofs.Common.{refl, sym, ap, ◌∙◌, arith, zero, suc, get_or}
 use Rattle.std.proofs.lemmas.Bool.{ltb-true, ltb-false}
+use Rattle.std.proofs.lemmas.Bool.Decides.{nat_tests}
+use Rattle.std.proofs.lemmas.Option.{slice_get_within}
 use Rattle.resv_list.specs.Sorted.{last, RisesFrom, place_by}
 
 module _ {X : Type 0} (key : X → ℕ) where
@@ -29,7 +31,7 @@ abbrev pub IsCut : {X : Type 0} → (X → Bool) → List X → ℕ → Type 0
 IsCut test xs i = IsPartitionPoint (λ y. test y ≡ true) (λ y. test y ≡ false) xs i
 
 module _ {X : Type 0} (test : X → Bool) where
-  cut_rest : (x : X) (xs : List X) (i : ℕ) → IsCut test (x ∷ xs) (suc i) → IsCut test xs i
+  pub cut_rest : (x : X) (xs : List X) (i : ℕ) → IsCut test (x ∷ xs) (suc i) → IsCut test xs i
   cut_rest x xs i c = (λ k d h g. c.0 (suc k) d (omega arith) (omega arith), λ k d h g. c.1 (suc k) d (omega arith) (omega arith))
 
   filter_none : (xs : List X) → IsCut test xs 0 → filter test xs ≡ []
@@ -103,3 +105,75 @@ last-take_before xs zero x p h e = absurd (omega arith)
 last-take_before xs (suc i) x p h e =
     let s : suc i - 1 ≡ i = omega arith in
     last-take xs i (omega arith) ∙ slice_get-read xs i x (omega arith) (rw s at e)
+
+-- What stands at one key of a list that rises: one member at most.
+
+module _ {X : Type 0} (key : X → ℕ) where
+  pub at_none : (low at : ℕ) (xs : List X) → at < low → RisesFrom key low xs → (find (λ x. key x == at) xs ≡ None) × (filter (λ x. not (key x == at)) xs ≡ xs)
+  at_none low at [] h r = (refl, refl)
+  at_none low at (x ∷ xs) h r =
+      let e : (key x == at) ≡ false = grind (arith, nat_tests) in
+      let i = at_none (key x + 1) at xs (omega arith) r.1 in
+      (rw e i.0, rw (e, i.1) refl)
+
+  cut_fails : (at : ℕ) (x : X) (xs : List X) → IsCut (λ y. nat_lt (key y) at) (x ∷ xs) 0 → at ≤ key x
+  cut_fails at x xs c = ltb-false (key x) at (c.1 zero x (omega arith) (omega arith))
+
+  cut_passes : (at : ℕ) (x : X) (xs : List X) (i : ℕ) → IsCut (λ y. nat_lt (key y) at) (x ∷ xs) (suc i) → key x < at
+  cut_passes at x xs i c = ltb-true (key x) at (c.0 zero x (omega arith) (omega arith))
+
+  -- the member at the key, where the first that doesn't lie below it has it
+  pub at_cut : (low at : ℕ) (xs : List X) (i : ℕ) (y : X) → IsCut (λ x. nat_lt (key x) at) xs i → RisesFrom key low xs → slice_get xs i ≡ Some y → key y ≡ at → (find (λ x. key x == at) xs ≡ Some y) × (filter (λ x. not (key x == at)) xs ≡ remove xs i)
+  at_cut low at [] i y c r g k = absurd (cc)
+  at_cut low at (x ∷ xs) zero y c r g k =
+      let same : x ≡ y = cc in
+      let l : key x ≡ at = ap key same ∙ k in
+      let e : (key x == at) ≡ true = grind (arith, nat_tests) in
+      let rest = at_none (key x + 1) at xs (omega arith) r.1 in
+      (rw e (ap Some same), rw (e, rest.1) refl)
+  at_cut low at (x ∷ xs) (suc i) y c r g k =
+      let l = cut_passes at x xs i c in
+      let e : (key x == at) ≡ false = grind (arith, nat_tests) in
+      let rest = at_cut (key x + 1) at xs i y (cut_rest (λ z. nat_lt (key z) at) x xs i c) r.1 g k in
+      (rw e rest.0, rw (e, rest.1) refl)
+
+  -- no member at the key, where the first that doesn't lie below it has another or there is none
+  pub not_at_cut : (low at : ℕ) (xs : List X) (i : ℕ) → IsCut (λ x. nat_lt (key x) at) xs i → RisesFrom key low xs → ((y : X) → slice_get xs i ≡ Some y → key y ≢ at) → (find (λ x. key x == at) xs ≡ None) × (filter (λ x. not (key x == at)) xs ≡ xs)
+  not_at_cut low at [] i c r n = (refl, refl)
+  not_at_cut low at (x ∷ xs) zero c r n =
+      let l = cut_fails at x xs c in
+      let other : key x ≢ at = n x refl in
+      let e : (key x == at) ≡ false = grind (arith, nat_tests) in
+      let rest = at_none (key x + 1) at xs (omega arith) r.1 in
+      (rw e rest.0, rw (e, rest.1) refl)
+  not_at_cut low at (x ∷ xs) (suc i) c r n =
+      let l = cut_passes at x xs i c in
+      let e : (key x == at) ≡ false = grind (arith, nat_tests) in
+      let rest = not_at_cut (key x + 1) at xs i (cut_rest (λ z. nat_lt (key z) at) x xs i c) r.1 n in
+      (rw e rest.0, rw (e, rest.1) refl)
+
+  -- from a cut on, the list rises from its key
+  pub RisesFrom-cut : (low at : ℕ) (xs : List X) (i : ℕ) → IsCut (λ x. nat_lt (key x) at) xs i → RisesFrom key low xs → RisesFrom key at (drop i xs)
+  RisesFrom-cut low at [] zero c r = tt
+  RisesFrom-cut low at [] (suc i) c r = tt
+  RisesFrom-cut low at (x ∷ xs) zero c r = (cut_fails at x xs c, r.1)
+  RisesFrom-cut low at (x ∷ xs) (suc i) c r = RisesFrom-cut (key x + 1) at xs i (cut_rest (λ z. nat_lt (key z) at) x xs i c) r.1
+
+  pub RisesFrom-drop : (low : ℕ) (xs : List X) (i : ℕ) → RisesFrom key low xs → RisesFrom key low (drop i xs)
+  RisesFrom-drop low xs zero r = r
+  RisesFrom-drop low [] (suc i) r = tt
+  RisesFrom-drop low (x ∷ xs) (suc i) r = RisesFrom-lower key low (key x + 1) (drop i xs) (omega arith) (RisesFrom-drop (key x + 1) xs i r.1)
+
+module _ {X : Type 0} (key : X → ℕ) where
+  filtered_by : (test : X → Bool) (low : ℕ) (x : X) (xs : List X) (t : Bool) → RisesFrom key low (x ∷ xs) → RisesFrom key (key x + 1) (filter test xs) → RisesFrom key low (cond t (x ∷ filter test xs) (filter test xs))
+  filtered_by test low x xs true r f = (r.0, f)
+  filtered_by test low x xs false r f = RisesFrom-lower key low (key x + 1) (filter test xs) (omega arith) f
+
+  -- what a test leaves of a rising list rises
+  pub RisesFrom-filter : (test : X → Bool) (low : ℕ) (xs : List X) → RisesFrom key low xs → RisesFrom key low (filter test xs)
+  RisesFrom-filter test low [] r = tt
+  RisesFrom-filter test low (x ∷ xs) r = filtered_by test low x xs (test x) r (RisesFrom-filter test (key x + 1) xs r.1)
+
+-- past the end nothing stands
+pub nothing_past : {X : Type 0} (xs : List X) (i : ℕ) (x : X) → length xs ≤ i → slice_get xs i ≡ Some x → ⊥
+nothing_past xs i x h e = let g = slice_get_within xs i x e in omega arith

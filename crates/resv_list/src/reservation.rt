@@ -1,4 +1,4 @@
-ghost use Rattle.std.specs.Prelude.{◌≡◌, ◌↔◌, IsSome, IfSome, Some};
+ghost use Rattle.std.specs.Prelude.{◌≡◌, ◌↔◌, IsSome, IfSome, Some, ◌<◌};
 ghost use Rattle.radio_airtime.specs.TimeOnAir.{airtime_of};
 ghost use Rattle.radio_bands.specs.Band.{LiesIn, band_of};
 ghost use Rattle.resv_list.specs.Fit.{IsFit, end_at};
@@ -53,7 +53,9 @@ impl Reservation {
 
     /// Its time on air, in microseconds.
     pub fn airtime(&self) -> u64
-        ensures { result ≡ airtime_of self.now.rate self.now.len }
+        ensures value { result ≡ airtime_of self.now.rate self.now.len }
+        ensures positive { 0 < result }
+        ensures short { result < 10000000 }
     {
         airtime(self.rate, self.len)
     }
@@ -70,5 +72,53 @@ impl Reservation {
         ensures { band_of self.now.freq_hz self.now.rate ≡ Some result }
     {
         Band::of(self.freq_hz, self.rate).unwrap()
+    }
+}
+
+#[cfg(test)]
+mod tests {
+    use super::*;
+
+    #[test]
+    fn is_made_where_it_is_fit(rt: HostRuntime) {
+        // (start, freq_hz, rate, len, whether it is fit); the first ends at 2^61, the end of time
+        let cases = [
+            (
+                2_305_843_009_213_652_736,
+                868_100_000,
+                DataRate::Dr5,
+                12,
+                true,
+            ),
+            (
+                2_305_843_009_213_652_737,
+                868_100_000,
+                DataRate::Dr5,
+                12,
+                false,
+            ),
+            (0, 865_000_000, DataRate::Dr0, 12, false),
+            (0, 868_100_000, DataRate::Dr0, 64, true),
+            (0, 868_100_000, DataRate::Dr0, 65, false),
+        ];
+        for (start, freq_hz, rate, len, is_fit) in cases {
+            let made = Reservation::new(1, start, freq_hz, rate, len);
+            assert_eq!(rt;
+                made.is_some(),
+                is_fit,
+                "at {start}, {freq_hz} Hz, {rate:?}, {len} bytes"
+            );
+        }
+    }
+
+    #[test]
+    fn lasts_its_time_on_air(rt: HostRuntime) -> Result<(), &'static str> {
+        let made = Reservation::new(1, 10_000_000, 868_100_000, DataRate::Dr5, 12).ok_or(
+            "it is fit",
+        )?;
+        assert_eq!(rt; made.airtime(), 41_216);
+        assert_eq!(rt; made.end(), 10_041_216);
+        assert_eq!(rt; made.band(), Band::M);
+        Ok(())
     }
 }

@@ -1,8 +1,9 @@
 ghost use Rattle.std.specs.Prelude.{◌≡◌, ℕ, ◌≤◌, ◌↔◌, List, length, IfErr, OnOk, OnErr, IsErrAnd};
 ghost use Rattle.resv_list.specs.declared.reservation.Reservation.{Reservation as Member};
-ghost use Rattle.resv_list.specs.Reservations.{IsByStart, IsFree, place, member_before, member_from};
+ghost use Rattle.resv_list.specs.Reservations.{IsByStart, IsFree, place, member_before, member_from, member_at, without, begun};
 
 use crate::Reservation;
+use radio_bands::Band;
 use thiserror::Error;
 
 /// The greatest number of reservations in a roster.
@@ -33,6 +34,16 @@ pub trait Roster {
     /// The one with the least start not below `start`.
     fn first_from(&self, start: u64) -> Option<Reservation>
         ensures { result ≡ member_from start (list self.now) };
+
+    /// The airtime of those of the sub-band that begin from `from` on and before `to`, in microseconds;
+    /// a transmission counts whole where it begins.
+    fn spent(&self, band: Band, from: u64, to: u64) -> u64
+        ensures { result ≡ begun band from to (list self.now) };
+
+    /// Takes out the one that begins at `start`, if there is one.
+    fn remove(&mut self, start: u64) -> Option<Reservation>
+        ensures removed { result ≡ member_at start (list self.old) }
+        ensures left { list self.new ≡ without start (list self.old) };
 
     /// Puts one more in its place; on an `Err` it is handed back, and the roster is as it was.
     fn insert(&mut self, reservation: Reservation) -> Result<(), (RosterFault, Reservation)>

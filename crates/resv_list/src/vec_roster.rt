@@ -1,10 +1,11 @@
-ghost use Rattle.std.specs.Prelude.{◌≡◌, ◌≤◌, [], length, insert, nat_lt, slice_get};
+ghost use Rattle.std.specs.Prelude.{◌≡◌, ◌≤◌, [], ◌<◌, length, insert, remove, nat_lt, slice_get, vec_len, MatchOption, IfSome, if◌then◌else◌};
 ghost use Rattle.resv_list.specs.declared.reservation.Reservation.{Reservation as Member};
-ghost use Rattle.resv_list.specs.Sorted.{RisesFrom-prop};
+ghost use Rattle.resv_list.specs.Sorted.{RisesFrom, RisesFrom-prop};
 ghost use Rattle.resv_list.specs.SortedLaws.{IsCut};
-ghost use Rattle.resv_list.specs.Reservations.{start_of, IsByStart, place, member_before, member_from};
+ghost use Rattle.resv_list.specs.Reservations.{start_of, IsByStart, place, member_before, member_from, member_at, without, begun, is_in, airtime_us};
 
 use crate::{MAX_MEMBERS, Reservation, Roster, RosterFault};
+use radio_bands::Band;
 use std::alloc::Allocator;
 
 /// A roster in one sorted vector: looking up takes a binary search, inserting moves the tail.
@@ -12,6 +13,7 @@ use std::alloc::Allocator;
 pub struct VecRoster<A: Allocator> {
     items: Vec<Reservation, A>,
     ghost by_start: { IsByStart items.items } by { RisesFrom-prop start_of 0 items.items },
+    ghost bounded: { vec_len items ≤ 65536 },
 }
 
 impl<A: Allocator> VecRoster<A> {
@@ -38,6 +40,15 @@ impl<A: Allocator> Roster for VecRoster<A> {
 
     fn first_from(&self, start: u64) -> Option<Reservation> {
         first_from_in(&self.items, start)
+    }
+
+    fn spent(&self, band: Band, from: u64, to: u64) -> u64 {
+        spent_in(&self.items, band, from, to)
+    }
+
+    fn remove(&mut self, start: u64) -> Option<Reservation> {
+        let place = place_at(&self.items, start)?;
+        Some(self.items.remove(place))
     }
 
     fn insert(&mut self, reservation: Reservation) -> Result<(), (RosterFault, Reservation)> {
@@ -88,3 +99,62 @@ fn member_at(members: &[Reservation], place: usize) -> Option<Reservation>
 {
     members.get(place).copied()
 }
+
+/// The place of the member, of members by start, that begins at `start`.
+fn place_at(members: &[Reservation], start: u64) -> Option<usize>
+    requires { IsByStart members.now }
+    ensures within { IfSome result (λ place. place < length members.now) }
+    ensures found { MatchOption result (member_at start members.now ≡ None) (λ place. member_at start members.now ≡ slice_get members.now place) }
+    ensures left { MatchOption result (without start members.now ≡ members.now) (λ place. without start members.now ≡ remove members.now place) }
+{
+    let place = place_of(members, start);
+    if place == members.len() {
+        return None;
+    }
+    if members[place].start == start {
+        Some(place)
+    } else {
+        None
+    }
+}
+
+/// The airtime of the members of the band, of members by start, that begin from `from` on and before
+/// `to`.
+fn spent_in(members: &[Reservation], band: Band, from: u64, to: u64) -> u64
+    requires by_start { IsByStart members.now }
+    requires bounded { length members.now ≤ 65536 }
+    ensures { result ≡ begun band from to members.now }
+{
+    begun_before(&members[place_of(members, from)..], band, from, to)
+}
+
+/// The same of members that begin from `from` on.
+fn begun_before(members: &[Reservation], band: Band, from: u64, to: u64) -> u64
+    requires rising { RisesFrom start_of from members.now }
+    requires bounded { length members.now ≤ 65536 }
+    ensures { result ≡ begun band from to members.now }
+{
+    let mut sum = 0;
+    for member in members {
+        if member.start >= to {
+            return sum;
+        }
+        sum += airtime_in(member, band);
+    }
+    sum
+}
+
+/// The airtime of a member of the band, and 0 of one of another.
+fn airtime_in(member: &Reservation, band: Band) -> u64
+    ensures value { result ≡ (if is_in band member.now then airtime_us member.now else 0) }
+    ensures short { result < 10000000 }
+{
+    if band.holds(member.freq_hz, member.rate) {
+        member.airtime()
+    } else {
+        0
+    }
+}
+
+#[cfg(test)]
+mod tests;

@@ -29,6 +29,12 @@ IsEndWithin ahead Whole = ⊤
 IsEndWithin ahead Last = (ahead.pending ≡ []) × (ahead.taken ≤ INPUT_LIMIT)
 IsEndWithin ahead End = (ahead.pending ≡ []) × (ahead.taken ≤ INPUT_LIMIT)
 
+-- where a line was found, at least one byte was taken
+abbrev pub AdvancesAt : NextLine → Ahead → Ahead → Type 0
+AdvancesAt Whole old new = old.taken < new.taken
+AdvancesAt Last old new = old.taken < new.taken
+AdvancesAt End old new = ⊤
+
 -- `raw` stands at the front of the bytes with a line feed after it, and `rest` follows; `held` is the front of `raw`
 pub record TakesPart (bytes held rest : List ℕ) : Type 0 where
   pub raw : List ℕ

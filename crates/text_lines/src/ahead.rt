@@ -58,7 +58,7 @@ impl Model for ReadAhead {
 
 impl ReadAhead {
     ghost use Rattle.text_lines.specs.Ahead.{unread, read_count, TakesFront};
-    ghost use Rattle.text_lines.specs.Reading.{CountsRead, IsTooMuchOnlyPast, GivesPart, GivesLine, IsEndWithin};
+    ghost use Rattle.text_lines.specs.Reading.{CountsRead, IsTooMuchOnlyPast, GivesPart, GivesLine, IsEndWithin, AdvancesAt};
 
     /// Nothing read and nothing taken.
     pub fn new() -> Self
@@ -153,6 +153,8 @@ impl ReadAhead {
         ensures part { IfOk result (λ found. GivesPart (unread self.old (R.left reader.old))
             (unread self.new (R.left reader.new)) found part.new) }
         ensures front { TakesFront self.old (R.left reader.old) self.new (R.left reader.new) }
+        ensures advances { IfOk result (λ found. AdvancesAt found self.old self.new) }
+        ensures bound { self.new.taken ≤ INPUT_LIMIT + READ_SIZE }
         ensures within { IfOk result (IsEndWithin self.new) }
         ensures too_much { IsTooMuchOnlyPast self.new result }
         ensures failed { CountsRead (R.failed_calls reader.old) (R.failed_calls reader.new) result }
@@ -179,6 +181,8 @@ impl ReadAhead {
         ensures line { IfOk result (λ found. GivesLine (unread self.old (R.left reader.old))
             (unread self.new (R.left reader.new)) found line.new) }
         ensures front { TakesFront self.old (R.left reader.old) self.new (R.left reader.new) }
+        ensures advances { IfOk result (λ found. AdvancesAt found self.old self.new) }
+        ensures bound { self.new.taken ≤ INPUT_LIMIT + READ_SIZE }
         ensures within { IfOk result (IsEndWithin self.new) }
         ensures too_much { IsTooMuchOnlyPast self.new result }
         ensures failed { CountsRead (R.failed_calls reader.old) (R.failed_calls reader.new) result }

@@ -171,10 +171,7 @@ fn output_is_gathered(rt: HostRuntime) -> Result<(), Fail> {
     }
     behind.flush(&mut writer)?;
     assert_eq!(rt; writer.bytes.len(), 500 * 28);
-    assert_eq!(rt;
-        &writer.bytes[..28],
-        b"number 18446744073709551000\n".as_slice()
-    );
+    assert!(rt; writer.bytes.starts_with(b"number 18446744073709551000\n"));
     // One call for 4,096 bytes or more, and one for the rest.
     assert_eq!(rt; writer.calls, 4);
     Ok(())

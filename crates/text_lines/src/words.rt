@@ -1,5 +1,6 @@
 // What a line says: whether it is passed over, and its words.
 ghost use Rattle.std.specs.Prelude.{◌≡◌, ℕ, ◌<◌, ◌≤◌, ◌↔◌, List, [], ◌∷◌, map, length, take, drop, slice_index, true, false, IsTrue, IfSome, MatchOption};
+ghost use Rattle.std.specs.Str.{bytes_eq};
 ghost use Rattle.text_lines.specs.Line.{is_too_long};
 ghost use Rattle.text_lines.specs.Words.{is_blank, words_of, is_passed_over};
 
@@ -66,7 +67,8 @@ pub fn first_word(line: &[u8]) -> Option<(&[u8], &[u8])>
 
 /// Whether the word is this one, byte by byte.
 pub fn is_word(word: &[u8], name: &[u8]) -> bool
-    ensures { IsTrue result ↔ (word.now ≡ name.now) }
+    ensures same { IsTrue result ↔ (word.now ≡ name.now) }
+    ensures test { result ≡ bytes_eq word.now name.now }
 {
     word == name
 }
@@ -89,7 +91,8 @@ impl<'a> Model for Words<'a> {
 impl<'a> Words<'a> {
     /// The first words of a line, at most 10: where a line has 10 or more, there are 10.
     pub fn of(line: &'a [u8]) -> Self
-        ensures { result ≡ take WORD_LIMIT (words_of line.now) }
+        ensures words { result ≡ take WORD_LIMIT (words_of line.now) }
+        ensures all { length result < WORD_LIMIT → result ≡ words_of line.now }
     {
         let mut words: [&[u8]; WORD_LIMIT] = [&[]; WORD_LIMIT];
         let mut count = 0;

@@ -1,4 +1,4 @@
-use Rattle.std.proofs.Common.{◌≡◌, Bool, true, false, List, refl, subst, sym, ◌∙◌, if◌then◌else◌, arith, insert}
+use Rattle.std.proofs.Common.{◌≡◌, Bool, true, false, List, refl, subst, sym, ◌∙◌, if◌then◌else◌, arith, insert, is_ok}
 use Rattle.resv_list.specs.declared.reservation.Reservation.{Reservation}
 use Rattle.resv_list.specs.SortedLaws.{RisesFrom-place_by}
 use Rattle.resv_list.specs.Reservations.{start_of, place, IsByStart}
@@ -12,21 +12,20 @@ by_start_kept false old new placed e p o = let P : List Reservation → Type 0 =
 pub insert-requires : goal.insert-requires
 insert-requires g c = omega (arith, c.place_of-place.ensures.bound, c.deref.ensures.len)
 
-pub invariant_of-self : goal.invariant_of-self
-invariant_of-self g c =
-    let placed : place c.args.reservation c.args.self.now.items.items ≡ insert c.args.self.now.items.items c.place_of-place.result c.args.reservation =
+pub invariant_of-self-clause-by_start : goal.invariant_of-self-clause-by_start
+invariant_of-self-clause-by_start g c =
+    let old = c.args.self.now.items.items in
+    let placed : place c.args.reservation old ≡ insert old c.place_of-place.result c.args.reservation =
     rw c.deref.ensures.value at (c.place_of-place.ensures.placed c.args.reservation refl) in
     let P : List Reservation → Type 0 = λ l. IsByStart l in
-    record {
-      by_start = by_start_kept
-          _
-          c.args.self.now.items.items
-          _
-          _
-          c.insert.ensures.items
-          (subst P placed (RisesFrom-place_by start_of 0 c.args.reservation c.args.self.now.items.items (omega arith) c.requires c.args.self.now.by_start))
-          c.args.self.now.by_start;
-    }
+    by_start_kept
+    (is_ok c.insert.result)
+    old
+    c.insert.new.self.items
+    (insert old c.place_of-place.result c.args.reservation)
+    c.insert.ensures.items
+    (subst P placed (RisesFrom-place_by start_of 0 c.args.reservation old (omega arith) c.requires c.args.self.now.by_start))
+    c.args.self.now.by_start
 
 pub returns-in-Ok-clause-placed : goal.returns-in-Ok-clause-placed
 returns-in-Ok-clause-placed g c =

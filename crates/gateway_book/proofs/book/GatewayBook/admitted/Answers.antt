@@ -1,0 +1,22 @@
+use Rattle.std.proofs.Common.{◌≡◌, ◌≤◌, ℕ, nat_lt, false, Option, Some, None, [], ◌∷◌, sym, ap, ◌∙◌, subst}
+use Rattle.std.specs.Option.{option_and_then}
+use Rattle.std.proofs.lemmas.Bool.{le-ltb}
+use Rattle.radio_bands.specs.Band.{band_of}
+use Rattle.resv_list.specs.Reservations.{end_of, airtime_us}
+use Rattle.gateway_book.specs.Answer.{no_band, too_long, past_end, first_some, overlap, overfull, ask_end, duty_full, refusal_of}
+use Rattle.gateway_book.specs.AnswerLaws.{not_refused, answer_duty, answer_match, overlap_asked, duty_asked}
+use Rattle.gateway_book.specs.Book.{Book, terms_of}
+use Rattle.gateway_book.proofs.book.GatewayBook.admitted.Goals as goal
+
+pub returns-in-Some-duty_full : goal.returns-in-Some-duty_full
+returns-in-Some-duty_full g c =
+    let now = c.args.self.now in
+    let ask = c.args.ask in
+    let r = c.in_ok-reservation.reservation in
+    let refusal = c.in-Some-duty_full.refusal in
+    let told = not_refused (first_some (no_band ask ∷ too_long ask ∷ past_end ask ∷ [])) r ask c.in_ok-reservation.ensures in
+    let P : Book → Type 0 = λ b. nat_lt ask.start b.floor ≡ false in
+    let ahead : P now = subst P c.self.view_is (le-ltb ask.start c.self.inside.floor c.if-ask-self.false) in
+    let clear = overlap_asked now.list ask r told.1 (sym c.first_overlap.ensures ∙ c.in_default.is) in
+    let full = duty_asked now.list ask r refusal told.1 (sym c.duty_full.ensures ∙ c.in-Some-duty_full.is) in
+    answer_match (refusal_of (terms_of now) now.list ask) refusal ask (answer_duty (terms_of now) now.list ask refusal told.0 ahead clear full)

@@ -1,0 +1,29 @@
+use Rattle.std.specs.Prelude.{ℕ, ◌+◌, nat_lt, nat_le, Bool, ◌&&◌, List, ◌∷◌, Option, map, filter}
+use Rattle.radio_bands.specs.declared.band.Band.{Band}
+use Rattle.radio_bands.specs.Band.{hour, limit_of}
+use Rattle.resv_list.specs.declared.reservation.Reservation.{Reservation}
+use Rattle.resv_list.specs.Reservations.{start_of, is_in, spent}
+use Rattle.gateway_book.specs.Least.{least}
+
+-- Duty cycle over one hour (ETSI EN 300 220-2): within any hour, wherever it opens, the airtime of a
+-- sub-band that begins in it keeps the band's limit. An hour is half open.
+
+-- whether the moment lies in the hour that opens at t
+abbrev pub is_within_hour : ℕ → ℕ → Bool
+is_within_hour moment t = nat_le t moment && nat_lt moment (t + hour)
+
+-- whether the hour that opens at t would pass the band's limit with so much more airtime
+abbrev pub would_pass : List Reservation → Band → ℕ → ℕ → Bool
+would_pass l band airtime t = nat_lt (limit_of band) (spent l band t + airtime)
+
+-- whether the hour that opens at t holds the start, and would pass the limit with what begins there
+abbrev pub is_overfull : List Reservation → Band → ℕ → ℕ → ℕ → Bool
+is_overfull l band start airtime t = is_within_hour start t && would_pass l band airtime t
+
+-- the starts of the members of the band
+abbrev pub starts_in : List Reservation → Band → List ℕ
+starts_in l band = map start_of (filter (is_in band) l)
+
+-- the least opening of such an hour, among the start and the starts of the members of the band
+unfoldable pub full_hour : List Reservation → Band → ℕ → ℕ → Option ℕ
+full_hour l band start airtime = least (filter (is_overfull l band start airtime) (start ∷ starts_in l band))
