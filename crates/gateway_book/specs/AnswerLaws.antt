@@ -1,4 +1,4 @@
-use Rattle.std.specs.Prelude.{ℕ, ◌≡◌, ◌≢◌, ◌+◌, ◌≤◌, nat_lt, ◌==◌, Bool, true, false, not, is_some, List, [], ◌∷◌, length, Option, Some, None, Ok, Err, Result, MatchOption, IsOkAnd, IsOkUnless}
+use Rattle.std.specs.Prelude.{ℕ, ◌≡◌, ◌≢◌, ◌+◌, ◌≤◌, nat_lt, ◌==◌, Bool, true, false, not, is_some, List, [], ◌∷◌, length, Option, Some, None, Ok, Err, Result, MatchOption, IsOkAnd}
 use Rattle.std.specs.Option.{option_map, option_and_then}
 use Rattle.std.proofs.Common.{refl, sym, ap, ◌∙◌, arith}
 use Rattle.std.proofs.lemmas.Bool.Decides.{nat_tests}
@@ -10,7 +10,7 @@ use Rattle.resv_list.specs.SameFields.{same_fields}
 use Rattle.resv_list.specs.Reservations.{end_of, airtime_us, place, spent}
 use Rattle.gateway_book.specs.declared.ask.Ask.{Ask}
 use Rattle.gateway_book.specs.declared.refusal.Refusal.{Refusal}
-use Rattle.gateway_book.specs.declared.refusal.Refusal.TheVariants.{NoBand, TooLong, PastEnd, Passed, Taken, DutyFull, Full, TotalsFull, NoMemory}
+use Rattle.gateway_book.specs.declared.refusal.Refusal.TheVariants.{NoBand, TooLong, PastEnd, Passed, Taken, DutyFull, Full, TotalsFull}
 use Rattle.radio_bands.specs.declared.band.Band.{Band}
 use Rattle.gateway_book.specs.Duty.{full_hour}
 use Rattle.gateway_book.specs.Kept.{kept}

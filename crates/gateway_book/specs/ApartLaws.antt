@@ -1,14 +1,14 @@
-use Rattle.std.specs.Prelude.{ℕ, ◌≡◌, min, ◌+◌, ◌<◌, ◌≤◌, nat_lt, Bool, true, false, ◌↔◌, ◌⊎◌, List, [], ◌∷◌, Option, Some, None, All, Contains, MatchOption, slice_get, find}
+use Rattle.std.specs.Prelude.{ℕ, ◌≡◌, ◌+◌, ◌<◌, ◌≤◌, nat_lt, Bool, true, false, ◌↔◌, List, [], ◌∷◌, Some, slice_get, find}
 use Rattle.std.specs.Option.{option_map}
-use Rattle.std.proofs.Common.{refl, sym, ap, ◌∙◌, arith, zero, suc, inl, inr, subst}
-use Rattle.std.proofs.lemmas.Bool.{ltb-true, ltb-false, cases_lt}
+use Rattle.std.proofs.Common.{refl, ap, ◌∙◌, arith, zero, suc, inl, inr}
+use Rattle.std.proofs.lemmas.Bool.{ltb-true, ltb-false}
 use Rattle.radio_airtime.specs.Bounds.{airtime_of-positive}
 use Rattle.resv_list.specs.declared.reservation.Reservation.{Reservation}
 use Rattle.resv_list.specs.Sorted.{RisesFrom}
 use Rattle.resv_list.specs.Reservations.{start_of, end_of, IsByStart}
 use Rattle.gateway_book.specs.Disjoint.{AreDisjoint}
 use Rattle.gateway_book.specs.Lawful.{AreApart}
-use Rattle.gateway_book.specs.Least.{least, at_most, first_start}
+use Rattle.gateway_book.specs.Least.{first_start}
 use Rattle.gateway_book.specs.Spaced.{SpacedFrom}
 use Rattle.gateway_book.specs.Spaced.{or_else, keep_if}
 use Rattle.gateway_book.specs.SpacedLaws.{least-find}

@@ -1,4 +1,4 @@
-use Rattle.std.specs.Prelude.{ℕ, ◌≡◌, ◌+◌, ◌<◌, ◌≤◌, max, nat_lt, nat_le, ◌==◌, ◌↔◌, ◌⊎◌, Bool, true, false, List, [], ◌∷◌, Option, Some, None, map, filter, Contains, All, MatchOption, cond, refl}
+use Rattle.std.specs.Prelude.{ℕ, ◌≡◌, ◌+◌, ◌<◌, ◌≤◌, max, nat_lt, ◌==◌, ◌↔◌, ◌⊎◌, Bool, true, false, List, [], ◌∷◌, Option, Some, None, map, filter, Contains, All, MatchOption, cond, refl}
 use Rattle.std.specs.Option.{option_map}
 use Rattle.std.proofs.Common.{sym, ap, ◌∙◌, arith, subst, zero, suc, inl, inr}
 use Rattle.std.proofs.lemmas.Bool.Decides.{nat_tests}
@@ -10,8 +10,8 @@ use Rattle.resv_list.specs.Reservations.{start_of, is_in, spent, IsByStart}
 use Rattle.gateway_book.specs.Least.{least}
 use Rattle.gateway_book.specs.LeastLaws.{least_is_least}
 use Rattle.gateway_book.specs.Duty.{starts_in}
-use Rattle.gateway_book.specs.DutyLaws.{OfStarts, OfStarts-from, none_more, all_at, Contains-filter, filter-Contains}
-use Rattle.gateway_book.specs.Busiest.{IsBusiest, IsBusiestAnswer, greatest, most_spent, busiest_of}
+use Rattle.gateway_book.specs.DutyLaws.{OfStarts-from, none_more, all_at, Contains-filter, filter-Contains}
+use Rattle.gateway_book.specs.Busiest.{IsBusiestAnswer, greatest, most_spent, busiest_of}
 
 -- the greatest is one of the numbers, and none of them is greater
 pub greatest_above : (f : ℕ → ℕ) (ns : List ℕ) (t : ℕ) → Contains ns t → f t ≤ greatest (map f ns)

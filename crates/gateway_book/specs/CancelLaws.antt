@@ -1,13 +1,13 @@
-use Rattle.std.specs.Prelude.{ℕ, ◌≡◌, ◌≢◌, ◌+◌, ◌<◌, ◌≤◌, nat_lt, nat_le, ◌==◌, Bool, true, false, not, ◌&&◌, List, [], ◌∷◌, length, Option, Some, None, filter, find, cond, refl}
+use Rattle.std.specs.Prelude.{ℕ, ◌≡◌, ◌≢◌, ◌+◌, ◌<◌, ◌≤◌, nat_le, ◌==◌, Bool, true, false, not, List, [], ◌∷◌, length, Some, None, filter, find, cond, refl}
 use Rattle.std.proofs.Common.{sym, ap, ◌∙◌, arith, subst}
-use Rattle.std.proofs.lemmas.Bool.{leb-true, leb-false, le-leb, lt-leb}
+use Rattle.std.proofs.lemmas.Bool.{leb-true, leb-false}
 use Rattle.std.proofs.lemmas.Bool.Decides.{nat_tests}
 use Rattle.radio_bands.specs.declared.band.Band.{Band}
 use Rattle.resv_list.specs.declared.reservation.Reservation.{Reservation}
 use Rattle.resv_list.specs.Sorted.{RisesFrom, first_from}
 use Rattle.resv_list.specs.SortedLaws.{at_none}
-use Rattle.resv_list.specs.Begun.{begun-cons, begun-nil}
-use Rattle.resv_list.specs.Reservations.{start_of, airtime_us, share, begun, net, IsByStart, member_from, without}
+use Rattle.resv_list.specs.Begun.{begun-cons}
+use Rattle.resv_list.specs.Reservations.{start_of, airtime_us, begun, net, IsByStart, member_from, without}
 use Rattle.gateway_book.specs.Spaced.{SpacedFrom}
 use Rattle.gateway_book.specs.SpacedLaws.{SpacedFrom-lower}
 use Rattle.gateway_book.specs.Step.{is_named, without_named}

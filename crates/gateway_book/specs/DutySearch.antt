@@ -1,16 +1,16 @@
-use Rattle.std.specs.Prelude.{ℕ, ◌≡◌, ◌+◌, ◌-◌, ◌<◌, ◌≤◌, nat_lt, nat_le, min, Bool, true, false, ◌&&◌, List, [], ◌∷◌, length, Option, Some, None, map, filter, find, cond, refl}
+use Rattle.std.specs.Prelude.{ℕ, ◌≡◌, ◌+◌, ◌-◌, ◌<◌, ◌≤◌, nat_lt, nat_le, min, Bool, true, false, ◌&&◌, List, [], ◌∷◌, Option, Some, None, map, filter, find, cond, refl}
 use Rattle.std.specs.Option.{option_map}
 use Rattle.std.proofs.Common.{sym, ap, ◌∙◌, arith, subst}
-use Rattle.std.proofs.lemmas.Bool.{leb-true, leb-false, le-leb, lt-leb, lt-ltb, le-ltb, ltb-true, ltb-false}
+use Rattle.std.proofs.lemmas.Bool.{leb-true, leb-false, le-leb, lt-ltb}
 use Rattle.std.proofs.lemmas.Bool.Decides.{nat_tests}
 use Rattle.radio_bands.specs.declared.band.Band.{Band}
 use Rattle.radio_bands.specs.Band.{hour, limit_of}
 use Rattle.resv_list.specs.declared.reservation.Reservation.{Reservation}
-use Rattle.resv_list.specs.Sorted.{RisesFrom, first_from}
+use Rattle.resv_list.specs.Sorted.{RisesFrom}
 use Rattle.resv_list.specs.SortedLaws.{RisesFrom-filter}
-use Rattle.resv_list.specs.Walk.{rest_from, rest_from-Some, rest_from-None}
-use Rattle.resv_list.specs.Reservations.{start_of, airtime_us, is_in, begun, spent, IsByStart, member_from}
-use Rattle.gateway_book.specs.Least.{least, at_most}
+use Rattle.resv_list.specs.Walk.{rest_from, rest_from-Some}
+use Rattle.resv_list.specs.Reservations.{start_of, is_in, begun, IsByStart, member_from}
+use Rattle.gateway_book.specs.Least.{least}
 use Rattle.gateway_book.specs.SpacedLaws.{least-find}
 use Rattle.gateway_book.specs.Duty.{is_within_hour, would_pass, is_overfull, starts_in, full_hour}
 use Rattle.gateway_book.specs.DutyLaws.{IsDutyAnswer, IsFirstFullHour, full_hour_answers, begun_wider, duty_row_is_exact}

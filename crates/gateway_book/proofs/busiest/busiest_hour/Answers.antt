@@ -1,5 +1,4 @@
-use Rattle.std.proofs.Common.{◌≡◌, ◌+◌, ◌∷◌, List, ℕ, Option, length, sym, ap, ◌∙◌, arith}
-use Rattle.resv_list.specs.declared.reservation.Reservation.{Reservation}
+use Rattle.std.proofs.Common.{◌≡◌, ◌+◌, ◌∷◌, ℕ, Option, length, sym, ap, ◌∙◌, arith}
 use Rattle.resv_list.specs.Walk.{rest_from, rest_from-rises, rest_from-None}
 use Rattle.resv_list.specs.Reservations.{start_of, spent}
 use Rattle.gateway_book.specs.DutySearch.{is_next}

@@ -1,9 +1,6 @@
-use Rattle.std.proofs.Common.{◌≡◌, ◌≤◌, ℕ, nat_lt, false, Option, Some, None, [], ◌∷◌, sym, ap, ◌∙◌, subst}
-use Rattle.std.specs.Option.{option_and_then}
+use Rattle.std.proofs.Common.{◌≡◌, nat_lt, false, [], ◌∷◌, sym, ◌∙◌, subst}
 use Rattle.std.proofs.lemmas.Bool.{le-ltb}
-use Rattle.radio_bands.specs.Band.{band_of}
-use Rattle.resv_list.specs.Reservations.{end_of, airtime_us}
-use Rattle.gateway_book.specs.Answer.{no_band, too_long, past_end, first_some, overlap, overfull, ask_end, duty_full, refusal_of}
+use Rattle.gateway_book.specs.Answer.{no_band, too_long, past_end, first_some, refusal_of}
 use Rattle.gateway_book.specs.AnswerLaws.{not_refused, answer_duty, answer_match, overlap_asked, duty_asked}
 use Rattle.gateway_book.specs.Book.{Book, terms_of}
 use Rattle.gateway_book.proofs.book.GatewayBook.admitted.Goals as goal

@@ -1,0 +1,24 @@
+# The commands of this repository. They need make, bash, python3 and the toolchain's command rt.
+
+PROGRAM := crates/airbook/out/airbook
+PREFIX ?= /usr/local
+
+.PHONY: demo test install
+
+# The main job on a machine where nothing is built. rt try compiles and runs, and proves nothing.
+demo:
+	@echo 'This build is not the proved one: it is compiled by rt try, which proves nothing.'
+	@echo 'airbook book < examples/two-bookings.txt'
+	@cd crates/airbook && rt try -- book < ../../examples/two-bookings.txt
+
+# The gate, and then the cases on the program that the gate has proved and built. Where the gate fails, the
+# cases are not run.
+test:
+	rt ci
+	python3 tests/cases.py $(PROGRAM)
+
+# The proved program, as PREFIX/bin/airbook.
+install:
+	@test -x $(PROGRAM) || { echo 'There is no proved program at $(PROGRAM): run make test first.' >&2; exit 1; }
+	install -d '$(DESTDIR)$(PREFIX)/bin'
+	install -m 755 $(PROGRAM) '$(DESTDIR)$(PREFIX)/bin/airbook'

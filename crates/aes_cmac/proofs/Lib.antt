@@ -1,0 +1,7 @@
+pub mod TableFacts
+pub mod WordFacts
+pub mod RoundFacts
+pub mod ScheduleFacts
+pub mod MacFacts
+pub mod Pieces
+pub mod StandardFacts

@@ -1,0 +1,17 @@
+//! AES-128 (FIPS 197) and its message authentication code CMAC (RFC 4493).
+#![tactic(auto)]
+
+mod cipher;
+mod keys;
+mod rounds;
+mod schedule;
+mod state;
+mod subkeys;
+mod tables;
+#[cfg(test)]
+mod tests;
+mod whole;
+
+pub use keys::{Key, encrypt};
+pub use state::Cmac;
+pub use whole::cmac;

@@ -1,0 +1,37 @@
+// The key schedule (FIPS 197 section 5.2).
+
+ghost use Rattle.std.specs.Prelude.{ℕ, ◌≡◌, ◌<◌, ◌≤◌, ◌^◌, slice_index};
+ghost use Rattle.aes_cmac.specs.Aes.{added_word};
+ghost use Rattle.aes_cmac.specs.Words.{word_bytes, IsSchedule};
+
+use crate::rounds::{substituted, word_from};
+use crate::tables::ROUND_CONSTANTS;
+
+// What word i - 4 is added to, to give word i, from word i - 1.
+fn added_to(word: u32, i: usize) -> u32
+    requires low { 4 ≤ i }
+    requires high { i < 44 }
+    ensures { word_bytes result ≡ added_word (word_bytes word) i }
+{
+    if i % 4 > 0 {
+        return word;
+    }
+    let turned = word % 0x0100_0000 * 256 + word / 0x0100_0000;
+    substituted(turned, turned, turned, turned, ROUND_CONSTANTS[i / 4 - 1])
+}
+
+/// The 44 words of a key's schedule.
+pub(crate) fn expanded(key: &[u8; 16]) -> [u32; 44]
+    ensures words { IsSchedule result key.now }
+    ensures fits { (i : ℕ) → slice_index result i < 2 ^ 32 }
+{
+    let mut words = [0u32; 44];
+    words[0] = word_from(key, 0);
+    words[1] = word_from(key, 4);
+    words[2] = word_from(key, 8);
+    words[3] = word_from(key, 12);
+    'words: for i in 4..44 {
+        words[i] = words[i - 4] ^ added_to(words[i - 1], i);
+    }
+    words
+}

@@ -1,0 +1,74 @@
+// The command line.
+use clap::{Arg, ArgMatches, Command, value_parser};
+use std::alloc::{AllocError, Global};
+
+/// What is asked for on the command line.
+#[derive(Clone, Copy, Debug, PartialEq, Eq)]
+pub enum Task {
+    /// The time on air of a PHYPayload of `len` bytes at data rate `rate`.
+    Toa { rate: u8, len: u8 },
+    /// The book of a gateway that keeps at most `cap` transmissions.
+    Book { cap: u32 },
+}
+
+/// The command line that the program takes.
+pub fn program<'a>(alloc: Global) -> Result<Command<'a>, AllocError> {
+    Command::new(alloc, "airbook")
+        .version("0.1.0")
+        .about(
+            "Airtime of LoRaWAN downlinks in EU868: how long they last, and when a gateway may send them.",
+        )
+        .after_help("Examples:\n  airbook toa 5 12\n  airbook book < asks.txt")
+        .subcommand_required(true)
+        .subcommand(toa(alloc)?)?
+        .subcommand(book(alloc)?)
+}
+
+/// The arguments of `toa`.
+fn toa<'a>(alloc: Global) -> Result<Command<'a>, AllocError> {
+    let rate = Arg::new(alloc, "DR")
+        .help("Data rate, 0 to 6")
+        .required(true)
+        .value_parser(value_parser!(u8));
+    let len = Arg::new(alloc, "LEN")
+        .help("Length of the PHYPayload in bytes")
+        .required(true)
+        .value_parser(value_parser!(u8));
+    Command::new(alloc, "toa")
+        .about("Writes the time on air of a frame, in microseconds")
+        .after_help("Example:\n  $ airbook toa 5 12\n  41216")
+        .arg(rate)?
+        .arg(len)
+}
+
+/// The arguments of `book`.
+fn book<'a>(alloc: Global) -> Result<Command<'a>, AllocError> {
+    let cap = Arg::new(alloc, "cap")
+        .help("How many transmissions the book keeps at most, 1 to 65536")
+        .long("cap")
+        .value_name("N")
+        .default_value("4096")
+        .value_parser(value_parser!(u32));
+    Command::new(alloc, "book")
+        .about(
+            "Keeps the airtime book of one gateway. Lines of standard input: book NUMBER START FREQ DR LEN, cancel NUMBER START, tick NOW",
+        )
+        .after_help(
+            "Example:\n  $ echo book 1 10000000 868100000 5 12 | airbook book\n  ok 1 10000000 10041216\n  booked 41216\n  cancelled 0\n  retired 0\n  kept 1 41216\n  floor 0\n  busiest M 10000000 41216",
+        )
+        .arg(cap)
+}
+
+/// The task that the arguments name.
+pub fn task_of(matches: &ArgMatches<'_>) -> Option<Task> {
+    match matches.subcommand() {
+        Some(("toa", toa)) => Some(Task::Toa {
+            rate: toa.get_one::<u8>("DR")?,
+            len: toa.get_one::<u8>("LEN")?,
+        }),
+        Some(("book", book)) => Some(Task::Book {
+            cap: book.get_one::<u32>("cap")?,
+        }),
+        _ => None,
+    }
+}

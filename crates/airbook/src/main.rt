@@ -1,0 +1,11 @@
+//! The downlink half of a LoRaWAN network server for Class A devices in EU868, on the command line.
+#![tactic(auto)]
+
+mod arguments;
+mod tasks;
+
+use std::process::ExitCode;
+
+fn main(rt: HostRuntime) -> ExitCode {
+    tasks::run(&rt)
+}

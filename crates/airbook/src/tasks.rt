@@ -1,0 +1,65 @@
+// The tasks of the program, over any runtime, and the status that each ends with.
+use crate::arguments::{Task, program, task_of};
+use airbook_text::{TextFault, book_text, toa_text};
+use std::env::Env;
+use std::io;
+use std::process::ExitCode;
+use text_lines::{StdIn, StdOut};
+
+/// The status where a line of the output begins with `no` or `bad`.
+const REFUSED: u8 = 1;
+
+/// The status of wrong arguments, and of a fault.
+const FAULT: u8 = 2;
+
+/// Does what the arguments ask for. The status is 0; 1 where a line of the output begins with `no` or `bad`; 2 for
+/// wrong arguments, and for a fault, whose name is then the last line on standard error.
+pub fn run<R: AllocGlobal + Env + Input + Print + Eprint>(rt: &R) -> ExitCode {
+    let words = match words_of(rt) {
+        Ok(words) => words,
+        Err(error) if error.kind() == io::ErrorKind::OutOfMemory => {
+            return fault(rt, TextFault::NoMemory.name());
+        }
+        Err(_) => return fault(rt, "Arguments"),
+    };
+    let Ok(command) = program(rt.alloc()) else {
+        return fault(rt, TextFault::NoMemory.name());
+    };
+    match command.try_get_matches_from(words.as_slice()) {
+        Ok(matches) => match task_of(&matches) {
+            Some(task) => perform(rt, task),
+            None => fault(rt, "Arguments"),
+        },
+        Err(error) => match error.print(rt) {
+            Ok(()) => ExitCode::from(error.exit_code() as u8),
+            Err(_) => fault(rt, TextFault::Write.name()),
+        },
+    }
+}
+
+/// The words of the command line, the program's name first; an Err where one is not text.
+fn words_of<R: AllocGlobal + Env>(rt: &R) -> io::Result<Vec<String>> {
+    let words: Vec<String> = std::env::args(rt)?.collect(rt.alloc())?;
+    Ok(words)
+}
+
+/// Does a task on standard input and output.
+fn perform<R: AllocGlobal + Input + Print + Eprint>(rt: &R, task: Task) -> ExitCode {
+    let mut reader = StdIn::new(rt.reader());
+    let mut writer = StdOut::new(io::writer(rt));
+    let answered = match task {
+        Task::Toa { rate, len } => toa_text(rate, len, &mut writer),
+        Task::Book { cap } => book_text(rt.alloc(), cap, &mut reader, &mut writer),
+    };
+    match answered {
+        Ok(false) => ExitCode::SUCCESS,
+        Ok(true) => ExitCode::from(REFUSED),
+        Err(stopped) => fault(rt, stopped.name()),
+    }
+}
+
+/// Names a fault on standard error.
+fn fault<R: Eprint>(rt: &R, name: &str) -> ExitCode {
+    let _ = eprintln!(rt; "airbook: {name}");
+    ExitCode::from(FAULT)
+}

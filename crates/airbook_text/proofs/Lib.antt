@@ -1,0 +1,6 @@
+pub mod LineLemmas
+pub mod TurnLemmas
+pub mod RunLemmas
+pub mod SoFar
+pub mod ReportLemmas
+pub mod LawLemmas

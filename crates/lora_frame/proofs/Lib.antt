@@ -1,0 +1,4 @@
+pub mod Lists
+pub mod Streams
+pub mod RoundTrips
+pub mod ReadsBack

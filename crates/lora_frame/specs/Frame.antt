@@ -1,0 +1,65 @@
+-- The bytes of data frames (LoRaWAN L2 1.0.4 section 4), as joined lists.
+use Rattle.std.specs.Prelude.{ℕ, ◌+◌, ◌*◌, ◌%◌, Bool, ◌==◌, List, [], ◌∷◌, ◌++◌, length, Option, Some, None, if◌then◌else◌}
+use Rattle.std.specs.Int.{w16, w32, to_le_bytes}
+use Rattle.lora_frame.specs.Blocks.{crypted, mic_of}
+use Rattle.lora_frame.specs.declared.parts.Body.{Body}
+use Rattle.lora_frame.specs.declared.parts.Keys.{Keys}
+use Rattle.lora_frame.specs.declared.parts.Down.{Down}
+use Rattle.lora_frame.specs.declared.parts.Up.{Up}
+
+-- MHDR and FHDR without FOpts: the type in the top three bits of MHDR, Major 0, DevAddr, FCtrl and the
+-- low 16 bits of the counter (sections 4.2 and 4.3.1)
+abbrev pub header_bytes : ℕ → ℕ → ℕ → ℕ → List ℕ
+header_bytes type addr control counter =
+    (32 * type) ∷ to_le_bytes w32 addr ++ control ∷ to_le_bytes w16 (counter % 65536)
+
+-- the key of FRMPayload: NwkSKey for FPort 0, else AppSKey (section 4.3.3)
+abbrev pub payload_key : Keys → ℕ → List ℕ
+payload_key keys port = if port == 0 then keys.nwk else keys.app
+
+-- FPort and the encrypted FRMPayload, or nothing (section 4.3)
+abbrev pub body_bytes : Keys → ℕ → ℕ → ℕ → Option Body → List ℕ
+body_bytes keys direction addr counter None = []
+body_bytes keys direction addr counter (Some body) =
+    body.port ∷ crypted (payload_key keys body.port) direction addr counter body.payload.now
+
+-- a message and its MIC (section 4.4)
+abbrev pub with_mic : Keys → ℕ → ℕ → ℕ → List ℕ → List ℕ
+with_mic keys direction addr counter message = message ++ mic_of keys.nwk direction addr counter message
+
+-- what a bit of FCtrl is worth where it is set
+abbrev pub bit_worth : Bool → ℕ → ℕ
+bit_worth b n = if b then n else 0
+
+-- FCtrl of a downlink: ACK and FPending (section 4.3.1)
+abbrev pub down_control : Down → ℕ
+down_control down = bit_worth down.ack 0x20 + bit_worth down.pending 0x10
+
+-- a downlink but its MIC: an unconfirmed data downlink, type 3
+abbrev pub down_message : Down → Keys → List ℕ
+down_message down keys =
+    header_bytes 3 down.addr (down_control down) down.counter ++ body_bytes keys 1 down.addr down.counter down.body
+
+-- a downlink
+unfoldable pub down_bytes : Down → Keys → List ℕ
+down_bytes down keys = with_mic keys 1 down.addr down.counter (down_message down keys)
+
+-- FCtrl of an uplink: ADR, ADRACKReq, ACK and FOptsLen (section 4.3.1)
+abbrev pub up_control : Up → ℕ
+up_control up =
+    bit_worth up.adr 0x80 + bit_worth up.adr_ack_req 0x40 + bit_worth up.ack 0x20 + length up.options.now
+
+-- an uplink but its MIC: type 4 where it is confirmed, else type 2
+abbrev pub up_message : Up → Keys → List ℕ
+up_message up keys =
+    header_bytes (if up.confirmed then 4 else 2) up.addr (up_control up) up.counter ++ up.options.now
+    ++ body_bytes keys 0 up.addr up.counter up.body
+
+-- an uplink
+unfoldable pub up_bytes : Up → Keys → List ℕ
+up_bytes up keys = with_mic keys 0 up.addr up.counter (up_message up keys)
+
+-- how many bytes FPort and FRMPayload have
+abbrev pub body_len : Option Body → ℕ
+body_len None = 0
+body_len (Some body) = 1 + length body.payload.now

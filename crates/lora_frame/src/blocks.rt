@@ -1,0 +1,111 @@
+// The blocks that a frame's payload and MIC are made with (LoRaWAN L2 1.0.4 sections 4.3.3 and 4.4).
+
+ghost use Rattle.std.specs.Prelude.{◌≡◌, ◌+◌, ◌-◌, ◌*◌, ◌≤◌, ◌<◌, ◌∷◌, [], ◌++◌, length, take, drop, min, replicate, vec_len, vec_capacity};
+ghost use Rattle.std.specs.Int.{w32, to_le_bytes};
+ghost use Rattle.aes_cmac.specs.Aes.{xor_bytes, ciphertext};
+ghost use Rattle.lora_frame.specs.Blocks.{stream_seed, crypted, mic_of};
+
+use aes_cmac::{Cmac, Key, encrypt};
+use std::alloc::Allocator;
+
+/// Which way a frame goes, as a byte of the blocks: 0 up, 1 down.
+pub(crate) const UP: u8 = 0;
+
+pub(crate) const DOWN: u8 = 1;
+
+// A block with these first and last bytes.
+fn block_of(first: u8, direction: u8, addr: u32, counter: u32, last: u8) -> [u8; 16]
+    ensures { result ≡ first ∷ replicate 4 0 ++ direction ∷ to_le_bytes w32 addr ++ to_le_bytes w32 counter ++ 0 ∷ last ∷ [] }
+{
+    let [a0, a1, a2, a3] = addr.to_le_bytes();
+    let [c0, c1, c2, c3] = counter.to_le_bytes();
+    [
+        first, 0, 0, 0, 0, direction, a0, a1, a2, a3, c0, c1, c2, c3, 0, last,
+    ]
+}
+
+/// The i-th block of the key stream.
+pub(crate) fn stream_block(key: &Key, direction: u8, addr: u32, counter: u32, i: u8) -> [u8; 16]
+    ensures { result ≡ ciphertext key.now (stream_seed direction addr counter i) }
+{
+    encrypt(key, block_of(0x01, direction, addr, counter, i))
+}
+
+// The sum of a piece of a payload, of at most 16 bytes, and the block of the key stream that it meets;
+// what comes after the piece's length is not used.
+fn sum_with(block: [u8; 16], piece: &[u8]) -> [u8; 16]
+    requires { length piece.now ≤ 16 }
+    ensures { take (length piece.now) result ≡ xor_bytes piece.now block }
+{
+    let mut out = block;
+    'bytes: for i in 0..piece.len() {
+        out[i] = piece[i] ^ block[i];
+    }
+    out
+}
+
+/// Appends bytes for which there is room.
+pub(crate) fn append<A: Allocator>(frame: &mut Vec<u8, A>, bytes: &[u8])
+    requires { vec_len frame.old + length bytes.now ≤ vec_capacity frame.old }
+    ensures items { frame.new.items ≡ frame.old.items ++ bytes.now }
+    ensures len { vec_len frame.new ≡ vec_len frame.old + length bytes.now }
+    ensures room { vec_capacity frame.old ≤ vec_capacity frame.new }
+{
+    let _ = frame.extend_from_slice(bytes);
+}
+
+// Appends the sum of a piece of a payload and the block of the key stream that it meets.
+fn append_sum<A: Allocator>(frame: &mut Vec<u8, A>, block: [u8; 16], piece: &[u8])
+    requires short { length piece.now ≤ 16 }
+    requires room { vec_len frame.old + length piece.now ≤ vec_capacity frame.old }
+    ensures items { frame.new.items ≡ frame.old.items ++ xor_bytes piece.now block }
+    ensures len { vec_len frame.new ≡ vec_len frame.old + length piece.now }
+    ensures room { vec_capacity frame.old ≤ vec_capacity frame.new }
+{
+    let sum = sum_with(block, piece);
+    append(frame, &sum[..piece.len()]);
+}
+
+// The piece of a payload that meets block i + 1 of the key stream.
+fn piece_at(payload: &[u8], i: usize) -> &[u8]
+    requires { 16 * i ≤ length payload.now }
+    ensures piece { result.now ≡ take 16 (drop (16 * i) payload.now) }
+    ensures len { length result.now ≡ min 16 (length payload.now - 16 * i) }
+{
+    let rest = &payload[16 * i..];
+    &rest[..rest.len().min(16)]
+}
+
+/// Appends a payload with the key stream added to it, for which there is room.
+pub(crate) fn append_crypted<A: Allocator>(
+    frame: &mut Vec<u8, A>,
+    key: &Key,
+    direction: u8,
+    addr: u32,
+    counter: u32,
+    payload: &[u8],
+)
+    requires short { length payload.now ≤ 242 }
+    requires room { vec_len frame.old + length payload.now ≤ vec_capacity frame.old }
+    ensures items { frame.new.items ≡ frame.old.items ++ crypted key.now direction addr counter payload.now }
+    ensures len { vec_len frame.new ≡ vec_len frame.old + length payload.now }
+    ensures room { vec_capacity frame.old ≤ vec_capacity frame.new }
+{
+    let count = (payload.len() + 15) / 16;
+    'blocks: for i in 0..count {
+        let block = stream_block(key, direction, addr, counter, i as u8 + 1);
+        append_sum(frame, block, piece_at(payload, i));
+    }
+}
+
+/// The MIC of a message.
+pub(crate) fn mic(key: &Key, direction: u8, addr: u32, counter: u32, message: &[u8]) -> [u8; 4]
+    requires { length message.now < 256 }
+    ensures { result ≡ mic_of key.now direction addr counter message.now }
+{
+    let mut state = Cmac::new(key);
+    state.update(&block_of(0x49, direction, addr, counter, message.len() as u8));
+    state.update(message);
+    let code = state.finish();
+    [code[0], code[1], code[2], code[3]]
+}

@@ -1,0 +1,144 @@
+// Uplinks are read.
+
+ghost use Rattle.std.specs.Prelude.{◌≡◌, ◌↔◌, ◌+◌, ◌≤◌, Some, None, IsOk, IsTrue, nat_lt, length, take, drop, slice_index, if◌then◌else◌};
+ghost use Rattle.std.specs.Int.{w16, from_le_bytes};
+ghost use Rattle.lora_frame.specs.Reading.{uplink_of, uplink_record, HasMic};
+
+use crate::blocks::{UP, mic};
+use aes_cmac::Key;
+use thiserror::Error;
+
+/// What a data uplink says beside its payload (LoRaWAN L2 1.0.4 section 4).
+#[derive(Clone, Copy, Debug, PartialEq, Eq)]
+pub struct Uplink {
+    pub confirmed: bool,
+    /// DevAddr.
+    pub addr: u32,
+    pub adr: bool,
+    pub adr_ack_req: bool,
+    pub ack: bool,
+    /// FCnt: the low 16 bits of the counter.
+    pub low: u16,
+    /// FOptsLen.
+    pub opts_len: u8,
+    /// FPort, where there is one.
+    pub port: Option<u8>,
+    /// The place of the first byte of FRMPayload, or that of the MIC where there is none.
+    pub payload_at: usize,
+    pub mic: [u8; 4],
+}
+
+/// Why bytes are no data uplink.
+#[derive(Clone, Copy, Debug, PartialEq, Eq, Error)]
+pub enum FrameFault {
+    #[error("the frame has fewer than 12 bytes")]
+    Short,
+    #[error("the frame has more than 255 bytes")]
+    Long,
+    #[error("the frame is no data uplink: its type is neither 2 nor 4")]
+    NotData,
+    #[error("the frame's Major is not 0")]
+    Major,
+    #[error("the frame ends within its FOpts: FOptsLen is too great")]
+    OptionsCut,
+}
+
+// The four bytes from place `at` on.
+fn four_at(bytes: &[u8], at: usize) -> [u8; 4]
+    requires { at + 4 ≤ length bytes.now }
+    ensures { result ≡ take 4 (drop at bytes.now) }
+{
+    let mut out = [0u8; 4];
+    out.copy_from_slice(&bytes[at..at + 4]);
+    out
+}
+
+// FCnt.
+fn low_of(bytes: &[u8]) -> u16
+    requires { 12 ≤ length bytes.now }
+    ensures { result ≡ from_le_bytes w16 (take 2 (drop 6 bytes.now)) }
+{
+    let mut out = [0u8; 2];
+    out.copy_from_slice(&bytes[6..8]);
+    u16::from_le_bytes(out)
+}
+
+// FPort: the byte where FOpts end, if that is before the MIC.
+fn port_of(bytes: &[u8], options_end: usize, mic_at: usize) -> Option<u8>
+    requires { mic_at ≤ length bytes.now }
+    ensures { result ≡ (if nat_lt options_end mic_at then Some (slice_index bytes.now options_end) else None) }
+{
+    if options_end < mic_at {
+        return Some(bytes[options_end]);
+    }
+    None
+}
+
+// The place of the payload's first byte, or that of the MIC.
+fn payload_place(options_end: usize, mic_at: usize) -> usize
+    ensures { result ≡ (if nat_lt options_end mic_at then options_end + 1 else mic_at) }
+{
+    if options_end < mic_at {
+        return options_end + 1;
+    }
+    mic_at
+}
+
+// What an uplink says in which no fault was found.
+fn uplink_from(bytes: &[u8]) -> Uplink
+    requires { 12 ≤ length bytes.now }
+    ensures { result ≡ uplink_record bytes.now }
+{
+    let mic_at = bytes.len() - 4;
+    let control = bytes[5];
+    let options_end = 8 + (control % 16) as usize;
+    Uplink {
+        confirmed: bytes[0] / 32 == 4,
+        addr: u32::from_le_bytes(four_at(bytes, 1)),
+        adr: control / 128 % 2 == 1,
+        adr_ack_req: control / 64 % 2 == 1,
+        ack: control / 32 % 2 == 1,
+        low: low_of(bytes),
+        opts_len: control % 16,
+        port: port_of(bytes, options_end, mic_at),
+        payload_at: payload_place(options_end, mic_at),
+        mic: four_at(bytes, mic_at),
+    }
+}
+
+/// Reads a data uplink; the first fault of the order of `FrameFault` is answered. Nothing else is looked
+/// at: neither the MIC nor the bits between type and Major nor FPort. Needs no memory.
+pub fn read_uplink(bytes: &[u8]) -> Result<Uplink, FrameFault>
+    ensures { result ≡ uplink_of bytes.now }
+{
+    if bytes.len() < 12 {
+        return Err(FrameFault::Short);
+    }
+    if bytes.len() > 255 {
+        return Err(FrameFault::Long);
+    }
+    let kind = bytes[0] / 32;
+    if kind != 2 && kind != 4 {
+        return Err(FrameFault::NotData);
+    }
+    if bytes[0] % 4 != 0 {
+        return Err(FrameFault::Major);
+    }
+    let mic_at = bytes.len() - 4;
+    let options_end = 8 + (bytes[5] % 16) as usize;
+    if options_end > mic_at {
+        return Err(FrameFault::OptionsCut);
+    }
+    Ok(uplink_from(bytes))
+}
+
+/// Whether an uplink ends in its MIC under NwkSKey and its whole counter (LoRaWAN L2 1.0.4 section 4.4).
+/// Needs no memory.
+pub fn check_mic(bytes: &[u8], nwk: &Key, counter: u32) -> bool
+    requires { IsOk (uplink_of bytes.now) }
+    ensures { IsTrue result ↔ HasMic bytes.now nwk.now counter }
+{
+    let mic_at = bytes.len() - 4;
+    let addr = u32::from_le_bytes(four_at(bytes, 1));
+    mic(nwk, UP, addr, counter, &bytes[..mic_at]) == four_at(bytes, mic_at)
+}

@@ -1,0 +1,184 @@
+// Worked frames, and the published example of a LoRaWAN decoder.
+
+use super::*;
+use std::test::Fail;
+
+const NWK: [u8; 16] = [
+    0x2b, 0x7e, 0x15, 0x16, 0x28, 0xae, 0xd2, 0xa6, 0xab, 0xf7, 0x15, 0x88, 0x09, 0xcf, 0x4f, 0x3c,
+];
+
+const APP: [u8; 16] = [
+    0x00, 0x01, 0x02, 0x03, 0x04, 0x05, 0x06, 0x07, 0x08, 0x09, 0x0a, 0x0b, 0x0c, 0x0d, 0x0e, 0x0f,
+];
+
+const ADDR: u32 = 0x2601_1bda;
+
+fn keys() -> Keys {
+    Keys {
+        nwk: Key::new(NWK),
+        app: Key::new(APP),
+    }
+}
+
+fn empty_down() -> Down<'static> {
+    Down {
+        addr: ADDR,
+        counter: 0,
+        ack: true,
+        pending: false,
+        body: None,
+    }
+}
+
+fn empty_up() -> Up<'static> {
+    Up {
+        confirmed: true,
+        addr: ADDR,
+        counter: 7,
+        adr: false,
+        adr_ack_req: false,
+        ack: false,
+        options: &[],
+        body: None,
+    }
+}
+
+#[test]
+fn downlinks(rt: HostRuntime) -> Result<(), Fail> {
+    let frame = downlink(rt.alloc(), &empty_down(), &keys())?;
+    assert_eq!(rt; frame.len(), 12);
+    assert!(rt; frame.as_slice()[..8] == [0x60, 0xda, 0x1b, 0x01, 0x26, 0x20, 0x00, 0x00]);
+    let more = Down {
+        pending: true,
+        ..empty_down()
+    };
+    let frame = downlink(rt.alloc(), &more, &keys())?;
+    assert_eq!(rt; frame.len(), 12);
+    assert_eq!(rt; frame[5], 0x30);
+    let zeros = [0u8; 243];
+    for (port, size, wanted) in [
+        (9, 100, Ok(113)),
+        (0, 100, Err(DownFault::Port)),
+        (224, 100, Err(DownFault::Port)),
+        (223, 242, Ok(255)),
+        (1, 243, Err(DownFault::Long)),
+        (0, 243, Err(DownFault::Port)),
+    ] {
+        let size: usize = size;
+        assert!(rt; size <= 243);
+        let body = Some(Body {
+            port,
+            payload: &zeros[..size],
+        });
+        let down = Down {
+            body,
+            ..empty_down()
+        };
+        let found = downlink(rt.alloc(), &down, &keys()).map(|frame| frame.len());
+        assert_eq!(rt; found, wanted, "port {port} and {size} bytes");
+    }
+    Ok(())
+}
+
+#[test]
+fn uplinks(rt: HostRuntime) -> Result<(), Fail> {
+    let frame = uplink_bytes(rt.alloc(), &empty_up(), &keys())?;
+    assert_eq!(rt; frame.len(), 12);
+    assert!(rt; frame.as_slice()[..8] == [0x80, 0xda, 0x1b, 0x01, 0x26, 0x00, 0x07, 0x00]);
+    let zeros = [0u8; 243];
+    for (port, options, size, wanted) in [
+        (224, 0, 0, Err(UpFault::Port)),
+        (0, 0, 0, Ok(13)),
+        (1, 16, 0, Err(UpFault::Long)),
+        (1, 0, 242, Ok(255)),
+        (1, 0, 243, Err(UpFault::Long)),
+        (1, 15, 227, Ok(255)),
+        (1, 15, 228, Err(UpFault::Long)),
+    ] {
+        let options: usize = options;
+        let size: usize = size;
+        assert!(rt; options <= 16 && size <= 243);
+        let body = Some(Body {
+            port,
+            payload: &zeros[..size],
+        });
+        let up = Up {
+            options: &zeros[..options],
+            body,
+            ..empty_up()
+        };
+        let found = uplink_bytes(rt.alloc(), &up, &keys()).map(|frame| frame.len());
+        assert_eq!(rt;
+            found,
+            wanted,
+            "port {port}, {options} options and {size} bytes"
+        );
+    }
+    Ok(())
+}
+
+// DevAddr 49be7df1, FCnt 2, FPort 1, the payload "test".
+#[test]
+fn published_uplink(rt: HostRuntime) -> Result<(), Fail> {
+    let nwk = Key::new([
+        0x44, 0x02, 0x42, 0x41, 0xed, 0x4c, 0xe9, 0xa6, 0x8c, 0x6a, 0x8b, 0xc0, 0x55, 0x23, 0x3f,
+        0xd3,
+    ]);
+    let app = Key::new([
+        0xec, 0x92, 0x58, 0x02, 0xae, 0x43, 0x0c, 0xa7, 0x7f, 0xd3, 0xdd, 0x73, 0xcb, 0x2c, 0xc5,
+        0x88,
+    ]);
+    let up = Up {
+        confirmed: false,
+        addr: 0x49be_7df1,
+        counter: 2,
+        body: Some(Body {
+            port: 1,
+            payload: b"test",
+        }),
+        ..empty_up()
+    };
+    let frame = uplink_bytes(rt.alloc(), &up, &Keys { nwk, app })?;
+    let wanted = [
+        0x40, 0xf1, 0x7d, 0xbe, 0x49, 0x00, 0x02, 0x00, 0x01, 0x95, 0x43, 0x78, 0x76, 0x2b, 0x11,
+        0xff, 0x0d,
+    ];
+    assert!(rt; frame.as_slice() == wanted.as_slice());
+    Ok(())
+}
+
+#[test]
+fn faults_of_uplinks(rt: HostRuntime) {
+    let cut = [0x40, 0, 0, 0, 0, 1, 0, 0, 0, 0, 0, 0];
+    assert_eq!(rt; read_uplink(&cut[..11]), Err(FrameFault::Short));
+    assert_eq!(rt; read_uplink(&[0x40; 256]), Err(FrameFault::Long));
+    assert_eq!(rt; read_uplink(&cut), Err(FrameFault::OptionsCut));
+    assert_eq!(rt; read_uplink(&[0; 12]), Err(FrameFault::NotData));
+    assert_eq!(rt; read_uplink(&[0x41; 12]), Err(FrameFault::Major));
+}
+
+#[test]
+fn codes_of_uplinks(rt: HostRuntime) -> Result<(), Fail> {
+    let mut frame = uplink_bytes(rt.alloc(), &empty_up(), &keys())?;
+    let uplink = read_uplink(frame.as_slice())?;
+    assert!(rt; uplink.confirmed && uplink.addr == ADDR && uplink.low == 7);
+    assert_eq!(rt; uplink.port, None);
+    assert_eq!(rt; uplink.payload_at, 8);
+    assert!(rt; read_uplink(frame.as_slice()).is_ok());
+    assert!(rt; check_mic(frame.as_slice(), &keys().nwk, 7));
+    assert!(rt; !check_mic(frame.as_slice(), &keys().nwk, 65543));
+    assert_eq!(rt; frame.len(), 12);
+    frame[11] ^= 1;
+    assert!(rt; read_uplink(frame.as_slice()).is_ok());
+    assert!(rt; !check_mic(frame.as_slice(), &keys().nwk, 7));
+    Ok(())
+}
+
+#[test]
+fn counters(rt: HostRuntime) {
+    assert_eq!(rt; infer(None, 7), Some(7));
+    assert_eq!(rt; infer(Some(131_071), 0), Some(131_072));
+    assert_eq!(rt; infer(Some(5), 5), Some(5));
+    assert_eq!(rt; infer(Some(5), 4), Some(65_540));
+    assert_eq!(rt; infer(Some(4_294_967_295), 0), None);
+}

@@ -1,0 +1,229 @@
+// Frames are written: the server's downlink and the device's uplink.
+
+ghost use Rattle.std.specs.Prelude.{◌≡◌, ◌↔◌, ◌+◌, ◌≤◌, ◌<◌, ◌++◌, Some, None, Err, IfOk, nat_lt, if◌then◌else◌, length, vec_len, vec_capacity};
+ghost use Rattle.lora_frame.specs.Frame.{header_bytes, body_bytes, body_len, payload_key, with_mic, bit_worth, down_control, up_control, down_bytes, up_bytes};
+ghost use Rattle.lora_frame.specs.Faults.{down_fault, up_fault, has_high_port};
+
+use crate::blocks::{DOWN, UP, append, append_crypted, mic};
+use crate::parts::{Body, Down, Keys, Up};
+use aes_cmac::Key;
+use std::alloc::Allocator;
+use thiserror::Error;
+
+/// Why a downlink was not written; the first in this order is answered.
+#[derive(Clone, Copy, Debug, PartialEq, Eq, Error)]
+pub enum DownFault {
+    #[error("a downlink's port has to be 1 to 223")]
+    Port,
+    #[error("a downlink's payload has at most 242 bytes")]
+    Long,
+    #[error("no memory was found for a downlink")]
+    NoMemory,
+}
+
+/// Why an uplink was not written; the first in this order is answered.
+#[derive(Clone, Copy, Debug, PartialEq, Eq, Error)]
+pub enum UpFault {
+    #[error("an uplink's port has to be 0 to 223")]
+    Port,
+    #[error("an uplink has at most 15 bytes of FOpts and 255 bytes in all")]
+    Long,
+    #[error("no memory was found for an uplink")]
+    NoMemory,
+}
+
+fn down_refusal(down: &Down) -> Option<DownFault>
+    ensures { result ≡ down_fault down.now }
+{
+    let body = down.body?;
+    if body.port == 0 || body.port > 223 {
+        return Some(DownFault::Port);
+    }
+    if body.payload.len() > 242 {
+        return Some(DownFault::Long);
+    }
+    None
+}
+
+fn up_refusal(up: &Up) -> Option<UpFault>
+    ensures { result ≡ up_fault up.now }
+{
+    if has_high_port(up.body) {
+        return Some(UpFault::Port);
+    }
+    if up.options.len() > 15 {
+        return Some(UpFault::Long);
+    }
+    if is_longer(up.body, 243 - up.options.len()) {
+        return Some(UpFault::Long);
+    }
+    None
+}
+
+fn has_high_port(body: Option<Body>) -> bool
+    ensures { result ≡ has_high_port body.entry }
+{
+    match body {
+        Some(body) => body.port > 223,
+        None => false,
+    }
+}
+
+// Whether FPort and FRMPayload have more bytes than that.
+fn is_longer(body: Option<Body>, most: usize) -> bool
+    requires { 0 < most }
+    ensures { result ≡ nat_lt most (body_len body.entry) }
+{
+    match body {
+        Some(body) => body.payload.len() > most - 1,
+        None => false,
+    }
+}
+
+// How many bytes FPort and FRMPayload have.
+fn body_len(body: Option<Body>) -> usize
+    requires { body_len body < 256 }
+    ensures { result ≡ body_len body.entry }
+{
+    match body {
+        Some(body) => 1 + body.payload.len(),
+        None => 0,
+    }
+}
+
+// What a bit of FCtrl is worth.
+fn bit_worth(bit: bool, worth: u8) -> u8
+    ensures worth { result ≡ bit_worth bit worth }
+    ensures most { result ≤ worth }
+{
+    if bit { worth } else { 0 }
+}
+
+fn down_control(down: &Down) -> u8
+    ensures { result ≡ down_control down.now }
+{
+    bit_worth(down.ack, 0x20) + bit_worth(down.pending, 0x10)
+}
+
+fn up_control(up: &Up) -> u8
+    requires { length up.now.options.now ≤ 15 }
+    ensures { result ≡ up_control up.now }
+{
+    bit_worth(up.adr, 0x80)
+        + bit_worth(up.adr_ack_req, 0x40)
+        + bit_worth(up.ack, 0x20)
+        + up.options.len() as u8
+}
+
+// The type of an uplink.
+fn up_kind(up: &Up) -> u8
+    ensures kind { result ≡ (if up.now.confirmed then 4 else 2) }
+    ensures low { result < 8 }
+{
+    if up.confirmed { 4 } else { 2 }
+}
+
+// MHDR and FHDR without FOpts.
+fn header(kind: u8, addr: u32, control: u8, counter: u32) -> [u8; 8]
+    requires { kind < 8 }
+    ensures { result ≡ header_bytes kind addr control counter }
+{
+    let [a0, a1, a2, a3] = addr.to_le_bytes();
+    let [c0, c1] = ((counter % 0x1_0000) as u16).to_le_bytes();
+    [32 * kind, a0, a1, a2, a3, control, c0, c1]
+}
+
+fn payload_key(keys: &Keys, port: u8) -> &Key
+    ensures { result.now ≡ payload_key keys.now port }
+{
+    if port == 0 { &keys.nwk } else { &keys.app }
+}
+
+// Appends FPort and the encrypted FRMPayload, for which there is room.
+fn append_body<A: Allocator>(
+    frame: &mut Vec<u8, A>,
+    keys: &Keys,
+    direction: u8,
+    addr: u32,
+    counter: u32,
+    body: Option<Body>,
+)
+    requires short { body_len body ≤ 243 }
+    requires room { vec_len frame.old + body_len body ≤ vec_capacity frame.old }
+    ensures items { frame.new.items ≡ frame.old.items ++ body_bytes keys.now direction addr counter body.entry }
+    ensures len { vec_len frame.new ≡ vec_len frame.old + body_len body.entry }
+    ensures room { vec_capacity frame.old ≤ vec_capacity frame.new }
+{
+    let Some(body) = body else {
+        return;
+    };
+    append(frame, &[body.port]);
+    let key = payload_key(keys, body.port);
+    append_crypted(frame, key, direction, addr, counter, body.payload);
+}
+
+// Appends the MIC, for which there is room.
+fn append_mic<A: Allocator>(
+    frame: &mut Vec<u8, A>,
+    keys: &Keys,
+    direction: u8,
+    addr: u32,
+    counter: u32,
+)
+    requires short { vec_len frame.old < 256 }
+    requires room { vec_len frame.old + 4 ≤ vec_capacity frame.old }
+    ensures { frame.new.items ≡ with_mic keys.now direction addr counter frame.old.items }
+{
+    let code = mic(&keys.nwk, direction, addr, counter, frame.as_slice());
+    append(frame, &code);
+}
+
+/// The bytes of a downlink, in one growth of their number (LoRaWAN L2 1.0.4 section 4). Err(Port) where
+/// the port is outside 1 to 223, else Err(Long) where the payload has more than 242 bytes, else
+/// Err(NoMemory) where that growth is refused.
+pub fn downlink<A: Allocator>(alloc: A, down: &Down, keys: &Keys) -> Result<Vec<u8, A>, DownFault>
+    ensures ok { IfOk result (λ frame. frame.items ≡ down_bytes down.now keys.now) }
+    ensures port { (result ≡ Err DownFault.Port) ↔ (down_fault down.now ≡ Some DownFault.Port) }
+    ensures long { (result ≡ Err DownFault.Long) ↔ (down_fault down.now ≡ Some DownFault.Long) }
+    ensures memory { result ≡ Err DownFault.NoMemory → down_fault down.now ≡ None }
+{
+    if let Some(fault) = down_refusal(down) {
+        return Err(fault);
+    }
+    let Ok(mut frame) = Vec::with_capacity(alloc, 12 + body_len(down.body)) else {
+        return Err(DownFault::NoMemory);
+    };
+    append(
+        &mut frame,
+        &header(3, down.addr, down_control(down), down.counter),
+    );
+    append_body(&mut frame, keys, DOWN, down.addr, down.counter, down.body);
+    append_mic(&mut frame, keys, DOWN, down.addr, down.counter);
+    Ok(frame)
+}
+
+/// The bytes that a device sends as an uplink, in one growth of their number (LoRaWAN L2 1.0.4 section 4).
+/// Err(Port) where the port is above 223, else Err(Long) where FOpts have more than 15 bytes or the frame
+/// more than 255, else Err(NoMemory) where that growth is refused.
+pub fn uplink_bytes<A: Allocator>(alloc: A, up: &Up, keys: &Keys) -> Result<Vec<u8, A>, UpFault>
+    ensures ok { IfOk result (λ frame. frame.items ≡ up_bytes up.now keys.now) }
+    ensures port { (result ≡ Err UpFault.Port) ↔ (up_fault up.now ≡ Some UpFault.Port) }
+    ensures long { (result ≡ Err UpFault.Long) ↔ (up_fault up.now ≡ Some UpFault.Long) }
+    ensures memory { result ≡ Err UpFault.NoMemory → up_fault up.now ≡ None }
+{
+    if let Some(fault) = up_refusal(up) {
+        return Err(fault);
+    }
+    let size = 12 + up.options.len() + body_len(up.body);
+    let Ok(mut frame) = Vec::with_capacity(alloc, size) else {
+        return Err(UpFault::NoMemory);
+    };
+    append(
+        &mut frame,
+        &header(up_kind(up), up.addr, up_control(up), up.counter),
+    );
+    append(&mut frame, up.options);
+    append_body(&mut frame, keys, UP, up.addr, up.counter, up.body);
+    append_mic(&mut frame, keys, UP, up.addr, up.counter);
+    Ok(frame)
+}

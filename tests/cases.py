@@ -1,0 +1,88 @@
+#!/usr/bin/env python3
+"""Runs a program on the cases in cases/, and compares what it writes and how it ends.
+
+Usage: cases.py PROGRAM [NAME ..]      (NAME: a case; none: all of them)
+
+A case is a folder cases/NAME with
+    args     the arguments, one word a line; none: no arguments
+    stdin    the standard input; none: the null device
+    stdout   what standard output must be, byte for byte; none: it is not compared
+    stderr   the same of standard error
+    status   the exit status that is wanted; none: 0
+
+A failing case has a line, and under it what differs ('-' is wanted, '+' was written). The last line is
+'N passed, M failed'. The status is 0 where none failed, 1 where one did, 2 where nothing could be run.
+"""
+import difflib
+import pathlib
+import subprocess
+import sys
+import tempfile
+
+SECONDS = 120
+CASES = pathlib.Path(__file__).resolve().parent.parent / "cases"
+
+
+def wanted(case, name):
+    path = case / name
+    return path.read_bytes() if path.is_file() else None
+
+
+def lines_of(data):
+    return data.decode("utf-8", "backslashreplace").splitlines()
+
+
+def differences(name, want, got):
+    """The lines in which a stream differs; none where it is not compared or the same."""
+    if want is None or want == got:
+        return []
+    shown = list(difflib.unified_diff(lines_of(want), lines_of(got), "wanted " + name, "written " + name, lineterm=""))
+    return shown or [f"{name} differs in its line ends: wanted {want[-40:]!r}, written {got[-40:]!r}"]
+
+
+def faults_of(program, case, folder):
+    """What is wrong with a case; nothing where it passes."""
+    args = (case / "args").read_text().splitlines() if (case / "args").is_file() else []
+    status = int((case / "status").read_text()) if (case / "status").is_file() else 0
+    given = case / "stdin"
+    try:
+        with open(given if given.is_file() else "/dev/null", "rb") as stdin:
+            ran = subprocess.run([program, *args], stdin=stdin, capture_output=True, cwd=folder, timeout=SECONDS)
+    except subprocess.TimeoutExpired:
+        return [f"it did not end within {SECONDS} seconds"]
+    faults = differences("stdout", wanted(case, "stdout"), ran.stdout)
+    faults += differences("stderr", wanted(case, "stderr"), ran.stderr)
+    if ran.returncode != status:
+        faults.append(f"wanted status {status}, ended with {ran.returncode}")
+        if ran.stderr:
+            faults += ["standard error:"] + lines_of(ran.stderr)
+    return faults
+
+
+def main():
+    if len(sys.argv) < 2:
+        print(__doc__.strip(), file=sys.stderr)
+        return 2
+    program = pathlib.Path(sys.argv[1]).resolve()
+    if not program.is_file():
+        print(f"cases.py: no program at {program}", file=sys.stderr)
+        return 2
+    names = sys.argv[2:] or sorted(path.name for path in CASES.glob("*") if path.is_dir())
+    missing = [name for name in names if not (CASES / name).is_dir()]
+    if missing or not names:
+        print(f"cases.py: no case {' '.join(missing)} in {CASES}", file=sys.stderr)
+        return 2
+    failed = 0
+    with tempfile.TemporaryDirectory() as folder:
+        for name in names:
+            faults = faults_of(program, CASES / name, folder)
+            if faults:
+                failed += 1
+                print(f"failed: {name}")
+                print("\n".join("    " + fault for fault in faults))
+    print(f"{len(names) - failed} passed, {failed} failed")
+    return 1 if failed else 0
+
+
+if __name__ == "__main__":
+    sys.exit(main())
