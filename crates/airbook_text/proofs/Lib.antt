@@ -4,3 +4,4 @@ pub mod RunLemmas
 pub mod SoFar
 pub mod ReportLemmas
 pub mod LawLemmas
+pub mod Worked

@@ -4,7 +4,7 @@ ghost use Rattle.std.specs.Prelude.{◌≡◌};
 use thiserror::Error;
 
 /// Why a text call stopped. What was written before is a front of the output.
-#[derive(Clone, Copy, Debug, Drop, Error)]
+#[derive(Clone, Copy, Debug, PartialEq, Eq, Error)]
 pub enum TextFault {
     /// A call of the reader failed.
     #[error("the input could not be read")]

@@ -6,6 +6,7 @@ pub mod Walk
 pub mod SameFields
 pub mod Reservations
 pub mod Begun
+pub mod Nearest
 pub use Rattle.radio_airtime.specs.DataRate
 pub use Rattle.radio_airtime.specs.TimeOnAir
 pub use Rattle.radio_airtime.specs.Bounds

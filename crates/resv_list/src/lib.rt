@@ -1,10 +1,12 @@
 //! Reservations, and rosters that keep them by start.
 #![tactic(auto)]
 
+mod laws;
 mod reservation;
 mod roster;
 mod vec_roster;
 
+pub use laws::law_nearest_are_found;
 pub use reservation::{LAST_END, Reservation};
 pub use roster::{MAX_MEMBERS, Roster, RosterFault};
 pub use vec_roster::VecRoster;
