@@ -166,11 +166,11 @@ none_more l band most o t =
     between.0
     (none_before_next band t (t + hour) l)
 
--- What the row of the duty cycle says: no hour that holds the start would pass the limit; or the least
--- start, of what is asked for or of a member of the band, at which such an hour opens.
+-- the start of what is asked for, or of a member of the band
 abbrev pub IsOpening : List Reservation → Band → ℕ → ℕ → Type 0
 IsOpening l band start t = (t ≡ start) ⊎ Contains (starts_in l band) t
 
+-- the least such start whose hour holds what is asked for and would pass the limit
 pub record IsFirstFullHour (l : List Reservation) (band : Band) (start airtime from : ℕ) : Type 0 where
   pub opens : IsOpening l band start from
   pub begins : from ≤ start
@@ -178,6 +178,8 @@ pub record IsFirstFullHour (l : List Reservation) (band : Band) (start airtime f
   pub passes : limit_of band < spent l band from + airtime
   pub first : (t : ℕ) → IsOpening l band start t → t ≤ start → start < t + hour → limit_of band < spent l band t + airtime → from ≤ t
 
+-- what the row of the duty cycle says: no hour that holds the start would pass the limit, wherever it opens; or the
+-- first full hour
 abbrev pub IsDutyAnswer : List Reservation → Band → ℕ → ℕ → Option ℕ → Type 0
 IsDutyAnswer l band start airtime o =
     MatchOption

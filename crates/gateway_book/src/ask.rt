@@ -9,6 +9,7 @@ pub struct Ask {
     pub start: u64,
     /// The centre of its channel, in Hz.
     pub freq_hz: u32,
+    /// The data rate.
     pub rate: DataRate,
     /// The length of its PHYPayload, in bytes.
     pub len: u8,

@@ -112,6 +112,7 @@ impl<R: Roster> GatewayBook<R> {
                 self.booked += reservation.airtime();
                 Ok(reservation)
             }
+            // It is not full: it has fewer members than `cap`.
             Err(_) => Err(Refusal::NoMemory),
         }
     }

@@ -8,9 +8,10 @@ ghost use Rattle.lora_frame.specs.Blocks.{stream_seed, crypted, mic_of};
 use aes_cmac::{Cmac, Key, encrypt};
 use std::alloc::Allocator;
 
-/// Which way a frame goes, as a byte of the blocks: 0 up, 1 down.
+/// The byte of the blocks that says that a frame goes up.
 pub(crate) const UP: u8 = 0;
 
+/// The byte of the blocks that says that a frame goes down.
 pub(crate) const DOWN: u8 = 1;
 
 // A block with these first and last bytes.

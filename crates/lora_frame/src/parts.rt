@@ -7,6 +7,7 @@ use aes_cmac::Key;
 pub struct Body<'a> {
     /// 0 for MAC commands, 1 to 223 for the application.
     pub port: u8,
+    /// FRMPayload, 0 to 242 bytes.
     pub payload: &'a [u8],
 }
 
@@ -30,21 +31,27 @@ pub struct Down<'a> {
     pub ack: bool,
     /// FPending: whether more downlinks wait.
     pub pending: bool,
+    /// FPort and FRMPayload; `None` for a frame with neither.
     pub body: Option<Body<'a>>,
 }
 
 /// A data uplink, as a device writes it.
 #[derive(Clone, Copy, Debug)]
 pub struct Up<'a> {
+    /// Whether the frame asks for an acknowledgement.
     pub confirmed: bool,
     /// DevAddr.
     pub addr: u32,
     /// The whole uplink counter: the frame has its low 16 bits.
     pub counter: u32,
+    /// ADR: whether the network may set the data rate.
     pub adr: bool,
+    /// ADRACKReq: whether any downlink is asked for.
     pub adr_ack_req: bool,
+    /// Whether the frame acknowledges a confirmed downlink.
     pub ack: bool,
     /// FOpts, at most 15 bytes.
     pub options: &'a [u8],
+    /// FPort and FRMPayload; `None` for a frame with neither.
     pub body: Option<Body<'a>>,
 }

@@ -11,11 +11,15 @@ use thiserror::Error;
 /// What a data uplink says beside its payload (LoRaWAN L2 1.0.4 section 4).
 #[derive(Clone, Copy, Debug, PartialEq, Eq)]
 pub struct Uplink {
+    /// Whether the frame asks for an acknowledgement.
     pub confirmed: bool,
     /// DevAddr.
     pub addr: u32,
+    /// ADR: whether the network may set the data rate.
     pub adr: bool,
+    /// ADRACKReq: whether any downlink is asked for.
     pub adr_ack_req: bool,
+    /// Whether the frame acknowledges a confirmed downlink.
     pub ack: bool,
     /// FCnt: the low 16 bits of the counter.
     pub low: u16,
@@ -25,6 +29,7 @@ pub struct Uplink {
     pub port: Option<u8>,
     /// The place of the first byte of FRMPayload, or that of the MIC where there is none.
     pub payload_at: usize,
+    /// The last four bytes.
     pub mic: [u8; 4],
 }
 
