@@ -8,7 +8,7 @@ use Rattle.aes_cmac.specs.Aes.{xor_bytes, ciphertext}
 use Rattle.aes_cmac.specs.Mac.{cmac}
 use Rattle.aes_cmac.specs.Lengths.{length-ciphertext, length-cmac}
 use Rattle.lora_frame.specs.Blocks.{key_stream, stream_seed, crypted, block_count, mic_of, first_block}
-use Rattle.lora_frame.specs.Frame.{payload_key, down_bytes, down_message, body_bytes, header_bytes, down_control}
+use Rattle.lora_frame.specs.Frame.{payload_key, down_frame, down_bytes, down_message, body_bytes, header_bytes, down_control}
 use Rattle.lora_frame.specs.Laws.{IsKeyPair, sent_payload}
 use Rattle.lora_frame.specs.declared.parts.Body.{Body}
 use Rattle.lora_frame.specs.declared.parts.Keys.{Keys}
@@ -76,7 +76,7 @@ back-mic message mic h = drop_at message mic (length (message ++ mic) - 4) (omeg
 
 pub device_decrypts : (down : Down) (keys : Keys) (body : Body) → IsKeyPair keys → down.body ≡ Some body
     → crypted (payload_key keys body.port) 1 down.addr down.counter (sent_payload (down_bytes down keys)) ≡ body.payload.now
-unfolding down_bytes
+unfolding down_frame
 device_decrypts down keys body pair is =
     let message : List ℕ = down_message down keys in
     let mic : List ℕ = mic_of keys.nwk 1 down.addr down.counter message in

@@ -18,10 +18,18 @@ abbrev pub payload_key : Keys → ℕ → List ℕ
 payload_key keys port = if port == 0 then keys.nwk else keys.app
 
 -- FPort and the encrypted FRMPayload, or nothing (section 4.3)
+abbrev pub parts_bytes : Keys → ℕ → ℕ → ℕ → Option (ℕ × List ℕ) → List ℕ
+parts_bytes keys direction addr counter None = []
+parts_bytes keys direction addr counter (Some parts) =
+    parts.0 ∷ crypted (payload_key keys parts.0) direction addr counter parts.1
+
+-- the port and the payload of a body
+abbrev pub parts_of : Option Body → Option (ℕ × List ℕ)
+parts_of None = None
+parts_of (Some body) = Some (body.port, body.payload.now)
+
 abbrev pub body_bytes : Keys → ℕ → ℕ → ℕ → Option Body → List ℕ
-body_bytes keys direction addr counter None = []
-body_bytes keys direction addr counter (Some body) =
-    body.port ∷ crypted (payload_key keys body.port) direction addr counter body.payload.now
+body_bytes keys direction addr counter body = parts_bytes keys direction addr counter (parts_of body)
 
 -- a message and its MIC (section 4.4)
 abbrev pub with_mic : Keys → ℕ → ℕ → ℕ → List ℕ → List ℕ
@@ -32,17 +40,28 @@ abbrev pub bit_worth : Bool → ℕ → ℕ
 bit_worth b n = if b then n else 0
 
 -- FCtrl of a downlink: ACK and FPending (section 4.3.1)
+abbrev pub control_bits : Bool → Bool → ℕ
+control_bits ack pending = bit_worth ack 0x20 + bit_worth pending 0x10
+
 abbrev pub down_control : Down → ℕ
-down_control down = bit_worth down.ack 0x20 + bit_worth down.pending 0x10
+down_control down = control_bits down.ack down.pending
 
 -- a downlink but its MIC: an unconfirmed data downlink, type 3
+abbrev pub message_of_parts : Keys → ℕ → ℕ → ℕ → Option (ℕ × List ℕ) → List ℕ
+message_of_parts keys addr counter control parts =
+    header_bytes 3 addr control counter ++ parts_bytes keys 1 addr counter parts
+
 abbrev pub down_message : Down → Keys → List ℕ
-down_message down keys =
-    header_bytes 3 down.addr (down_control down) down.counter ++ body_bytes keys 1 down.addr down.counter down.body
+down_message down keys = message_of_parts keys down.addr down.counter (down_control down) (parts_of down.body)
+
+-- a downlink with these keys, DevAddr, counter, ACK and FPending, and this port and payload
+unfoldable pub down_frame : Keys → ℕ → ℕ → Bool → Bool → Option (ℕ × List ℕ) → List ℕ
+down_frame keys addr counter ack pending parts =
+    with_mic keys 1 addr counter (message_of_parts keys addr counter (control_bits ack pending) parts)
 
 -- a downlink
-unfoldable pub down_bytes : Down → Keys → List ℕ
-down_bytes down keys = with_mic keys 1 down.addr down.counter (down_message down keys)
+abbrev pub down_bytes : Down → Keys → List ℕ
+down_bytes down keys = down_frame keys down.addr down.counter down.ack down.pending (parts_of down.body)
 
 -- FCtrl of an uplink: ADR, ADRACKReq, ACK and FOptsLen (section 4.3.1)
 abbrev pub up_control : Up → ℕ

@@ -1,6 +1,7 @@
 -- How a data uplink is read (LoRaWAN L2 1.0.4 section 4).
 use Rattle.std.specs.Prelude.{◌≡◌, ℕ, ◌+◌, ◌-◌, ◌/◌, ◌%◌, Bool, ◌==◌, ◌||◌, not, nat_lt, List, length, take, drop, slice_index, Some, None, Result, Ok, Err, if◌then◌else◌}
 use Rattle.std.specs.Int.{w16, w32, from_le_bytes}
+use Rattle.std.specs.Str.{bytes_eq}
 use Rattle.lora_frame.specs.Blocks.{mic_of}
 use Rattle.lora_frame.specs.declared.reading.Uplink.{Uplink}
 use Rattle.lora_frame.specs.declared.reading.FrameFault.{FrameFault}
@@ -63,3 +64,8 @@ uplink_of bytes =
 abbrev pub HasMic : List ℕ → List ℕ → ℕ → Type 0
 HasMic bytes key counter =
     drop (mic_place bytes) bytes ≡ mic_of key 0 (addr_of bytes) counter (take (mic_place bytes) bytes)
+
+-- the same as a test
+unfoldable pub has_mic : List ℕ → List ℕ → ℕ → Bool
+has_mic bytes key counter =
+    bytes_eq (drop (mic_place bytes) bytes) (mic_of key 0 (addr_of bytes) counter (take (mic_place bytes) bytes))

@@ -2,7 +2,7 @@
 
 ghost use Rattle.std.specs.Prelude.{◌≡◌, ◌↔◌, ◌+◌, ◌≤◌, Some, None, IsOk, IsTrue, nat_lt, length, take, drop, slice_index, if◌then◌else◌};
 ghost use Rattle.std.specs.Int.{w16, from_le_bytes};
-ghost use Rattle.lora_frame.specs.Reading.{uplink_of, uplink_record, HasMic};
+ghost use Rattle.lora_frame.specs.Reading.{uplink_of, uplink_record, HasMic, has_mic};
 
 use crate::blocks::{UP, mic};
 use aes_cmac::Key;
@@ -141,7 +141,8 @@ pub fn read_uplink(bytes: &[u8]) -> Result<Uplink, FrameFault>
 /// Needs no memory.
 pub fn check_mic(bytes: &[u8], nwk: &Key, counter: u32) -> bool
     requires { IsOk (uplink_of bytes.now) }
-    ensures { IsTrue result ↔ HasMic bytes.now nwk.now counter }
+    ensures mic { IsTrue result ↔ HasMic bytes.now nwk.now counter }
+    ensures value { result ≡ has_mic bytes.now nwk.now counter }
 {
     let mic_at = bytes.len() - 4;
     let addr = u32::from_le_bytes(four_at(bytes, 1));

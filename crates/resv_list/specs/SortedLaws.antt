@@ -159,11 +159,6 @@ module _ {X : Type 0} (key : X → ℕ) where
   RisesFrom-cut low at (x ∷ xs) zero c r = (cut_fails at x xs c, r.1)
   RisesFrom-cut low at (x ∷ xs) (suc i) c r = RisesFrom-cut (key x + 1) at xs i (cut_rest (λ z. nat_lt (key z) at) x xs i c) r.1
 
-  pub RisesFrom-drop : (low : ℕ) (xs : List X) (i : ℕ) → RisesFrom key low xs → RisesFrom key low (drop i xs)
-  RisesFrom-drop low xs zero r = r
-  RisesFrom-drop low [] (suc i) r = tt
-  RisesFrom-drop low (x ∷ xs) (suc i) r = RisesFrom-lower key low (key x + 1) (drop i xs) (omega arith) (RisesFrom-drop (key x + 1) xs i r.1)
-
 module _ {X : Type 0} (key : X → ℕ) where
   filtered_by : (test : X → Bool) (low : ℕ) (x : X) (xs : List X) (t : Bool) → RisesFrom key low (x ∷ xs) → RisesFrom key (key x + 1) (filter test xs) → RisesFrom key low (cond t (x ∷ filter test xs) (filter test xs))
   filtered_by test low x xs true r f = (r.0, f)

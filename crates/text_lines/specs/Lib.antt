@@ -3,6 +3,5 @@ pub mod Calls
 pub mod Line
 pub mod Number
 pub mod Reading
-pub mod Taking
 pub mod Words
 pub mod Writing

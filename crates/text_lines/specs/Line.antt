@@ -1,13 +1,12 @@
 -- Lines of bytes. `lines` of the standard library gives the lines of a text: each ends by a line feed, and one
 -- carriage return before that is dropped; what follows the last line feed is a line too, unless it is empty, and
 -- keeps every byte.
-use Rattle.std.specs.Prelude.{◌≡◌, ◌≢◌, ℕ, ◌+◌, ◌<◌, Bool, false, List, [], ◌∷◌, ◌++◌, length, take, nat_lt, refl}
+use Rattle.std.specs.Prelude.{◌≡◌, ◌≢◌, ℕ, ◌+◌, ◌<◌, Bool, List, [], ◌∷◌, ◌++◌, length, take, nat_lt, refl}
 use Rattle.std.specs.List.{All, slice_split}
 use Rattle.std.specs.Str.Lines.{lines, lines_of_parts, strip_carriage_return}
-use Rattle.std.proofs.Common.{sym, ap, ◌∙◌, ⊎_elim, append_assoc, arith, eqb, cond}
+use Rattle.std.proofs.Common.{sym, ap, ◌∙◌, append_assoc, arith, eqb, cond}
 use Rattle.std.proofs.Math.Dec.{eqb-suc-zero}
-use Rattle.std.proofs.lemmas.Bool.{ne_eqb, lt-ltb, ltb-false, cases_lt}
-use Rattle.std.proofs.lemmas.List.{take_all, length-take-le}
+use Rattle.std.proofs.lemmas.Bool.{ne_eqb}
 use Rattle.std.proofs.lemmas.List.Splits.{slice_split_at, slice_split_none, length-slice_split}
 use Rattle.text_lines.specs.declared.held_line.TheConstants.{LINE_LIMIT}
 
@@ -27,17 +26,6 @@ kept line = take (LINE_LIMIT + 1) line
 abbrev pub text_of : List (List ℕ) → List ℕ
 text_of [] = []
 text_of (line ∷ more) = line ++ (10 ∷ text_of more)
-
--- a line that is not too long is kept whole
-pub kept_same : (line : List ℕ) → is_too_long line ≡ false → kept line ≡ line
-kept_same line short = take_all 1025 line (omega (arith, ltb-false 1024 (length line) short))
-
--- what is kept of a line tells whether it is too long
-pub is_too_long-kept : (line : List ℕ) → is_too_long (kept line) ≡ is_too_long line
-is_too_long-kept line = ⊎_elim
-    (λ short. ap is_too_long (take_all 1025 line (omega arith)))
-    (λ long. lt-ltb 1024 (length (kept line)) (omega (arith, length-take-le 1025 line (omega arith))) ∙ sym (lt-ltb 1024 (length line) (omega arith)))
-    (cases_lt (length line) 1025)
 
 -- the text of some lines and then of others
 pub text_of-append : (front rest : List (List ℕ)) → text_of (front ++ rest) ≡ text_of front ++ text_of rest

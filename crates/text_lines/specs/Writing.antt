@@ -1,7 +1,7 @@
 -- What a writer has taken of a text that is written in order.
-use Rattle.std.specs.Prelude.{◌≡◌, ◌≤◌, ℕ, List, [], ◌++◌, length, take, drop, ⊤, Option, None, Some, refl}
-use Rattle.std.specs.Io.KnownBytes.{Appends, Keeps}
-use Rattle.std.proofs.Common.{sym, ap, ◌∙◌, arith, length-append, append_assoc, append-nil, take-append-drop}
+use Rattle.std.specs.Prelude.{◌≡◌, ◌≤◌, ℕ, List, [], ◌++◌, length, ⊤, Option, None, Some, refl}
+use Rattle.std.specs.Io.KnownBytes.{Appends}
+use Rattle.std.proofs.Common.{sym, ap, ◌∙◌, arith, length-append, append_assoc, append-nil}
 
 -- of the text, the writer took all but `pending`, which is the text's end
 abbrev pub WritesAllBut : Option (List ℕ) → Option (List ℕ) → List ℕ → List ℕ → Type 0
@@ -43,24 +43,6 @@ WritesAllBut-trans None b c text pending rest part next = tt
 WritesAllBut-trans (Some x) None c text pending rest part next = absurd part
 WritesAllBut-trans (Some x) (Some y) None text pending rest part next = absurd next
 WritesAllBut-trans (Some x) (Some y) (Some z) text pending rest part next = (part.0 ∙ next.0, omega (arith, part.1, next.1))
-
--- one write took n bytes of what was pending
-pub WritesAllBut-write : (a b c : Option (List ℕ)) (text pending : List ℕ) (n : ℕ) → WritesAllBut a b text pending → Appends b c (take n pending) → WritesAllBut a c text (drop n pending)
-WritesAllBut-write None b c text pending n part wrote = tt
-WritesAllBut-write (Some x) None c text pending n part wrote = absurd part
-WritesAllBut-write (Some x) (Some y) None text pending n part wrote = absurd wrote
-WritesAllBut-write (Some x) (Some y) (Some z) text pending n part wrote = (
-  part.0 ∙ ap (λ l. y ++ l) (sym (take-append-drop n pending)) ∙ sym (append_assoc y (take n pending) (drop n pending)) ∙ ap (λ l. l ++ drop n pending) (sym wrote),
-  omega (arith, part.1, ap length wrote, length-append y (take n pending)),
-)
-
--- a write that took nothing leaves all pending
-pub WritesAllBut-kept : (a b c : Option (List ℕ)) (text pending : List ℕ) → WritesAllBut a b text pending → Keeps b c → WritesAllBut a c text pending
-WritesAllBut-kept None b c text pending part same = tt
-WritesAllBut-kept (Some x) None c text pending part same = absurd part
-WritesAllBut-kept (Some x) (Some y) None text pending part same = absurd same
-WritesAllBut-kept (Some x) (Some y) (Some z) text pending part same =
-    (part.0 ∙ ap (λ l. l ++ pending) (sym same), omega (arith, part.1, ap length same))
 
 -- what was pending was taken whole
 pub Appends-after : (a b c : Option (List ℕ)) (text pending : List ℕ) → WritesAllBut a b text pending → Appends b c pending → Appends a c text
