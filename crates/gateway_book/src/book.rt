@@ -1,6 +1,7 @@
-ghost use Rattle.std.specs.Prelude.{◌≡◌, ℕ, ◌≤◌, ◌↔◌, [], ◌∷◌, IsOk, IfOk, OnOk, OnErr, MatchOption, IsOkUnless, IsOkAnd, nat_lt, max, find, OnSome};
+ghost use Rattle.std.specs.Prelude.{◌≡◌, ℕ, ◌+◌, ◌≤◌, ◌↔◌, [], ◌∷◌, IsOk, IfOk, OnOk, OnErr, MatchOption, IsOkUnless, IsOkAnd, nat_lt, max, find, OnSome};
 ghost use Rattle.std.specs.Option.{option_map, option_and_then};
 ghost use Rattle.gateway_book.specs.Answer.{IsAsked, first_some, no_band, too_long, past_end, refusal_of, overlap, overfull};
+ghost use Rattle.gateway_book.specs.Lawful.{IsLawful};
 ghost use Rattle.gateway_book.specs.Book.{terms_of, state_of, with_booked, with_cancelled, airtime_answer, totals_of};
 ghost use Rattle.radio_bands.specs.Band.{band_of};
 ghost use Rattle.resv_list.specs.Reservations.{start_of, end_of, airtime_us, without};
@@ -195,7 +196,8 @@ impl<R: Roster> GatewayBook<R> {
 
     /// What the book has counted.
     pub fn totals(&self) -> Totals
-        ensures { result ≡ totals_of self.now }
+        ensures totals { result ≡ totals_of self.now }
+        ensures balanced { result.booked ≡ result.cancelled + result.retired + result.kept_airtime }
     {
         Totals {
             booked: self.booked,
@@ -219,7 +221,8 @@ impl<R: Roster> GatewayBook<R> {
 
     /// What the book keeps, by start.
     pub fn list<A: Allocator>(&self, alloc: A) -> Result<Vec<Reservation, A>, NoMemory>
-        ensures { IfOk result (λ members. members.items ≡ self.now.list) }
+        ensures members { IfOk result (λ members. members.items ≡ self.now.list) }
+        ensures lawful { IsLawful self.now.list }
     {
         members_of(alloc, &self.roster)
     }
