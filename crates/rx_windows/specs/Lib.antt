@@ -1,0 +1,7 @@
+pub mod Window
+pub mod Rank
+pub mod Windows
+pub mod Laws
+pub mod RankLaws
+pub mod WindowLaws
+pub use Rattle.radio_airtime.specs.DataRate

@@ -1,0 +1,126 @@
+// Worked uplinks.
+
+ghost use Rattle.std.specs.Prelude.{◌≡◌, ◌^◌, ◌≤◌};
+ghost use Rattle.std.specs.Option.{ForSome};
+ghost use Rattle.rx_windows.specs.Windows.{IsHeard, IsPlan};
+
+use crate::{Candidate, Plan, Window, candidates, rank};
+use radio_airtime::DataRate;
+use std::test::Fail;
+use uplink_gather::HeardCopy;
+
+/// A copy at DR5 on 868.1 MHz.
+fn copy(gateway: u16, at: u64, snr: i16, rssi: i16) -> HeardCopy
+    requires { at ≤ 2 ^ 60 }
+    ensures gateway { result.gateway ≡ gateway }
+    ensures heard { IsHeard result }
+{
+    HeardCopy {
+        gateway,
+        at,
+        freq_hz: 868_100_000,
+        rate: DataRate::Dr5,
+        snr,
+        rssi,
+    }
+}
+
+fn plan(delay: u8, offset: u8, payload: Option<u8>) -> Plan
+    requires delay_from { 1 ≤ delay }
+    requires delay_to { delay ≤ 15 }
+    requires offset { offset ≤ 5 }
+    requires payload { ForSome payload (λ n. n ≤ 242) }
+    ensures { IsPlan result }
+{
+    Plan {
+        delay,
+        offset,
+        rx2_freq: 869_525_000,
+        rx2_rate: DataRate::Dr0,
+        payload,
+    }
+}
+
+/// RX1 with an empty frame.
+fn first(gateway: u16, start: u64, rate: DataRate) -> Candidate {
+    Candidate {
+        gateway,
+        window: Window::Rx1,
+        start,
+        freq_hz: 868_100_000,
+        rate,
+        len: 12,
+        carries: false,
+    }
+}
+
+/// RX2 with an empty frame.
+fn second(gateway: u16, start: u64) -> Candidate {
+    Candidate {
+        gateway,
+        window: Window::Rx2,
+        start,
+        freq_hz: 869_525_000,
+        rate: DataRate::Dr0,
+        len: 12,
+        carries: false,
+    }
+}
+
+#[test]
+fn three_copies(rt: HostRuntime) -> Result<(), Fail> {
+    let mut copies = [
+        copy(1, 5_000_000, 55, -90),
+        copy(2, 6_000_000, 55, -80),
+        copy(3, 7_000_000, -20, -60),
+    ];
+    rank(&mut copies);
+    let found = candidates(rt.alloc(), &copies, &plan(1, 2, None))?;
+    let wanted = [
+        first(2, 7_000_000, DataRate::Dr3),
+        first(1, 6_000_000, DataRate::Dr3),
+        first(3, 8_000_000, DataRate::Dr3),
+        second(2, 8_000_000),
+        second(1, 7_000_000),
+        second(3, 9_000_000),
+    ];
+    assert!(rt; found.as_slice() == wanted.as_slice());
+    Ok(())
+}
+
+#[test]
+fn no_copies(rt: HostRuntime) -> Result<(), Fail> {
+    let found = candidates(rt.alloc(), &[], &plan(1, 0, None))?;
+    assert!(rt; found.is_empty());
+    Ok(())
+}
+
+#[test]
+fn longest_delay(rt: HostRuntime) -> Result<(), Fail> {
+    let copies = [copy(1, 5_000_000, 0, -100)];
+    let found = candidates(rt.alloc(), &copies, &plan(15, 0, None))?;
+    let wanted = [first(1, 20_000_000, DataRate::Dr5), second(1, 21_000_000)];
+    assert!(rt; found.as_slice() == wanted.as_slice());
+    Ok(())
+}
+
+#[test]
+fn payload_that_fits_only_rx1(rt: HostRuntime) -> Result<(), Fail> {
+    let copies = [copy(1, 5_000_000, 0, -100)];
+    let found = candidates(rt.alloc(), &copies, &plan(1, 0, Some(100)))?;
+    let carrying = Candidate {
+        len: 113,
+        carries: true,
+        ..first(1, 6_000_000, DataRate::Dr5)
+    };
+    let wanted = [carrying, second(1, 7_000_000)];
+    assert!(rt; found.as_slice() == wanted.as_slice());
+    Ok(())
+}
+
+#[test]
+fn window_names(rt: HostRuntime) -> Result<(), Fail> {
+    let names = format!(in rt.alloc(); "{} {}", Window::Rx1, Window::Rx2)?;
+    assert_eq!(rt; names.as_str(), "RX1 RX2");
+    Ok(())
+}
