@@ -8,3 +8,6 @@ pub mod Fault
 pub mod Progress
 pub mod Promise
 pub mod Laws
+pub mod SettingsFaultName
+pub mod SettingsFields
+pub mod SettingsOfTable

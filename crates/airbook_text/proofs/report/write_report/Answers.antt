@@ -7,5 +7,5 @@ use Rattle.airbook_text.proofs.report.write_report.Goals as goal
 pub returns : goal.returns
 returns g c =
     let l = c.args.book.now.list in
-    rw (c.add_busiest-6.ensures.text, c.add_busiest-5.ensures.text, c.add_busiest-4.ensures.text, c.add_busiest-3.ensures.text, c.add_busiest-2.ensures.text, c.add_busiest.ensures.text, c.write_totals.ensures.text, c.totals.ensures)
+    rw (c.add_busiest-6.ensures.text, c.add_busiest-5.ensures.text, c.add_busiest-4.ensures.text, c.add_busiest-3.ensures.text, c.add_busiest-2.ensures.text, c.add_busiest.ensures.text, c.write_totals.ensures.text, c.totals.ensures.totals)
     (sym (text_of-seven (totals_lines _) (busiest_lines l K) (busiest_lines l L) (busiest_lines l M) (busiest_lines l N) (busiest_lines l P) (busiest_lines l Q)))

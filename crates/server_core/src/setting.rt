@@ -1,0 +1,35 @@
+// What is set for one gateway and for one device.
+
+use radio_airtime::DataRate;
+
+/// One gateway, as it is set.
+#[derive(Clone, Copy, Debug, PartialEq, Eq)]
+pub struct GatewaySetting {
+    /// The gateway's number, 1 to 65,535.
+    pub id: u16,
+    /// How many transmissions its book may keep, 1 to 65,536.
+    pub cap: u32,
+}
+
+/// One device with its session (LoRaWAN L2 1.0.4, Class A), as it is set.
+#[derive(Clone, Copy, Debug, PartialEq, Eq)]
+pub struct DeviceSetting {
+    /// DevAddr.
+    pub addr: u32,
+    /// NwkSKey.
+    pub nwk: [u8; 16],
+    /// AppSKey.
+    pub app: [u8; 16],
+    /// RX1Delay: RX1 opens so many seconds after the end of an uplink, 1 to 15.
+    pub delay: u8,
+    /// RX1DROffset: by how much the data rate of RX1 lies below the uplink's, 0 to 5.
+    pub offset: u8,
+    /// The centre of the channel of RX2, in Hz; at `rx2_rate` it lies in a sub-band.
+    pub rx2_freq: u32,
+    /// The data rate of RX2.
+    pub rx2_rate: DataRate,
+    /// The last uplink counter that was heard; `None` where there is none.
+    pub up: Option<u32>,
+    /// The next downlink counter, 0 to 2^32; at 2^32 all are spent.
+    pub down: u64,
+}
