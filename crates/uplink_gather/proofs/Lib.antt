@@ -1,0 +1,3 @@
+pub mod IndexLemmas
+pub mod UnclosedLemmas
+pub mod KeptLemmas
