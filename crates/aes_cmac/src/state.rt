@@ -5,7 +5,6 @@ ghost use Rattle.aes_cmac.specs.Aes.{xor_bytes, ciphertext};
 ghost use Rattle.aes_cmac.specs.Mac.{cmac, first_subkey, second_subkey};
 ghost use Rattle.aes_cmac.specs.Progress.{HasTaken};
 
-use crate::cipher::encrypt_block;
 use crate::keys::{Key, encrypt};
 use std::marker::Model;
 

@@ -3,7 +3,7 @@ ghost use Rattle.std.specs.Prelude.{◌≡◌, ◌^◌, None, Some, MatchResult}
 ghost use Rattle.std.specs.Option.{option_map};
 ghost use Rattle.toml.specs.Data.{get_member};
 ghost use Rattle.toml.specs.View.{view, table_view};
-ghost use Rattle.airbook_text.specs.SettingsFields.{whole_below, bytes_in, addr_in, rate_in, counter_in, id_of, cap_of, addr_of, nwk_of, app_of, delay_of, offset_of, rx2_freq_of, rx2_rate_of, up_of, down_of};
+ghost use Rattle.airbook_text.specs.SettingsFields.{whole_below, bytes_in, rate_in, id_of, cap_of, addr_of, nwk_of, app_of, delay_of, offset_of, rx2_freq_of, rx2_rate_of, up_of, down_of};
 
 use crate::ReadFault;
 use crate::command::numbered_rate;

@@ -1,5 +1,5 @@
 // What no clause says: that ample memory answers `ok`, and which fault each failing call gives.
-use crate::{TextFault, book_text, toa_text};
+use crate::{TextFault, book_text};
 use std::process::Abort;
 use std::test::Fail;
 use text_lines::{MemoryIn, MemoryOut};

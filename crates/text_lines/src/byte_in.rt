@@ -3,7 +3,7 @@ ghost use Rattle.std.specs.Prelude.{◌≡◌, ℕ, List, None};
 ghost use Rattle.std.specs.Io.{ReadsAtMost};
 ghost use Rattle.std.specs.Io.KnownBytes.{ReadConsumes};
 ghost use Rattle.std.specs.declared.option.Option.{Option};
-ghost use Rattle.text_lines.specs.Calls.{CountsFailure, next_count};
+ghost use Rattle.text_lines.specs.Calls.{CountsFailure};
 
 use std::io;
 use thiserror::Error;

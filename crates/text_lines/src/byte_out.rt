@@ -3,7 +3,7 @@ ghost use Rattle.std.specs.Prelude.{◌≡◌, ℕ, List, [], None, IfOk, OnOk, 
 ghost use Rattle.std.specs.Io.{WritesAtMost};
 ghost use Rattle.std.specs.Io.KnownBytes.{WriteAppends, Appends};
 ghost use Rattle.std.specs.declared.option.Option.{Option};
-ghost use Rattle.text_lines.specs.Calls.{CountsFailure, next_count};
+ghost use Rattle.text_lines.specs.Calls.{CountsFailure};
 
 use super::byte_in::CallFailed;
 use std::io;

@@ -2,7 +2,7 @@
 ghost use Rattle.std.specs.Prelude.{◌≡◌, ℕ, ◌+◌, ◌-◌, ◌^◌, ◌↔◌, min, max, List, [], Some, IsErr, IfOk, length};
 ghost use Rattle.std.specs.Io.{ReadsAtMost, WritesAtMost};
 ghost use Rattle.std.specs.Io.KnownBytes.{ReadConsumes, WriteAppends};
-ghost use Rattle.text_lines.specs.Calls.{CountsFailure, next_count};
+ghost use Rattle.text_lines.specs.Calls.{CountsFailure};
 
 use super::byte_in::{ByteIn, CallFailed};
 use super::byte_out::ByteOut;
