@@ -1,1 +1,24 @@
+pub mod Places
+pub mod Numbers
+pub mod Found
+pub mod Members
+pub mod Holds
+pub mod Written
+pub mod Gathered
+pub mod Decided
+pub mod Served
+pub mod QueueStep
+pub mod PassStep
+pub mod HearStep
+pub mod TickStep
+pub mod CancelStep
+pub mod SettleStep
+pub mod Booking
+pub mod TryStep
+pub mod Tickets
+pub mod TakeStep
+pub mod Opened
+pub mod Safe
+pub mod Runs
 mod SettingsLemmas
+pub mod DeskSteps

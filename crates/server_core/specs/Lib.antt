@@ -1,5 +1,15 @@
 pub mod SettingsFault
 pub mod Settings
+pub mod Register
+pub mod Queueing
+pub mod Hearing
+pub mod Answers
+pub mod Taking
+pub mod Settling
+pub mod Passing
+pub mod World
+pub mod Promise
+pub mod Desk
 pub use Rattle.radio_airtime.specs.DataRate
 pub use Rattle.radio_airtime.specs.TimeOnAir
 pub use Rattle.radio_airtime.specs.Bounds

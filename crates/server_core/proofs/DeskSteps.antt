@@ -1,0 +1,224 @@
+-- The calls of the desk are the world's steps on its part.
+use Rattle.std.specs.Prelude.{ℕ, zero, suc, ◌≡◌, ◌+◌, ◌-◌, ◌==◌, Bool, true, false, ◌&&◌, if◌then◌else◌, List, [], ◌∷◌, map, slice_get, slice_set, Option, Some, None, Result, Ok, Err, refl}
+use Rattle.std.specs.Option.{option_map, option_map_or, option_and_then}
+use Rattle.std.proofs.Common.{sym, ap, ◌∙◌, subst, arith}
+use Rattle.std.proofs.lemmas.Option.{slice_get-map}
+use Rattle.std.proofs.lemmas.List.{map-append}
+use Rattle.gateway_book.specs.declared.refusal.Refusal.{Refusal}
+use Rattle.gateway_book.specs.Answer.{refusal_of}
+use Rattle.gateway_book.specs.Step.{State, book_step, cancel_step, tick_step}
+use Rattle.uplink_gather.specs.Gatherings.{numbered, rewritten}
+use Rattle.rx_windows.specs.declared.candidate.Candidate.{Candidate}
+use Rattle.answer_ticket.specs.declared.outcome.Ending.{Ending}
+use Rattle.answer_ticket.specs.Job.{Job, candidate_at, ask_for}
+use Rattle.server_core.specs.declared.faults.TakeFault.{TakeFault}
+use Rattle.server_core.specs.Register.{Register}
+use Rattle.server_core.specs.Hearing.{Decision, Refuse, Join, decide, register_after}
+use Rattle.server_core.specs.Hearing as hearing
+use Rattle.server_core.specs.Answers.{Answer, Waiting, Open, Booked, Out, Settled, Known, Given, Done, Sent, known_of, is_given}
+use Rattle.server_core.specs.Settling.{sent_of, after_settling, is_here, may_settle}
+use Rattle.server_core.specs.Taking.{take_answer, after_taking}
+use Rattle.server_core.specs.World.{World, Gateway, step, ids, known, ending_of, gateway_with, answers_after, refused, try_of, try_candidate, try_on, tried_by, cancel_of, cancel_sent, cancel_at, tick_at, take_by, settle_of, settle_as, sent_for, sent_by, terms}
+use Rattle.server_core.specs.World as replies
+use Rattle.server_core.specs.Desk.{DeskCallsAreSteps, told, desk_of, desk_taken, desk_settled, known_after}
+use Rattle.server_core.proofs.Places.{some_inj}
+use Rattle.server_core.proofs.Numbers.{rewritten-found, rewritten-none}
+use Rattle.server_core.proofs.Found.{found_there}
+
+module _ {X Y : Type 0} (f : X → Y) where
+  pub map-set : (xs : List X) (i : ℕ) (y : X) → map f (slice_set xs i y) ≡ slice_set (map f xs) i (f y)
+  map-set [] i y = refl
+  map-set (x ∷ xs) zero y = refl
+  map-set (x ∷ xs) (suc i) y = ap (λ (l : List Y). f x ∷ l) (map-set xs i y)
+
+  -- where the new member looks the same, the list does
+  pub map-set_same : (xs : List X) (i : ℕ) (x y : X) → slice_get xs i ≡ Some x → f y ≡ f x → map f (slice_set xs i y) ≡ map f xs
+  map-set_same [] i x y e s = refl
+  map-set_same (z ∷ xs) zero x y e s = ap (λ (v : Y). v ∷ map f xs) (s ∙ ap f (sym (some_inj e)))
+  map-set_same (z ∷ xs) (suc i) x y e s = ap (λ (l : List Y). f z ∷ l) (map-set_same xs i x y e s)
+
+  numbered-map : (n : ℕ) (xs : List X) → numbered n (map f xs) ≡ option_map f (numbered n xs)
+  numbered-map zero xs = refl
+  numbered-map (suc i) xs = slice_get-map f xs i
+
+  map-rewritten_by : (g : X → X) (h : Y → Y) → ((x : X) → f (g x) ≡ h (f x)) → (n : ℕ) (xs : List X) (o : Option X) → numbered n xs ≡ o
+      → map f (rewritten g n xs) ≡ rewritten h n (map f xs)
+  map-rewritten_by g h s n xs None e =
+      ap (map f) (rewritten-none g n xs e) ∙ sym (rewritten-none h n (map f xs) (numbered-map n xs ∙ ap (option_map f) e))
+  map-rewritten_by g h s n xs (Some x) e =
+      ap (map f) (rewritten-found g n xs x e) ∙ map-set xs (n - 1) (g x) ∙ ap (slice_set (map f xs) (n - 1)) (s x)
+      ∙ sym (rewritten-found h n (map f xs) (f x) (numbered-map n xs ∙ ap (option_map f) e))
+
+  -- a member that is written anew is written anew on the list of what the members look like
+  pub map-rewritten : (g : X → X) (h : Y → Y) → ((x : X) → f (g x) ≡ h (f x)) → (n : ℕ) (xs : List X) → map f (rewritten g n xs) ≡ rewritten h n (map f xs)
+  map-rewritten g h s n xs = map-rewritten_by g h s n xs (numbered n xs) refl
+
+  same_rewritten_by : (g : X → X) (n : ℕ) (xs : List X) (o : Option X) → ((x : X) → o ≡ Some x → f (g x) ≡ f x) → numbered n xs ≡ o → map f (rewritten g n xs) ≡ map f xs
+  same_rewritten_by g n xs None s e = ap (map f) (rewritten-none g n xs e)
+  same_rewritten_by g zero xs (Some x) s e = absurd (cc)
+  same_rewritten_by g (suc i) xs (Some x) s e =
+      ap (map f) (rewritten-found g (suc i) xs x e) ∙ map-set_same xs (suc i - 1) x (g x) (ap (slice_get xs) (omega arith) ∙ e) (s x refl)
+
+  -- where what is written anew looks the same, the list does
+  pub same_rewritten : (g : X → X) (n : ℕ) (xs : List X) (x : X) → numbered n xs ≡ Some x → f (g x) ≡ f x → map f (rewritten g n xs) ≡ map f xs
+  same_rewritten g n xs x e s =
+      let P : X → Type 0 = λ z. f (g z) ≡ f z in
+      same_rewritten_by g n xs (numbered n xs) (λ y q. subst P (sym (some_inj (sym q ∙ e))) s) refl
+
+-- the desk's part, by its parts
+same_known : (w v : World) → w.reg ≡ v.reg → ids w ≡ ids v → known w ≡ known v → desk_of w ≡ desk_of v
+same_known w v r i k =
+    ap (λ (l : List ℕ). record { ids = l; reg = w.reg; known = known w }) i
+    ∙ ap (λ (l : List Known). record { ids = ids v; reg = w.reg; known = l }) k
+    ∙ ap (λ (x : Register). record { ids = ids v; reg = x; known = known v }) r
+
+hear_known : (d : Decision) (answers : List Answer) → map known_of (answers_after d answers) ≡ known_after d (map known_of answers)
+hear_known (Refuse fault) answers = refl
+hear_known (Join n) answers = refl
+hear_known (hearing.Open o) answers = map-append known_of answers (Waiting ∷ [])
+
+take_desk : (w : World) (n : ℕ) (r : Result Job TakeFault) → desk_of (take_by w n r).0 ≡ desk_taken r n (desk_of w)
+take_desk w n (Err fault) = refl
+take_desk w n (Ok job) =
+    ap (λ (l : List Known). record { ids = ids w; reg = after_taking (Ok job) n w.reg; known = l }) (map-rewritten known_of (λ a. Open 0 job) (λ k. Given) (λ x. refl) n w.answers)
+
+take_told : (w : World) (n : ℕ) (r : Result Job TakeFault) → (take_by w n r).1 ≡ replies.Given r
+take_told w n (Err fault) = refl
+take_told w n (Ok job) = refl
+
+settle_desk : (w : World) (n : ℕ) (o : Option Answer) (ending : Ending) → option_and_then ending_of o ≡ Some ending → desk_of (settle_of w n o).0 ≡ desk_settled ending n (desk_of w)
+settle_desk w n None ending e = absurd (cc)
+settle_desk w n (Some answer) ending e =
+    ap (λ (x : Option Ending). desk_of (settle_as w n x).0) e
+    ∙ ap (λ (l : List Known). record { ids = ids w; reg = after_settling ending n w.reg; known = l })
+    (map-rewritten known_of (λ a. Settled (sent_of ending)) (λ k. Done (sent_of ending)) (λ x. refl) n w.answers)
+
+settle_nothing : (w : World) (n : ℕ) (o : Option Answer) → option_and_then ending_of o ≡ None → desk_of (settle_of w n o).0 ≡ desk_of w
+settle_nothing w n None e = refl
+settle_nothing w n (Some answer) e = ap (λ (x : Option Ending). desk_of (settle_as w n x).0) e
+
+settle_told : (w : World) (n : ℕ) (o : Option Answer) → (settle_of w n o).1 ≡ replies.Ended (option_and_then ending_of o)
+settle_told w n None = refl
+settle_told w n (Some answer) = by_ending (ending_of answer)
+  where
+    by_ending : (x : Option Ending) → (settle_as w n x).1 ≡ replies.Ended x
+    by_ending None = refl
+    by_ending (Some ending) = refl
+
+-- an answer is known to be out exactly where it would end somehow
+out_known : (answer : Answer) (ending : Ending) → ending_of answer ≡ Some ending → is_given (known_of answer) ≡ true
+out_known Waiting ending e = absurd (cc)
+out_known (Open k job) ending e = refl
+out_known (Booked sent window carried) ending e = refl
+out_known (Out refusal) ending e = refl
+out_known (Settled sent) ending e = absurd (cc)
+
+in_known : (answer : Answer) → ending_of answer ≡ None → is_given (known_of answer) ≡ false
+in_known Waiting e = refl
+in_known (Open k job) e = absurd (cc)
+in_known (Booked sent window carried) e = absurd (cc)
+in_known (Out refusal) e = absurd (cc)
+in_known (Settled sent) e = refl
+
+given_by : (o : Option Answer) (ending : Ending) → option_and_then ending_of o ≡ Some ending → option_map_or is_given (option_map known_of o) false ≡ true
+given_by None ending e = absurd (cc)
+given_by (Some answer) ending e = out_known answer ending e
+
+not_given_by : (o : Option Answer) → option_and_then ending_of o ≡ None → option_map_or is_given (option_map known_of o) false ≡ false
+not_given_by None e = refl
+not_given_by (Some answer) e = in_known answer e
+
+-- what is out and on a gateway of the settings may be settled
+may : (w : World) (n : ℕ) (ending : Ending) → told w n ≡ Some ending → is_here (ids w) ending ≡ true → may_settle (ids w) (known w) n ending ≡ true
+may w n ending e h =
+    ap (λ (o : Option Known). option_map_or is_given o false && is_here (ids w) ending) (numbered-map known_of n w.answers)
+    ∙ ap (λ (t : Bool). t && is_here (ids w) ending) (given_by (numbered n w.answers) ending e)
+    ∙ h
+
+may_not : (w : World) (n : ℕ) (ending : Ending) → told w n ≡ None → may_settle (ids w) (known w) n ending ≡ false
+may_not w n ending e =
+    ap (λ (o : Option Known). option_map_or is_given o false && is_here (ids w) ending) (numbered-map known_of n w.answers)
+    ∙ ap (λ (t : Bool). t && is_here (ids w) ending) (not_given_by (numbered n w.answers) e)
+
+-- a gateway's state alone changes
+same_ids : (w : World) (id : ℕ) (found : ℕ × Gateway) (s : State) → gateway_with id w.gateways ≡ Some found
+    → map (λ g. g.id) (slice_set w.gateways found.0 (record found.1 { state = s })) ≡ map (λ g. g.id) w.gateways
+same_ids w id found s e =
+    map-set_same (λ g. g.id) w.gateways found.0 found.1 (record found.1 { state = s }) (found_there (λ g. g.id == id) w.gateways found e).0 refl
+
+refused_known : (k : ℕ) (job : Job) (refusal : Refusal) (o : Option Candidate) → known_of (refused k job refusal o) ≡ Given
+refused_known k job refusal None = refl
+refused_known k job refusal (Some c) = refl
+
+try_desk_by : (w : World) (n k : ℕ) (job : Job) (c : Candidate) (found : ℕ × Gateway) (o : Option Refusal) → numbered n w.answers ≡ Some (Open k job) → gateway_with c.gateway w.gateways ≡ Some found
+    → desk_of (tried_by w n k job c found o).0 ≡ desk_of w
+try_desk_by w n k job c found (Some refusal) e g =
+    let answer : Answer = refused k job refusal (candidate_at job (k + 1)) in
+    same_known (tried_by w n k job c found (Some refusal)).0 w refl refl
+    (same_rewritten known_of (λ a. answer) n w.answers (Open k job) e (refused_known k job refusal (candidate_at job (k + 1))))
+try_desk_by w n k job c found None e g =
+    same_known (tried_by w n k job c found None).0 w refl
+    (same_ids w c.gateway found (book_step found.1.cap found.1.state (ask_for job c)) g)
+    (same_rewritten known_of (λ a. Booked (sent_by job c) c.window c.carries) n w.answers (Open k job) e refl)
+
+try_on_desk : (w : World) (n k : ℕ) (job : Job) (c : Candidate) (o : Option (ℕ × Gateway)) → numbered n w.answers ≡ Some (Open k job) → gateway_with c.gateway w.gateways ≡ o
+    → desk_of (try_on w n k job c o).0 ≡ desk_of w
+try_on_desk w n k job c None e g = refl
+try_on_desk w n k job c (Some found) e g =
+    try_desk_by w n k job c found (refusal_of (terms found.1) found.1.state.list (ask_for job c)) e g
+
+try_candidate_desk : (w : World) (n k : ℕ) (job : Job) (o : Option Candidate) → numbered n w.answers ≡ Some (Open k job) → desk_of (try_candidate w n k job o).0 ≡ desk_of w
+try_candidate_desk w n k job None e = refl
+try_candidate_desk w n k job (Some c) e = try_on_desk w n k job c (gateway_with c.gateway w.gateways) e refl
+
+try_desk : (w : World) (n : ℕ) (o : Option Answer) → numbered n w.answers ≡ o → desk_of (try_of w n o).0 ≡ desk_of w
+try_desk w n None e = refl
+try_desk w n (Some Waiting) e = refl
+try_desk w n (Some (Open k job)) e = try_candidate_desk w n k job (candidate_at job k) e
+try_desk w n (Some (Booked sent window carried)) e = refl
+try_desk w n (Some (Out refusal)) e = refl
+try_desk w n (Some (Settled sent)) e = refl
+
+cancel_at_desk : (w : World) (n : ℕ) (sent : Sent) (o : Option (ℕ × Gateway)) → gateway_with sent.gateway w.gateways ≡ o → desk_of (cancel_at w n sent o).0 ≡ desk_of w
+cancel_at_desk w n sent None g = refl
+cancel_at_desk w n sent (Some found) g =
+    same_known (cancel_at w n sent (Some found)).0 w refl (same_ids w sent.gateway found (cancel_step found.1.state n sent.start) g) refl
+
+cancel_sent_desk : (w : World) (n : ℕ) (o : Option Sent) → desk_of (cancel_sent w n o).0 ≡ desk_of w
+cancel_sent_desk w n None = refl
+cancel_sent_desk w n (Some sent) = cancel_at_desk w n sent (gateway_with sent.gateway w.gateways) refl
+
+cancel_desk : (w : World) (n : ℕ) (o : Option Answer) → desk_of (cancel_of w n o).0 ≡ desk_of w
+cancel_desk w n None = refl
+cancel_desk w n (Some answer) = cancel_sent_desk w n (sent_for answer)
+
+tick_desk : (w : World) (id now : ℕ) (o : Option (ℕ × Gateway)) → gateway_with id w.gateways ≡ o → desk_of (tick_at w now o).0 ≡ desk_of w
+tick_desk w id now None g = refl
+tick_desk w id now (Some found) g =
+    same_known (tick_at w now (Some found)).0 w refl (same_ids w id found (tick_step found.1.state now) g) refl
+
+pub desk_calls_are_steps : DeskCallsAreSteps
+unfolding step
+desk_calls_are_steps =
+    record {
+      queue = λ w addr payload. refl;
+      hear = λ w bytes heard arrived.
+          ap (λ (l : List Known). record { ids = ids w; reg = register_after (ids w) w.reg bytes heard arrived; known = l }) (hear_known (decide (ids w) w.reg bytes heard arrived) w.answers);
+      pass = λ w now. refl;
+      take = λ w n. take_desk w n (take_answer w.reg (known w) n);
+      settle = λ w n ending e h.
+          settle_desk w n (numbered n w.answers) ending e
+          ∙ sym (ap (λ (t : Bool). if t then desk_settled ending n (desk_of w) else desk_of w) (may w n ending e h));
+      settle_none = λ w n e. (
+        settle_nothing w n (numbered n w.answers) e,
+        λ ending. ap (λ (t : Bool). if t then desk_settled ending n (desk_of w) else desk_of w) (may_not w n ending e),
+      );
+      settled = λ w n. settle_told w n (numbered n w.answers);
+      queued = λ w addr payload. refl;
+      heard = λ w bytes heard arrived. refl;
+      passed = λ w now. refl;
+      taken = λ w n. take_told w n (take_answer w.reg (known w) n);
+      try = λ w n. try_desk w n (numbered n w.answers) refl;
+      cancel = λ w n. cancel_desk w n (numbered n w.answers);
+      tick = λ w id now. tick_desk w id now (gateway_with id w.gateways) refl;
+    }

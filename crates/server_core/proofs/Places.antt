@@ -1,0 +1,91 @@
+-- Members of a list by their places.
+use Rattle.std.specs.Prelude.{ℕ, zero, suc, ◌≡◌, ◌≢◌, ◌⊎◌, List, [], ◌∷◌, ◌++◌, map, length, All, Contains, slice_get, slice_set, Option, Some, unwrap_or, refl}
+use Rattle.std.specs.Option.{option_map}
+use Rattle.std.proofs.Common.{inl, inr, sym, ap, ◌∙◌, subst, arith}
+use Rattle.std.proofs.lemmas.Option.{slice_get-map, slice_get_within, get_or_from_slice_get}
+
+pub some_inj : {X : Type 0} {x y : X} → Some x ≡ Some y → x ≡ y
+some_inj {X} {x} {y} e = ap (λ (o : Option X). unwrap_or o x) e
+
+module _ {X : Type 0} where
+  -- what is written at a place is found there, and what stands at other places stays
+  pub get_set_same : (xs : List X) (i : ℕ) (x y : X) → slice_get xs i ≡ Some x → slice_get (slice_set xs i y) i ≡ Some y
+  get_set_same [] i x y e = absurd (cc)
+  get_set_same (z ∷ xs) zero x y e = refl
+  get_set_same (z ∷ xs) (suc i) x y e = get_set_same xs i x y e
+
+  pub length-set : (xs : List X) (i : ℕ) (y : X) → length (slice_set xs i y) ≡ length xs
+  length-set [] i y = refl
+  length-set (z ∷ xs) zero y = refl
+  length-set (z ∷ xs) (suc i) y = ap suc (length-set xs i y)
+
+  -- a list that goes on has the same at its old places, and what follows at the next one
+  pub get_append : (xs ys : List X) (i : ℕ) (x : X) → slice_get xs i ≡ Some x → slice_get (xs ++ ys) i ≡ Some x
+  get_append [] ys i x e = absurd (cc)
+  get_append (z ∷ xs) ys zero x e = e
+  get_append (z ∷ xs) ys (suc i) x e = get_append xs ys i x e
+
+  pub get_next : (xs : List X) (y : X) → slice_get (xs ++ y ∷ []) (length xs) ≡ Some y
+  get_next [] y = refl
+  get_next (z ∷ xs) y = get_next xs y
+
+  -- a member of a list with one more at its end is one of the old ones or the new one
+  pub get_append_cases : (xs : List X) (y z : X) (i : ℕ) → slice_get (xs ++ y ∷ []) i ≡ Some z
+      → (slice_get xs i ≡ Some z) ⊎ ((i ≡ length xs) × (z ≡ y))
+  get_append_cases [] y z zero e = inr (refl, sym (some_inj e))
+  get_append_cases [] y z (suc i) e = absurd (cc)
+  get_append_cases (x ∷ xs) y z zero e = inl e
+  get_append_cases (x ∷ xs) y z (suc i) e = later (get_append_cases xs y z i e)
+    where
+      later : (slice_get xs i ≡ Some z) ⊎ ((i ≡ length xs) × (z ≡ y)) → (slice_get xs i ≡ Some z) ⊎ ((suc i ≡ suc (length xs)) × (z ≡ y))
+      later (inl h) = inl h
+      later (inr h) = inr (ap suc h.0, h.1)
+
+  -- a member of a list in which one place was written is the new one at that place, or an old one at another
+  pub get_set_cases : (xs : List X) (i j : ℕ) (y z : X) → slice_get (slice_set xs i y) j ≡ Some z
+      → ((i ≡ j) × (z ≡ y)) ⊎ ((i ≢ j) × (slice_get xs j ≡ Some z))
+  get_set_cases [] i j y z e = absurd (cc)
+  get_set_cases (x ∷ xs) zero zero y z e = inl (refl, sym (some_inj e))
+  get_set_cases (x ∷ xs) zero (suc j) y z e = inr (λ q. absurd (omega (arith, q)), e)
+  get_set_cases (x ∷ xs) (suc i) zero y z e = inr (λ q. absurd (omega (arith, q)), e)
+  get_set_cases (x ∷ xs) (suc i) (suc j) y z e = later (get_set_cases xs i j y z e)
+    where
+      later : ((i ≡ j) × (z ≡ y)) ⊎ ((i ≢ j) × (slice_get xs j ≡ Some z)) → ((suc i ≡ suc j) × (z ≡ y)) ⊎ ((suc i ≢ suc j) × (slice_get xs j ≡ Some z))
+      later (inl h) = inl (ap suc h.0, h.1)
+      later (inr h) = inr (λ q. h.0 (omega (arith, q)), h.1)
+
+  -- a member of the list before that place was written is there still, or was the one that was written anew
+  pub get_set_after : (xs : List X) (i j : ℕ) (x y z : X) → slice_get xs i ≡ Some x → slice_get xs j ≡ Some z
+      → ((i ≡ j) × (z ≡ x) × (slice_get (slice_set xs i y) j ≡ Some y)) ⊎ (slice_get (slice_set xs i y) j ≡ Some z)
+  get_set_after [] i j x y z e f = absurd (cc)
+  get_set_after (u ∷ xs) zero zero x y z e f = inl (refl, sym (some_inj f) ∙ some_inj e, refl)
+  get_set_after (u ∷ xs) zero (suc j) x y z e f = inr f
+  get_set_after (u ∷ xs) (suc i) zero x y z e f = inr f
+  get_set_after (u ∷ xs) (suc i) (suc j) x y z e f = later (get_set_after xs i j x y z e f)
+    where
+      later : ((i ≡ j) × (z ≡ x) × (slice_get (slice_set xs i y) j ≡ Some y)) ⊎ (slice_get (slice_set xs i y) j ≡ Some z)
+          → ((suc i ≡ suc j) × (z ≡ x) × (slice_get (slice_set xs i y) j ≡ Some y)) ⊎ (slice_get (slice_set xs i y) j ≡ Some z)
+      later (inl h) = inl (ap suc h.0, h.1, h.2)
+      later (inr h) = inr h
+
+  -- what stands at a place is a member, and what is true of all is true of it
+  pub get_contains : (xs : List X) (k : ℕ) (x : X) → slice_get xs k ≡ Some x → Contains xs x
+  get_contains xs k x e = (k, slice_get_within xs k x e, get_or_from_slice_get xs k x x e)
+
+  pub all_get : (P : X → Type 0) (xs : List X) (k : ℕ) (x : X) → All P xs → slice_get xs k ≡ Some x → P x
+  all_get P xs k x h e = subst P (get_or_from_slice_get xs k x x e) (h k x (slice_get_within xs k x e))
+
+module _ {X Y : Type 0} (f : X → Y) where
+  pub map_there : (xs : List X) (k : ℕ) (x : X) → slice_get xs k ≡ Some x → slice_get (map f xs) k ≡ Some (f x)
+  map_there xs k x e = slice_get-map f xs k ∙ ap (option_map f) e
+
+  pub from_map : (xs : List X) (k : ℕ) (y : Y) → slice_get (map f xs) k ≡ Some y → (x : X) × (slice_get xs k ≡ Some x) × (f x ≡ y)
+  from_map [] k y e = absurd (cc)
+  from_map (x ∷ xs) zero y e = (x, refl, some_inj e)
+  from_map (x ∷ xs) (suc k) y e = from_map xs k y e
+
+  -- a member is written anew by one that f can't tell from it
+  pub map_set : (xs : List X) (i : ℕ) (x y : X) → slice_get xs i ≡ Some x → f y ≡ f x → map f (slice_set xs i y) ≡ map f xs
+  map_set [] i x y e q = refl
+  map_set (z ∷ xs) zero x y e q = ap (λ u. u ∷ map f xs) (q ∙ ap f (sym (some_inj e)))
+  map_set (z ∷ xs) (suc i) x y e q = ap (λ us. f z ∷ us) (map_set xs i x y e q)

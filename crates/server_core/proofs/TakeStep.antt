@@ -1,0 +1,122 @@
+-- A ticket is given.
+use Rattle.std.specs.Prelude.{ℕ, ◌≡◌, ◌≤◌, List, [], slice_get, Option, Some, Result, Ok, Err, refl}
+use Rattle.std.proofs.Common.{sym, ap, ◌∙◌, subst, arith, true≢false}
+use Rattle.std.specs.Option.{option_map_or}
+use Rattle.uplink_gather.specs.declared.heard.HeardCopy.{HeardCopy}
+use Rattle.uplink_gather.specs.Gatherings.{Gathering, numbered, copies_of}
+use Rattle.rx_windows.specs.declared.candidate.Candidate.{Candidate}
+use Rattle.rx_windows.specs.Windows.{candidates_of}
+use Rattle.rx_windows.specs.Laws.{IsWindowOf}
+use Rattle.rx_windows.specs.WindowLaws.{on_gateways_that_heard, IsWindowOf-ranked}
+use Rattle.answer_ticket.specs.Job.{Job}
+use Rattle.server_core.specs.declared.faults.TakeFault.{TakeFault}
+use Rattle.server_core.specs.Settings.{SettingLists, AreSettings}
+use Rattle.server_core.specs.Register.{Device, Asked, Register}
+use Rattle.server_core.specs.Answers.{Waiting, Open, known_of, is_not_given}
+use Rattle.server_core.specs.Taking.{head, plan_for, job_of, take_answer, with_counter_given, counter_given, taken_from, after_taking}
+use Rattle.server_core.specs.World.{World, known, take_by, take}
+use Rattle.server_core.proofs.Places.{some_inj, get_set_same, all_get}
+use Rattle.server_core.proofs.Numbers.{numbered-here}
+use Rattle.server_core.proofs.Tickets.{IsTicket, ticket, still_waits}
+use Rattle.server_core.proofs.Holds.{IsOfDevice, IsJobFor, Holds, IsGivenAt, IsGood, IsGoodStep, IsNew, IsUsed, unchanged, both_good}
+use Rattle.server_core.proofs.Served.{device_setting, one_device}
+use Rattle.server_core.proofs.Written.{with_device, device_written, with_answer, answer_written}
+
+module _ (settings : SettingLists) (are : AreSettings settings.gateways settings.devices) (w : World) (h : Holds settings w) (n : ℕ) where
+  module _ (asked : Asked) (there : numbered n w.reg.asked ≡ Some asked) (waits : numbered n w.answers ≡ Some Waiting) (device : Device) (served : slice_get w.reg.devices asked.device ≡ Some device) where
+    abbrev job : Job
+    job = job_of w.reg n asked device
+
+    uplink : IsOfDevice settings w.reg.gathered.list n asked.device
+    uplink = h.asked n asked there
+
+    -- the uplink's device is the one with its setting
+    same_setting : uplink.setting ≡ device.setting
+    same_setting = some_inj (sym uplink.served ∙ device_setting settings w h asked.device device served)
+
+    same_copies : copies_of n w.reg.gathered.list ≡ uplink.gathering.copies
+    same_copies = ap (λ (o : Option Gathering). option_map_or (λ g. g.copies) o []) uplink.gathered
+
+    window_of : (c : Candidate) → IsWindowOf job.plan job.copies c → IsWindowOf (plan_for uplink.setting (head device.queue)) uplink.gathering.copies c
+    window_of c x =
+        let y = IsWindowOf-ranked job.plan (copies_of n w.reg.gathered.list) c x in
+        let P : List HeardCopy → Type 0 = λ l. IsWindowOf job.plan l c in
+        subst (λ s. IsWindowOf (plan_for s (head device.queue)) uplink.gathering.copies c) (sym same_setting) (subst P same_copies y)
+
+    job_for : IsJobFor settings w.reg.gathered.list n job
+    job_for =
+        record {
+          number = refl;
+          windows = λ k c e.
+              record {
+                place = asked.device;
+                uplink = uplink;
+                payload = head device.queue;
+                window = window_of c (all_get (IsWindowOf job.plan job.copies) (candidates_of job.copies job.plan) k c (on_gateways_that_heard job.plan job.copies) e);
+              };
+        }
+
+    abbrev counted : World
+    counted = with_device settings w h asked.device (with_counter_given device)
+
+    first : IsGood settings w counted
+    first = device_written settings w h asked.device device (with_counter_given device) served refl (omega arith)
+
+    abbrev given : World
+    given = with_answer settings counted first.holds n (Open 0 job)
+
+    given_good : IsGood settings w given
+    given_good =
+        both_good first
+        (answer_written settings counted first.holds n Waiting (Open 0 job) waits (λ s q. absurd (cc (q))) refl
+        (λ k j q. let same : job ≡ j = cc (q) in subst (IsJobFor settings w.reg.gathered.list n) same job_for))
+
+    not_given : IsGivenAt w.answers n → ⊥
+    not_given g =
+        let same : g.answer ≡ Waiting = some_inj (sym g.answered ∙ waits) in
+        true≢false (sym (ap (λ a. is_not_given (known_of a)) same) ∙ g.given)
+
+    same_down : (p : ℕ) (d : Device) → slice_get w.reg.devices p ≡ Some d → p ≡ asked.device → d.down ≤ device.down
+    same_down p d e q =
+        let there : slice_get w.reg.devices asked.device ≡ Some d = subst (λ i. slice_get w.reg.devices i ≡ Some d) q e in
+        let same : d ≡ device = some_inj (sym there ∙ served) in
+        let down : d.down ≡ device.down = ap (λ (x : Device). x.down) same in
+        omega arith
+
+    new : IsNew w job
+    new = record { number = not_given; counter = λ p d e a. same_down p d e (one_device settings w h are p asked.device d device e served a) }
+
+    used : IsUsed given job
+    used =
+        record {
+          number = record { answer = Open 0 job; answered = numbered-here (λ a. Open 0 job) n w.answers Waiting waits; given = refl };
+          place = asked.device;
+          device = with_counter_given device;
+          there = get_set_same w.reg.devices asked.device device (with_counter_given device) served;
+          addr = refl;
+          counter = omega arith;
+        }
+
+    same_reg : counted.reg ≡ after_taking (Ok job) n w.reg
+    same_reg =
+        sym
+        (ap (λ o. taken_from o w.reg) there
+        ∙ ap (λ o. record (w.reg) { devices = counter_given asked.device o w.reg.devices }) served)
+
+    given_step : IsGoodStep settings w (take_by w n (Ok job))
+    given_step =
+        let P : Register → Type 0 = λ r. IsGood settings w (record given { reg = r }) × (IsNew w job × IsUsed (record given { reg = r }) job) in
+        let all : P (after_taking (Ok job) n w.reg) = subst P same_reg (given_good, (new, used)) in
+        record { good = all.0; used = all.1 }
+
+  ticket_by : (made : Job) → IsTicket w.reg (known w) n made → IsGoodStep settings w (take_by w n (Ok made))
+  ticket_by made t =
+      subst (λ j. IsGoodStep settings w (take_by w n (Ok j))) t.made
+      (given_step t.asked t.there (still_waits w.answers n t.state t.stated t.waits) t.device t.served)
+
+  taken_by : (r : Result Job TakeFault) → take_answer w.reg (known w) n ≡ r → IsGoodStep settings w (take_by w n r)
+  taken_by (Err fault) e = record { good = unchanged w h; used = tt }
+  taken_by (Ok made) e = ticket_by made (ticket w.reg (known w) n made e)
+
+  pub take_good : IsGoodStep settings w (take w n)
+  take_good = taken_by (take_answer w.reg (known w) n) refl

@@ -1,0 +1,137 @@
+-- A device, an answer or a gateway is written anew.
+use Rattle.std.specs.Prelude.{ℕ, ◌≡◌, ◌⊎◌, ◌≤◌, false, slice_get, slice_set, Some, refl}
+use Rattle.std.proofs.Common.{inl, inr, sym, ap, ◌∙◌, subst, arith}
+use Rattle.resv_list.specs.declared.reservation.Reservation.{Reservation}
+use Rattle.uplink_gather.specs.Gatherings.{numbered, rewritten}
+use Rattle.answer_ticket.specs.Job.{Job}
+use Rattle.server_core.specs.Settings.{SettingLists}
+use Rattle.server_core.specs.Register.{Device}
+use Rattle.server_core.specs.Answers.{Answer, Open, Sent, known_of, is_not_given}
+use Rattle.server_core.specs.World.{Gateway, World, sent_for}
+use Rattle.server_core.specs.Promise.{setting_of}
+use Rattle.server_core.proofs.Places.{get_set_cases, get_set_after, map_set}
+use Rattle.server_core.proofs.Numbers.{numbered_after, numbered_cases}
+use Rattle.server_core.proofs.Holds.{IsJobFor, IsKept, Stands, AllStand, IsInOrder, Holds, IsGivenAt, IsLater, IsGood, Follows-refl}
+
+module _ (settings : SettingLists) (w : World) (h : Holds settings w) where
+  -- a device, which keeps its setting and its counters that were given
+
+  abbrev pub with_device : ℕ → Device → World
+  with_device p e = record w { reg = record (w.reg) { devices = slice_set w.reg.devices p e } }
+
+  later_by : (p q : ℕ) (d e f : Device) → e.setting ≡ d.setting → d.down ≤ e.down
+      → ((p ≡ q) × (f ≡ d) × (slice_get (slice_set w.reg.devices p e) q ≡ Some e)) ⊎ (slice_get (slice_set w.reg.devices p e) q ≡ Some f)
+      → IsLater (slice_set w.reg.devices p e) q f
+  later_by p q d e f s c (inl g) =
+      record {
+        device = e;
+        there = g.2;
+        addr = ap (λ t. t.addr) (s ∙ ap (λ (x : Device). x.setting) (sym g.1));
+        counter = subst (λ (x : Device). x.down ≤ e.down) (sym g.1) c;
+      }
+  later_by p q d e f s c (inr g) = record { device = f; there = g; addr = refl; counter = omega arith }
+
+  pub device_written : (p : ℕ) (d e : Device) → slice_get w.reg.devices p ≡ Some d → e.setting ≡ d.setting → d.down ≤ e.down
+      → IsGood settings w (with_device p e)
+  device_written p d e g s c =
+      record {
+        holds = record {
+          gateways = h.gateways;
+          devices = map_set (λ x. x.setting) w.reg.devices p d e g s ∙ h.devices;
+          in_order = h.in_order;
+          together = h.together;
+          asked = h.asked;
+          jobs = h.jobs;
+          stands = h.stands;
+        };
+        follows = record {
+          given = λ n i. i;
+          devices = λ q f i. later_by p q d e f s c (get_set_after w.reg.devices p q d e f g i);
+        };
+      }
+
+  -- an answer, which keeps what was booked for it, and of which a ticket was given
+
+  abbrev pub with_answer : ℕ → Answer → World
+  with_answer n new = record w { answers = rewritten (λ a. new) n w.answers }
+
+  module _ (n : ℕ) (old new : Answer) (there : numbered n w.answers ≡ Some old) where
+    kept_by : (m : ℕ) (sent : Sent) (k : IsKept w.answers m sent) → ((s : Sent) → sent_for old ≡ Some s → sent_for new ≡ Some s)
+        → ((n ≡ m) × (k.answer ≡ old) × (numbered m (rewritten (λ a. new) n w.answers) ≡ Some new)) ⊎ (numbered m (rewritten (λ a. new) n w.answers) ≡ Some k.answer)
+        → IsKept (rewritten (λ a. new) n w.answers) m sent
+    kept_by m sent k s (inl g) = record { answer = new; answered = g.2; kept = s sent (ap sent_for (sym g.1) ∙ k.kept) }
+    kept_by m sent k s (inr g) = record { answer = k.answer; answered = g; kept = k.kept }
+
+    stand_by : (id : ℕ) (r : Reservation) → ((s : Sent) → sent_for old ≡ Some s → sent_for new ≡ Some s)
+        → Stands settings w.reg.gathered.list w.answers id r → Stands settings w.reg.gathered.list (rewritten (λ a. new) n w.answers) id r
+    stand_by id r s t =
+        record {
+          sent = t.sent;
+          kept = kept_by r.number t.sent t.kept s (numbered_after (λ a. new) n r.number w.answers old t.kept.answer there t.kept.answered);
+          start = t.start;
+          gateway = t.gateway;
+          candidate = t.candidate;
+          window = t.window;
+          here = t.here;
+          taken = t.taken;
+        }
+
+    job_by : (m k : ℕ) (job : Job) → ((k : ℕ) (job : Job) → new ≡ Open k job → IsJobFor settings w.reg.gathered.list n job)
+        → ((n ≡ m) × (Open k job ≡ new)) ⊎ (numbered m w.answers ≡ Some (Open k job)) → IsJobFor settings w.reg.gathered.list m job
+    job_by m k job o (inl g) = subst (λ i. IsJobFor settings w.reg.gathered.list i job) g.0 (o k job (sym g.1))
+    job_by m k job o (inr g) = h.jobs m k job g
+
+    given_by : (m : ℕ) → is_not_given (known_of new) ≡ false → (g : IsGivenAt w.answers m)
+        → ((n ≡ m) × (g.answer ≡ old) × (numbered m (rewritten (λ a. new) n w.answers) ≡ Some new)) ⊎ (numbered m (rewritten (λ a. new) n w.answers) ≡ Some g.answer)
+        → IsGivenAt (rewritten (λ a. new) n w.answers) m
+    given_by m i g (inl e) = record { answer = new; answered = e.2; given = i }
+    given_by m i g (inr e) = record { answer = g.answer; answered = e; given = g.given }
+
+    pub answer_written : ((s : Sent) → sent_for old ≡ Some s → sent_for new ≡ Some s) → is_not_given (known_of new) ≡ false
+        → ((k : ℕ) (job : Job) → new ≡ Open k job → IsJobFor settings w.reg.gathered.list n job) → IsGood settings w (with_answer n new)
+    answer_written s i o =
+        record {
+          holds = record {
+            gateways = h.gateways;
+            devices = h.devices;
+            in_order = h.in_order;
+            together = h.together;
+            asked = h.asked;
+            jobs = λ m k job e. job_by m k job o (numbered_cases (λ a. new) n m w.answers old (Open k job) there e);
+            stands = λ j g e k r f. stand_by g.id r s (h.stands j g e k r f);
+          };
+          follows = record {
+            given = λ m g. given_by m i g (numbered_after (λ a. new) n m w.answers old g.answer there g.answered);
+            devices = (Follows-refl w).devices;
+          };
+        }
+
+  -- a gateway, which keeps its setting, and whose members stand for their answers
+
+  abbrev pub with_gateway : ℕ → Gateway → World
+  with_gateway i g = record w { gateways = slice_set w.gateways i g }
+
+  module _ (i : ℕ) (old new : Gateway) (there : slice_get w.gateways i ≡ Some old) where
+    in_order_by : (j : ℕ) (g : Gateway) → IsInOrder new → ((i ≡ j) × (g ≡ new)) ⊎ ((i ≡ j → ⊥) × (slice_get w.gateways j ≡ Some g)) → IsInOrder g
+    in_order_by j g o (inl e) = subst IsInOrder (sym e.1) o
+    in_order_by j g o (inr e) = h.in_order j g e.1
+
+    all_by : (j : ℕ) (g : Gateway) → AllStand settings w.reg.gathered.list w.answers new
+        → ((i ≡ j) × (g ≡ new)) ⊎ ((i ≡ j → ⊥) × (slice_get w.gateways j ≡ Some g)) → AllStand settings w.reg.gathered.list w.answers g
+    all_by j g a (inl e) = subst (AllStand settings w.reg.gathered.list w.answers) (sym e.1) a
+    all_by j g a (inr e) = h.stands j g e.1
+
+    pub gateway_written : setting_of new ≡ setting_of old → IsInOrder new → AllStand settings w.reg.gathered.list w.answers new → IsGood settings w (with_gateway i new)
+    gateway_written s o a =
+        record {
+          holds = record {
+            gateways = map_set setting_of w.gateways i old new there s ∙ h.gateways;
+            devices = h.devices;
+            in_order = λ j g e. in_order_by j g o (get_set_cases w.gateways i j new g e);
+            together = h.together;
+            asked = h.asked;
+            jobs = h.jobs;
+            stands = λ j g e. all_by j g a (get_set_cases w.gateways i j new g e);
+          };
+          follows = record { given = λ n g. g; devices = (Follows-refl w).devices };
+        }

@@ -1,0 +1,35 @@
+// What the definitions of the whole system mean together, as laws: a function's contract is the statement.
+
+ghost use Rattle.server_core.specs.Desk.{DeskCallsAreSteps};
+ghost use Rattle.server_core.specs.Promise.{EveryInterleavingIsSafe};
+
+/// What holds over every interleaving. A step is what happens in one holding of one lock: a payload is queued, a copy
+/// of an uplink is heard, time passes for the gatherings, a ticket is given, an answer is settled (the desk's lock); a
+/// ticket's next candidate is tried, a transmission is cancelled, time passes for a gateway (that gateway's lock). For
+/// all settings that are accepted, all limits of gathering and every list of steps, after the last step:
+///
+/// - each gathered uplink holds at most one reservation over all gateways: its number stands once at most;
+/// - that reservation has the start, the channel, the data rate and the length of RX1 or RX2 of a copy of its uplink,
+///   as the device with the uplink's address listens, with a payload or without one, and it stands on the gateway that
+///   heard this copy;
+/// - each gateway's list is lawful, that is, its reservations are fit and disjoint and the airtime begun within any
+///   hour keeps the limit of its sub-band; and what was booked less what was cancelled is the airtime of the list;
+/// - a ticket was given once at most for an uplink, and no downlink counter was given to two uplinks of one device;
+/// - the gateways and the devices are those of the settings.
+///
+/// That the settings are accepted is the only premise.
+pub fn law_every_interleaving()
+    ensures { EveryInterleavingIsSafe }
+{}
+
+/// What the steps of the whole system are on the desk's part of it, which is all but the books; of an answer that is out
+/// the desk knows no more than that it is out. For every state of the system:
+///
+/// - a payload that is queued, a copy that is heard, time that passes for the gatherings, and a ticket that is given make
+///   of the desk's part, and answer, what the definitions of the desk's calls say;
+/// - so does an answer that is out and is settled as it ended, on a gateway of the settings where it is on one; where no
+///   answer of a number is out, nothing changes, and no stub of that number is taken;
+/// - a try, a cancel and a tick at a gateway leave the desk's part as it is.
+pub fn law_desk_calls_are_steps()
+    ensures { DeskCallsAreSteps }
+{}
