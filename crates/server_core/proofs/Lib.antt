@@ -22,3 +22,7 @@ pub mod Safe
 pub mod Runs
 mod SettingsLemmas
 pub mod DeskSteps
+pub mod DeskLemmas
+pub mod AddrLemmas
+pub mod HearLemmas
+pub mod OpeningLemmas

@@ -2,14 +2,11 @@ use Rattle.std.specs.Prelude.{ℕ, Bool, true, false, Option}
 use Rattle.gateway_book.specs.declared.refusal.Refusal.{Refusal}
 use Rattle.rx_windows.specs.declared.candidate.Window.{Window}
 use Rattle.answer_ticket.specs.Job.{Job}
+pub use Rattle.server_core.specs.declared.answers.Sent.{Sent}
+pub use Rattle.server_core.specs.declared.answers.Known.{Known}
+pub use Rattle.server_core.specs.declared.answers.Known.TheVariants.{NotGiven, Given, Done}
 
 -- How far the answer to an uplink is.
-
--- a transmission that was booked as an answer: its gateway, its start and its time on air, in µs
-pub record Sent : Type 0 where
-  pub gateway : ℕ
-  pub start : ℕ
-  pub airtime : ℕ
 
 -- no ticket was given; one is out, and candidate k of its job is to be tried; a candidate was booked, in this window,
 -- with the queue's head or without it; none was booked, the last for this reason; or the answer is settled, and keeps
@@ -22,11 +19,6 @@ pub data Answer : Type 0 where
   Settled : Option Sent → Answer
 
 -- what the desk knows of an answer: whether a ticket or stub of it is out, but not what became of it
-pub data Known : Type 0 where
-  NotGiven : Known
-  Given : Known
-  Done : Option Sent → Known
-
 abbrev pub known_of : Answer → Known
 known_of Waiting = NotGiven
 known_of (Open k job) = Given

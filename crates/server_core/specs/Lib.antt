@@ -10,6 +10,7 @@ pub mod Passing
 pub mod World
 pub mod Promise
 pub mod Desk
+pub mod Kept
 pub use Rattle.radio_airtime.specs.DataRate
 pub use Rattle.radio_airtime.specs.TimeOnAir
 pub use Rattle.radio_airtime.specs.Bounds

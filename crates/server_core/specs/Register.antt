@@ -3,6 +3,7 @@ use Rattle.std.specs.Option.{option_map}
 use Rattle.uplink_gather.specs.Gatherings.{Gatherings}
 use Rattle.answer_ticket.specs.Job.{Payload}
 use Rattle.server_core.specs.declared.setting.DeviceSetting.{DeviceSetting}
+pub use Rattle.server_core.specs.declared.answers.Asked.{Asked}
 
 -- What the server knows of devices and uplinks.
 
@@ -13,12 +14,6 @@ pub record Device : Type 0 where
   pub queue : List Payload
   pub up : Option ℕ
   pub down : ℕ
-
--- what a gathered uplink says: the place of its device among the devices, whether it is confirmed, and ADRACKReq
-pub record Asked : Type 0 where
-  pub device : ℕ
-  pub confirmed : Bool
-  pub adr_ack_req : Bool
 
 -- the devices, the gatherings of uplinks, and what each uplink says, by its number
 pub record Register : Type 0 where

@@ -1,0 +1,34 @@
+// What the desk keeps of each gathered uplink, by its number.
+
+/// What a gathered uplink says.
+#[derive(Clone, Copy, Debug, PartialEq, Eq)]
+pub(crate) struct Asked {
+    /// The place of its device among the devices.
+    pub(crate) device: usize,
+    /// Whether it asks for an acknowledgement.
+    pub(crate) confirmed: bool,
+    /// ADRACKReq: whether it asks for any downlink.
+    pub(crate) adr_ack_req: bool,
+}
+
+/// A transmission that was booked as an answer.
+#[derive(Clone, Copy, Debug, PartialEq, Eq)]
+pub(crate) struct Sent {
+    /// The number of its gateway.
+    pub(crate) gateway: u16,
+    /// When it begins, in microseconds of the gateway's clock.
+    pub(crate) start: u64,
+    /// Its time on air, in microseconds.
+    pub(crate) airtime: u64,
+}
+
+/// What the desk knows of an answer.
+#[derive(Clone, Copy, Debug, PartialEq, Eq)]
+pub(crate) enum Known {
+    /// No ticket was given.
+    NotGiven,
+    /// A ticket or stub of it is out.
+    Given,
+    /// It is settled, and keeps what was booked.
+    Done(Option<Sent>),
+}

@@ -1,0 +1,23 @@
+use crate::DeskFault;
+use crate::answers::Asked;
+
+/// An uplink that opens a gathering.
+#[derive(Clone, Copy, Debug, PartialEq, Eq)]
+pub(crate) struct NewUplink {
+    /// Its whole counter.
+    pub(crate) counter: u32,
+    /// Whether that is the last one of its device.
+    pub(crate) repeat: bool,
+    pub(crate) asked: Asked,
+}
+
+/// What is to be done with a copy of an uplink.
+#[derive(Clone, Copy, Debug, PartialEq, Eq)]
+pub(crate) enum Verdict {
+    /// It is refused.
+    Refuse(DeskFault),
+    /// It joins a gathering.
+    Join,
+    /// It opens one.
+    Open(NewUplink),
+}
