@@ -9,6 +9,7 @@ use Rattle.gateway_book.specs.declared.cancel.CancelFault.TheVariants.{Begun}
 use Rattle.gateway_book.specs.Step.{is_named, found_or, cancel_answer, without_named, after_cancel}
 use Rattle.gateway_book.specs.CancelLaws.{named_found, named_none}
 use Rattle.gateway_book.specs.BookLaws.{sound_cancelled}
+use Rattle.answer_ticket.specs.Job.{Job}
 use Rattle.server_core.specs.Settings.{SettingLists}
 use Rattle.server_core.specs.Answers.{Answer, Sent}
 use Rattle.server_core.specs.World.{Gateway, World, gateway_with, sent_for, cancel_at, cancel_sent, cancel_of, cancel}
@@ -47,34 +48,34 @@ cancelled_in_order g number start r o f =
       by_start = RisesFrom-filter start_of (λ m. not (is_named number start m)) 0 g.state.list o.by_start;
     }
 
-module _ (settings : SettingLists) (w : World) (h : Holds settings w) (n : ℕ) where
+module _ (settings : SettingLists) (T : Job → Type 0) (w : World) (h : Holds settings T w) (n : ℕ) where
   module _ (i : ℕ) (g : Gateway) (there : slice_get w.gateways i ≡ Some g) (start : ℕ) where
-    cancelled_stand : (r : Reservation) → AllStand settings w.reg.gathered.list w.answers (cancelled g (Ok r) n start)
+    cancelled_stand : (r : Reservation) → AllStand settings T w.reg.gathered.list w.answers (cancelled g (Ok r) n start)
     cancelled_stand r k s e =
         let m = filter_member (λ x. not (is_named n start x)) g.state.list k s e in
         h.stands i g there m.0 s m.1
 
     cancelled_by : (r : Result Reservation CancelFault) → cancel_answer g.state.floor g.state.list n start ≡ r
-        → IsGood settings w (with_gateway settings w h i (cancelled g r n start))
-    cancelled_by (Err fault) e = gateway_written settings w h i g g there refl (h.in_order i g there) (h.stands i g there)
+        → IsGood settings T w (with_gateway settings T w h i (cancelled g r n start))
+    cancelled_by (Err fault) e = gateway_written settings T w h i g g there refl (h.in_order i g there) (h.stands i g there)
     cancelled_by (Ok r) e =
         let found = was_found (find (is_named n start) g.state.list) (nat_le start g.state.floor) r e in
-        gateway_written settings w h i g (cancelled g (Ok r) n start) there refl
+        gateway_written settings T w h i g (cancelled g (Ok r) n start) there refl
         (cancelled_in_order g n start r (h.in_order i g there) found) (cancelled_stand r)
 
-  at_by : (sent : Sent) (o : Option (ℕ × Gateway)) → gateway_with sent.gateway w.gateways ≡ o → IsGoodStep settings w (cancel_at w n sent o)
+  at_by : (sent : Sent) (o : Option (ℕ × Gateway)) → gateway_with sent.gateway w.gateways ≡ o → IsGoodStep settings T w (cancel_at w n sent o)
   at_by sent None e = record { good = unchanged w h; used = tt }
   at_by sent (Some found) e =
       let there = found_there (λ (g : Gateway). g.id == sent.gateway) w.gateways found e in
       record { good = cancelled_by found.0 found.1 there.0 sent.start (cancel_answer found.1.state.floor found.1.state.list n sent.start) refl; used = tt }
 
-  sent_by : (o : Option Sent) → IsGoodStep settings w (cancel_sent w n o)
+  sent_by : (o : Option Sent) → IsGoodStep settings T w (cancel_sent w n o)
   sent_by None = record { good = unchanged w h; used = tt }
   sent_by (Some sent) = at_by sent (gateway_with sent.gateway w.gateways) refl
 
-  answer_by : (o : Option Answer) → IsGoodStep settings w (cancel_of w n o)
+  answer_by : (o : Option Answer) → IsGoodStep settings T w (cancel_of w n o)
   answer_by None = record { good = unchanged w h; used = tt }
   answer_by (Some answer) = sent_by (sent_for answer)
 
-  pub cancel_good : IsGoodStep settings w (cancel w n)
+  pub cancel_good : IsGoodStep settings T w (cancel w n)
   cancel_good = answer_by (numbered n w.answers)

@@ -5,14 +5,16 @@ use Rattle.lora_frame.specs.Reading.{addr_of}
 use Rattle.resv_list.specs.declared.reservation.Reservation.{Reservation}
 use Rattle.uplink_gather.specs.declared.heard.HeardCopy.{HeardCopy}
 use Rattle.uplink_gather.specs.Gatherings.{Gathering, numbered, rewritten}
+use Rattle.rx_windows.specs.declared.plan.Plan.{Plan}
 use Rattle.rx_windows.specs.declared.candidate.Candidate.{Candidate}
+use Rattle.rx_windows.specs.Laws.{IsWindowOf}
 use Rattle.answer_ticket.specs.Job.{Job}
 use Rattle.server_core.specs.Settings.{SettingLists}
 use Rattle.server_core.specs.Register.{Asked}
 use Rattle.server_core.specs.Answers.{Answer, Waiting, Open, Sent}
 use Rattle.server_core.specs.World.{World}
 use Rattle.server_core.proofs.Numbers.{numbered-append, numbered-append_cases, numbered_after, rewritten-none}
-use Rattle.server_core.proofs.Holds.{IsOfDevice, IsWindowFor, IsJobFor, IsKept, Stands, Holds, IsGivenAt, IsGood, Follows-refl}
+use Rattle.server_core.proofs.Holds.{IsOfDevice, IsJobFor, IsKept, Stands, Holds, IsGivenAt, IsGood, Follows-refl}
 
 -- a gathering keeps its bytes and its copies
 pub record HasGrown (l : List Gathering) (n : ℕ) (before : Gathering) : Type 0 where
@@ -24,37 +26,44 @@ pub record HasGrown (l : List Gathering) (n : ℕ) (before : Gathering) : Type 0
 abbrev pub Grow : List Gathering → List Gathering → Type 0
 Grow l m = (n : ℕ) (g : Gathering) → numbered n l ≡ Some g → HasGrown m n g
 
-module _ (settings : SettingLists) (l m : List Gathering) (grow : Grow l m) where
+module _ (settings : SettingLists) (T : Job → Type 0) (l m : List Gathering) (grow : Grow l m) where
   uplink_grown : (n p : ℕ) → IsOfDevice settings l n p → IsOfDevice settings m n p
   uplink_grown n p u =
       let g = grow n u.gathering u.gathered in
       record { gathering = g.gathering; gathered = g.gathered; setting = u.setting; served = u.served; its_own = u.its_own ∙ ap addr_of (sym g.bytes) }
 
-  window_grown : (n : ℕ) (c : Candidate) → IsWindowFor settings l n c → IsWindowFor settings m n c
+  window_grown : (n p : ℕ) (plan : Plan) (u : IsOfDevice settings l n p) (c : Candidate) → IsWindowOf plan u.gathering.copies c → IsWindowOf plan (uplink_grown n p u).gathering.copies c
   unfolding uplink_grown
-  window_grown n c x =
-      let g = grow n x.uplink.gathering x.uplink.gathered in
-      record {
-        place = x.place;
-        uplink = uplink_grown n x.place x.uplink;
-        payload = x.payload;
-        window = record { copy = x.window.copy; heard = g.copies x.window.copy x.window.heard; gateway = x.window.gateway; window = x.window.window };
-      }
+  window_grown n p plan u c x =
+      let g = grow n u.gathering u.gathered in
+      record { copy = x.copy; heard = g.copies x.copy x.heard; gateway = x.gateway; window = x.window }
 
-  job_grown : (n : ℕ) (job : Job) → IsJobFor settings l n job → IsJobFor settings m n job
-  job_grown n job j = record { number = j.number; windows = λ k c e. window_grown n c (j.windows k c e) }
+  job_grown : (n : ℕ) (job : Job) → IsJobFor settings T l n job → IsJobFor settings T m n job
+  unfolding uplink_grown
+  job_grown n job j =
+      record {
+        number = j.number;
+        given = j.given;
+        place = j.place;
+        uplink = uplink_grown n j.place j.uplink;
+        plan = j.plan;
+        windows = λ k c e. window_grown n j.place job.plan j.uplink c (j.windows k c e);
+      }
 
   -- and an answer keeps what was booked for it
   stand_grown : (answers more : List Answer) → ((n : ℕ) (sent : Sent) → IsKept answers n sent → IsKept more n sent)
-      → (id : ℕ) (r : Reservation) → Stands settings l answers id r → Stands settings m more id r
+      → (id : ℕ) (r : Reservation) → Stands settings T l answers id r → Stands settings T m more id r
   stand_grown answers more f id r s =
       record {
         sent = s.sent;
         kept = f r.number s.sent s.kept;
         start = s.start;
         gateway = s.gateway;
+        job = s.job;
+        own = job_grown r.number s.job s.own;
+        place = s.place;
         candidate = s.candidate;
-        window = window_grown r.number s.candidate s.window;
+        tried = s.tried;
         here = s.here;
         taken = s.taken;
       }
@@ -81,11 +90,11 @@ module _ (f : Gathering → Gathering) (grown : IsGrownBy f) (n : ℕ) (l : List
   pub Grow-rewritten : Grow l (rewritten f n l)
   Grow-rewritten = grow_by (numbered n l) refl
 
-module _ (settings : SettingLists) (w : World) (h : Holds settings w) where
+module _ (settings : SettingLists) (T : Job → Type 0) (w : World) (h : Holds settings T w) where
   abbrev pub with_gathered : List Gathering → World
   with_gathered l = record w { reg = record (w.reg) { gathered = record (w.reg.gathered) { list = l } } }
 
-  pub gathered_grown : (l : List Gathering) → length w.reg.gathered.list ≡ length l → Grow w.reg.gathered.list l → IsGood settings w (with_gathered l)
+  pub gathered_grown : (l : List Gathering) → length w.reg.gathered.list ≡ length l → Grow w.reg.gathered.list l → IsGood settings T w (with_gathered l)
   gathered_grown l n grow =
       record {
         holds = record {
@@ -93,9 +102,10 @@ module _ (settings : SettingLists) (w : World) (h : Holds settings w) where
           devices = h.devices;
           in_order = h.in_order;
           together = h.together ∙ n;
-          asked = λ m a e. uplink_grown settings w.reg.gathered.list l grow m a.device (h.asked m a e);
-          jobs = λ m k job e. job_grown settings w.reg.gathered.list l grow m job (h.jobs m k job e);
-          stands = λ i g e k r f. stand_grown settings w.reg.gathered.list l grow w.answers w.answers (λ m s q. q) g.id r (h.stands i g e k r f);
+          answered = h.answered ∙ n;
+          asked = λ m a e. uplink_grown settings T w.reg.gathered.list l grow m a.device (h.asked m a e);
+          jobs = λ m k job e. job_grown settings T w.reg.gathered.list l grow m job (h.jobs m k job e);
+          stands = λ i g e k r f. stand_grown settings T w.reg.gathered.list l grow w.answers w.answers (λ m s q. q) g.id r (h.stands i g e k r f);
         };
         follows = record { given = λ m g. g; devices = (Follows-refl w).devices };
       }
@@ -114,7 +124,7 @@ module _ (settings : SettingLists) (w : World) (h : Holds settings w) where
 
     asked_by : (n : ℕ) (b : Asked) → (numbered n w.reg.asked ≡ Some b) ⊎ ((n ≡ length w.reg.asked + 1) × (b ≡ a))
         → IsOfDevice settings (w.reg.gathered.list ++ g ∷ []) n b.device
-    asked_by n b (inl e) = uplink_grown settings w.reg.gathered.list (w.reg.gathered.list ++ g ∷ []) grow n b.device (h.asked n b e)
+    asked_by n b (inl e) = uplink_grown settings T w.reg.gathered.list (w.reg.gathered.list ++ g ∷ []) grow n b.device (h.asked n b e)
     asked_by n b (inr e) =
         let number : length w.reg.gathered.list + 1 ≡ n = sym (e.0 ∙ ap (λ k. k + 1) h.together) in
         let P : ℕ → Type 0 = λ k. IsOfDevice settings (w.reg.gathered.list ++ g ∷ []) k b.device in
@@ -122,8 +132,8 @@ module _ (settings : SettingLists) (w : World) (h : Holds settings w) where
         subst P number (subst Q (sym e.1) own)
 
     job_by : (n k : ℕ) (job : Job) → (numbered n w.answers ≡ Some (Open k job)) ⊎ ((n ≡ length w.answers + 1) × (Open k job ≡ Waiting))
-        → IsJobFor settings (w.reg.gathered.list ++ g ∷ []) n job
-    job_by n k job (inl e) = job_grown settings w.reg.gathered.list (w.reg.gathered.list ++ g ∷ []) grow n job (h.jobs n k job e)
+        → IsJobFor settings T (w.reg.gathered.list ++ g ∷ []) n job
+    job_by n k job (inl e) = job_grown settings T w.reg.gathered.list (w.reg.gathered.list ++ g ∷ []) grow n job (h.jobs n k job e)
     job_by n k job (inr e) = absurd (cc (e.1))
 
     kept_by : (n : ℕ) (sent : Sent) → IsKept w.answers n sent → IsKept (w.answers ++ Waiting ∷ []) n sent
@@ -132,7 +142,7 @@ module _ (settings : SettingLists) (w : World) (h : Holds settings w) where
     given_by : (n : ℕ) → IsGivenAt w.answers n → IsGivenAt (w.answers ++ Waiting ∷ []) n
     given_by n k = record { answer = k.answer; answered = numbered-append n w.answers (Waiting ∷ []) k.answer k.answered; given = k.given }
 
-    pub uplink_gathered : IsGood settings w (with_uplink g a)
+    pub uplink_gathered : IsGood settings T w (with_uplink g a)
     uplink_gathered =
         record {
           holds = record {
@@ -140,10 +150,11 @@ module _ (settings : SettingLists) (w : World) (h : Holds settings w) where
             devices = h.devices;
             in_order = h.in_order;
             together = omega (arith, length-append w.reg.asked (a ∷ []), length-append w.reg.gathered.list (g ∷ []), h.together);
+            answered = omega (arith, length-append w.answers (Waiting ∷ []), length-append w.reg.gathered.list (g ∷ []), h.answered);
             asked = λ n b e. asked_by n b (numbered-append_cases n w.reg.asked a b e);
             jobs = λ n k job e. job_by n k job (numbered-append_cases n w.answers Waiting (Open k job) e);
             stands = λ i x e k r f.
-                stand_grown settings w.reg.gathered.list (w.reg.gathered.list ++ g ∷ []) grow w.answers (w.answers ++ Waiting ∷ []) kept_by x.id r (h.stands i x e k r f);
+                stand_grown settings T w.reg.gathered.list (w.reg.gathered.list ++ g ∷ []) grow w.answers (w.answers ++ Waiting ∷ []) kept_by x.id r (h.stands i x e k r f);
           };
           follows = record { given = given_by; devices = (Follows-refl w).devices };
         }

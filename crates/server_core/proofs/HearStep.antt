@@ -12,6 +12,7 @@ use Rattle.uplink_gather.specs.declared.answers.Heard.TheVariants.{Opened}
 use Rattle.uplink_gather.specs.Gatherings.{Gathering, Gatherings, rewritten}
 use Rattle.uplink_gather.specs.Hearing.{place_of, is_crowded, answer_at, with_copy, hear_step}
 use Rattle.uplink_gather.specs.Hearing as gathers
+use Rattle.answer_ticket.specs.Job.{Job}
 use Rattle.server_core.specs.declared.heard.Heard1.{Heard1}
 use Rattle.server_core.specs.Settings.{SettingLists}
 use Rattle.server_core.specs.Register.{Device}
@@ -42,44 +43,44 @@ opened s bytes copy arrived p c =
 more_copies : (copy : HeardCopy) (g : Gathering) (c : HeardCopy) → Contains g.copies c → Contains (g.copies ++ copy ∷ []) c
 more_copies copy g c k = Contains-append_left g.copies (copy ∷ []) c k
 
-module _ (settings : SettingLists) (w : World) (h : Holds settings w) (bytes : List ℕ) (heard : Heard1) (arrived : ℕ) where
-  joined_good : (n : ℕ) → place_of w.reg.gathered bytes heard.gateway arrived ≡ Ok (Joins n) → IsGood settings w (hear_by w bytes heard arrived (Join n)).0
+module _ (settings : SettingLists) (T : Job → Type 0) (w : World) (h : Holds settings T w) (bytes : List ℕ) (heard : Heard1) (arrived : ℕ) where
+  joined_good : (n : ℕ) → place_of w.reg.gathered bytes heard.gateway arrived ≡ Ok (Joins n) → IsGood settings T w (hear_by w bytes heard arrived (Join n)).0
   joined_good n p =
       let copy = copy_of heard in
       let l = rewritten (with_copy copy) n w.reg.gathered.list in
-      let P : Gatherings → Type 0 = λ s. IsGood settings w (record w { reg = record (w.reg) { gathered = s } }) in
+      let P : Gatherings → Type 0 = λ s. IsGood settings T w (record w { reg = record (w.reg) { gathered = s } }) in
       subst P (joined w.reg.gathered bytes copy arrived n p)
-      (gathered_grown settings w h l (sym (length-rewritten (with_copy copy) n w.reg.gathered.list))
+      (gathered_grown settings T w h l (sym (length-rewritten (with_copy copy) n w.reg.gathered.list))
       (Grow-rewritten (with_copy copy) (λ g. (refl, more_copies copy g)) n w.reg.gathered.list))
 
-  opened_good : (o : Opening) → IsDecided w.reg bytes heard.gateway arrived (Open o) → IsGood settings w (hear_by w bytes heard arrived (Open o)).0
+  opened_good : (o : Opening) → IsDecided w.reg bytes heard.gateway arrived (Open o) → IsGood settings T w (hear_by w bytes heard arrived (Open o)).0
   opened_good o d =
       let copy = copy_of heard in
       let g : Gathering = gathers.opening bytes copy arrived in
       let device : Device = record (o.device) { up = Some o.counter } in
       let there = found_there (λ (x : Device). x.setting.addr == addr_of bytes) w.reg.devices (o.place, o.device) d.2 in
-      let v = with_device settings w h o.place device in
-      let first : IsGood settings w v = device_written settings w h o.place o.device device there.0 refl (omega arith) in
+      let v = with_device settings T w h o.place device in
+      let first : IsGood settings T w v = device_written settings T w h o.place o.device device there.0 refl (omega arith) in
       let own : IsOfDevice settings (w.reg.gathered.list ++ g ∷ []) (length w.reg.gathered.list + 1) o.place =
       record {
         gathering = g;
         gathered = numbered_next w.reg.gathered.list g;
         setting = o.device.setting;
-        served = device_setting settings w h o.place o.device there.0;
+        served = device_setting settings T w h o.place o.device there.0;
         its_own = equal_where_tested o.device.setting.addr (addr_of bytes) there.1;
       } in
       let P : Gatherings → Type 0 = λ s.
-      IsGood settings w
+      IsGood settings T w
       (record w {
         reg = record { devices = v.reg.devices; gathered = s; asked = w.reg.asked ++ asked_by o bytes ∷ [] };
         answers = w.answers ++ Waiting ∷ [];
       }) in
-      subst P (opened w.reg.gathered bytes copy arrived d.0 d.1) (both_good first (uplink_gathered settings v first.holds g (asked_by o bytes) own))
+      subst P (opened w.reg.gathered bytes copy arrived d.0 d.1) (both_good first (uplink_gathered settings T v first.holds g (asked_by o bytes) own))
 
-  heard_good : (d : Decision) → IsDecided w.reg bytes heard.gateway arrived d → IsGood settings w (hear_by w bytes heard arrived d).0
+  heard_good : (d : Decision) → IsDecided w.reg bytes heard.gateway arrived d → IsGood settings T w (hear_by w bytes heard arrived d).0
   heard_good (Refuse fault) d = unchanged w h
   heard_good (Join n) d = joined_good n d
   heard_good (Open o) d = opened_good o d
 
-  pub hear_good : IsGoodStep settings w (hear w bytes heard arrived)
+  pub hear_good : IsGoodStep settings T w (hear w bytes heard arrived)
   hear_good = record { good = heard_good (decide (ids w) w.reg bytes heard arrived) (decided (ids w) w.reg bytes heard arrived); used = tt }

@@ -1,5 +1,5 @@
 -- What the system keeps at every step.
-use Rattle.std.specs.Prelude.{ℕ, ◌≡◌, ◌≤◌, ◌<◌, false, List, map, length, slice_get, Option, Some, Ok, ⊤, refl}
+use Rattle.std.specs.Prelude.{ℕ, ◌≡◌, ◌⊎◌, ◌≤◌, ◌<◌, false, List, map, length, slice_get, Some, Ok, ⊤, refl}
 use Rattle.std.proofs.Common.{◌∙◌, arith}
 use Rattle.lora_frame.specs.Reading.{addr_of}
 use Rattle.resv_list.specs.declared.reservation.Reservation.{Reservation}
@@ -8,7 +8,7 @@ use Rattle.gateway_book.specs.Book.{Book, IsSound}
 use Rattle.uplink_gather.specs.Gatherings.{Gathering, numbered}
 use Rattle.rx_windows.specs.declared.candidate.Candidate.{Candidate}
 use Rattle.rx_windows.specs.Laws.{IsWindowOf}
-use Rattle.answer_ticket.specs.Job.{Job, Payload, candidate_at}
+use Rattle.answer_ticket.specs.Job.{Job, candidate_at}
 use Rattle.server_core.specs.declared.setting.DeviceSetting.{DeviceSetting}
 use Rattle.server_core.specs.Settings.{SettingLists}
 use Rattle.server_core.specs.Register.{Device, Asked}
@@ -25,17 +25,15 @@ pub record IsOfDevice (settings : SettingLists) (l : List Gathering) (n place : 
   pub served : slice_get settings.devices place ≡ Some setting
   pub its_own : setting.addr ≡ addr_of gathering.bytes
 
--- the candidate is RX1 or RX2 of a copy of uplink n, as its device listens
-pub record IsWindowFor (settings : SettingLists) (l : List Gathering) (n : ℕ) (c : Candidate) : Type 0 where
+-- the job answers uplink n as its device listens, a ticket was given for it, and each candidate of it is RX1 or RX2 of a
+-- copy of the uplink; T tells for which jobs tickets were given
+pub record IsJobFor (settings : SettingLists) (T : Job → Type 0) (l : List Gathering) (n : ℕ) (job : Job) : Type 0 where
+  pub number : job.number ≡ n
+  pub given : T job
   pub place : ℕ
   pub uplink : IsOfDevice settings l n place
-  pub payload : Option Payload
-  pub window : IsWindowOf (plan_for uplink.setting payload) uplink.gathering.copies c
-
--- each candidate of the job is one of uplink n
-pub record IsJobFor (settings : SettingLists) (l : List Gathering) (n : ℕ) (job : Job) : Type 0 where
-  pub number : job.number ≡ n
-  pub windows : (k : ℕ) (c : Candidate) → candidate_at job k ≡ Some c → IsWindowFor settings l n c
+  pub plan : job.plan ≡ plan_for uplink.setting job.body
+  pub windows : (k : ℕ) (c : Candidate) → candidate_at job k ≡ Some c → IsWindowOf job.plan uplink.gathering.copies c
 
 -- an answer keeps what was booked for its number
 pub record IsKept (answers : List Answer) (n : ℕ) (sent : Sent) : Type 0 where
@@ -43,14 +41,17 @@ pub record IsKept (answers : List Answer) (n : ℕ) (sent : Sent) : Type 0 where
   pub answered : numbered n answers ≡ Some answer
   pub kept : sent_for answer ≡ Some sent
 
--- a reservation on the gateway with this id stands for the window of its uplink that was booked
-pub record Stands (settings : SettingLists) (l : List Gathering) (answers : List Answer) (id : ℕ) (r : Reservation) : Type 0 where
+-- a reservation on the gateway with this id stands for the candidate of its uplink's job that was booked
+pub record Stands (settings : SettingLists) (T : Job → Type 0) (l : List Gathering) (answers : List Answer) (id : ℕ) (r : Reservation) : Type 0 where
   pub sent : Sent
   pub kept : IsKept answers r.number sent
   pub start : sent.start ≡ r.start
   pub gateway : sent.gateway ≡ id
+  pub job : Job
+  pub own : IsJobFor settings T l r.number job
+  pub place : ℕ
   pub candidate : Candidate
-  pub window : IsWindowFor settings l r.number candidate
+  pub tried : candidate_at job place ≡ Some candidate
   pub here : candidate.gateway ≡ id
   pub taken : IsTaken candidate r
 
@@ -71,17 +72,18 @@ pub record IsInOrder (g : Gateway) : Type 0 where
   pub by_start : IsByStart g.state.list
 
 -- each reservation of the gateway stands for its uplink's answer
-abbrev pub AllStand : SettingLists → List Gathering → List Answer → Gateway → Type 0
-AllStand settings l answers g = (k : ℕ) (r : Reservation) → slice_get g.state.list k ≡ Some r → Stands settings l answers g.id r
+abbrev pub AllStand : SettingLists → (Job → Type 0) → List Gathering → List Answer → Gateway → Type 0
+AllStand settings T l answers g = (k : ℕ) (r : Reservation) → slice_get g.state.list k ≡ Some r → Stands settings T l answers g.id r
 
-pub record Holds (settings : SettingLists) (w : World) : Type 0 where
+pub record Holds (settings : SettingLists) (T : Job → Type 0) (w : World) : Type 0 where
   pub gateways : map setting_of w.gateways ≡ settings.gateways
   pub devices : map (λ d. d.setting) w.reg.devices ≡ settings.devices
   pub in_order : (i : ℕ) (g : Gateway) → slice_get w.gateways i ≡ Some g → IsInOrder g
   pub together : length w.reg.asked ≡ length w.reg.gathered.list
+  pub answered : length w.answers ≡ length w.reg.gathered.list
   pub asked : (n : ℕ) (a : Asked) → numbered n w.reg.asked ≡ Some a → IsOfDevice settings w.reg.gathered.list n a.device
-  pub jobs : (n k : ℕ) (job : Job) → numbered n w.answers ≡ Some (Open k job) → IsJobFor settings w.reg.gathered.list n job
-  pub stands : (i : ℕ) (g : Gateway) → slice_get w.gateways i ≡ Some g → AllStand settings w.reg.gathered.list w.answers g
+  pub jobs : (n k : ℕ) (job : Job) → numbered n w.answers ≡ Some (Open k job) → IsJobFor settings T w.reg.gathered.list n job
+  pub stands : (i : ℕ) (g : Gateway) → slice_get w.gateways i ≡ Some g → AllStand settings T w.reg.gathered.list w.answers g
 
 -- What a step never takes back.
 
@@ -103,8 +105,8 @@ pub record Follows (w v : World) : Type 0 where
   pub devices : (p : ℕ) (d : Device) → slice_get w.reg.devices p ≡ Some d → IsLater v.reg.devices p d
 
 -- a change of the system that keeps what holds, and takes nothing back
-pub record IsGood (settings : SettingLists) (w v : World) : Type 0 where
-  pub holds : Holds settings v
+pub record IsGood (settings : SettingLists) (T : Job → Type 0) (w v : World) : Type 0 where
+  pub holds : Holds settings T v
   pub follows : Follows w v
 
 -- What a ticket that is given uses up.
@@ -128,8 +130,13 @@ abbrev pub UsesUp : World → World → Reply → Type 0
 UsesUp w v (Given (Ok job)) = IsNew w job × IsUsed v job
 UsesUp w v reply = ⊤
 
-pub record IsGoodStep (settings : SettingLists) (w : World) (after : World × Reply) : Type 0 where
-  pub good : IsGood settings w after.0
+-- a ticket was given for these jobs after a reply
+abbrev pub given_after : Reply → (Job → Type 0) → Job → Type 0
+given_after (Given (Ok job)) T = λ j. T j ⊎ (j ≡ job)
+given_after reply T = T
+
+pub record IsGoodStep (settings : SettingLists) (T : Job → Type 0) (w : World) (after : World × Reply) : Type 0 where
+  pub good : IsGood settings (given_after after.1 T) w after.0
   pub used : UsesUp w after.0 after.1
 
 -- a change after another
@@ -147,8 +154,43 @@ pub Follows-refl : (w : World) → Follows w w
 Follows-refl w =
     record { given = λ n h. h; devices = λ p d e. record { device = d; there = e; addr = refl; counter = omega arith } }
 
-pub both_good : {settings : SettingLists} {u v w : World} → IsGood settings u v → IsGood settings v w → IsGood settings u w
-both_good {settings} {u} {v} {w} a b = record { holds = b.holds; follows = Follows-trans u v w a.follows b.follows }
+pub both_good : {settings : SettingLists} {T : Job → Type 0} {u v w : World} → IsGood settings T u v → IsGood settings T v w → IsGood settings T u w
+both_good {settings} {T} {u} {v} {w} a b = record { holds = b.holds; follows = Follows-trans u v w a.follows b.follows }
 
-pub unchanged : {settings : SettingLists} (w : World) → Holds settings w → IsGood settings w w
+pub unchanged : {settings : SettingLists} {T : Job → Type 0} (w : World) → Holds settings T w → IsGood settings T w w
 unchanged w h = record { holds = h; follows = Follows-refl w }
+
+-- what holds also holds where tickets were given for more jobs
+module _ (settings : SettingLists) (T U : Job → Type 0) (more : (job : Job) → T job → U job) where
+  job_weaker : (l : List Gathering) (n : ℕ) (job : Job) → IsJobFor settings T l n job → IsJobFor settings U l n job
+  job_weaker l n job j =
+      record { number = j.number; given = more job j.given; place = j.place; uplink = j.uplink; plan = j.plan; windows = j.windows }
+
+  stand_weaker : (l : List Gathering) (answers : List Answer) (id : ℕ) (r : Reservation) → Stands settings T l answers id r → Stands settings U l answers id r
+  stand_weaker l answers id r s =
+      record {
+        sent = s.sent;
+        kept = s.kept;
+        start = s.start;
+        gateway = s.gateway;
+        job = s.job;
+        own = job_weaker l r.number s.job s.own;
+        place = s.place;
+        candidate = s.candidate;
+        tried = s.tried;
+        here = s.here;
+        taken = s.taken;
+      }
+
+  pub Holds-weaker : (w : World) → Holds settings T w → Holds settings U w
+  Holds-weaker w h =
+      record {
+        gateways = h.gateways;
+        devices = h.devices;
+        in_order = h.in_order;
+        together = h.together;
+        answered = h.answered;
+        asked = h.asked;
+        jobs = λ n k job e. job_weaker w.reg.gathered.list n job (h.jobs n k job e);
+        stands = λ i g e k r f. stand_weaker w.reg.gathered.list w.answers g.id r (h.stands i g e k r f);
+      }

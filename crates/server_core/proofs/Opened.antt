@@ -4,6 +4,7 @@ use Rattle.std.proofs.Common.{ap, ◌∙◌, subst}
 use Rattle.gateway_book.specs.BookLaws.{sound_empty}
 use Rattle.uplink_gather.specs.declared.limits.Limits.{Limits}
 use Rattle.uplink_gather.specs.Gatherings.{numbered}
+use Rattle.answer_ticket.specs.Job.{Job}
 use Rattle.server_core.specs.declared.setting.GatewaySetting.{GatewaySetting}
 use Rattle.server_core.specs.Settings.{SettingLists, AreSettings, IsGatewayInRange}
 use Rattle.server_core.specs.Register.{opened_device}
@@ -23,24 +24,25 @@ none_numbered (suc i) x e = cc
 opened_in_order : (s : GatewaySetting) → IsGatewayInRange s → IsInOrder (opened_gateway s)
 opened_in_order s r = record { sound = sound_empty s.id s.cap r.cap.0 r.cap.1; by_start = tt }
 
-module _ (settings : SettingLists) (are : AreSettings settings.gateways settings.devices) (limits : Limits) where
+module _ (settings : SettingLists) (are : AreSettings settings.gateways settings.devices) (T : Job → Type 0) (limits : Limits) where
   in_order_at : (i : ℕ) (g : Gateway) → slice_get (map opened_gateway settings.gateways) i ≡ Some g → IsInOrder g
   in_order_at i g e =
       let s = from_map opened_gateway settings.gateways i g e in
       subst IsInOrder s.2 (opened_in_order s.0 (all_get IsGatewayInRange settings.gateways i s.0 are.gateways_in_range s.1))
 
-  stand_at : (i : ℕ) (g : Gateway) → slice_get (map opened_gateway settings.gateways) i ≡ Some g → AllStand settings [] [] g
+  stand_at : (i : ℕ) (g : Gateway) → slice_get (map opened_gateway settings.gateways) i ≡ Some g → AllStand settings T [] [] g
   stand_at i g e =
       let s = from_map opened_gateway settings.gateways i g e in
-      subst (AllStand settings [] []) s.2 (λ k r q. absurd (cc (q)))
+      subst (AllStand settings T [] []) s.2 (λ k r q. absurd (cc (q)))
 
-  pub opened : Holds settings (opening settings limits)
+  pub opened : Holds settings T (opening settings limits)
   opened =
       record {
         gateways = map_back setting_of opened_gateway (λ s. refl) settings.gateways;
         devices = map_back (λ d. d.setting) opened_device (λ s. refl) settings.devices;
         in_order = in_order_at;
         together = refl;
+        answered = refl;
         asked = λ n a e. absurd (none_numbered n a e);
         jobs = λ n k job e. absurd (none_numbered n _ e);
         stands = stand_at;

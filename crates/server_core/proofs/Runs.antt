@@ -1,14 +1,15 @@
 -- Every run is safe.
-use Rattle.std.specs.Prelude.{◌≢◌, List, [], ◌∷◌, All, AllPairs, Ok}
-use Rattle.std.proofs.Common.{◌∙◌, subst, arith}
-use Rattle.std.proofs.lemmas.List.Elements.{All-nil, All-cons, All-weaker}
+use Rattle.std.specs.Prelude.{◌≢◌, ◌⊎◌, List, [], ◌∷◌, All, AllPairs, Contains, Ok, refl}
+use Rattle.std.proofs.Common.{inl, inr, sym, ◌∙◌, subst, arith}
+use Rattle.std.proofs.lemmas.List.Elements.{All-nil, All-cons, All-weaker, Contains-append_right}
 use Rattle.std.proofs.lemmas.List.Kept.{AllPairs-cons}
 use Rattle.uplink_gather.specs.declared.limits.Limits.{Limits}
 use Rattle.answer_ticket.specs.Job.{Job}
 use Rattle.server_core.specs.Settings.{SettingLists, AreSettings}
 use Rattle.server_core.specs.World.{World, Step, Queue, Hear, Pass, Take, Settle, Try, Cancel, Tick, Reply, Given, Run, step, run_from, run, opening}
 use Rattle.server_core.specs.Promise.{HaveOwnCounters, with_given, jobs_given, IsSafe, EveryInterleavingIsSafe}
-use Rattle.server_core.proofs.Holds.{Holds, IsGivenAt, Follows, IsGoodStep, IsNew, IsUsed, UsesUp}
+use Rattle.server_core.proofs.Places.{get_contains}
+use Rattle.server_core.proofs.Holds.{Holds, IsGivenAt, Follows, IsGoodStep, IsNew, IsUsed, UsesUp, given_after, Holds-weaker}
 use Rattle.server_core.proofs.Opened.{opened}
 use Rattle.server_core.proofs.QueueStep.{queue_good}
 use Rattle.server_core.proofs.HearStep.{hear_good}
@@ -54,48 +55,68 @@ module _ (w v : World) (f : Follows w v) where
       }
   one_more reply jobs u t = record { new = All-weaker (IsNew v) (IsNew w) (still_new w v f) jobs t.new; tickets = t.tickets; counters = t.counters }
 
+-- a ticket was given for a job before, or it is among those for which one was given then
+abbrev pub WithGiven : (Job → Type 0) → List Job → Job → Type 0
+WithGiven T jobs = λ j. T j ⊎ Contains jobs j
+
+given_cases : (reply : Reply) (T : Job → Type 0) (jobs : List Job) (j : Job) → WithGiven (given_after reply T) jobs j → WithGiven T (with_given reply jobs) j
+given_cases (Given (Ok job)) T jobs j (inl (inl t)) = inl t
+given_cases (Given (Ok job)) T jobs j (inl (inr e)) = inr (subst (Contains (job ∷ jobs)) (sym e) (get_contains (job ∷ jobs) 0 job refl))
+given_cases (Given (Ok job)) T jobs j (inr c) = inr (Contains-append_right (job ∷ []) jobs j c)
+given_cases reply T jobs j c = c
+
+only_given : {X : Type 0} → ⊥ ⊎ X → X
+only_given (inl e) = absurd e
+only_given (inr x) = x
+
 module _ (settings : SettingLists) (are : AreSettings settings.gateways settings.devices) where
-  step_good : (w : World) → Holds settings w → (s : Step) → IsGoodStep settings w (step w s)
+  step_good : (T : Job → Type 0) (w : World) → Holds settings T w → (s : Step) → IsGoodStep settings T w (step w s)
   unfolding step
-  step_good w h (Queue addr payload) = queue_good settings w h addr payload
-  step_good w h (Hear bytes heard arrived) = hear_good settings w h bytes heard arrived
-  step_good w h (Pass now) = pass_good settings w h now
-  step_good w h (Take n) = take_good settings are w h n
-  step_good w h (Settle n) = settle_good settings w h n
-  step_good w h (Try n) = try_good settings w h n
-  step_good w h (Cancel n) = cancel_good settings w h n
-  step_good w h (Tick id now) = tick_good settings w h id now
+  step_good T w h (Queue addr payload) = queue_good settings T w h addr payload
+  step_good T w h (Hear bytes heard arrived) = hear_good settings T w h bytes heard arrived
+  step_good T w h (Pass now) = pass_good settings T w h now
+  step_good T w h (Take n) = take_good settings are T w h n
+  step_good T w h (Settle n) = settle_good settings T w h n
+  step_good T w h (Try n) = try_good settings T w h n
+  step_good T w h (Cancel n) = cancel_good settings T w h n
+  step_good T w h (Tick id now) = tick_good settings T w h id now
 
   -- what is known of a run from a world in which all of this holds
-  pub record IsGoodRun (w : World) (r : Run) : Type 0 where
-    pub holds : Holds settings r.world
+  pub record IsGoodRun (T : Job → Type 0) (w : World) (r : Run) : Type 0 where
+    pub holds : Holds settings (WithGiven T (jobs_given r.replies)) r.world
     pub given : AreTickets w (jobs_given r.replies)
 
-  run_good : (w : World) → Holds settings w → (steps : List Step) → IsGoodRun w (run_from w steps)
+  run_good : (T : Job → Type 0) (w : World) → Holds settings T w → (steps : List Step) → IsGoodRun T w (run_from w steps)
   unfolding run_from
-  run_good w h [] =
+  run_good T w h [] =
       record {
-        holds = h;
+        holds = Holds-weaker settings T (WithGiven T []) (λ j t. inl t) w h;
         given = record { new = All-nil (IsNew w); tickets = λ i j d l g. absurd (omega arith); counters = λ i j d l g. absurd (omega arith) };
       }
-  run_good w h (s ∷ ss) =
-      let first = step_good w h s in
-      let rest = run_good (step w s).0 first.good.holds ss in
+  run_good T w h (s ∷ ss) =
+      let first = step_good T w h s in
+      let reply = (step w s).1 in
+      let after = run_from (step w s).0 ss in
+      let jobs = jobs_given after.replies in
+      let rest = run_good (given_after reply T) (step w s).0 first.good.holds ss in
       record {
-        holds = rest.holds;
-        given = one_more w (step w s).0 first.good.follows (step w s).1 (jobs_given (run_from (step w s).0 ss).replies) first.used rest.given;
+        holds = Holds-weaker settings (WithGiven (given_after reply T) jobs) (WithGiven T (with_given reply jobs)) (given_cases reply T jobs) after.world rest.holds;
+        given = one_more w (step w s).0 first.good.follows reply jobs first.used rest.given;
       }
 
-  safe_by : (w : World) (r : Run) → IsGoodRun w r → IsSafe settings r
+  safe_by : (w : World) (r : Run) → IsGoodRun (λ j. ⊥) w r → IsSafe settings r
   safe_by w r g =
-      let h = g.holds in
+      let T : Job → Type 0 = Contains (jobs_given r.replies) in
+      let h : Holds settings T r.world = Holds-weaker settings (WithGiven (λ j. ⊥) (jobs_given r.replies)) T (λ j. only_given) r.world g.holds in
       record {
         gateways = h.gateways;
         devices = h.devices;
+        told = h.together;
+        answered = h.answered;
         lawful = λ i x e. (h.in_order i x e).sound.lawful;
-        counted = counted_at settings are r.world h;
-        once = once_by settings are r.world h;
-        own = own_at settings are r.world h;
+        counted = counted_at settings are T r.world h;
+        once = once_by settings are T r.world h;
+        own = own_at settings r h;
         tickets = g.given.tickets;
         counters = g.given.counters;
       }
@@ -103,7 +124,7 @@ module _ (settings : SettingLists) (are : AreSettings settings.gateways settings
   pub run_safe : (limits : Limits) (steps : List Step) → IsSafe settings (run settings limits steps)
   run_safe limits steps =
       let w = opening settings limits in
-      safe_by w (run_from w steps) (run_good w (opened settings are limits) steps)
+      safe_by w (run_from w steps) (run_good (λ j. ⊥) w (opened settings are (λ j. ⊥) limits) steps)
 
 pub every_interleaving_is_safe : EveryInterleavingIsSafe
 every_interleaving_is_safe settings are limits steps = run_safe settings are limits steps

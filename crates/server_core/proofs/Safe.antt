@@ -1,23 +1,25 @@
 -- What holds at every step is what is promised of a run.
-use Rattle.std.specs.Prelude.{ℕ, ◌≡◌, ◌⊎◌, ◌+◌, slice_get, Some}
+use Rattle.std.specs.Prelude.{ℕ, ◌≡◌, ◌⊎◌, ◌+◌, slice_get, Contains, Some}
 use Rattle.std.proofs.Common.{sym, ap, ◌∙◌, subst, arith}
 use Rattle.resv_list.specs.declared.reservation.Reservation.{Reservation}
 use Rattle.resv_list.specs.Reservations.{start_of, net}
 use Rattle.uplink_gather.specs.Gatherings.{numbered}
+use Rattle.rx_windows.specs.declared.plan.Plan.{Plan}
 use Rattle.rx_windows.specs.Windows.{rx1_of, rx2_of}
+use Rattle.answer_ticket.specs.Job.{Job, candidates}
 use Rattle.server_core.specs.declared.setting.DeviceSetting.{DeviceSetting}
 use Rattle.server_core.specs.Settings.{SettingLists, AreSettings}
 use Rattle.server_core.specs.Register.{Device}
 use Rattle.server_core.specs.Answers.{Sent}
 use Rattle.server_core.specs.Taking.{plan_for}
-use Rattle.server_core.specs.World.{Gateway, World, sent_for}
-use Rattle.server_core.specs.Promise.{IsMember, IsOwnWindow}
+use Rattle.server_core.specs.World.{Gateway, World, Run, sent_for}
+use Rattle.server_core.specs.Promise.{IsMember, IsOwnWindow, jobs_given}
 use Rattle.server_core.proofs.Places.{some_inj, from_map, get_contains}
 use Rattle.server_core.proofs.Members.{rises_once}
 use Rattle.server_core.proofs.Holds.{IsKept, Stands, Holds}
 use Rattle.server_core.proofs.Served.{one_gateway}
 
-module _ (settings : SettingLists) (are : AreSettings settings.gateways settings.devices) (w : World) (h : Holds settings w) where
+module _ (settings : SettingLists) (are : AreSettings settings.gateways settings.devices) (T : Job → Type 0) (w : World) (h : Holds settings T w) where
   pub counted_at : (i : ℕ) (g : Gateway) → slice_get w.gateways i ≡ Some g → g.state.booked ≡ g.state.cancelled + net g.state.list
   counted_at i g e = omega (arith, (h.in_order i g e).sound.balanced)
 
@@ -31,7 +33,7 @@ module _ (settings : SettingLists) (are : AreSettings settings.gateways settings
   module _ (i j k l : ℕ) (g f : Gateway) (a b : Reservation) (m : IsMember w i k g a) (o : IsMember w j l f b) where
     place_by : g.id ≡ f.id → a.start ≡ b.start → (i ≡ j) × (k ≡ l)
     place_by d s =
-        let p : i ≡ j = one_gateway settings w h are i j g f m.gateway o.gateway d in
+        let p : i ≡ j = one_gateway settings T w h are i j g f m.gateway o.gateway d in
         let there : slice_get w.gateways j ≡ Some g = subst (λ x. slice_get w.gateways x ≡ Some g) p m.gateway in
         let same : f ≡ g = some_inj (sym o.gateway ∙ there) in
         let other : slice_get g.state.list l ≡ Some b = subst (λ (x : Gateway). slice_get x.state.list l ≡ Some b) same o.member in
@@ -44,29 +46,35 @@ module _ (settings : SettingLists) (are : AreSettings settings.gateways settings
         let same = same_sent a.number b.number s.sent t.sent q s.kept t.kept in
         place_by (sym s.gateway ∙ ap (λ (x : Sent). x.gateway) same ∙ t.gateway) (sym s.start ∙ ap (λ (x : Sent). x.start) same ∙ t.start)
 
-  own_by : (g : Gateway) (r : Reservation) (s : Stands settings w.reg.gathered.list w.answers g.id r)
-      → (d : Device) × (slice_get w.reg.devices s.window.place ≡ Some d) × (d.setting ≡ s.window.uplink.setting) → IsOwnWindow w g r
-  own_by g r s d =
-      let x = s.window in
-      let P : DeviceSetting → Type 0 = λ t.
-      (s.candidate ≡ rx1_of (plan_for t x.payload) x.window.copy) ⊎ (s.candidate ≡ rx2_of (plan_for t x.payload) x.window.copy) in
+module _ (settings : SettingLists) (r : Run) (h : Holds settings (Contains (jobs_given r.replies)) r.world) where
+  own_by : (g : Gateway) (a : Reservation) (s : Stands settings (Contains (jobs_given r.replies)) r.world.reg.gathered.list r.world.answers g.id a)
+      → (d : Device) × (slice_get r.world.reg.devices s.own.place ≡ Some d) × (d.setting ≡ s.own.uplink.setting) → IsOwnWindow r g a
+  own_by g a s d =
+      let j = s.own in
+      let x = j.windows s.place s.candidate s.tried in
+      let plan : s.job.plan ≡ plan_for d.0.setting s.job.body = j.plan ∙ ap (λ (t : DeviceSetting). plan_for t s.job.body) (sym d.2) in
+      let P : Plan → Type 0 = λ p. (s.candidate ≡ rx1_of p x.copy) ⊎ (s.candidate ≡ rx2_of p x.copy) in
       record {
-        gathering = x.uplink.gathering;
-        gathered = x.uplink.gathered;
-        copy = x.window.copy;
-        heard = x.window.heard;
-        here = sym x.window.gateway ∙ s.here;
+        gathering = j.uplink.gathering;
+        gathered = j.uplink.gathered;
+        copy = x.copy;
+        heard = x.heard;
+        here = sym x.gateway ∙ s.here;
         device = d.0;
-        served = get_contains w.reg.devices x.place d.0 d.1;
-        its_own = ap (λ (t : DeviceSetting). t.addr) d.2 ∙ x.uplink.its_own;
-        payload = x.payload;
+        served = get_contains r.world.reg.devices j.place d.0 d.1;
+        its_own = ap (λ (t : DeviceSetting). t.addr) d.2 ∙ j.uplink.its_own;
+        job = s.job;
+        given = j.given;
+        number = j.number;
+        plan = plan;
         candidate = s.candidate;
-        window = subst P (sym d.2) x.window.window;
+        tried = get_contains (candidates s.job) s.place s.candidate s.tried;
+        window = subst P plan x.window;
         taken = s.taken;
       }
 
-  pub own_at : (i k : ℕ) (g : Gateway) (r : Reservation) → IsMember w i k g r → IsOwnWindow w g r
-  own_at i k g r m =
-      let s = h.stands i g m.gateway k r m.member in
-      let served = subst (λ l. slice_get l s.window.place ≡ Some s.window.uplink.setting) (sym h.devices) s.window.uplink.served in
-      own_by g r s (from_map (λ d. d.setting) w.reg.devices s.window.place s.window.uplink.setting served)
+  pub own_at : (i k : ℕ) (g : Gateway) (a : Reservation) → IsMember r.world i k g a → IsOwnWindow r g a
+  own_at i k g a m =
+      let s = h.stands i g m.gateway k a m.member in
+      let served = subst (λ l. slice_get l s.own.place ≡ Some s.own.uplink.setting) (sym h.devices) s.own.uplink.served in
+      own_by g a s (from_map (λ d. d.setting) r.world.reg.devices s.own.place s.own.uplink.setting served)

@@ -2,6 +2,7 @@
 use Rattle.std.specs.Prelude.{ℕ, ◌≡◌, ◌==◌, true, slice_get, Some}
 use Rattle.std.proofs.Common.{subst, arith}
 use Rattle.std.proofs.lemmas.Bool.Decides.{nat_tests}
+use Rattle.answer_ticket.specs.Job.{Job}
 use Rattle.server_core.specs.Settings.{SettingLists, AreSettings}
 use Rattle.server_core.specs.Register.{Device}
 use Rattle.server_core.specs.World.{Gateway, World}
@@ -13,7 +14,7 @@ use Rattle.server_core.proofs.Holds.{Holds}
 pub equal_where_tested : (m n : ℕ) → (m == n) ≡ true → m ≡ n
 equal_where_tested m n e = grind (arith, nat_tests)
 
-module _ (settings : SettingLists) (w : World) (h : Holds settings w) where
+module _ (settings : SettingLists) (T : Job → Type 0) (w : World) (h : Holds settings T w) where
   pub device_setting : (p : ℕ) (d : Device) → slice_get w.reg.devices p ≡ Some d → slice_get settings.devices p ≡ Some d.setting
   device_setting p d e = subst (λ l. slice_get l p ≡ Some d.setting) h.devices (map_there (λ x. x.setting) w.reg.devices p d e)
 

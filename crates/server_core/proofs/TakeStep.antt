@@ -1,6 +1,6 @@
 -- A ticket is given.
-use Rattle.std.specs.Prelude.{ℕ, ◌≡◌, ◌≤◌, List, [], slice_get, Option, Some, Result, Ok, Err, refl}
-use Rattle.std.proofs.Common.{sym, ap, ◌∙◌, subst, arith, true≢false}
+use Rattle.std.specs.Prelude.{ℕ, ◌≡◌, ◌⊎◌, ◌≤◌, List, [], slice_get, Option, Some, Result, Ok, Err, refl}
+use Rattle.std.proofs.Common.{inl, inr, sym, ap, ◌∙◌, subst, arith, true≢false}
 use Rattle.std.specs.Option.{option_map_or}
 use Rattle.uplink_gather.specs.declared.heard.HeardCopy.{HeardCopy}
 use Rattle.uplink_gather.specs.Gatherings.{Gathering, numbered, copies_of}
@@ -9,6 +9,7 @@ use Rattle.rx_windows.specs.Windows.{candidates_of}
 use Rattle.rx_windows.specs.Laws.{IsWindowOf}
 use Rattle.rx_windows.specs.WindowLaws.{on_gateways_that_heard, IsWindowOf-ranked}
 use Rattle.answer_ticket.specs.Job.{Job}
+use Rattle.server_core.specs.declared.setting.DeviceSetting.{DeviceSetting}
 use Rattle.server_core.specs.declared.faults.TakeFault.{TakeFault}
 use Rattle.server_core.specs.Settings.{SettingLists, AreSettings}
 use Rattle.server_core.specs.Register.{Device, Asked, Register}
@@ -18,12 +19,13 @@ use Rattle.server_core.specs.World.{World, known, take_by, take}
 use Rattle.server_core.proofs.Places.{some_inj, get_set_same, all_get}
 use Rattle.server_core.proofs.Numbers.{numbered-here}
 use Rattle.server_core.proofs.Tickets.{IsTicket, ticket, still_waits}
-use Rattle.server_core.proofs.Holds.{IsOfDevice, IsJobFor, Holds, IsGivenAt, IsGood, IsGoodStep, IsNew, IsUsed, unchanged, both_good}
+use Rattle.server_core.proofs.Holds.{IsOfDevice, IsJobFor, Holds, IsGivenAt, IsGood, IsGoodStep, IsNew, IsUsed, Holds-weaker, unchanged, both_good}
 use Rattle.server_core.proofs.Served.{device_setting, one_device}
 use Rattle.server_core.proofs.Written.{with_device, device_written, with_answer, answer_written}
 
-module _ (settings : SettingLists) (are : AreSettings settings.gateways settings.devices) (w : World) (h : Holds settings w) (n : ℕ) where
-  module _ (asked : Asked) (there : numbered n w.reg.asked ≡ Some asked) (waits : numbered n w.answers ≡ Some Waiting) (device : Device) (served : slice_get w.reg.devices asked.device ≡ Some device) where
+module _ (settings : SettingLists) (are : AreSettings settings.gateways settings.devices) (T : Job → Type 0) (w : World) (h : Holds settings T w) (n : ℕ) where
+  module _ (asked : Asked) (there : numbered n w.reg.asked ≡ Some asked) (waits : numbered n w.answers ≡ Some Waiting) (device : Device) (served : slice_get w.reg.devices asked.device ≡ Some device)
+      (told : T (job_of w.reg n asked device)) where
     abbrev job : Job
     job = job_of w.reg n asked device
 
@@ -32,44 +34,42 @@ module _ (settings : SettingLists) (are : AreSettings settings.gateways settings
 
     -- the uplink's device is the one with its setting
     same_setting : uplink.setting ≡ device.setting
-    same_setting = some_inj (sym uplink.served ∙ device_setting settings w h asked.device device served)
+    same_setting = some_inj (sym uplink.served ∙ device_setting settings T w h asked.device device served)
 
     same_copies : copies_of n w.reg.gathered.list ≡ uplink.gathering.copies
     same_copies = ap (λ (o : Option Gathering). option_map_or (λ g. g.copies) o []) uplink.gathered
 
-    window_of : (c : Candidate) → IsWindowOf job.plan job.copies c → IsWindowOf (plan_for uplink.setting (head device.queue)) uplink.gathering.copies c
+    window_of : (c : Candidate) → IsWindowOf job.plan job.copies c → IsWindowOf job.plan uplink.gathering.copies c
     window_of c x =
-        let y = IsWindowOf-ranked job.plan (copies_of n w.reg.gathered.list) c x in
         let P : List HeardCopy → Type 0 = λ l. IsWindowOf job.plan l c in
-        subst (λ s. IsWindowOf (plan_for s (head device.queue)) uplink.gathering.copies c) (sym same_setting) (subst P same_copies y)
+        subst P same_copies (IsWindowOf-ranked job.plan (copies_of n w.reg.gathered.list) c x)
 
-    job_for : IsJobFor settings w.reg.gathered.list n job
+    job_for : IsJobFor settings T w.reg.gathered.list n job
     job_for =
         record {
           number = refl;
+          given = told;
+          place = asked.device;
+          uplink = uplink;
+          plan = ap (λ (s : DeviceSetting). plan_for s (head device.queue)) (sym same_setting);
           windows = λ k c e.
-              record {
-                place = asked.device;
-                uplink = uplink;
-                payload = head device.queue;
-                window = window_of c (all_get (IsWindowOf job.plan job.copies) (candidates_of job.copies job.plan) k c (on_gateways_that_heard job.plan job.copies) e);
-              };
+              window_of c (all_get (IsWindowOf job.plan job.copies) (candidates_of job.copies job.plan) k c (on_gateways_that_heard job.plan job.copies) e);
         }
 
     abbrev counted : World
-    counted = with_device settings w h asked.device (with_counter_given device)
+    counted = with_device settings T w h asked.device (with_counter_given device)
 
-    first : IsGood settings w counted
-    first = device_written settings w h asked.device device (with_counter_given device) served refl (omega arith)
+    first : IsGood settings T w counted
+    first = device_written settings T w h asked.device device (with_counter_given device) served refl (omega arith)
 
     abbrev given : World
-    given = with_answer settings counted first.holds n (Open 0 job)
+    given = with_answer settings T counted first.holds n (Open 0 job)
 
-    given_good : IsGood settings w given
+    given_good : IsGood settings T w given
     given_good =
         both_good first
-        (answer_written settings counted first.holds n Waiting (Open 0 job) waits (λ s q. absurd (cc (q))) refl
-        (λ k j q. let same : job ≡ j = cc (q) in subst (IsJobFor settings w.reg.gathered.list n) same job_for))
+        (answer_written settings T counted first.holds n Waiting (Open 0 job) waits (λ s q. absurd (cc (q))) refl
+        (λ k j q. let same : job ≡ j = cc (q) in subst (IsJobFor settings T w.reg.gathered.list n) same job_for))
 
     not_given : IsGivenAt w.answers n → ⊥
     not_given g =
@@ -84,7 +84,7 @@ module _ (settings : SettingLists) (are : AreSettings settings.gateways settings
         omega arith
 
     new : IsNew w job
-    new = record { number = not_given; counter = λ p d e a. same_down p d e (one_device settings w h are p asked.device d device e served a) }
+    new = record { number = not_given; counter = λ p d e a. same_down p d e (one_device settings T w h are p asked.device d device e served a) }
 
     used : IsUsed given job
     used =
@@ -103,20 +103,30 @@ module _ (settings : SettingLists) (are : AreSettings settings.gateways settings
         (ap (λ o. taken_from o w.reg) there
         ∙ ap (λ o. record (w.reg) { devices = counter_given asked.device o w.reg.devices }) served)
 
-    given_step : IsGoodStep settings w (take_by w n (Ok job))
-    given_step =
-        let P : Register → Type 0 = λ r. IsGood settings w (record given { reg = r }) × (IsNew w job × IsUsed (record given { reg = r }) job) in
-        let all : P (after_taking (Ok job) n w.reg) = subst P same_reg (given_good, (new, used)) in
-        record { good = all.0; used = all.1 }
+    abbrev IsGoodWith : Register → Type 0
+    IsGoodWith reg = IsGood settings T w (record given { reg = reg }) × (IsNew w job × IsUsed (record given { reg = reg }) job)
 
-  ticket_by : (made : Job) → IsTicket w.reg (known w) n made → IsGoodStep settings w (take_by w n (Ok made))
+    taken_good : IsGoodWith (after_taking (Ok job) n w.reg)
+    taken_good = subst IsGoodWith same_reg (given_good, (new, used))
+
+module _ (settings : SettingLists) (are : AreSettings settings.gateways settings.devices) (T : Job → Type 0) (w : World) (h : Holds settings T w) (n : ℕ) where
+  -- a ticket was given for one job more
+  given_step : (asked : Asked) (device : Device) → numbered n w.reg.asked ≡ Some asked → numbered n w.answers ≡ Some Waiting
+      → slice_get w.reg.devices asked.device ≡ Some device → IsGoodStep settings T w (take_by w n (Ok (job_of w.reg n asked device)))
+  given_step asked device there waits served =
+      let job = job_of w.reg n asked device in
+      let U : Job → Type 0 = λ j. T j ⊎ (j ≡ job) in
+      let all = taken_good settings are U w (Holds-weaker settings T U (λ j t. inl t) w h) n asked there waits device served (inr refl) in
+      record { good = all.0; used = all.1 }
+
+  ticket_by : (made : Job) → IsTicket w.reg (known w) n made → IsGoodStep settings T w (take_by w n (Ok made))
   ticket_by made t =
-      subst (λ j. IsGoodStep settings w (take_by w n (Ok j))) t.made
-      (given_step t.asked t.there (still_waits w.answers n t.state t.stated t.waits) t.device t.served)
+      subst (λ j. IsGoodStep settings T w (take_by w n (Ok j))) t.made
+      (given_step t.asked t.device t.there (still_waits w.answers n t.state t.stated t.waits) t.served)
 
-  taken_by : (r : Result Job TakeFault) → take_answer w.reg (known w) n ≡ r → IsGoodStep settings w (take_by w n r)
+  taken_by : (r : Result Job TakeFault) → take_answer w.reg (known w) n ≡ r → IsGoodStep settings T w (take_by w n r)
   taken_by (Err fault) e = record { good = unchanged w h; used = tt }
   taken_by (Ok made) e = ticket_by made (ticket w.reg (known w) n made e)
 
-  pub take_good : IsGoodStep settings w (take w n)
+  pub take_good : IsGoodStep settings T w (take w n)
   take_good = taken_by (take_answer w.reg (known w) n) refl

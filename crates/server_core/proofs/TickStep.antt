@@ -1,6 +1,7 @@
 -- Time passes for a gateway.
 use Rattle.std.specs.Prelude.{ℕ, ◌≡◌, ◌==◌, Option, Some, None, refl}
 use Rattle.gateway_book.specs.Step.{tick_step}
+use Rattle.answer_ticket.specs.Job.{Job}
 use Rattle.server_core.specs.Settings.{SettingLists}
 use Rattle.server_core.specs.World.{Gateway, World, gateway_with, tick_at, tick}
 use Rattle.server_core.proofs.Found.{found_there}
@@ -28,16 +29,16 @@ ticked_in_order g now o =
       by_start = o.by_start;
     }
 
-module _ (settings : SettingLists) (w : World) (h : Holds settings w) (id now : ℕ) where
-  ticked_by : (o : Option (ℕ × Gateway)) → gateway_with id w.gateways ≡ o → IsGoodStep settings w (tick_at w now o)
+module _ (settings : SettingLists) (T : Job → Type 0) (w : World) (h : Holds settings T w) (id now : ℕ) where
+  ticked_by : (o : Option (ℕ × Gateway)) → gateway_with id w.gateways ≡ o → IsGoodStep settings T w (tick_at w now o)
   ticked_by None e = record { good = unchanged w h; used = tt }
   ticked_by (Some found) e =
       let there = found_there (λ (g : Gateway). g.id == id) w.gateways found e in
       record {
-        good = gateway_written settings w h found.0 found.1 (ticked found.1 now) there.0 refl
+        good = gateway_written settings T w h found.0 found.1 (ticked found.1 now) there.0 refl
             (ticked_in_order found.1 now (h.in_order found.0 found.1 there.0)) (h.stands found.0 found.1 there.0);
         used = tt;
       }
 
-  pub tick_good : IsGoodStep settings w (tick w id now)
+  pub tick_good : IsGoodStep settings T w (tick w id now)
   tick_good = ticked_by (gateway_with id w.gateways) refl

@@ -10,10 +10,10 @@ use Rattle.server_core.specs.Answers.{Answer, Open, Sent, known_of, is_not_given
 use Rattle.server_core.specs.World.{Gateway, World, sent_for}
 use Rattle.server_core.specs.Promise.{setting_of}
 use Rattle.server_core.proofs.Places.{get_set_cases, get_set_after, map_set}
-use Rattle.server_core.proofs.Numbers.{numbered_after, numbered_cases}
+use Rattle.server_core.proofs.Numbers.{length-rewritten, numbered_after, numbered_cases}
 use Rattle.server_core.proofs.Holds.{IsJobFor, IsKept, Stands, AllStand, IsInOrder, Holds, IsGivenAt, IsLater, IsGood, Follows-refl}
 
-module _ (settings : SettingLists) (w : World) (h : Holds settings w) where
+module _ (settings : SettingLists) (T : Job → Type 0) (w : World) (h : Holds settings T w) where
   -- a device, which keeps its setting and its counters that were given
 
   abbrev pub with_device : ℕ → Device → World
@@ -32,7 +32,7 @@ module _ (settings : SettingLists) (w : World) (h : Holds settings w) where
   later_by p q d e f s c (inr g) = record { device = f; there = g; addr = refl; counter = omega arith }
 
   pub device_written : (p : ℕ) (d e : Device) → slice_get w.reg.devices p ≡ Some d → e.setting ≡ d.setting → d.down ≤ e.down
-      → IsGood settings w (with_device p e)
+      → IsGood settings T w (with_device p e)
   device_written p d e g s c =
       record {
         holds = record {
@@ -40,6 +40,7 @@ module _ (settings : SettingLists) (w : World) (h : Holds settings w) where
           devices = map_set (λ x. x.setting) w.reg.devices p d e g s ∙ h.devices;
           in_order = h.in_order;
           together = h.together;
+          answered = h.answered;
           asked = h.asked;
           jobs = h.jobs;
           stands = h.stands;
@@ -63,22 +64,25 @@ module _ (settings : SettingLists) (w : World) (h : Holds settings w) where
     kept_by m sent k s (inr g) = record { answer = k.answer; answered = g; kept = k.kept }
 
     stand_by : (id : ℕ) (r : Reservation) → ((s : Sent) → sent_for old ≡ Some s → sent_for new ≡ Some s)
-        → Stands settings w.reg.gathered.list w.answers id r → Stands settings w.reg.gathered.list (rewritten (λ a. new) n w.answers) id r
+        → Stands settings T w.reg.gathered.list w.answers id r → Stands settings T w.reg.gathered.list (rewritten (λ a. new) n w.answers) id r
     stand_by id r s t =
         record {
           sent = t.sent;
           kept = kept_by r.number t.sent t.kept s (numbered_after (λ a. new) n r.number w.answers old t.kept.answer there t.kept.answered);
           start = t.start;
           gateway = t.gateway;
+          job = t.job;
+          own = t.own;
+          place = t.place;
           candidate = t.candidate;
-          window = t.window;
+          tried = t.tried;
           here = t.here;
           taken = t.taken;
         }
 
-    job_by : (m k : ℕ) (job : Job) → ((k : ℕ) (job : Job) → new ≡ Open k job → IsJobFor settings w.reg.gathered.list n job)
-        → ((n ≡ m) × (Open k job ≡ new)) ⊎ (numbered m w.answers ≡ Some (Open k job)) → IsJobFor settings w.reg.gathered.list m job
-    job_by m k job o (inl g) = subst (λ i. IsJobFor settings w.reg.gathered.list i job) g.0 (o k job (sym g.1))
+    job_by : (m k : ℕ) (job : Job) → ((k : ℕ) (job : Job) → new ≡ Open k job → IsJobFor settings T w.reg.gathered.list n job)
+        → ((n ≡ m) × (Open k job ≡ new)) ⊎ (numbered m w.answers ≡ Some (Open k job)) → IsJobFor settings T w.reg.gathered.list m job
+    job_by m k job o (inl g) = subst (λ i. IsJobFor settings T w.reg.gathered.list i job) g.0 (o k job (sym g.1))
     job_by m k job o (inr g) = h.jobs m k job g
 
     given_by : (m : ℕ) → is_not_given (known_of new) ≡ false → (g : IsGivenAt w.answers m)
@@ -88,7 +92,7 @@ module _ (settings : SettingLists) (w : World) (h : Holds settings w) where
     given_by m i g (inr e) = record { answer = g.answer; answered = e; given = g.given }
 
     pub answer_written : ((s : Sent) → sent_for old ≡ Some s → sent_for new ≡ Some s) → is_not_given (known_of new) ≡ false
-        → ((k : ℕ) (job : Job) → new ≡ Open k job → IsJobFor settings w.reg.gathered.list n job) → IsGood settings w (with_answer n new)
+        → ((k : ℕ) (job : Job) → new ≡ Open k job → IsJobFor settings T w.reg.gathered.list n job) → IsGood settings T w (with_answer n new)
     answer_written s i o =
         record {
           holds = record {
@@ -96,6 +100,7 @@ module _ (settings : SettingLists) (w : World) (h : Holds settings w) where
             devices = h.devices;
             in_order = h.in_order;
             together = h.together;
+            answered = length-rewritten (λ a. new) n w.answers ∙ h.answered;
             asked = h.asked;
             jobs = λ m k job e. job_by m k job o (numbered_cases (λ a. new) n m w.answers old (Open k job) there e);
             stands = λ j g e k r f. stand_by g.id r s (h.stands j g e k r f);
@@ -116,12 +121,12 @@ module _ (settings : SettingLists) (w : World) (h : Holds settings w) where
     in_order_by j g o (inl e) = subst IsInOrder (sym e.1) o
     in_order_by j g o (inr e) = h.in_order j g e.1
 
-    all_by : (j : ℕ) (g : Gateway) → AllStand settings w.reg.gathered.list w.answers new
-        → ((i ≡ j) × (g ≡ new)) ⊎ ((i ≡ j → ⊥) × (slice_get w.gateways j ≡ Some g)) → AllStand settings w.reg.gathered.list w.answers g
-    all_by j g a (inl e) = subst (AllStand settings w.reg.gathered.list w.answers) (sym e.1) a
+    all_by : (j : ℕ) (g : Gateway) → AllStand settings T w.reg.gathered.list w.answers new
+        → ((i ≡ j) × (g ≡ new)) ⊎ ((i ≡ j → ⊥) × (slice_get w.gateways j ≡ Some g)) → AllStand settings T w.reg.gathered.list w.answers g
+    all_by j g a (inl e) = subst (AllStand settings T w.reg.gathered.list w.answers) (sym e.1) a
     all_by j g a (inr e) = h.stands j g e.1
 
-    pub gateway_written : setting_of new ≡ setting_of old → IsInOrder new → AllStand settings w.reg.gathered.list w.answers new → IsGood settings w (with_gateway i new)
+    pub gateway_written : setting_of new ≡ setting_of old → IsInOrder new → AllStand settings T w.reg.gathered.list w.answers new → IsGood settings T w (with_gateway i new)
     gateway_written s o a =
         record {
           holds = record {
@@ -129,6 +134,7 @@ module _ (settings : SettingLists) (w : World) (h : Holds settings w) where
             devices = h.devices;
             in_order = λ j g e. in_order_by j g o (get_set_cases w.gateways i j new g e);
             together = h.together;
+            answered = h.answered;
             asked = h.asked;
             jobs = h.jobs;
             stands = λ j g e. all_by j g a (get_set_cases w.gateways i j new g e);

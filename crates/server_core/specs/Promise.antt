@@ -1,4 +1,4 @@
-use Rattle.std.specs.Prelude.{ℕ, ◌≡◌, ◌≢◌, ◌+◌, ◌⊎◌, List, [], ◌∷◌, map, slice_get, AllPairs, Contains, Option, Some, Ok}
+use Rattle.std.specs.Prelude.{ℕ, ◌≡◌, ◌≢◌, ◌+◌, ◌⊎◌, List, [], ◌∷◌, map, length, slice_get, AllPairs, Contains, Some, Ok}
 use Rattle.lora_frame.specs.Reading.{addr_of}
 use Rattle.resv_list.specs.declared.reservation.Reservation.{Reservation}
 use Rattle.resv_list.specs.Reservations.{net}
@@ -8,7 +8,7 @@ use Rattle.uplink_gather.specs.declared.limits.Limits.{Limits}
 use Rattle.uplink_gather.specs.Gatherings.{Gathering, numbered}
 use Rattle.rx_windows.specs.declared.candidate.Candidate.{Candidate}
 use Rattle.rx_windows.specs.Windows.{rx1_of, rx2_of}
-use Rattle.answer_ticket.specs.Job.{Job, Payload}
+use Rattle.answer_ticket.specs.Job.{Job, candidates}
 use Rattle.server_core.specs.declared.setting.GatewaySetting.{GatewaySetting}
 use Rattle.server_core.specs.Settings.{SettingLists, AreSettings}
 use Rattle.server_core.specs.Register.{Device}
@@ -24,22 +24,6 @@ pub record IsTaken (c : Candidate) (r : Reservation) : Type 0 where
   pub freq_hz : r.freq_hz ≡ c.freq_hz
   pub rate : r.rate ≡ c.rate
   pub len : r.len ≡ c.len
-
--- it is RX1 or RX2 of a copy of its uplink that this gateway heard, as the uplink's device listens, with a payload or
--- without one; the device is the one with the address in the uplink's bytes
-pub record IsOwnWindow (w : World) (g : Gateway) (r : Reservation) : Type 0 where
-  pub gathering : Gathering
-  pub gathered : numbered r.number w.reg.gathered.list ≡ Some gathering
-  pub copy : HeardCopy
-  pub heard : Contains gathering.copies copy
-  pub here : copy.gateway ≡ g.id
-  pub device : Device
-  pub served : Contains w.reg.devices device
-  pub its_own : device.setting.addr ≡ addr_of gathering.bytes
-  pub payload : Option Payload
-  pub candidate : Candidate
-  pub window : (candidate ≡ rx1_of (plan_for device.setting payload) copy) ⊎ (candidate ≡ rx2_of (plan_for device.setting payload) copy)
-  pub taken : IsTaken candidate r
 
 -- the member at place k of the list of the gateway at place i
 pub record IsMember (w : World) (i k : ℕ) (g : Gateway) (r : Reservation) : Type 0 where
@@ -59,6 +43,28 @@ abbrev pub jobs_given : List Reply → List Job
 jobs_given [] = []
 jobs_given (reply ∷ replies) = with_given reply (jobs_given replies)
 
+-- a ticket was given in this run for its uplink's job, and it takes what a candidate of this job asks for: RX1 or RX2 of
+-- a copy of the uplink that this gateway heard, as the uplink's device listens, by the payload that was at the head of
+-- the device's queue when the ticket was given, if there was one; the device is the one with the address in the
+-- uplink's bytes
+pub record IsOwnWindow (r : Run) (g : Gateway) (a : Reservation) : Type 0 where
+  pub gathering : Gathering
+  pub gathered : numbered a.number r.world.reg.gathered.list ≡ Some gathering
+  pub copy : HeardCopy
+  pub heard : Contains gathering.copies copy
+  pub here : copy.gateway ≡ g.id
+  pub device : Device
+  pub served : Contains r.world.reg.devices device
+  pub its_own : device.setting.addr ≡ addr_of gathering.bytes
+  pub job : Job
+  pub given : Contains (jobs_given r.replies) job
+  pub number : job.number ≡ a.number
+  pub plan : job.plan ≡ plan_for device.setting job.body
+  pub candidate : Candidate
+  pub tried : Contains (candidates job) candidate
+  pub window : (candidate ≡ rx1_of (plan_for device.setting job.body) copy) ⊎ (candidate ≡ rx2_of (plan_for device.setting job.body) copy)
+  pub taken : IsTaken candidate a
+
 -- two tickets of one device have different downlink counters
 abbrev pub HaveOwnCounters : Job → Job → Type 0
 HaveOwnCounters a b = a.addr ≡ b.addr → a.counter ≢ b.counter
@@ -68,13 +74,16 @@ pub record IsSafe (settings : SettingLists) (r : Run) : Type 0 where
   -- the gateways and devices are those of the settings
   pub gateways : map setting_of r.world.gateways ≡ settings.gateways
   pub devices : map (λ d. d.setting) r.world.reg.devices ≡ settings.devices
+  -- what is known of each gathered uplink, and how far its answer is, are kept once each
+  pub told : length r.world.reg.asked ≡ length r.world.reg.gathered.list
+  pub answered : length r.world.answers ≡ length r.world.reg.gathered.list
   -- every gateway's list is lawful, and its totals are those of its list
   pub lawful : (i : ℕ) (g : Gateway) → slice_get r.world.gateways i ≡ Some g → IsLawful g.state.list
   pub counted : (i : ℕ) (g : Gateway) → slice_get r.world.gateways i ≡ Some g → g.state.booked ≡ g.state.cancelled + net g.state.list
   -- a number stands at most once over all gateways
   pub once : (i j k l : ℕ) (g h : Gateway) (a b : Reservation) → IsMember r.world i k g a → IsMember r.world j l h b → a.number ≡ b.number → (i ≡ j) × (k ≡ l)
-  -- it stands for its uplink's own window on a gateway that heard it
-  pub own : (i k : ℕ) (g : Gateway) (a : Reservation) → IsMember r.world i k g a → IsOwnWindow r.world g a
+  -- it stands for its uplink's own window, of the job that a ticket was given for, on a gateway that heard it
+  pub own : (i k : ℕ) (g : Gateway) (a : Reservation) → IsMember r.world i k g a → IsOwnWindow r g a
   -- a number's ticket is given once, and a downlink counter to one number of its device
   pub tickets : AllPairs (λ a b. a.number ≢ b.number) (jobs_given r.replies)
   pub counters : AllPairs HaveOwnCounters (jobs_given r.replies)

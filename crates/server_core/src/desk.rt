@@ -93,9 +93,10 @@ impl<S: BuildHasher, A: Allocator + Copy> Desk<S, A> {
         }
     }
 
-    /// Takes in a copy of an uplink, with its bytes and the moment of its arrival, in microseconds of the server's clock,
-    /// or answers the first fault that holds, in the order of `DeskFault`. A copy that opens a gathering stores its whole
-    /// counter as the last one of its device. A fault changes nothing; `NoMemory` comes only where a growth was refused.
+    /// Takes in a copy of an uplink, with its bytes and the moment of its arrival, in microseconds of the server's
+    /// clock, or answers the first fault that holds, in the order of `DeskFault`. A copy that opens a gathering stores
+    /// its whole counter as the last one of its device. A fault changes nothing; `NoMemory` comes only where a growth
+    /// was refused.
     pub fn hear(
         &mut self,
         bytes: &[u8],

@@ -9,11 +9,13 @@ ghost use Rattle.server_core.specs.Promise.{EveryInterleavingIsSafe};
 /// all settings that are accepted, all limits of gathering and every list of steps, after the last step:
 ///
 /// - each gathered uplink holds at most one reservation over all gateways: its number stands once at most;
-/// - that reservation has the start, the channel, the data rate and the length of RX1 or RX2 of a copy of its uplink,
-///   as the device with the uplink's address listens, with a payload or without one, and it stands on the gateway that
-///   heard this copy;
+/// - that reservation has the start, the channel, the data rate and the length of one of the candidates of the job that
+///   its ticket was given for: of RX1 or RX2 of a copy of its uplink, as the device with the uplink's address listens,
+///   by the payload that was at the head of the device's queue when the ticket was given, if there was one; and it
+///   stands on the gateway that heard this copy;
 /// - each gateway's list is lawful, that is, its reservations are fit and disjoint and the airtime begun within any
 ///   hour keeps the limit of its sub-band; and what was booked less what was cancelled is the airtime of the list;
+/// - each gathered uplink has one answer, and what it says is kept once;
 /// - a ticket was given once at most for an uplink, and no downlink counter was given to two uplinks of one device;
 /// - the gateways and the devices are those of the settings.
 ///
