@@ -1,24 +1,26 @@
 -- The devices as the desk keeps them, and as they are seen.
-use Rattle.std.specs.Prelude.{ℕ, zero, suc, ◌≡◌, ◌==◌, ◌<◌, List, [], ◌∷◌, map, length, slice_get, slice_set, get_or, Option, Some, None, Result, Ok, Err, IfOk, OnOk, OnErr, MatchResult, IsOkUnless, refl}
+use Rattle.std.specs.Prelude.{ℕ, zero, suc, ◌≡◌, ◌==◌, ◌<◌, nat_lt, nat_le, Bool, true, false, ◌||◌, if◌then◌else◌, List, [], ◌∷◌, map, length, slice_get, slice_set, get_or, Option, Some, None, Result, Ok, Err, IfOk, OnOk, OnErr, MatchResult, IsOkUnless, refl}
 use Rattle.std.specs.Option.{option_map}
 use Rattle.std.proofs.Common.{sym, ap, ◌∙◌, subst, arith}
 use Rattle.std.proofs.lemmas.Option.{slice_get-map, slice_get_within}
+use Rattle.std.proofs.lemmas.Bool.Decides.{nat_tests}
 use Rattle.std.proofs.lemmas.List.{length-map}
+use Rattle.std.proofs.lemmas.List.Elements.{All-set, All-push}
 use Rattle.answer_ticket.specs.Job.{Payload}
 use Rattle.server_core.specs.declared.device.Kept.{Kept}
 use Rattle.server_core.specs.declared.faults.QueueFault.{QueueFault}
-use Rattle.server_core.specs.declared.faults.QueueFault.TheVariants.{NoMemory}
+use Rattle.server_core.specs.declared.faults.QueueFault.TheVariants.{Port, Long, QueueFull, NoMemory}
 use Rattle.server_core.specs.declared.answers.Known.{Known}
 use Rattle.server_core.specs.Register.{Device, Asked, Register, device_with}
 use Rattle.uplink_gather.specs.Gatherings.{Gatherings}
-use Rattle.server_core.specs.Queueing.{queue_answer, queue_answer_for, queue_fault, queued_or, queue_step, after_queueing, with_payload}
-use Rattle.server_core.specs.Kept.{shown, IsDesk}
+use Rattle.server_core.specs.Queueing.{queue_limit, queue_answer, queue_answer_for, queue_fault, queued_or, queue_step, after_queueing, with_payload}
+use Rattle.server_core.specs.Kept.{shown, outs, IsSendable, IsServable, AreOut, IsDesk}
 use Rattle.server_core.specs.Desk.{DeskView, desk_queue}
-use Rattle.server_core.proofs.Places.{some_inj, length-set}
+use Rattle.server_core.proofs.Places.{some_inj, length-set, all_get}
 use Rattle.server_core.proofs.Found.{found_there}
 use Rattle.server_core.proofs.DeskSteps.{map-set, map-set_same}
 
-get_within : {X : Type 0} (xs : List X) (i : ℕ) (d : X) → i < length xs → slice_get xs i ≡ Some (get_or xs i d)
+pub get_within : {X : Type 0} (xs : List X) (i : ℕ) (d : X) → i < length xs → slice_get xs i ≡ Some (get_or xs i d)
 get_within [] i d h = absurd (omega arith)
 get_within (x ∷ xs) zero d h = refl
 get_within (x ∷ xs) (suc i) d h = get_within xs i d (omega arith)
@@ -64,14 +66,18 @@ queue_stepped reg addr payload p new (Ok count) e t s =
     ∙ sym (ap (λ a. after_queueing a (device_with addr reg.devices) payload reg) (queue_found reg addr payload p e ∙ t) ∙ ap (λ o. after_queueing (Ok count) o payload reg) e)
 
 -- a device whose setting stays is written anew
-pub desk_after_device : (keys : List ℕ) (reg : Register) (known : List Known) (place : ℕ) (old new : Device) → IsDesk keys reg known
-    → slice_get reg.devices place ≡ Some old → new.setting ≡ old.setting → IsDesk keys (record reg { devices = slice_set reg.devices place new }) known
-desk_after_device keys reg known place old new i g s =
+pub desk_after_device : (keys : List ℕ) (flags after : List Bool) (reg : Register) (known more : List Known) (place : ℕ) (old new : Device) → IsDesk keys flags reg known
+    → slice_get reg.devices place ≡ Some old → new.setting ≡ old.setting → (IsServable old → IsServable new) → length more ≡ length known → AreOut after reg.asked more
+    → IsDesk keys after (record reg { devices = slice_set reg.devices place new }) more
+desk_after_device keys flags after reg known more place old new i g s servable l out =
     record {
       addrs = i.addrs ∙ sym (map-set_same (λ (d : Device). d.setting.addr) reg.devices place old new g (ap (λ x. x.addr) s));
       asked = i.asked;
-      told = i.told;
+      told = l ∙ i.told;
       placed = λ k a h. omega (arith, i.placed k a h, length-set reg.devices place new);
+      servable = All-set IsServable reg.devices place new (servable (all_get IsServable reg.devices place old i.servable g)) i.servable;
+      gathered = i.gathered;
+      engaged = out;
     }
 
 -- the desk's part of the world, by what it keeps
@@ -88,13 +94,58 @@ kept_at kepts place k h g =
     slice_get-map shown kepts place ∙ ap (option_map shown) (get_within kepts place k h ∙ ap Some (sym g))
 
 -- what is true of the desk's fields stays so where a device is written anew and keeps its setting
+pub written_holds : {A : Type 0} (keys : List ℕ) (kepts : List (Kept A)) (gathered : Gatherings) (asked : List Asked) (known more : List Known)
+    → IsDesk keys (outs kepts) (record { devices = map shown kepts; gathered = gathered; asked = asked }) known
+    → (place : ℕ) (k new : Kept A) → place < length kepts → k ≡ get_or kepts place k → new.setting ≡ k.setting → (IsServable (shown k) → IsServable (shown new))
+    → length more ≡ length known → AreOut (outs (slice_set kepts place new)) asked more
+    → IsDesk keys (outs (slice_set kepts place new)) (record { devices = map shown (slice_set kepts place new); gathered = gathered; asked = asked }) more
+written_holds keys kepts gathered asked known more i place k new h g s servable l out =
+    let P : List Device → Type 0 = λ l. IsDesk keys (outs (slice_set kepts place new)) (record { devices = l; gathered = gathered; asked = asked }) more in
+    subst P (sym (map-set shown kepts place new))
+    (desk_after_device keys (outs kepts) _ _ known more place (shown k) (shown new) i (kept_at kepts place k h g) s servable l out)
+
+-- a device of which as many tickets are out as before
+pub same_outs : {A : Type 0} (kepts : List (Kept A)) (place : ℕ) (k new : Kept A) → place < length kepts → k ≡ get_or kepts place k → new.out ≡ k.out → outs (slice_set kepts place new) ≡ outs kepts
+same_outs {A} kepts place k new h g s = map-set_same (λ (x : Kept A). x.out) kepts place k new (get_within kepts place k h ∙ ap Some (sym g)) s
+
 pub queued_holds : {A : Type 0} (keys : List ℕ) (kepts : List (Kept A)) (gathered : Gatherings) (asked : List Asked) (known : List Known)
-    → IsDesk keys (record { devices = map shown kepts; gathered = gathered; asked = asked }) known
-    → (place : ℕ) (k new : Kept A) → place < length kepts → k ≡ get_or kepts place k → new.setting ≡ k.setting
-    → IsDesk keys (record { devices = map shown (slice_set kepts place new); gathered = gathered; asked = asked }) known
-queued_holds keys kepts gathered asked known i place k new h g s =
-    let P : List Device → Type 0 = λ l. IsDesk keys (record { devices = l; gathered = gathered; asked = asked }) known in
-    subst P (sym (map-set shown kepts place new)) (desk_after_device keys _ known place (shown k) (shown new) i (kept_at kepts place k h g) s)
+    → IsDesk keys (outs kepts) (record { devices = map shown kepts; gathered = gathered; asked = asked }) known
+    → (place : ℕ) (k new : Kept A) → place < length kepts → k ≡ get_or kepts place k → new.setting ≡ k.setting → (IsServable (shown k) → IsServable (shown new)) → new.out ≡ k.out
+    → IsDesk keys (outs (slice_set kepts place new)) (record { devices = map shown (slice_set kepts place new); gathered = gathered; asked = asked }) known
+queued_holds keys kepts gathered asked known i place k new h g s servable o =
+    written_holds keys kepts gathered asked known known i place k new h g s servable refl
+    (subst (λ flags. AreOut flags asked known) (sym (same_outs kepts place k new h g o)) i.engaged)
+
+-- a payload that is queued is in its ranges
+none_wrong : (device : Device) (count : ℕ) (zero_ high long full : Bool)
+    → queued_or device (if zero_ || high then Some Port else if long then Some Long else if full then Some QueueFull else None) ≡ Ok count
+    → (zero_ ≡ false) × (high ≡ false) × (long ≡ false)
+none_wrong device count true high long full e = absurd (cc)
+none_wrong device count false true long full e = absurd (cc)
+none_wrong device count false false true full e = absurd (cc)
+none_wrong device count false false false full e = (refl, refl, refl)
+
+sendable : (device : Device) (payload : Payload) (count : ℕ) → queued_or device (queue_fault device payload) ≡ Ok count → IsSendable payload
+sendable device payload count e =
+    let n = none_wrong device count (payload.0 == 0) (nat_lt 223 payload.0) (nat_lt 242 (length payload.1)) (nat_le queue_limit (length device.queue)) e in
+    record { port = (grind (arith, nat_tests, n), grind (arith, nat_tests, n)); len = grind (arith, nat_tests, n) }
+
+pub pushed_servable : (device new : Device) (payload : Payload) (r : Result ℕ QueueFault) → IfOk r (λ count. queued_or device (queue_fault device payload) ≡ Ok count)
+    → OnOk r (new ≡ with_payload payload device) → OnErr r (new ≡ device) → IsServable device → IsServable new
+pushed_servable device new payload (Ok count) told e f i =
+    let more : IsServable (with_payload payload device) = record { setting = i.setting; queue = All-push IsSendable device.queue payload i.queue (sendable device payload count told); down = i.down } in
+    subst IsServable (sym e) more
+pushed_servable device new payload (Err fault) told e f i = subst IsServable (sym f) i
+
+-- what is true of the desk's fields stays so where they stay
+pub same_holds : (keys : List ℕ) (flags : List Bool) (devices : List Device) (gathered g : Gatherings) (asked after : List Asked) (known more : List Known)
+    → IsDesk keys flags (record { devices = devices; gathered = gathered; asked = asked }) known → g ≡ gathered → after ≡ asked → more ≡ known
+    → IsDesk keys flags (record { devices = devices; gathered = g; asked = after }) more
+same_holds keys flags devices gathered g asked after known more i e f h =
+    let P : Gatherings → Type 0 = λ x. IsDesk keys flags (record { devices = devices; gathered = x; asked = after }) more in
+    let Q : List Asked → Type 0 = λ x. IsDesk keys flags (record { devices = devices; gathered = gathered; asked = x }) more in
+    let R : List Known → Type 0 = λ x. IsDesk keys flags (record { devices = devices; gathered = gathered; asked = asked }) x in
+    subst P (sym e) (subst Q (sym f) (subst R (sym h) i))
 
 module _ {A : Type 0} (devices : List Device) (kepts : List (Kept A)) (addr : ℕ) (payload : Payload) (place : ℕ) (k : Kept A) (r : Result ℕ QueueFault)
     (s : map shown kepts ≡ devices) (p : Some place ≡ option_map (λ found. found.0) (device_with addr devices)) (g : k ≡ get_or kepts place k) where

@@ -37,7 +37,7 @@ module _ {X Y : Type 0} (f : X → Y) where
   map-set_same (z ∷ xs) zero x y e s = ap (λ (v : Y). v ∷ map f xs) (s ∙ ap f (sym (some_inj e)))
   map-set_same (z ∷ xs) (suc i) x y e s = ap (λ (l : List Y). f z ∷ l) (map-set_same xs i x y e s)
 
-  numbered-map : (n : ℕ) (xs : List X) → numbered n (map f xs) ≡ option_map f (numbered n xs)
+  pub numbered-map : (n : ℕ) (xs : List X) → numbered n (map f xs) ≡ option_map f (numbered n xs)
   numbered-map zero xs = refl
   numbered-map (suc i) xs = slice_get-map f xs i
 
@@ -86,7 +86,7 @@ take_told : (w : World) (n : ℕ) (r : Result Job TakeFault) → (take_by w n r)
 take_told w n (Err fault) = refl
 take_told w n (Ok job) = refl
 
-settle_desk : (w : World) (n : ℕ) (o : Option Answer) (ending : Ending) → option_and_then ending_of o ≡ Some ending → desk_of (settle_of w n o).0 ≡ desk_settled ending n (desk_of w)
+pub settle_desk : (w : World) (n : ℕ) (o : Option Answer) (ending : Ending) → option_and_then ending_of o ≡ Some ending → desk_of (settle_of w n o).0 ≡ desk_settled ending n (desk_of w)
 settle_desk w n None ending e = absurd (cc)
 settle_desk w n (Some answer) ending e =
     ap (λ (x : Option Ending). desk_of (settle_as w n x).0) e

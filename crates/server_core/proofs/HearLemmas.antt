@@ -1,7 +1,11 @@
 -- A copy of an uplink, as the desk hears it.
-use Rattle.std.specs.Prelude.{ℕ, ◌≡◌, ◌+◌, ◌<◌, ◌==◌, Bool, true, false, if◌then◌else◌, List, [], ◌∷◌, ◌++◌, map, length, All, slice_get, slice_set, get_or, Option, Some, None, Result, Ok, Err, IfOk, OnErr, MatchResult, IsOkUnless, refl}
+use Rattle.std.specs.Prelude.{ℕ, ◌≡◌, ◌+◌, ◌^◌, ◌<◌, ◌≤◌, nat_lt, ◌==◌, Bool, true, false, not, ◌||◌, if◌then◌else◌, ⊤, is_some, List, [], ◌∷◌, ◌++◌, map, length, All, slice_get, slice_set, get_or, Option, Some, None, Result, Ok, Err, IfOk, OnErr, MatchResult, IsOkUnless, refl}
 use Rattle.std.specs.Option.{option_map}
 use Rattle.std.proofs.Common.{sym, ap, ◌∙◌, subst, arith, length-append}
+use Rattle.std.specs.List.{list_any}
+use Rattle.std.proofs.lemmas.Bool.Decides.{nat_tests}
+use Rattle.radio_bands.specs.Band.{band_of}
+use Rattle.rx_windows.specs.Windows.{rate_numbered}
 use Rattle.lora_frame.specs.declared.reading.Uplink.{Uplink}
 use Rattle.lora_frame.specs.declared.reading.FrameFault.{FrameFault}
 use Rattle.lora_frame.specs.Reading.{addr_of, uplink_of, has_mic}
@@ -24,10 +28,10 @@ use Rattle.server_core.specs.declared.heard.Heard1.{Heard1}
 use Rattle.server_core.specs.declared.heard.DeskHeard.{DeskHeard}
 use Rattle.server_core.specs.declared.heard.DeskHeard.TheVariants.{Opened}
 use Rattle.server_core.specs.declared.faults.DeskFault.{DeskFault}
-use Rattle.server_core.specs.declared.faults.DeskFault.TheVariants.{Frame, BadMic, Crowded, NoMemory}
+use Rattle.server_core.specs.declared.faults.DeskFault.TheVariants.{Frame, UnknownGateway, NoRate, NoBand, Moment, BadMic, Crowded, NoMemory}
 use Rattle.server_core.specs.Register.{Device, Asked, Register, device_with}
-use Rattle.server_core.specs.Hearing.{Decision, Refuse, Join, Open, Opening, copy_fault, copy_of, named_fault, decide_room, decide_mic, decide_device, decide_place, decide_copy, decide_frame, decide, is_last, answer_to, asked_by}
-use Rattle.server_core.specs.Kept.{shown, IsDesk, verdict_of, desk_answer}
+use Rattle.server_core.specs.Hearing.{last_moment, Decision, Refuse, Join, Open, Opening, copy_fault, copy_of, named_fault, decide_room, decide_mic, decide_device, decide_place, decide_copy, decide_frame, decide, is_last, answer_to, asked_by}
+use Rattle.server_core.specs.Kept.{shown, outs, IsServable, IsGathered, AreOut, IsDesk, verdict_of, desk_answer}
 use Rattle.server_core.specs.Desk.{DeskView, desk_hear, known_after}
 use Rattle.server_core.specs.Hearing as hearing
 use Rattle.std.proofs.lemmas.List.{length-map}
@@ -37,6 +41,8 @@ use Rattle.server_core.proofs.Numbers.{length-rewritten}
 use Rattle.server_core.proofs.Found.{found_there}
 use Rattle.server_core.proofs.Decided.{IsDecided, decided, read_same}
 use Rattle.server_core.proofs.DeskSteps.{map-set}
+use Rattle.server_core.proofs.OutLemmas.{count_push}
+use Rattle.server_core.proofs.CopyLemmas.{all_heard}
 use Rattle.server_core.proofs.DeskLemmas.{seen, found_within, kept_at, queued_holds}
 
 -- the desk's answer follows from that of the gatherings
@@ -95,6 +101,39 @@ is_open bytes (Refuse fault) new e = absurd (cc)
 is_open bytes (Join n) new e = absurd (cc)
 is_open bytes (Open o) new e = record { opening = o; decided_so = refl; is = open_same _ new e }
 
+-- a copy that isn't refused was heard by the last moment
+abbrev IsTimely : Heard1 → Decision → Type 0
+IsTimely heard (Refuse fault) = ⊤
+IsTimely heard (Join n) = heard.at ≤ 2 ^ 60
+IsTimely heard (Open o) = heard.at ≤ 2 ^ 60
+
+in_time : (a b c late after : Bool) → (if a then Some UnknownGateway else if b then Some NoRate else if c then Some NoBand else if late || after then Some Moment else None) ≡ None → late ≡ false
+in_time true b c late after e = absurd (cc)
+in_time false true c late after e = absurd (cc)
+in_time false false true late after e = absurd (cc)
+in_time false false false true after e = absurd (cc)
+in_time false false false false after e = refl
+
+module _ (ids : List ℕ) (reg : Register) (bytes : List ℕ) (heard : Heard1) (arrived : ℕ) where
+  timely_by : (d : Decision) → heard.at ≤ 2 ^ 60 → IsTimely heard d
+  timely_by (Refuse fault) h = tt
+  timely_by (Join n) h = h
+  timely_by (Open o) h = h
+
+  copy_timely : (uplink : Uplink) (o : Option DeskFault) → copy_fault ids heard arrived ≡ o → IsTimely heard (decide_copy reg bytes heard arrived uplink o)
+  copy_timely uplink (Some fault) e = tt
+  copy_timely uplink None e =
+      let early = in_time (not (list_any (λ id. id == heard.gateway) ids)) (nat_lt 6 heard.rate) (not (is_some (band_of heard.freq_hz (rate_numbered heard.rate)))) (nat_lt last_moment heard.at) (nat_lt last_moment arrived) e in
+      timely_by (decide_copy reg bytes heard arrived uplink None) (grind (arith, nat_tests, early))
+
+  frame_timely : (r : Result Uplink FrameFault) → IsTimely heard (decide_frame ids reg bytes heard arrived r)
+  frame_timely (Err fault) = tt
+  frame_timely (Ok uplink) = copy_timely uplink (copy_fault ids heard arrived) refl
+
+  timely : IsTimely heard (decide ids reg bytes heard arrived)
+  unfolding decide
+  timely = frame_timely (uplink_of bytes)
+
 abbrev decision : DeskView → List ℕ → Heard1 → ℕ → Decision
 decision d bytes heard arrived = decide d.ids d.reg bytes heard arrived
 
@@ -130,6 +169,20 @@ module _ (d : DeskView) (bytes : List ℕ) (heard : Heard1) (arrived : ℕ) (gat
       let j = joined_place v in
       joined_length j.0 _ r (answer_at_place (Ok (Joins j.0)) j.1.1) h
 
+  heard_gathered : (r : Result Heard HearFault) (g : Gatherings) → g ≡ after_hearing r gathered bytes copy arrived → IfOk r (λ h. hear_answer gathered bytes copy.gateway arrived ≡ Ok h)
+      → heard.at ≤ 2 ^ 60 → All IsGathered gathered.list → All IsGathered g.list
+  heard_gathered r g q h t all =
+      let P : Gatherings → Type 0 = λ x. All IsGathered x.list in
+      let at : copy.at ≡ heard.at = ap (λ (c : HeardCopy). c.at) e in
+      subst P (sym q) (all_heard gathered bytes copy arrived r h (omega (arith, at, t)) all)
+
+  -- the copies stay in their ranges where one joins
+  pub join_gathered : verdict_of bytes (decision d bytes heard arrived) ≡ says.Join → (r : Result Heard HearFault) (g : Gatherings) → g ≡ after_hearing r gathered bytes copy arrived
+      → IfOk r (λ h. hear_answer gathered bytes copy.gateway arrived ≡ Ok h) → All IsGathered gathered.list → All IsGathered g.list
+  join_gathered v r g q h all =
+      let j = is_join bytes (decision d bytes heard arrived) v in
+      heard_gathered r g q h (subst (IsTimely heard) j.1 (timely d.ids d.reg bytes heard arrived)) all
+
   module _ (new : NewUplink) (v : verdict_of bytes (decision d bytes heard arrived) ≡ says.Open new) where
     new_is : IsNew bytes (decision d bytes heard arrived) new
     new_is = is_open bytes (decision d bytes heard arrived) new v
@@ -142,6 +195,12 @@ module _ (d : DeskView) (bytes : List ℕ) (heard : Heard1) (arrived : ℕ) (gat
 
     opened_answer : hear_answer gathered bytes copy.gateway arrived ≡ Ok (gathers.Opened (length d.reg.gathered.list + 1))
     opened_answer = answer_at_place (Ok Opens) opens.0 ∙ room _ refl opens.1
+
+    -- the copies stay in their ranges where one opens a gathering
+    pub open_copies : (r : Result Heard HearFault) (g : Gatherings) → g ≡ after_hearing r gathered bytes copy arrived
+        → IfOk r (λ h. hear_answer gathered bytes copy.gateway arrived ≡ Ok h) → All IsGathered gathered.list → All IsGathered g.list
+    open_copies r g q h all =
+        heard_gathered r g q h (subst (IsTimely heard) new_is.decided_so (timely d.ids d.reg bytes heard arrived)) all
 
     -- the answer to a copy that opens a gathering
     pub open_answer : answer_to (decision d bytes heard arrived) d.reg ≡ desk_answer new.repeat (hear_answer gathered bytes copy.gateway arrived)
@@ -174,26 +233,39 @@ module _ (d : DeskView) (bytes : List ℕ) (heard : Heard1) (arrived : ℕ) (gat
     open_gathered (Err fault) x q t = absurd (cc)
 
 -- the desk's fields hold where a copy joined
-pub join_holds : (keys : List ℕ) (reg : Register) (known : List Known) (g : Gatherings) → IsDesk keys reg known → length g.list ≡ length reg.gathered.list
-    → IsDesk keys (record reg { gathered = g }) known
-join_holds keys reg known g i l =
-    record { addrs = i.addrs; asked = i.asked ∙ sym l; told = i.told ∙ sym l; placed = i.placed }
+pub join_holds : (keys : List ℕ) (flags : List Bool) (reg : Register) (known : List Known) (g : Gatherings) → IsDesk keys flags reg known → length g.list ≡ length reg.gathered.list
+    → (All IsGathered reg.gathered.list → All IsGathered g.list) → IsDesk keys flags (record reg { gathered = g }) known
+join_holds keys flags reg known g i l all =
+    record {
+      addrs = i.addrs;
+      asked = i.asked ∙ sym l;
+      told = i.told ∙ sym l;
+      placed = i.placed;
+      servable = i.servable;
+      gathered = all i.gathered;
+      engaged = i.engaged;
+    }
 
 -- and where a copy opened a gathering
-pub open_holds : {A : Type 0} (keys : List ℕ) (kepts : List (Kept A)) (gathered g : Gatherings) (asked after : List Asked) (known more : List Known) (a : Asked) (status : Known) (k new : Kept A)
-    → IsDesk keys (record { devices = map shown kepts; gathered = gathered; asked = asked }) known
-    → a.device < length kepts → k ≡ get_or kepts a.device k → new.setting ≡ k.setting
-    → length g.list ≡ length gathered.list + 1 → after ≡ asked ++ a ∷ [] → more ≡ known ++ status ∷ []
-    → IsDesk keys (record { devices = map shown (slice_set kepts a.device new); gathered = g; asked = after }) more
-open_holds keys kepts gathered g asked after known more a status k new i h at s l e f =
-    let j = queued_holds keys kepts gathered asked known i a.device k new h at s in
+pub open_holds : {A : Type 0} (keys : List ℕ) (kepts : List (Kept A)) (gathered g : Gatherings) (asked after : List Asked) (known more : List Known) (a : Asked) (k new : Kept A)
+    → IsDesk keys (outs kepts) (record { devices = map shown kepts; gathered = gathered; asked = asked }) known
+    → a.device < length kepts → k ≡ get_or kepts a.device k → new.setting ≡ k.setting → (IsServable (shown k) → IsServable (shown new)) → new.out ≡ k.out
+    → length g.list ≡ length gathered.list + 1 → (All IsGathered gathered.list → All IsGathered g.list) → after ≡ asked ++ a ∷ [] → more ≡ known ++ NotGiven ∷ []
+    → IsDesk keys (outs (slice_set kepts a.device new)) (record { devices = map shown (slice_set kepts a.device new); gathered = g; asked = after }) more
+open_holds keys kepts gathered g asked after known more a k new i h at s servable o l all e f =
+    let j = queued_holds keys kepts gathered asked known i a.device k new h at s servable o in
+    let flags : List Bool = outs (slice_set kepts a.device new) in
+    let out : AreOut flags (asked ++ a ∷ []) (known ++ NotGiven ∷ []) = λ p b q. count_push p asked known a (i.asked ∙ sym i.told) ∙ j.engaged p b q in
     let P : Asked → Type 0 = λ x. x.device < length (map shown (slice_set kepts a.device new)) in
     let here : P a = omega (arith, h, length-map (slice_set kepts a.device new) shown, length-set kepts a.device new) in
     record {
       addrs = j.addrs;
       asked = omega (arith, ap length e, length-append asked (a ∷ []), i.asked, l);
-      told = omega (arith, ap length f, length-append known (status ∷ []), i.told, l);
+      told = omega (arith, ap length f, length-append known (NotGiven ∷ []), i.told, l);
       placed = subst (All P) (sym e) (All-push P asked a j.placed here);
+      servable = j.servable;
+      gathered = all i.gathered;
+      engaged = subst (λ x. AreOut flags x more) (sym e) (subst (λ x. AreOut flags (asked ++ a ∷ []) x) (sym f) out);
     }
 
 abbrev pub desk_with : List ℕ → List Device → Gatherings → List Asked → List Known → DeskView

@@ -86,7 +86,7 @@ module _ (settings : SettingLists) (are : AreSettings settings.gateways settings
     pub holds : Holds settings (WithGiven T (jobs_given r.replies)) r.world
     pub given : AreTickets w (jobs_given r.replies)
 
-  run_good : (T : Job → Type 0) (w : World) → Holds settings T w → (steps : List Step) → IsGoodRun T w (run_from w steps)
+  pub run_good : (T : Job → Type 0) (w : World) → Holds settings T w → (steps : List Step) → IsGoodRun T w (run_from w steps)
   unfolding run_from
   run_good T w h [] =
       record {

@@ -11,6 +11,10 @@ pub mod World
 pub mod Promise
 pub mod Desk
 pub mod Kept
+pub mod Schedule
+pub mod Entries
+pub mod Server
+pub mod Turns
 pub use Rattle.radio_airtime.specs.DataRate
 pub use Rattle.radio_airtime.specs.TimeOnAir
 pub use Rattle.radio_airtime.specs.Bounds

@@ -4,7 +4,7 @@ use Rattle.std.specs.Option.{option_map_or}
 use Rattle.uplink_gather.specs.Gatherings.{numbered, rewritten}
 use Rattle.answer_ticket.specs.declared.outcome.Ending.{Ending}
 use Rattle.answer_ticket.specs.declared.outcome.Ending.TheVariants.{Answered, Unanswered, GivenUp}
-use Rattle.server_core.specs.Answers.{Known, Done, Sent, is_given}
+use Rattle.server_core.specs.Answers.{Known, NotGiven, Given, Done, Sent, is_given}
 use Rattle.server_core.specs.Register.{Device, Asked, Register}
 
 -- An answer is settled.
@@ -51,3 +51,10 @@ after_settling ending n reg = if has_carried ending then delivered (numbered n r
 -- what the desk knows of answers then
 abbrev pub known_settled : Ending → ℕ → List Known → List Known
 known_settled ending n known = rewritten (λ k. Done (sent_of ending)) n known
+
+-- what a settled answer keeps; None for any other
+abbrev pub kept_by : Option Known → Option Sent
+kept_by None = None
+kept_by (Some NotGiven) = None
+kept_by (Some Given) = None
+kept_by (Some (Done sent)) = sent

@@ -1,6 +1,7 @@
 use Rattle.std.specs.Prelude.{ℕ, ◌+◌, ◌^◌, nat_le, ◌==◌, Bool, false, not, ◌&&◌, ◌||◌, if◌then◌else◌, List, [], ◌∷◌, length, slice_get, slice_set, Option, Some, None, Result, Ok, Err}
 use Rattle.std.specs.Option.{option_map}
 use Rattle.lora_frame.specs.declared.parts.Keys.{Keys}
+use Rattle.uplink_gather.specs.declared.heard.HeardCopy.{HeardCopy}
 use Rattle.uplink_gather.specs.Gatherings.{numbered, is_closed_at, copies_of}
 use Rattle.rx_windows.specs.declared.plan.Plan.{Plan}
 use Rattle.rx_windows.specs.Rank.{ranked}
@@ -41,27 +42,37 @@ plan_for setting payload = record {
 abbrev pub keys_of : DeviceSetting → Keys
 keys_of setting = record { nwk = setting.nwk; app = setting.app }
 
--- the job of uplink n: by its device's setting, its next downlink counter, the uplink, and the queue as it is now
-abbrev pub job_of : Register → ℕ → Asked → Device → Job
-job_of reg n asked device = record {
+-- the device's job for uplink n, with these copies: by its setting, its next downlink counter, the uplink, and the queue
+-- as it is now
+abbrev pub job_for : Device → ℕ → Asked → List HeardCopy → Job
+job_for device n asked copies = record {
   number = n;
   addr = device.setting.addr;
   ack = asked.confirmed;
   counter = device.down;
   queued = length device.queue;
   body = head device.queue;
-  copies = ranked (copies_of n reg.gathered.list);
+  copies = copies;
   plan = plan_for device.setting (head device.queue);
   keys = keys_of device.setting;
 }
 
--- why no ticket is given for uplink n of this device, of which none was given before
-abbrev pub take_fault : Register → List Known → Asked → Device → Option TakeFault
-take_fault reg known asked device =
+-- the job of uplink n: its copies by rank
+abbrev pub job_of : Register → ℕ → Asked → Device → Job
+job_of reg n asked device = job_for device n asked (ranked (copies_of n reg.gathered.list))
+
+-- why no ticket is given for an uplink of this device, of which none was given before; a device is engaged where a ticket
+-- or stub of it is out
+abbrev pub fault_of : Asked → Device → Bool → Option TakeFault
+fault_of asked device engaged =
     if not (is_owed asked device) then Some Silent
-    else if is_engaged asked.device reg.asked known then Some Engaged
+    else if engaged then Some Engaged
     else if nat_le (2 ^ 32) device.down then Some CounterSpent
     else None
+
+-- the same, by what is known of all answers
+abbrev pub take_fault : Register → List Known → Asked → Device → Option TakeFault
+take_fault reg known asked device = fault_of asked device (is_engaged asked.device reg.asked known)
 
 -- the job that a ticket is given for, or why none is
 abbrev pub given_or : Register → ℕ → Asked → Device → Option TakeFault → Result Job TakeFault

@@ -1,5 +1,9 @@
 // What the desk keeps of each gathered uplink, by its number.
 
+ghost use Rattle.std.specs.Prelude.{◌≡◌};
+ghost use Rattle.uplink_gather.specs.Gatherings.{numbered};
+ghost use Rattle.server_core.specs.Answers.{is_not_given};
+
 /// What a gathered uplink says.
 #[derive(Clone, Copy, Debug, PartialEq, Eq)]
 pub(crate) struct Asked {
@@ -31,4 +35,24 @@ pub(crate) enum Known {
     Given,
     /// It is settled, and keeps what was booked.
     Done(Option<Sent>),
+}
+
+impl Known {
+    /// Whether no ticket was given.
+    pub(crate) fn is_not_given(self) -> bool
+        ensures { result ≡ is_not_given self }
+    {
+        match self {
+            Known::NotGiven => true,
+            Known::Given | Known::Done(_) => false,
+        }
+    }
+}
+
+/// What has this number, counted from 1.
+pub(crate) fn numbered<T: Copy>(items: &[T], n: u64) -> Option<T>
+    ensures { result ≡ numbered n items.now }
+{
+    let place = n.checked_sub(1)?;
+    items.get(place as usize).copied()
 }

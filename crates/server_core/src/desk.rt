@@ -30,26 +30,26 @@ pub type NoMemory = AllocError;
 /// of the gateways.
 #[derive(Drop)]
 pub struct Desk<S: BuildHasher, A: Allocator = Global> {
-    gateways: Vec<u16, A>,
+    pub(crate) gateways: Vec<u16, A>,
     /// The devices' addresses, in the order of the devices.
-    addrs: IndexSet<u32, S, A>,
-    devices: Vec<Kept<A>, A>,
-    gather: Gather<S, A>,
+    pub(crate) addrs: IndexSet<u32, S, A>,
+    pub(crate) devices: Vec<Kept<A>, A>,
+    pub(crate) gather: Gather<S, A>,
     /// What each gathered uplink says, and what is known of its answer, by its number.
-    asked: Vec<Asked, A>,
-    known: Vec<Known, A>,
+    pub(crate) asked: Vec<Asked, A>,
+    pub(crate) known: Vec<Known, A>,
 }
 
 impl<S: BuildHasher, A: Allocator> Model for Desk<S, A> {
     ghost use Rattle.std.specs.Prelude.{map};
     ghost use Rattle.server_core.specs.Desk.{DeskView};
-    ghost use Rattle.server_core.specs.Kept.{IsDesk, shown};
+    ghost use Rattle.server_core.specs.Kept.{IsDesk, outs, shown};
 
     ghost Value = { DeskView };
 
     ghost view = { λ d. record { ids = d.gateways.items; reg = record { devices = map shown d.devices.items; gathered = d.gather; asked = d.asked.items }; known = d.known.items } };
 
-    ghost invariant = { λ d. IsDesk d.addrs.keys (record { devices = map shown d.devices.items; gathered = d.gather; asked = d.asked.items }) d.known.items };
+    ghost invariant = { λ d. IsDesk d.addrs.keys (outs d.devices.items) (record { devices = map shown d.devices.items; gathered = d.gather; asked = d.asked.items }) d.known.items };
 }
 
 impl<S: BuildHasher + Clone, A: Allocator + Copy> Desk<S, A> {

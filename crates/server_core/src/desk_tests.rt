@@ -9,27 +9,49 @@ use std::alloc::Global;
 use std::hash::{BuildHasherDefault, FoldHasher};
 use std::test::Fail;
 
-type TestDesk = Desk<BuildHasherDefault<FoldHasher>>;
+pub(crate) type TestDesk = Desk<BuildHasherDefault<FoldHasher>>;
 
-const NWK: [u8; 16] = [
+pub(crate) const NWK: [u8; 16] = [
     0x2b, 0x7e, 0x15, 0x16, 0x28, 0xae, 0xd2, 0xa6, 0xab, 0xf7, 0x15, 0x88, 0x09, 0xcf, 0x4f, 0x3c,
 ];
 
-const APP: [u8; 16] = [
+pub(crate) const APP: [u8; 16] = [
     0x00, 0x01, 0x02, 0x03, 0x04, 0x05, 0x06, 0x07, 0x08, 0x09, 0x0a, 0x0b, 0x0c, 0x0d, 0x0e, 0x0f,
 ];
 
-const ADDR: u32 = 0x2601_1bda;
+pub(crate) const ADDR: u32 = 0x2601_1bda;
 
 /// More than these tests come to.
-const AMPLE: Limits = Limits {
+pub(crate) const AMPLE: Limits = Limits {
     max_open: 16,
     max_ever: 16,
     max_copies: 16,
 };
 
-/// A desk of two gateways and one device, of which nothing was heard yet.
+/// A device with the default windows, of which nothing was heard yet.
+pub(crate) const DEVICE: DeviceSetting = DeviceSetting {
+    addr: ADDR,
+    nwk: NWK,
+    app: APP,
+    delay: 1,
+    offset: 0,
+    rx2_freq: 869_525_000,
+    rx2_rate: DataRate::Dr0,
+    up: None,
+    down: 0,
+};
+
+/// A desk of two gateways and that device.
 fn desk(alloc: Global, limits: Limits) -> Result<TestDesk, Fail> {
+    desk_of(alloc, limits, DEVICE)
+}
+
+/// A desk of two gateways and one device.
+pub(crate) fn desk_of(
+    alloc: Global,
+    limits: Limits,
+    device: DeviceSetting,
+) -> Result<TestDesk, Fail> {
     let gateways = Vec::from_slice(
         alloc,
         &[
@@ -37,26 +59,17 @@ fn desk(alloc: Global, limits: Limits) -> Result<TestDesk, Fail> {
             GatewaySetting { id: 2, cap: 4_096 },
         ],
     )?;
-    let devices = Vec::from_slice(
-        alloc,
-        &[DeviceSetting {
-            addr: ADDR,
-            nwk: NWK,
-            app: APP,
-            delay: 1,
-            offset: 0,
-            rx2_freq: 869_525_000,
-            rx2_rate: DataRate::Dr0,
-            up: None,
-            down: 0,
-        }],
-    )?;
-    let settings = Settings::new(gateways, devices)?;
+    let settings = Settings::new(gateways, Vec::from_slice(alloc, &[device])?)?;
     Ok(Desk::new(alloc, BuildHasherDefault::new(), &settings, limits)?)
 }
 
 /// An uplink without a payload.
-fn frame(alloc: Global, confirmed: bool, addr: u32, counter: u32) -> Result<Vec<u8>, Fail> {
+pub(crate) fn frame(
+    alloc: Global,
+    confirmed: bool,
+    addr: u32,
+    counter: u32,
+) -> Result<Vec<u8>, Fail> {
     let up = Up {
         confirmed,
         addr,
@@ -75,7 +88,7 @@ fn frame(alloc: Global, confirmed: bool, addr: u32, counter: u32) -> Result<Vec<
 }
 
 /// A copy that gateway 1 heard.
-const COPY: Heard1 = Heard1 {
+pub(crate) const COPY: Heard1 = Heard1 {
     gateway: 1,
     at: 5_000_000,
     freq_hz: 868_100_000,

@@ -38,7 +38,7 @@ pub(crate) fn copy_fault(gateways: &[u16], heard: &Heard1, arrived: u64) -> Opti
 }
 
 /// Whether a gateway has this number.
-fn has_gateway(gateways: &[u16], id: u16) -> bool
+pub(crate) fn has_gateway(gateways: &[u16], id: u16) -> bool
     ensures { result ≡ list_any (λ x. x == id) gateways.now }
 {
     gateways.iter().any(|gateway| *gateway == id)

@@ -2,28 +2,48 @@
 //! system over every interleaving.
 #![tactic(auto)]
 
+mod answering;
 mod answers;
+mod books;
+mod calling;
 mod desk;
 #[cfg(test)]
 mod desk_tests;
 mod device;
+mod entry;
+mod event;
 mod faults;
 mod heard;
 mod hearing;
 mod laws;
+mod lines;
 mod opening;
+#[cfg(test)]
+mod replay_tests;
+mod replayed;
+mod replaying;
+mod server;
 mod setting;
 mod settings;
 mod settings_fault;
 #[cfg(test)]
 mod settings_tests;
+mod settling;
+mod taking;
+#[cfg(test)]
+mod taking_tests;
+mod trying;
 mod verdict;
 
 pub use desk::{Desk, NoMemory};
+pub use entry::{Entry, Line};
+pub use event::{Event, Step};
 pub use faults::{DeskFault, QueueFault, TakeFault};
 pub use heard::{DeskHeard, Heard1};
 pub use laws::{law_desk_calls_are_steps, law_every_interleaving};
 pub use radio_airtime::DataRate;
+pub use replayed::Replay;
+pub use replaying::replay;
 pub use setting::{DeviceSetting, GatewaySetting};
 pub use settings::{MAX_DEVICES, MAX_GATEWAYS, Settings};
 pub use settings_fault::SettingsFault;

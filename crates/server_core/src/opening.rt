@@ -1,6 +1,6 @@
 // What a desk keeps of its settings before anything was heard.
 
-ghost use Rattle.std.specs.Prelude.{◌≡◌, ◌≢◌, map, IfOk, AllPairs};
+ghost use Rattle.std.specs.Prelude.{◌≡◌, ◌≢◌, false, map, IfOk, All, AllPairs};
 ghost use Rattle.server_core.specs.Kept.{shown};
 ghost use Rattle.server_core.specs.Register.{opened_device};
 
@@ -25,7 +25,8 @@ pub(crate) fn devices_of<A: Allocator + Copy>(
     alloc: A,
     devices: &[DeviceSetting],
 ) -> Result<Vec<Kept<A>, A>, AllocError>
-    ensures { IfOk result (λ kepts. map shown kepts.items ≡ map opened_device devices.now) }
+    ensures shown { IfOk result (λ kepts. map shown kepts.items ≡ map opened_device devices.now) }
+    ensures none_out { IfOk result (λ kepts. All (λ k. k.out ≡ false) kepts.items) }
 {
     let mut kepts = Vec::with_capacity(alloc, devices.len())?;
     for device in devices {

@@ -1,14 +1,15 @@
 use Rattle.std.proofs.Common.{◌∙◌, ap, length}
 use Rattle.uplink_gather.specs.Gatherings.{Gatherings}
 use Rattle.server_core.specs.Desk.{DeskView}
-use Rattle.server_core.proofs.HearLemmas.{answered, told, join_answer, join_length, join_holds}
+use Rattle.server_core.proofs.HearLemmas.{answered, told, join_answer, join_length, join_gathered, join_holds}
 use Rattle.server_core.proofs.desk.Desk.join.Goals as goal
 
 pub invariant_of-self : goal.invariant_of-self
 invariant_of-self g c =
-    join_holds _ _ _ c.hear-answer.new.self c.self.invariant
+    join_holds _ _ _ _ c.hear-answer.new.self c.self.invariant
     (ap (λ (s : Gatherings). length s.list) c.hear-answer.ensures.step
     ∙ join_length c.args.self.now c.args.bytes.now c.args.heard.now c.args.arrived _ (ap (λ (v : DeskView). v.reg.gathered) c.self.view_is) c.copy_of.result c.copy_of.ensures c.requires c.hear-answer.result c.hear-answer.ensures.told)
+    (join_gathered c.args.self.now c.args.bytes.now c.args.heard.now c.args.arrived _ (ap (λ (v : DeskView). v.reg.gathered) c.self.view_is) c.copy_of.result c.copy_of.ensures c.requires c.hear-answer.result c.hear-answer.new.self c.hear-answer.ensures.step c.hear-answer.ensures.told)
 
 pub returns-clause-answer : goal.returns-clause-answer
 returns-clause-answer g c =

@@ -1,5 +1,5 @@
 use Rattle.std.proofs.Common.{arith}
-use Rattle.server_core.proofs.DeskLemmas.{found_within, queued_holds, queued_answer, queued_told, queued_step, queued_refused, desk_devices}
+use Rattle.server_core.proofs.DeskLemmas.{found_within, queued_holds, pushed_servable, queued_answer, queued_told, queued_step, queued_refused, desk_devices}
 use Rattle.server_core.proofs.desk.Desk.queue.Goals as goal
 
 pub index_mut-requires : goal.index_mut-requires
@@ -10,6 +10,7 @@ pub invariant_of-self : goal.invariant_of-self
 invariant_of-self g c =
     queued_holds _ _ _ _ _ c.self.invariant c.in-Some.place c.index_mut.result.now c.push.new.self
     (found_within _ _ c.args.addr c.in-Some.place (desk_devices c.self.view_is) c.in-Some.ensures) c.index_mut.ensures.value c.push.ensures.setting
+    (pushed_servable _ _ (c.args.port, c.args.payload.now) c.push.result c.push.ensures.told c.push.ensures.pushed c.push.ensures.refused) c.push.ensures.out
 
 pub returns-in-Some-clause-answer : goal.returns-in-Some-clause-answer
 returns-in-Some-clause-answer g c =

@@ -1,0 +1,146 @@
+-- What was sent for an answer is cancelled, by its gateway's book.
+use Rattle.std.specs.Prelude.{ℕ, ◌≡◌, false, List, [], ◌∷◌, ◌++◌, map, slice_set, get_or, Option, Some, None, Result, Ok, Err, IfOk, OnErr, refl}
+use Rattle.std.specs.Option.{option_map}
+use Rattle.std.proofs.Common.{ap, sym, ◌∙◌, subst}
+use Rattle.gateway_book.specs.declared.cancel.CancelFault.{CancelFault}
+use Rattle.gateway_book.specs.declared.cancel.CancelFault.TheVariants.{NotHere}
+use Rattle.gateway_book.specs.Book.{Book, state_of, with_cancelled, airtime_answer}
+use Rattle.gateway_book.specs.Step.{cancel_answer, cancel_step}
+use Rattle.uplink_gather.specs.Gatherings.{numbered}
+use Rattle.server_core.specs.declared.event.Step.TheVariants as made
+use Rattle.server_core.specs.declared.entry.Line.{Line}
+use Rattle.server_core.specs.Answers.{Answer, Waiting, Open, Booked, Out, Settled, Known, Sent, known_of, is_given}
+use Rattle.server_core.specs.Desk.{DeskView}
+use Rattle.server_core.specs.World.{World, Gateway, Cancel, After, step, known, gateway_with, sent_for, cancel_at, cancel_sent, cancel_of}
+use Rattle.server_core.specs.World as replies
+use Rattle.server_core.specs.Entries.{lines_for, entry_at, gateway_of}
+use Rattle.server_core.specs.Server.{Seen, IsAt, Makes, IsReady, IsIdle, IsCancelled, with_step, with_lines, ids_of, cancelled_line}
+use Rattle.server_core.specs.Settling.{kept_by}
+use Rattle.server_core.proofs.DeskSteps.{map-set_same, numbered-map, desk_calls_are_steps}
+use Rattle.server_core.proofs.Going.{one_step}
+use Rattle.server_core.proofs.Ready.{ready_same}
+use Rattle.server_core.proofs.BookFound.{IsBookOf, book_found, no_book, same_book, gateway_with_state, book_written}
+
+-- where no ticket is out, the desk knows what was sent for an answer
+sent_same : (a : Answer) → is_given (known_of a) ≡ false → sent_for a ≡ kept_by (Some (known_of a))
+sent_same Waiting e = refl
+sent_same (Open k job) e = absurd (cc (e))
+sent_same (Booked sent window carried) e = absurd (cc (e))
+sent_same (Out refusal) e = absurd (cc (e))
+sent_same (Settled sent) e = refl
+
+cancel_by : (w : World) (n : ℕ) (o : Option Answer) → ((a : Answer) → o ≡ Some a → is_given (known_of a) ≡ false) → cancel_of w n o ≡ cancel_sent w n (kept_by (option_map known_of o))
+cancel_by w n None f = refl
+cancel_by w n (Some a) f = ap (cancel_sent w n) (sent_same a (f a refl))
+
+cancel_is : (w : World) (n : ℕ) → IsIdle (known w) → step w (Cancel n) ≡ cancel_sent w n (kept_by (numbered n (known w)))
+unfolding step
+cancel_is w n idle =
+    cancel_by w n (numbered n w.answers) (λ a e. idle n (known_of a) (numbered-map known_of n w.answers ∙ ap (option_map known_of) e))
+    ∙ ap (λ (o : Option Known). cancel_sent w n (kept_by o)) (sym (numbered-map known_of n w.answers))
+
+module _ {A : Type 0} (n : ℕ) (old new : Seen A) (ready : IsReady old) where
+  -- what the desk knows is what the world's answer keeps
+  cancel_at_world : (w : World) → IsAt w old → step w (Cancel n) ≡ cancel_sent w n (kept_by (numbered n old.desk.known))
+  cancel_at_world w at =
+      let k : old.desk.known ≡ known w = ap (λ (d : DeskView). d.known) at.desk in
+      cancel_is w n (subst IsIdle k ready.idle) ∙ ap (λ (l : List Known). cancel_sent w n (kept_by (numbered n l))) (sym k)
+
+  -- nothing was sent, or its gateway isn't here
+  not_cancelled_by : new ≡ old → ((w : World) → IsAt w old → cancel_sent w n (kept_by (numbered n old.desk.known)) ≡ (w, replies.Cancelled (Err NotHere))) → IsCancelled n old new (Err NotHere)
+  not_cancelled_by same f =
+      record {
+        desk = ap (λ (s : Seen A). s.desk) same;
+        steps = ap (λ (s : Seen A). s.steps) same;
+        outcomes = ap (λ (s : Seen A). s.outcomes) same;
+        books = ap (λ (s : Seen A). ids_of s.books) same;
+        gateways = λ w at. ap (λ (s : Seen A). map gateway_of s.books) same ∙ at.gateways ∙ sym (ap (λ (a : After). a.0.gateways) (cancel_at_world w at ∙ f w at));
+        reply = λ w at. ap (λ (a : After). a.1) (cancel_at_world w at ∙ f w at);
+      }
+
+  pub nothing_sent : None ≡ kept_by (numbered n old.desk.known) → new ≡ old → IsCancelled n old new (Err NotHere)
+  nothing_sent e same = not_cancelled_by same (λ w at. ap (cancel_sent w n) (sym e))
+
+  module _ (sent : Sent) (e : Some sent ≡ kept_by (numbered n old.desk.known)) where
+    pub not_here : None ≡ option_map (λ found. found.0) (gateway_with sent.gateway (map gateway_of old.books)) → new ≡ old → IsCancelled n old new (Err NotHere)
+    not_here f same =
+        not_cancelled_by same
+        (λ w at. ap (cancel_sent w n) (sym e) ∙ ap (cancel_at w n sent) (ap (gateway_with sent.gateway) (sym at.gateways) ∙ no_book sent.gateway old.books f))
+
+    module _ (i : ℕ) (book after : Book) (result : Result ℕ CancelFault) (f : Some i ≡ option_map (λ found. found.0) (gateway_with sent.gateway (map gateway_of old.books)))
+        (was : book ≡ get_or old.books i book) (answer : result ≡ airtime_answer (cancel_answer book.floor book.list n sent.start))
+        (state : state_of after ≡ cancel_step (state_of book) n sent.start) (cancelled : IfOk result (λ airtime. after ≡ with_cancelled book n sent.start airtime))
+        (refused : OnErr result (after ≡ book)) (is : new ≡ record old { books = slice_set old.books i after }) where
+      abbrev kept : IsBookOf sent.gateway i old.books
+      kept = book_found sent.gateway old.books i f
+
+      same_kept : book ≡ kept.book
+      same_kept = same_book sent.gateway old.books i kept book was
+
+      same_id : (r : Result ℕ CancelFault) → IfOk r (λ airtime. after ≡ with_cancelled book n sent.start airtime) → OnErr r (after ≡ book) → after.id ≡ book.id
+      same_id (Ok airtime) c e = ap (λ (x : Book). x.id) c
+      same_id (Err fault) c e = ap (λ (x : Book). x.id) e
+
+      same_cap : (r : Result ℕ CancelFault) → IfOk r (λ airtime. after ≡ with_cancelled book n sent.start airtime) → OnErr r (after ≡ book) → after.cap ≡ book.cap
+      same_cap (Ok airtime) c e = ap (λ (x : Book). x.cap) c
+      same_cap (Err fault) c e = ap (λ (x : Book). x.cap) e
+
+      abbrev cancelled_gateway : Gateway
+      cancelled_gateway = record (gateway_of kept.book) { state = cancel_step (gateway_of kept.book).state n sent.start }
+
+      cancelled_is : gateway_of after ≡ cancelled_gateway
+      cancelled_is =
+          gateway_with_state book after (cancel_step (state_of book) n sent.start) (same_id result cancelled refused) (same_cap result cancelled refused) state
+          ∙ ap (λ (x : Book). record (gateway_of x) { state = cancel_step (gateway_of x).state n sent.start }) same_kept
+
+      step_is : (w : World) → IsAt w old → step w (Cancel n) ≡ cancel_at w n sent (Some (i, gateway_of kept.book))
+      step_is w at =
+          cancel_at_world w at ∙ ap (cancel_sent w n) (sym e) ∙ ap (cancel_at w n sent) (ap (gateway_with sent.gateway) (sym at.gateways) ∙ kept.found)
+
+      pub was_cancelled : IsCancelled n old new result
+      was_cancelled =
+          record {
+            desk = ap (λ (s : Seen A). s.desk) is;
+            steps = ap (λ (s : Seen A). s.steps) is;
+            outcomes = ap (λ (s : Seen A). s.outcomes) is;
+            books = ap (λ (s : Seen A). ids_of s.books) is
+                ∙ map-set_same (λ (x : Book). x.id) old.books i kept.book after kept.there (same_id result cancelled refused ∙ ap (λ (x : Book). x.id) same_kept);
+            gateways = λ w at.
+                ap (λ (s : Seen A). map gateway_of s.books) is ∙ book_written old.books w.gateways i after cancelled_gateway at.gateways cancelled_is
+                ∙ sym (ap (λ (a : After). a.0.gateways) (step_is w at));
+            reply = λ w at.
+                ap (λ (a : After). a.1) (step_is w at)
+                ∙ ap (λ (r : Result ℕ CancelFault). replies.Cancelled r) (ap (λ (x : Book). airtime_answer (cancel_answer x.floor x.list n sent.start)) (sym same_kept) ∙ sym answer);
+          }
+
+cancel_lines : {A : Type 0} (w : World) (n : ℕ) (r : Result ℕ CancelFault) → lines_for {A = A} w (Cancel n) (replies.Cancelled r) ≡ cancelled_line n r ∷ []
+cancel_lines w n (Ok airtime) = refl
+cancel_lines w n (Err fault) = refl
+
+module _ {A : Type 0} (place n : ℕ) (old mid next new : Seen A) (result : Result ℕ CancelFault) (line : Line A) (noted : mid ≡ with_step (made.Cancel n) old)
+    (c : IsCancelled n mid next result) (said : line ≡ cancelled_line n result) (told : new ≡ with_lines place (line ∷ []) next) where
+  at_mid : (w : World) → IsAt w old → IsAt w mid
+  at_mid w at =
+      record {
+        desk = ap (λ (s : Seen A). s.desk) noted ∙ at.desk;
+        gateways = ap (λ (s : Seen A). map gateway_of s.books) noted ∙ at.gateways;
+      }
+
+  pub cancel_made : Makes place (λ w. Cancel n ∷ []) old new
+  cancel_made w at =
+      one_step place w (Cancel n) (made.Cancel n) (line ∷ []) old new refl
+      (record {
+        desk = ap (λ (s : Seen A). s.desk) told ∙ c.desk ∙ (at_mid w at).desk ∙ sym (desk_calls_are_steps.cancel w n);
+        gateways = ap (λ (s : Seen A). map gateway_of s.books) told ∙ c.gateways w (at_mid w at);
+      })
+      (ap (λ (s : Seen A). s.steps) told ∙ c.steps ∙ ap (λ (s : Seen A). s.steps) noted)
+      (ap (λ (s : Seen A). s.outcomes) told ∙ ap (λ (o : List _). o ++ map (entry_at place) (line ∷ [])) (c.outcomes ∙ ap (λ (s : Seen A). s.outcomes) noted))
+      (ap (lines_for w (Cancel n)) (c.reply w (at_mid w at)) ∙ cancel_lines w n result ∙ ap (λ (l : Line A). l ∷ []) (sym said))
+
+  pub cancel_ready : IsReady old → IsReady new
+  cancel_ready ready =
+      ready_same old new ready
+      (ap (λ (s : Seen A). ids_of s.books) told ∙ c.books ∙ ap (λ (s : Seen A). ids_of s.books) noted)
+      (ap (λ (s : Seen A). s.desk.ids) told ∙ ap (λ (d : DeskView). d.ids) c.desk ∙ ap (λ (s : Seen A). s.desk.ids) noted)
+      (ap (λ (s : Seen A). s.desk.reg.gathered) told ∙ ap (λ (d : DeskView). d.reg.gathered) c.desk ∙ ap (λ (s : Seen A). s.desk.reg.gathered) noted)
+      (ap (λ (s : Seen A). s.desk.known) told ∙ ap (λ (d : DeskView). d.known) c.desk ∙ ap (λ (s : Seen A). s.desk.known) noted)

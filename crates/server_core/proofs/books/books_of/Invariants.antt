@@ -1,0 +1,7 @@
+use Rattle.std.proofs.Common.{◌≡◌, map, take}
+use Rattle.server_core.specs.World.{opened_gateway}
+use Rattle.server_core.specs.Entries.{gateway_of}
+use Rattle.server_core.proofs.books.books_of.Given as goal
+
+abbrev pub invariant-loop-gateway : goal.invariant-loop-gateway
+invariant-loop-gateway g l = map gateway_of l.books.items ≡ map opened_gateway (take l.gateway-index l.gateways)

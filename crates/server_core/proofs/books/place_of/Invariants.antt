@@ -1,0 +1,10 @@
+use Rattle.std.proofs.Common.{◌≡◌, ◌+◌, map, drop}
+use Rattle.std.specs.Option.{option_map}
+use Rattle.server_core.specs.World.{gateway_with}
+use Rattle.server_core.specs.Entries.{gateway_of}
+use Rattle.server_core.proofs.books.place_of.Given as goal
+
+abbrev pub invariant-loop-place : goal.invariant-loop-place
+invariant-loop-place g l =
+    option_map (λ found. l.place + found.0) (gateway_with l.gateway (map gateway_of (drop l.place l.books)))
+    ≡ option_map (λ found. found.0) (gateway_with l.gateway (map gateway_of l.books))

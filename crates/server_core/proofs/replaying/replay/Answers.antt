@@ -1,0 +1,20 @@
+use Rattle.server_core.specs.Server.{seen}
+use Rattle.server_core.proofs.Replays.{replaying_first, replaying_on, replayed_steps, replayed_outcomes, replayed_books}
+use Rattle.server_core.proofs.replaying.replay.Goals as goal
+
+pub loop-place-init : goal.loop-place-init
+loop-place-init g c = replaying_first c.args.settings.now c.args.events.now (seen c.in_ok-server.server) c.in_ok-server.ensures
+
+pub loop-place-preserved : goal.loop-place-preserved
+loop-place-preserved g c =
+    replaying_on c.args.settings.now c.args.events.now c.loop-place.place c.index-events-place.result (seen c.loop-place.server) (seen c.event.new.self) c.loop-place-test.true
+    c.index-events-place.is c.in_ok-event.ensures.done c.in_ok-event.ensures.ready c.loop-place.invariant
+
+pub returns-clause-steps : goal.returns-clause-steps
+returns-clause-steps g c = replayed_steps c.args.settings.now c.args.events.now c.loop-place.place (seen c.loop-place.server) c.loop-place-test.false c.loop-place.invariant
+
+pub returns-clause-outcomes : goal.returns-clause-outcomes
+returns-clause-outcomes g c = replayed_outcomes c.args.settings.now c.args.events.now c.loop-place.place (seen c.loop-place.server) c.loop-place-test.false c.loop-place.invariant
+
+pub returns-clause-books : goal.returns-clause-books
+returns-clause-books g c = replayed_books c.args.settings.now c.args.events.now c.loop-place.place (seen c.loop-place.server) c.loop-place-test.false c.loop-place.invariant

@@ -1,0 +1,6 @@
+use Rattle.server_core.specs.Server.{seen}
+use Rattle.server_core.proofs.Replays.{IsReplaying}
+use Rattle.server_core.proofs.replaying.replay.Given as goal
+
+abbrev pub invariant-loop-place : goal.invariant-loop-place
+invariant-loop-place g l = IsReplaying l.settings l.events l.place (seen l.server)

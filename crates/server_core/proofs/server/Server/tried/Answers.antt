@@ -1,0 +1,27 @@
+use Rattle.std.proofs.Common.{subst}
+use Rattle.server_core.specs.Server.{seen}
+use Rattle.server_core.specs.Turns.{TurnIs}
+use Rattle.server_core.proofs.Tries.{trying_first, here_still, trying_next, fewer_left, tries_over}
+use Rattle.server_core.proofs.server.Server.tried.Goals as goal
+
+pub loop-ended-init : goal.loop-ended-init
+loop-ended-init g c = trying_first c.args.ticket (seen c.args.self.now)
+
+pub tried_once-requires : goal.tried_once-requires
+tried_once-requires g c =
+    here_still c.args.ticket c.loop-ended.ticket (seen c.args.self.now) (seen c.loop-ended.self) c.loop-ended.invariant c.requires
+
+pub returns-in-Over : goal.returns-in-Over
+returns-in-Over g c =
+    tries_over c.args.ticket c.loop-ended.ticket (seen c.args.self.now) (seen c.loop-ended.self) (seen c.tried_once.new.self) c.in-Over.ended c.loop-ended.invariant
+    (subst (TurnIs c.loop-ended.ticket (seen c.loop-ended.self) (seen c.tried_once.new.self)) c.in-Over.is c.in_ok-ended.ensures)
+
+pub loop-ended-preserved : goal.loop-ended-preserved
+loop-ended-preserved g c =
+    trying_next c.args.ticket c.loop-ended.ticket c.in-On.next (seen c.args.self.now) (seen c.loop-ended.self) (seen c.tried_once.new.self) c.loop-ended.invariant
+    (subst (TurnIs c.loop-ended.ticket (seen c.loop-ended.self) (seen c.tried_once.new.self)) c.in-On.is c.in_ok-ended.ensures)
+
+pub loop-ended-smaller : goal.loop-ended-smaller
+loop-ended-smaller g c =
+    fewer_left c.loop-ended.ticket c.in-On.next (seen c.loop-ended.self) (seen c.tried_once.new.self)
+    (subst (TurnIs c.loop-ended.ticket (seen c.loop-ended.self) (seen c.tried_once.new.self)) c.in-On.is c.in_ok-ended.ensures)

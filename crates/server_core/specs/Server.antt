@@ -1,0 +1,123 @@
+use Rattle.std.specs.Prelude.{ℕ, ◌≡◌, ◌==◌, Bool, false, List, [], ◌∷◌, ◌++◌, map, Contains, IsTrue, Some, Result, Ok, Err}
+use Rattle.std.specs.List.{list_any}
+use Rattle.gateway_book.specs.Book.{Book}
+use Rattle.gateway_book.specs.declared.cancel.CancelFault.{CancelFault}
+use Rattle.uplink_gather.specs.declared.heard.HeardCopy.{HeardCopy}
+use Rattle.uplink_gather.specs.Gatherings.{Gathering, numbered}
+use Rattle.rx_windows.specs.declared.candidate.Candidate.{Candidate}
+use Rattle.answer_ticket.specs.Job.{Job, candidate_at}
+use Rattle.server_core.specs.declared.server.Server.{Server}
+use Rattle.server_core.specs.declared.event.Event.{Event}
+use Rattle.server_core.specs.declared.event.Step.{Step as Made}
+use Rattle.server_core.specs.declared.entry.Entry.{Entry}
+use Rattle.server_core.specs.declared.entry.Line.{Line}
+use Rattle.server_core.specs.declared.entry.Line.TheVariants as says
+use Rattle.server_core.specs.declared.heard.DeskHeard.{DeskHeard}
+use Rattle.server_core.specs.declared.faults.QueueFault.{QueueFault}
+use Rattle.server_core.specs.declared.faults.DeskFault.{DeskFault}
+use Rattle.server_core.specs.Settings.{SettingLists, AreSettings}
+use Rattle.server_core.specs.Answers.{Known, is_given}
+use Rattle.server_core.specs.Desk.{DeskView, desk_of}
+use Rattle.server_core.specs.World.{World, Step, Cancel, step, opening}
+use Rattle.server_core.specs.World as replies
+use Rattle.server_core.specs.Schedule.{usual_limits, reached, due_numbers, pass_steps, event_steps, step_of}
+use Rattle.server_core.specs.Entries.{step_lines, event_lines, entry_at, gateway_of}
+
+-- What one thread keeps of the system, and how it goes on.
+
+-- what it keeps: what the desk knows, the gateways' books, the steps that it made, and the lines that it told
+pub record Seen (A : Type 0) : Type 0 where
+  pub desk : DeskView
+  pub books : List Book
+  pub steps : List (Made A)
+  pub outcomes : List (Entry A)
+
+abbrev pub seen : {S A R : Type 0} → Server S A R → Seen A
+seen s = record { desk = s.desk; books = s.books.items; steps = s.steps.items; outcomes = s.outcomes.items }
+
+-- after one more step, and after more lines
+abbrev pub with_step : {A : Type 0} → Made A → Seen A → Seen A
+with_step made s = record s { steps = s.steps ++ made ∷ [] }
+
+abbrev pub with_lines : {A : Type 0} → ℕ → List (Line A) → Seen A → Seen A
+with_lines place lines s = record s { outcomes = s.outcomes ++ map (entry_at place) lines }
+
+-- it keeps this world
+pub record IsAt {A : Type 0} (w : World) (s : Seen A) : Type 0 where
+  pub desk : s.desk ≡ desk_of w
+  pub gateways : map gateway_of s.books ≡ w.gateways
+
+-- it made these steps from a world, and told these lines
+pub record Goes {A : Type 0} (w : World) (ss : List Step) (lines : List (Entry A)) (old new : Seen A) : Type 0 where
+  pub at : IsAt (reached w ss) new
+  pub steps : map step_of new.steps ≡ map step_of old.steps ++ ss
+  pub outcomes : new.outcomes ≡ old.outcomes ++ lines
+
+-- from the world that it keeps it makes these steps, and tells the lines for them as an answer to the event at this place
+abbrev pub Makes : {A : Type 0} → ℕ → (World → List Step) → Seen A → Seen A → Type 0
+Makes place steps old new =
+    (w : World) → IsAt w old → Goes w (steps w) (map (entry_at place) (step_lines w (steps w))) old new
+
+-- it makes the steps of an event, and tells its lines
+abbrev pub Does : {A : Type 0} → ℕ → Event A → Seen A → Seen A → Type 0
+Does place e old new =
+    (w : World) → IsAt w old → Goes w (event_steps w e) (map (entry_at place) (event_lines w e)) old new
+
+-- no ticket or stub is out
+abbrev pub IsIdle : List Known → Type 0
+IsIdle known = (n : ℕ) (k : Known) → numbered n known ≡ Some k → is_given k ≡ false
+
+abbrev pub is_among : List ℕ → ℕ → Bool
+is_among ids gateway = list_any (λ id. id == gateway) ids
+
+-- each copy was heard by a gateway with one of these ids
+abbrev pub AreHeard : List ℕ → List Gathering → Type 0
+AreHeard ids l =
+    (n : ℕ) (g : Gathering) (c : HeardCopy) → numbered n l ≡ Some g → Contains g.copies c → IsTrue (is_among ids c.gateway)
+
+-- each candidate of the job is on a gateway with one of these ids
+abbrev pub AreHere : List ℕ → Job → Type 0
+AreHere ids job = (k : ℕ) (c : Candidate) → candidate_at job k ≡ Some c → IsTrue (is_among ids c.gateway)
+
+abbrev pub ids_of : List Book → List ℕ
+ids_of books = map (λ b. b.id) books
+
+-- it is ready for an event: its books are those of the desk's gateways, which heard all copies, and no ticket is out
+pub record IsReady {A : Type 0} (s : Seen A) : Type 0 where
+  pub books : ids_of s.books ≡ s.desk.ids
+  pub heard : AreHeard s.desk.ids s.desk.reg.gathered.list
+  pub idle : IsIdle s.desk.known
+
+-- it keeps what there is before the first step
+pub record IsOpened {A : Type 0} (settings : SettingLists) (s : Seen A) : Type 0 where
+  pub are : AreSettings settings.gateways settings.devices
+  pub at : IsAt (opening settings usual_limits) s
+  pub ready : IsReady s
+  pub steps : s.steps ≡ []
+  pub outcomes : s.outcomes ≡ []
+
+-- the line that answers a payload, a copy of an uplink, or what was to be cancelled
+abbrev pub queued_line : {A : Type 0} → ℕ → Result ℕ QueueFault → Line A
+queued_line addr (Ok count) = says.Queued addr count
+queued_line addr (Err fault) = says.NotQueued fault
+
+abbrev pub heard_line : {A : Type 0} → Result DeskHeard DeskFault → Line A
+heard_line (Ok place) = says.Heard place
+heard_line (Err fault) = says.NotHeard fault
+
+abbrev pub cancelled_line : {A : Type 0} → ℕ → Result ℕ CancelFault → Line A
+cancelled_line n (Ok airtime) = says.Cancelled n airtime
+cancelled_line n (Err fault) = says.NotCancelled n fault
+
+-- a transmission was cancelled, or why it was not
+pub record IsCancelled {A : Type 0} (n : ℕ) (old new : Seen A) (result : Result ℕ CancelFault) : Type 0 where
+  pub desk : new.desk ≡ old.desk
+  pub steps : new.steps ≡ old.steps
+  pub outcomes : new.outcomes ≡ old.outcomes
+  pub books : ids_of new.books ≡ ids_of old.books
+  pub gateways : (w : World) → IsAt w old → map gateway_of new.books ≡ (step w (Cancel n)).0.gateways
+  pub reply : (w : World) → IsAt w old → (step w (Cancel n)).1 ≡ replies.Cancelled result
+
+-- the steps in which all that is due is closed and answered
+abbrev pub pass_whole : World → ℕ → List Step
+pass_whole w now = pass_steps w now (due_numbers now w.reg.gathered.list)

@@ -1,0 +1,46 @@
+// The books of a server's gateways.
+
+ghost use Rattle.std.specs.Prelude.{◌≡◌, map, All, IfOk};
+ghost use Rattle.std.specs.Option.{option_map};
+ghost use Rattle.server_core.specs.Settings.{IsGatewayInRange};
+ghost use Rattle.server_core.specs.World.{opened_gateway, gateway_with};
+ghost use Rattle.server_core.specs.Entries.{gateway_of};
+
+use crate::GatewaySetting;
+use gateway_book::GatewayBook;
+use resv_list::VecRoster;
+use std::alloc::{AllocError, Allocator};
+
+/// An empty book for each gateway, in their order.
+pub(crate) fn books_of<A: Allocator + Copy>(
+    alloc: A,
+    gateways: &[GatewaySetting],
+) -> Result<Vec<GatewayBook<VecRoster<A>>, A>, AllocError>
+    requires { All IsGatewayInRange gateways.now }
+    ensures { IfOk result (λ books. map gateway_of books.items ≡ map opened_gateway gateways.now) }
+{
+    let mut books = Vec::with_capacity(alloc, gateways.len())?;
+    for gateway in gateways {
+        // The cap of a setting is in range.
+        let Ok(book) = GatewayBook::new(VecRoster::new(alloc), gateway.id, gateway.cap) else {
+            unreachable!()
+        };
+        books.push(book)?;
+    }
+    Ok(books)
+}
+
+/// The place of the gateway with this number.
+pub(crate) fn place_of<A: Allocator>(
+    books: &[GatewayBook<VecRoster<A>>],
+    gateway: u16,
+) -> Option<usize>
+    ensures { result ≡ option_map (λ found. found.0) (gateway_with gateway (map gateway_of books.now)) }
+{
+    for (place, book) in books.iter().enumerate() {
+        if book.id() == gateway {
+            return Some(place);
+        }
+    }
+    None
+}

@@ -1,0 +1,17 @@
+// What one thread did with events.
+
+use crate::{Entry, Step};
+use gateway_book::GatewayBook;
+use resv_list::VecRoster;
+use std::alloc::Allocator;
+
+/// What one thread did with a list of events, from a server that has heard nothing.
+#[derive(Drop)]
+pub struct Replay<A: Allocator> {
+    /// The steps that it made of them.
+    pub steps: Vec<Step<A>, A>,
+    /// The lines that answer them, with the places of their events.
+    pub outcomes: Vec<Entry<A>, A>,
+    /// The gateways' books as they are after the last step, in the order of the settings.
+    pub books: Vec<GatewayBook<VecRoster<A>>, A>,
+}

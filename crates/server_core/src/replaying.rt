@@ -1,0 +1,84 @@
+// The events, one after another.
+
+ghost use Rattle.std.specs.Prelude.{◌≡◌, IfOk, OnOk, map};
+ghost use Rattle.server_core.specs.Schedule.{schedule, step_of};
+ghost use Rattle.server_core.specs.Entries.{entries, gateways_after, kept_gateway, gateway_of};
+ghost use Rattle.server_core.specs.Server.{seen, Does, Makes, IsReady, pass_whole};
+
+use crate::server::Server;
+use crate::{Event, Line, NoMemory, Replay, Settings, Step};
+use std::alloc::Allocator;
+use std::hash::BuildHasher;
+
+/// Does on one thread what these events ask for, from a server that has heard nothing, with these settings. All
+/// gatherings that are due at a `Pass` are closed one by one, the least number first; for each a ticket is taken, tried
+/// until it is booked or refused to the last, and settled before the next is closed. At most 4,096 uplinks are gathered
+/// at a time, 1,000,000 in all, and 64 copies of one. Devices and uplinks are looked up through this hasher and a clone
+/// of it. Err(NoMemory) where a growth was refused.
+pub fn replay<S: BuildHasher + Clone, A: Allocator + Copy, B: Allocator>(
+    alloc: A,
+    hasher: S,
+    settings: &Settings<B>,
+    events: &[Event<A>],
+) -> Result<Replay<A>, NoMemory>
+    ensures steps { IfOk result (λ r. map step_of r.steps.items ≡ schedule settings.now events.now) }
+    ensures outcomes { IfOk result (λ r. r.outcomes.items ≡ entries settings.now events.now) }
+    ensures books { IfOk result (λ r. map gateway_of r.books.items ≡ map kept_gateway (gateways_after settings.now events.now)) }
+{
+    let mut server = Server::new(alloc, hasher, settings)?;
+    for (place, event) in events.iter().enumerate() {
+        server.event(place, event)?;
+    }
+    let Server {
+        desk: _,
+        books,
+        steps,
+        outcomes,
+    } = server;
+    Ok(Replay {
+        steps,
+        outcomes,
+        books,
+    })
+}
+
+impl<S: BuildHasher, A: Allocator + Copy> Server<S, A> {
+    /// Does what the event at this place asks for.
+    #[tactic(auto, unfolding(crate::specs::Schedule::event_steps))]
+    fn event(&mut self, place: usize, event: &Event<A>) -> Result<(), NoMemory>
+        requires { IsReady (seen self.old) }
+        ensures ready { OnOk result (IsReady (seen self.new)) }
+        ensures done { OnOk result (Does place event.now (seen self.old) (seen self.new)) }
+    {
+        match event {
+            Event::Queue {
+                addr,
+                port,
+                payload,
+            } => self.queue(place, *addr, *port, payload.as_slice()),
+            Event::Hear {
+                bytes,
+                heard,
+                arrived,
+            } => self.hear(place, bytes.as_slice(), *heard, *arrived),
+            Event::Pass { now } => self.pass(place, *now),
+            Event::Tick { gateway, now } => self.tick(place, *gateway, *now),
+            Event::Cancel { number } => self.cancel(place, *number),
+            Event::Bad { line } => self.told(place, Line::Bad { line: *line }),
+        }
+    }
+
+    /// Closes the gatherings that are due, the least number first, and answers each before it closes the next.
+    fn pass(&mut self, place: usize, now: u64) -> Result<(), NoMemory>
+        requires { IsReady (seen self.old) }
+        ensures ready { OnOk result (IsReady (seen self.new)) }
+        ensures made { OnOk result (Makes place (λ w. pass_whole w now) (seen self.old) (seen self.new)) }
+    {
+        while let Some(number) = self.desk.pass(now) {
+            self.did(Step::Pass { now })?;
+            self.answer(place, number)?;
+        }
+        // That nothing more is due is a step too.
+        self.did(Step::Pass { now })
+    }
+}
