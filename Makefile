@@ -8,8 +8,8 @@ PREFIX ?= /usr/local
 # The main job on a machine where nothing is built. rt try compiles and runs, and proves nothing.
 demo:
 	@echo 'This build is not the proved one: it is compiled by rt try, which proves nothing.'
-	@echo 'airbook book < examples/two-bookings.txt'
-	@cd crates/airbook && rt try -- book < ../../examples/two-bookings.txt
+	@echo 'airbook run < examples/two-gateways.txt'
+	@cd crates/airbook && rt try -- run < ../../examples/two-gateways.txt
 
 # The gate, and then the cases on the program that the gate has proved and built. Where the gate fails, the
 # cases are not run.

@@ -9,6 +9,8 @@ pub enum Task {
     Toa { rate: u8, len: u8 },
     /// The book of a gateway that keeps at most `cap` transmissions.
     Book { cap: u32 },
+    /// Settings of a server, and what happens there.
+    Run,
 }
 
 /// The command line that the program takes.
@@ -18,10 +20,13 @@ pub fn program<'a>(alloc: Global) -> Result<Command<'a>, AllocError> {
         .about(
             "Airtime of LoRaWAN downlinks in EU868: how long they last, and when a gateway may send them.",
         )
-        .after_help("Examples:\n  airbook toa 5 12\n  airbook book < asks.txt")
+        .after_help(
+            "Examples:\n  airbook toa 5 12\n  airbook book < asks.txt\n  airbook run < events.txt",
+        )
         .subcommand_required(true)
         .subcommand(toa(alloc)?)?
-        .subcommand(book(alloc)?)
+        .subcommand(book(alloc)?)?
+        .subcommand(run(alloc))
 }
 
 /// The arguments of `toa`.
@@ -59,6 +64,17 @@ fn book<'a>(alloc: Global) -> Result<Command<'a>, AllocError> {
         .arg(cap)
 }
 
+/// The arguments of `run`: none.
+fn run<'a>(alloc: Global) -> Command<'a> {
+    Command::new(alloc, "run")
+        .about(
+            "Answers the uplinks that gateways heard. Standard input: the settings in TOML, a line ---, and then lines queue ADDR PORT HEX, hear GATEWAY AT FREQ DR SNR RSSI ARRIVED HEX, pass NOW, tick GATEWAY NOW, cancel N",
+        )
+        .after_help(
+            "Example:\n  $ airbook run < examples/two-gateways.txt\n  opened 1\n  joined 1 2\n  send 1 2 RX1 10000000 868100000 5 12\n  frame 1 60da1b0126200000240347ca\n  gateway 1 booked 0 cancelled 0 retired 0 kept 0\n  gateway 2 booked 41216 cancelled 0 retired 0 kept 1\n  busiest 2 M 10000000 41216\n  answered 1 unanswered 0 silent 0",
+        )
+}
+
 /// The task that the arguments name.
 pub fn task_of(matches: &ArgMatches<'_>) -> Option<Task> {
     match matches.subcommand() {
@@ -69,6 +85,7 @@ pub fn task_of(matches: &ArgMatches<'_>) -> Option<Task> {
         Some(("book", book)) => Some(Task::Book {
             cap: book.get_one::<u32>("cap")?,
         }),
+        Some(("run", _)) => Some(Task::Run),
         _ => None,
     }
 }

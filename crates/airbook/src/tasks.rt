@@ -1,9 +1,11 @@
 // The tasks of the program, over any runtime, and the status that each ends with.
 use crate::arguments::{Task, program, task_of};
-use airbook_text::{TextFault, book_text, toa_text};
+use airbook_text::{TextFault, book_text, run_text, toa_text};
 use std::env::Env;
+use std::hash::RandomState;
 use std::io;
 use std::process::ExitCode;
+use std::random::RandomSource;
 use text_lines::{StdIn, StdOut};
 
 /// The status where a line of the output begins with `no` or `bad`.
@@ -14,7 +16,7 @@ const FAULT: u8 = 2;
 
 /// Does what the arguments ask for. The status is 0; 1 where a line of the output begins with `no` or `bad`; 2 for
 /// wrong arguments, and for a fault, whose name is then the last line on standard error.
-pub fn run<R: AllocGlobal + Env + Input + Print + Eprint>(rt: &R) -> ExitCode {
+pub fn run<R: AllocGlobal + Env + Input + Print + Eprint + RandomSource>(rt: &R) -> ExitCode {
     let words = match words_of(rt) {
         Ok(words) => words,
         Err(error) if error.kind() == io::ErrorKind::OutOfMemory => {
@@ -44,12 +46,16 @@ fn words_of<R: AllocGlobal + Env>(rt: &R) -> io::Result<Vec<String>> {
 }
 
 /// Does a task on standard input and output.
-fn perform<R: AllocGlobal + Input + Print + Eprint>(rt: &R, task: Task) -> ExitCode {
+fn perform<R: AllocGlobal + Input + Print + Eprint + RandomSource>(rt: &R, task: Task) -> ExitCode {
     let mut reader = StdIn::new(rt.reader());
     let mut writer = StdOut::new(io::writer(rt));
     let answered = match task {
         Task::Toa { rate, len } => toa_text(rate, len, &mut writer),
         Task::Book { cap } => book_text(rt.alloc(), cap, &mut reader, &mut writer),
+        Task::Run => match RandomState::new(rt) {
+            Ok(hasher) => run_text(rt.alloc(), hasher, &mut reader, &mut writer),
+            Err(_) => Err(TextFault::Read),
+        },
     };
     match answered {
         Ok(false) => ExitCode::SUCCESS,

@@ -4,4 +4,12 @@ pub mod RunLemmas
 pub mod SoFar
 pub mod ReportLemmas
 pub mod LawLemmas
+pub mod PutLemmas
+pub mod OrderLemmas
+pub mod GatewayLemmas
+pub mod ReplayLemmas
 pub mod Worked
+pub mod EventLemmas
+pub mod InputLemmas
+pub mod SettingsIn
+pub mod RunWhole

@@ -1,13 +1,25 @@
 -- The definition of the output at worked inputs.
-use Rattle.std.proofs.Common.{◌≡◌, [], ◌∷◌, codes, refl}
+use Rattle.std.proofs.Common.{◌≡◌, ℕ, false, true, List, [], ◌∷◌, map, codes, refl}
 use Rattle.std.specs.Fmt.{digits}
+use Rattle.hex.specs.Hex.{encode_with}
+use Rattle.radio_airtime.specs.declared.data_rate.DataRate.TheVariants.{Dr5}
 use Rattle.radio_airtime.specs.TimeOnAir.{airtime_of}
 use Rattle.radio_bands.specs.Band.{band_of}
 use Rattle.resv_list.specs.Reservations.{begun, net}
 use Rattle.gateway_book.specs.Answer.{overlap}
 use Rattle.gateway_book.specs.Duty.{full_hour}
 use Rattle.gateway_book.specs.Busiest.{busiest_of}
-use Rattle.airbook_text.specs.Output.{output}
+use Rattle.gateway_book.specs.declared.refusal.Refusal.TheVariants.{Taken}
+use Rattle.gateway_book.specs.Step.{State, book_step}
+use Rattle.rx_windows.specs.declared.candidate.Window.TheVariants.{Rx1}
+use Rattle.server_core.specs.declared.entry.Line.{Line}
+use Rattle.server_core.specs.declared.entry.Line.TheVariants.{Queued, Heard, NotHeard, Silent, Send, Frame, Unanswered}
+use Rattle.server_core.specs.declared.heard.DeskHeard.TheVariants.{Opened, Joined}
+use Rattle.server_core.specs.declared.faults.DeskFault.TheVariants as hears
+use Rattle.lora_frame.specs.declared.reading.FrameFault.TheVariants.{Short}
+use Rattle.server_core.specs.Entries.{entry_at}
+use Rattle.airbook_text.specs.Output.{opened, output}
+use Rattle.airbook_text.specs.ReplayText.{replay_lines}
 use Rattle.airbook_text.specs.Toa.{toa_line}
 
 -- two transmissions that touch, and a third that overlaps both
@@ -49,3 +61,19 @@ too_long_frame = refl
 pub unknown_rate : toa_line 7 12 ≡ codes "no NoRate"
 unfolding airtime_of digits
 unknown_rate = refl
+
+-- one transmission at a gateway
+pub one_sent : State
+one_sent = book_step 4096 opened (record { number = 1; start = 10000000; freq_hz = 868100000; rate = Dr5; len = 12 })
+
+pub worked_lines : List (Line ℕ)
+worked_lines =
+    Queued 637606874 2 ∷ Heard (Opened 1 false) ∷ Heard (Opened 2 true) ∷ Heard (Joined 1 2) ∷ NotHeard (hears.Frame Short)
+    ∷ Send 1 (record { gateway = 2; window = Rx1; start = 10000000; freq_hz = 868100000; rate = Dr5; len = 12; carries = false }) ∷ Frame 1 (96 ∷ 218 ∷ 10 ∷ []) ∷ Silent 2 ∷ Unanswered 3 (Taken 5) ∷ []
+
+-- two gateways that are not in order
+pub replay_of_two_gateways :
+    replay_lines (map (entry_at 0) worked_lines) (record { id = 10; cap = 4096; state = one_sent } ∷ record { id = 2; cap = 1; state = opened } ∷ [])
+    ≡ codes "queued 26011bda 2" ∷ codes "opened 1" ∷ codes "opened 2 repeat" ∷ codes "joined 1 2" ∷ codes "no hear Short" ∷ codes "send 1 2 RX1 10000000 868100000 5 12" ∷ codes "frame 1 60da0a" ∷ codes "silent 2" ∷ codes "unanswered 3 Taken" ∷ codes "gateway 2 booked 0 cancelled 0 retired 0 kept 0" ∷ codes "gateway 10 booked 41216 cancelled 0 retired 0 kept 1" ∷ codes "busiest 10 M 10000000 41216" ∷ codes "answered 1 unanswered 1 silent 1" ∷ []
+unfolding one_sent worked_lines airtime_of band_of net begun overlap full_hour busiest_of digits encode_with
+replay_of_two_gateways = refl

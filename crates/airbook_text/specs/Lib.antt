@@ -11,3 +11,11 @@ pub mod Laws
 pub mod SettingsFaultName
 pub mod SettingsFields
 pub mod SettingsOfTable
+pub mod EntryName
+pub mod EntryLine
+pub mod ReplayText
+pub mod RunWords
+pub mod RunEvents
+pub mod RunInput
+pub mod RunSettings
+pub mod RunOutput

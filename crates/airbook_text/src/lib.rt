@@ -3,15 +3,29 @@
 
 mod booking;
 mod command;
+mod entry_line;
+mod entry_name;
 mod fault;
+mod gateway_report;
 mod laws;
+#[cfg(test)]
+mod replay_tests;
+mod replay_text;
 mod reply;
 mod report;
+mod run;
+mod run_events;
+mod run_input;
+mod run_settings;
+#[cfg(test)]
+mod run_tests;
+mod run_words;
 mod settings_fault;
 mod settings_fields;
 mod settings_reading;
 #[cfg(test)]
 mod settings_tests;
+mod tally;
 #[cfg(test)]
 mod tests;
 mod toa;
@@ -19,6 +33,7 @@ mod toa;
 pub use booking::book_text;
 pub use fault::TextFault;
 pub use laws::{law_answers_come_first, law_ok_where_accepted, law_one_answer_a_line};
+pub use run::run_text;
 pub use server_core::{DataRate, DeviceSetting, GatewaySetting, Settings, SettingsFault};
 pub use settings_fault::ReadFault;
 pub use settings_reading::read_settings;

@@ -125,7 +125,7 @@ fn add_refusal(text: &mut TextLine, refusal: Refusal)
 }
 
 /// Adds a space and why nothing was cancelled.
-fn add_fault(text: &mut TextLine, fault: CancelFault)
+pub(crate) fn add_fault(text: &mut TextLine, fault: CancelFault)
     requires { length text.old + 8 ≤ 1024 }
     ensures text { text.new ≡ text.old ++ (32 ∷ fault_word fault) }
     ensures len { length text.new ≤ length text.old + 8 }

@@ -1,0 +1,56 @@
+use Rattle.std.specs.Prelude.{◌≡◌, ℕ, Bool, List, map, Option, Some, None, Result, Ok, Err, ⊤}
+use Rattle.std.specs.Io.KnownBytes.{Appends, Consumes}
+use Rattle.std.specs.Str.Lines.{lines}
+use Rattle.text_lines.specs.Line.{text_of}
+use Rattle.text_lines.specs.Writing.{WritesFront}
+use Rattle.server_core.specs.declared.event.Event.{Event}
+use Rattle.server_core.specs.Settings.{SettingLists}
+use Rattle.server_core.specs.Entries.{entries, gateways_after, kept_gateway}
+use Rattle.airbook_text.specs.declared.fault.TextFault.{TextFault}
+use Rattle.airbook_text.specs.declared.fault.TextFault.TheVariants.{Settings}
+use Rattle.airbook_text.specs.Output.{has_refusal}
+use Rattle.airbook_text.specs.ReplayText.{replay_lines}
+use Rattle.airbook_text.specs.RunInput.{settings_part, event_part}
+use Rattle.airbook_text.specs.RunEvents.{events_of}
+use Rattle.airbook_text.specs.RunSettings.{settings_in, IsRefusedBy}
+
+-- The output of `airbook run`, and what its text promises of a reader and a writer that tell their bytes.
+
+-- the lines for these events: what one thread answers, and its report
+abbrev pub lines_for : {A : Type 0} → SettingLists → List (Event A) → List (List ℕ)
+lines_for settings events = replay_lines (entries settings events) (map kept_gateway (gateways_after settings events))
+
+-- the lines for an input with these settings: the bytes after the line that parts it are event lines
+abbrev pub run_lines : Type 0 → SettingLists → List ℕ → List (List ℕ)
+run_lines A settings bytes = lines_for {A = A} settings (events_of settings.devices (lines (event_part bytes)))
+
+-- all these bytes were read, and say settings; the writer took the output for them, and `refused` says whether a line of
+-- it begins with `no` or `bad`
+pub record IsRun (A : Type 0) (bytes : List ℕ) (left_after before after : Option (List ℕ)) (refused : Bool) : Type 0 where
+  pub settings : SettingLists
+  pub given : settings_in (settings_part bytes) ≡ Ok settings
+  pub consumed : Consumes (Some bytes) left_after bytes
+  pub written : Appends before after (text_of (run_lines A settings bytes))
+  pub told : refused ≡ has_refusal (run_lines A settings bytes)
+
+-- the same where the reader tells what it has left
+abbrev pub Runs : Type 0 → Option (List ℕ) → Option (List ℕ) → Option (List ℕ) → Option (List ℕ) → Bool → Type 0
+Runs A None left_after before after refused = ⊤
+Runs A (Some bytes) left_after before after refused = IsRun A bytes left_after before after refused
+
+-- all these bytes were read, and say settings; the writer took a front of the output for them
+pub record IsRunInPart (A : Type 0) (bytes : List ℕ) (left_after before after : Option (List ℕ)) : Type 0 where
+  pub settings : SettingLists
+  pub given : settings_in (settings_part bytes) ≡ Ok settings
+  pub consumed : Consumes (Some bytes) left_after bytes
+  pub written : WritesFront before after (text_of (run_lines A settings bytes))
+
+-- where a write failed, the same for a reader that tells what it has left
+abbrev pub RunsInPart : Type 0 → Option (List ℕ) → Option (List ℕ) → Option (List ℕ) → Option (List ℕ) → Type 0
+RunsInPart A None left_after before after = ⊤
+RunsInPart A (Some bytes) left_after before after = IsRunInPart A bytes left_after before after
+
+-- `Settings` comes only for bytes that say no settings, and names their fault
+abbrev pub NamesFault : Option (List ℕ) → Result Bool TextFault → Type 0
+NamesFault (Some bytes) (Err (Settings name)) = IsRefusedBy (settings_in (settings_part bytes)) (Settings name)
+NamesFault left result = ⊤
