@@ -1,0 +1,39 @@
+-- Lemmas on tills together.
+use Rattle.std.proofs.Common.{◌≡◌, ◌+◌, ◌≤◌, List, [], ◌∷◌, ◌++◌, refl, sym, ap, ◌∙◌, arith, false, nat_lt}
+use Rattle.std.proofs.lemmas.Bool.{ltb-false}
+use Rattle.air_ledger.specs.Tills.{Holding, together, gathered, parts_of, amount_of}
+
+-- tills that are not too many
+pub within : (l : List Holding) → nat_lt 65536 (parts_of l) ≡ false → parts_of l ≤ 65536
+within l e = ltb-false 65536 (parts_of l) e
+
+parts_of-last : (l : List Holding) (h : Holding) → parts_of (l ++ h ∷ []) ≡ h.parts + parts_of l
+parts_of-last [] h = refl
+parts_of-last (g ∷ l) h = omega (arith, parts_of-last l h)
+
+amount_of-last : (l : List Holding) (h : Holding) → amount_of (l ++ h ∷ []) ≡ h.amount + amount_of l
+amount_of-last [] h = refl
+amount_of-last (g ∷ l) h = omega (arith, amount_of-last l h)
+
+-- the last till and the others
+pub gathered-last : (all l : List Holding) (h : Holding) → all ≡ l ++ h ∷ [] → gathered all ≡ together h (gathered l)
+gathered-last all l h e =
+    ap gathered e ∙ ap (λ p. record { parts = p; amount = amount_of (l ++ h ∷ []) }) (parts_of-last l h)
+    ∙ ap (λ a. record { parts = h.parts + parts_of l; amount = a }) (amount_of-last l h)
+
+-- one more till is taken in
+pub gathered-on : (whole left new : Holding) (h : Holding) (old l : List Holding) → left ≡ together whole (gathered old) → old ≡ l ++ h ∷ [] → new ≡ together whole h → left ≡ together new (gathered l)
+gathered-on whole left new h old l e cut n =
+    let p : whole.parts + (h.parts + parts_of l) ≡ whole.parts + h.parts + parts_of l = omega arith in
+    let a : whole.amount + (h.amount + amount_of l) ≡ whole.amount + h.amount + amount_of l = omega arith in
+    e ∙ ap (together whole) (gathered-last old l h cut)
+    ∙ ap (λ k. record { parts = k; amount = whole.amount + (h.amount + amount_of l) }) p
+    ∙ ap (λ k. record { parts = whole.parts + h.parts + parts_of l; amount = k }) a
+    ∙ ap (λ k. together k (gathered l)) (sym n)
+
+-- a till that is left fits
+pub fits-on : (whole all h : Holding) (old l : List Holding) → all ≡ together whole (gathered old) → old ≡ l ++ h ∷ [] → all.parts ≤ 65536 → whole.parts + h.parts ≤ 65536
+fits-on whole all h old l e cut most =
+    let p : all.parts ≡ whole.parts + parts_of old = ap (λ k. k.parts) e in
+    let q : parts_of old ≡ h.parts + parts_of l = ap parts_of cut ∙ parts_of-last l h in
+    omega (arith, p, q, most)
