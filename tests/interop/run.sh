@@ -1,6 +1,6 @@
 #!/bin/sh
-# Compares frames of lora_frame with other implementations, outside the gate: python3-cryptography for
-# all of them, and wireshark's LoRaWAN dissector (tshark) for those that it can read. Installs what it needs
+# Compares frames of lora_frame, and those of `airbook run` in the cases, with other implementations, outside the gate:
+# python3-cryptography for all of them, and wireshark's LoRaWAN dissector (tshark) for those that it can read. Installs what it needs
 # by apt-get where it may, and says what it skips. Needs rt and python3; takes about a minute. The frames
 # are written with no proof (`rt try`): the gate proves the crates.
 set -eu
@@ -20,3 +20,6 @@ printf 'aes_cmac:\nlora_frame: aes_cmac thiserror\nframes: aes_cmac lora_frame\n
 cd "$work/crates/frames"
 rt try > "$work/frames.txt" 2> "$work/log" || { tail -20 "$work/log"; exit 1; }
 python3 "$top/tests/interop/check.py" "$work/frames.txt"
+
+# the frames that the cases of `airbook run` hold, by their settings
+python3 "$top/tests/interop/run_frames.py" $(grep -lx run "$top"/cases/*/args | xargs -n1 dirname)
