@@ -10,7 +10,7 @@ use Rattle.server_core.specs.declared.event.Event.TheVariants.{Queue, Hear, Pass
 use Rattle.airbook_text.specs.Said.{is_named}
 use Rattle.airbook_text.specs.RunWords.{addr_word, hex_word, uplink_word}
 
--- What the lines of `airbook run` ask for, by the devices of its settings.
+-- What the lines of `airbook run` ask for, by the devices of its settings (docs/FORMATS.md, "airbook run").
 
 -- numbers of a type of so many bits
 abbrev pub number_of : ℕ → List ℕ → Option ℕ

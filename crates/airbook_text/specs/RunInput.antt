@@ -3,9 +3,9 @@ use Rattle.std.specs.List.{concat}
 use Rattle.std.specs.Str.{bytes_eq}
 use Rattle.text_lines.specs.declared.ahead.TheConstants.{INPUT_LIMIT}
 use Rattle.airbook_text.specs.declared.fault.TextFault.{TextFault}
-use Rattle.airbook_text.specs.declared.fault.TextFault.TheVariants.{Read, TooMuch, NoMemory}
+use Rattle.airbook_text.specs.declared.fault.TextFault.TheVariants.{Read, Write, TooMuch, Settings, NoMemory}
 
--- The two parts of the input of `airbook run`: settings, and the lines of events.
+-- The two parts of the input of `airbook run`: settings, and the lines of events (docs/FORMATS.md, "airbook run").
 
 -- no line feed stands before place k
 abbrev pub NoFeedBefore : ℕ → List ℕ → Type 0
@@ -44,11 +44,14 @@ settings_part bytes = concat (before_rule (raw_lines bytes))
 unfoldable pub event_part : List ℕ → List ℕ
 event_part bytes = concat (after_rule (raw_lines bytes))
 
--- the input's length, where it is known: at most 2^28 bytes on `Ok`, and more where `TooMuch` is answered
+-- the input's length, where it is known: more than 2^28 bytes where `TooMuch` is answered, and at most so many where the
+-- whole of it was read
 abbrev pub KeepsInputLimit : {T : Type 0} → Option (List ℕ) → Result T TextFault → Type 0
 KeepsInputLimit None result = ⊤
 KeepsInputLimit (Some bytes) (Ok _) = length bytes ≤ INPUT_LIMIT
 KeepsInputLimit (Some bytes) (Err TooMuch) = INPUT_LIMIT < length bytes
+KeepsInputLimit (Some bytes) (Err Write) = length bytes ≤ INPUT_LIMIT
+KeepsInputLimit (Some bytes) (Err (Settings name)) = length bytes ≤ INPUT_LIMIT
 KeepsInputLimit (Some bytes) (Err _) = ⊤
 
 -- why not all bytes of an input were read

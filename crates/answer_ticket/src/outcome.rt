@@ -4,8 +4,8 @@ use rx_windows::Window;
 /// How the answer to an uplink ended.
 #[derive(Clone, Copy, Debug, PartialEq, Eq)]
 pub enum Ending {
-    /// A transmission was booked: on this gateway, in this window of the device, from `start` on, for `airtime`
-    /// microseconds; `carried` tells whether it carries the payload at the head of the device's queue.
+    /// A transmission was booked: on this gateway, in this window of the device, from `start` of the gateway's clock on,
+    /// for `airtime`, both in microseconds; `carried` tells whether it carries the payload at the head of the device's queue.
     Answered {
         gateway: u16,
         window: Window,

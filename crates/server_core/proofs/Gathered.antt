@@ -46,6 +46,7 @@ module _ (settings : SettingLists) (T : Job → Type 0) (l m : List Gathering) (
         given = j.given;
         place = j.place;
         uplink = uplink_grown n j.place j.uplink;
+        addr = j.addr;
         plan = j.plan;
         windows = λ k c e. window_grown n j.place job.plan j.uplink c (j.windows k c e);
       }

@@ -32,6 +32,7 @@ pub record IsJobFor (settings : SettingLists) (T : Job → Type 0) (l : List Gat
   pub given : T job
   pub place : ℕ
   pub uplink : IsOfDevice settings l n place
+  pub addr : job.addr ≡ uplink.setting.addr
   pub plan : job.plan ≡ plan_for uplink.setting job.body
   pub windows : (k : ℕ) (c : Candidate) → candidate_at job k ≡ Some c → IsWindowOf job.plan uplink.gathering.copies c
 
@@ -164,7 +165,7 @@ unchanged w h = record { holds = h; follows = Follows-refl w }
 module _ (settings : SettingLists) (T U : Job → Type 0) (more : (job : Job) → T job → U job) where
   job_weaker : (l : List Gathering) (n : ℕ) (job : Job) → IsJobFor settings T l n job → IsJobFor settings U l n job
   job_weaker l n job j =
-      record { number = j.number; given = more job j.given; place = j.place; uplink = j.uplink; plan = j.plan; windows = j.windows }
+      record { number = j.number; given = more job j.given; place = j.place; uplink = j.uplink; addr = j.addr; plan = j.plan; windows = j.windows }
 
   stand_weaker : (l : List Gathering) (answers : List Answer) (id : ℕ) (r : Reservation) → Stands settings T l answers id r → Stands settings U l answers id r
   stand_weaker l answers id r s =

@@ -66,6 +66,7 @@ module _ (settings : SettingLists) (r : Run) (h : Holds settings (Contains (jobs
         job = s.job;
         given = j.given;
         number = j.number;
+        addr = j.addr ∙ j.uplink.its_own;
         plan = plan;
         candidate = s.candidate;
         tried = get_contains (candidates s.job) s.place s.candidate s.tried;

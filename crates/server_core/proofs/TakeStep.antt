@@ -51,6 +51,7 @@ module _ (settings : SettingLists) (are : AreSettings settings.gateways settings
           given = told;
           place = asked.device;
           uplink = uplink;
+          addr = ap (λ (s : DeviceSetting). s.addr) (sym same_setting);
           plan = ap (λ (s : DeviceSetting). plan_for s (head device.queue)) (sym same_setting);
           windows = λ k c e.
               window_of c (all_get (IsWindowOf job.plan job.copies) (candidates_of job.copies job.plan) k c (on_gateways_that_heard job.plan job.copies) e);

@@ -17,7 +17,8 @@ use Rattle.server_core.specs.Answers.{Answer, Open}
 use Rattle.server_core.specs.World.{World, Gateway, Step, Queue, Hear, Take, Settle, Try, Cancel, Tick, Reply, Queued, Heard, Given, Ended, Tried, Cancelled, Ticked, step, run, opening}
 use Rattle.server_core.specs.Schedule.{usual_limits, reached, event_steps, schedule}
 
--- The lines that answer events, by the steps that one thread makes of them and the replies to these.
+-- The lines that answer events, by the steps that one thread makes of them and the replies to these (docs/FORMATS.md,
+-- "airbook run").
 
 -- why no ticket was given: an uplink to which no answer is owed is silent
 abbrev pub not_taken : {A : Type 0} → ℕ → TakeFault → Line A

@@ -21,7 +21,7 @@ use Rattle.server_core.specs.declared.faults.DeskFault.{DeskFault}
 use Rattle.server_core.specs.declared.faults.DeskFault.TheVariants.{Frame, UnknownGateway, NoRate, NoBand, Moment, SameGateway, TooManyCopies, Late, UnknownDevice, BadMic, Crowded, NoMemory}
 use Rattle.server_core.specs.Register.{Device, Asked, Register, device_with}
 
--- A copy of an uplink is heard.
+-- A copy of an uplink is heard. The order of the faults and the last moment are this project's profile.
 
 -- the last moment that is accepted, in µs
 abbrev pub last_moment : ℕ

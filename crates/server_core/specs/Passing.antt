@@ -2,7 +2,7 @@ use Rattle.std.specs.Prelude.{ℕ, Option, Some, None}
 use Rattle.uplink_gather.specs.Gatherings.{due_of, close_step}
 use Rattle.server_core.specs.Register.{Register}
 
--- Time passes, and a gathering that is due is closed.
+-- Time passes, and a gathering that is due is closed (this project's profile).
 
 -- the least number that is due
 abbrev pub pass_answer : Register → ℕ → Option ℕ

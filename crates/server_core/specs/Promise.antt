@@ -43,10 +43,10 @@ abbrev pub jobs_given : List Reply → List Job
 jobs_given [] = []
 jobs_given (reply ∷ replies) = with_given reply (jobs_given replies)
 
--- a ticket was given in this run for its uplink's job, and it takes what a candidate of this job asks for: RX1 or RX2 of
--- a copy of the uplink that this gateway heard, as the uplink's device listens, by the payload that was at the head of
--- the device's queue when the ticket was given, if there was one; the device is the one with the address in the
--- uplink's bytes
+-- a ticket was given in this run for its uplink's job, whose address is the one in the uplink's bytes, and it takes what a
+-- candidate of this job asks for: RX1 or RX2 of a copy of the uplink that this gateway heard, as the device with that
+-- address listens, by the payload of the job, if it has one (the head of the device's queue, as the step has it that gives
+-- the ticket)
 pub record IsOwnWindow (r : Run) (g : Gateway) (a : Reservation) : Type 0 where
   pub gathering : Gathering
   pub gathered : numbered a.number r.world.reg.gathered.list ≡ Some gathering
@@ -59,6 +59,7 @@ pub record IsOwnWindow (r : Run) (g : Gateway) (a : Reservation) : Type 0 where
   pub job : Job
   pub given : Contains (jobs_given r.replies) job
   pub number : job.number ≡ a.number
+  pub addr : job.addr ≡ addr_of gathering.bytes
   pub plan : job.plan ≡ plan_for device.setting job.body
   pub candidate : Candidate
   pub tried : Contains (candidates job) candidate

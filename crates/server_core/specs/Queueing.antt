@@ -4,7 +4,8 @@ use Rattle.server_core.specs.declared.faults.QueueFault.{QueueFault}
 use Rattle.server_core.specs.declared.faults.QueueFault.TheVariants.{UnknownDevice, Port, Long, QueueFull}
 use Rattle.server_core.specs.Register.{Device, Register, device_with}
 
--- A payload is queued for a device.
+-- A payload is queued for a device: FPort as LoRaWAN L2 1.0.4, section 4.3.2 has it; that 16 may wait and how long each may
+-- be is this project's profile.
 
 -- how many payloads may wait for a device
 abbrev pub queue_limit : ℕ

@@ -7,7 +7,7 @@ use Rattle.answer_ticket.specs.declared.outcome.Ending.TheVariants.{Answered, Un
 use Rattle.server_core.specs.Answers.{Known, NotGiven, Given, Done, Sent, is_given}
 use Rattle.server_core.specs.Register.{Device, Asked, Register}
 
--- An answer is settled.
+-- An answer is settled (this project's profile).
 
 -- what a settled answer keeps
 abbrev pub sent_of : Ending → Option Sent

@@ -12,7 +12,7 @@ use Rattle.server_core.specs.declared.faults.TakeFault.TheVariants.{NotReady, Ta
 use Rattle.server_core.specs.Answers.{Known, is_given, is_not_given}
 use Rattle.server_core.specs.Register.{Device, Asked, Register}
 
--- A ticket is given for an uplink.
+-- A ticket is given for an uplink: to whom an answer is owed, and why none is given, is this project's profile.
 
 -- the payload that is sent next
 abbrev pub head : {X : Type 0} → List X → Option X

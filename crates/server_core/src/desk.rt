@@ -54,7 +54,7 @@ impl<S: BuildHasher, A: Allocator> Model for Desk<S, A> {
 
 impl<S: BuildHasher + Clone, A: Allocator + Copy> Desk<S, A> {
     /// A desk of these settings, of which nothing was heard yet. Devices and uplinks are looked up through this hasher
-    /// and a clone of it.
+    /// and a clone of it. Err(NoMemory) where a growth was refused.
     pub fn new<B: Allocator>(
         alloc: A,
         hasher: S,
@@ -79,8 +79,9 @@ impl<S: BuildHasher + Clone, A: Allocator + Copy> Desk<S, A> {
 }
 
 impl<S: BuildHasher, A: Allocator + Copy> Desk<S, A> {
-    /// Queues a payload for the device with this address, FPort and FRMPayload, and answers how many wait then, or the
-    /// first fault that holds, in the order of `QueueFault`. A fault changes nothing.
+    /// Queues a payload for the device with this address, FPort 1 to 223 (LoRaWAN L2 1.0.4, section 4.3.2) and FRMPayload
+    /// of 0 to 242 bytes, not encrypted, and answers how many wait then, at most 16, or the first fault that holds, in the
+    /// order of `QueueFault`. A fault changes nothing; `NoMemory` comes only where a growth was refused.
     pub fn queue(&mut self, addr: u32, port: u8, payload: &[u8]) -> Result<usize, QueueFault>
         ensures answer { MatchResult (queue_answer self.old.reg addr (port, payload.now)) (λ _. IsOkUnless result QueueFault.NoMemory) (λ fault. result ≡ Err fault) }
         ensures told { IfOk result (λ count. queue_answer self.old.reg addr (port, payload.now) ≡ Ok count) }

@@ -49,13 +49,14 @@ pub enum Step<A: Allocator> {
         port: u8,
         payload: Bytes<A>,
     },
-    /// A copy of the uplink with these bytes is heard, and arrives at this moment.
+    /// A copy of the uplink with these bytes is heard, and arrives at this moment, in microseconds of the server's clock.
     Hear {
         bytes: Bytes<A>,
         heard: Heard1,
         arrived: u64,
     },
-    /// The gathering with the least number of those that are due is closed, if one is.
+    /// The gathering with the least number of those that are due is closed, if one is: time has passed until `now` of the
+    /// server's clock, in microseconds.
     Pass {
         now: u64,
     },
@@ -75,7 +76,7 @@ pub enum Step<A: Allocator> {
     Cancel {
         number: u64,
     },
-    /// Time passes for a gateway.
+    /// Time passes for a gateway, until `now` of its clock, in microseconds.
     Tick {
         gateway: u16,
         now: u64,

@@ -3,11 +3,11 @@
 pub struct Heard1 {
     /// The gateway's number.
     pub gateway: u16,
-    /// When the uplink ended, in microseconds of the gateway's clock.
+    /// When the uplink ended, in microseconds of the gateway's clock; up to 2^60 it is taken in.
     pub at: u64,
     /// The centre of the uplink's channel, in Hz.
     pub freq_hz: u32,
-    /// The number of the uplink's data rate.
+    /// The number of the uplink's data rate; 0 to 6 are taken in.
     pub rate: u8,
     /// The signal-to-noise ratio, in tenths of a dB.
     pub snr: i16,

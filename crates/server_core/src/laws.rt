@@ -11,12 +11,12 @@ ghost use Rattle.server_core.specs.Promise.{EveryInterleavingIsSafe};
 /// - each gathered uplink holds at most one reservation over all gateways: its number stands once at most;
 /// - that reservation has the start, the channel, the data rate and the length of one of the candidates of the job that
 ///   its ticket was given for: of RX1 or RX2 of a copy of its uplink, as the device with the uplink's address listens,
-///   by the payload that was at the head of the device's queue when the ticket was given, if there was one; and it
-///   stands on the gateway that heard this copy;
+///   by the payload of that job, if it has one (the head of the device's queue, by the step that gives the ticket); and
+///   it stands on the gateway that heard this copy; the job has the uplink's address;
 /// - each gateway's list is lawful, that is, its reservations are fit and disjoint and the airtime begun within any
 ///   hour keeps the limit of its sub-band; and what was booked less what was cancelled is the airtime of the list;
 /// - each gathered uplink has one answer, and what it says is kept once;
-/// - a ticket was given once at most for an uplink, and no downlink counter was given to two uplinks of one device;
+/// - a ticket was given once at most for an uplink, and no downlink counter to two jobs with one address;
 /// - the gateways and the devices are those of the settings.
 ///
 /// That the settings are accepted is the only premise.

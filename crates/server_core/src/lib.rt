@@ -1,5 +1,5 @@
-//! The server's core: its settings, and what its desk knows of devices, uplinks and answers; and what holds of the whole
-//! system over every interleaving.
+//! The server's core: its settings, what its desk knows of devices, uplinks and answers, and a run of events on one
+//! thread; and what holds of the whole system over every interleaving.
 #![tactic(auto)]
 
 mod answering;
