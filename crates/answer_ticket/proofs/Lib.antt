@@ -1,1 +1,2 @@
+mod Longest
 pub mod Tries

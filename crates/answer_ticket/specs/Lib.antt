@@ -1,5 +1,6 @@
 pub mod Job
 pub mod Ticket
+pub mod Ended
 pub mod Tried
 pub use Rattle.radio_airtime.specs.DataRate
 pub use Rattle.radio_airtime.specs.TimeOnAir

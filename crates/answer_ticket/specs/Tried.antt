@@ -7,7 +7,7 @@ use Rattle.gateway_book.specs.Answer.{IsAsked, refusal_of}
 use Rattle.gateway_book.specs.Book.{Book, terms_of, with_booked}
 use Rattle.rx_windows.specs.declared.candidate.Candidate.{Candidate}
 use Rattle.answer_ticket.specs.declared.outcome.Ending.{Ending}
-use Rattle.answer_ticket.specs.declared.outcome.Ending.TheVariants.{Answered, Unanswered, GivenUp}
+use Rattle.answer_ticket.specs.declared.outcome.Ending.TheVariants.{Answered, Unanswered}
 use Rattle.answer_ticket.specs.declared.outcome.Outcome.{Outcome}
 use Rattle.answer_ticket.specs.declared.tried.Receipt.{Receipt}
 use Rattle.answer_ticket.specs.declared.tried.Tried.{Tried}
@@ -16,12 +16,6 @@ use Rattle.answer_ticket.specs.Job.{Job, ask_for, frame_for}
 use Rattle.answer_ticket.specs.Ticket.{Standing, candidate_of}
 
 -- What a ticket gives that is tried on a gateway's book, after this project's profile.
-
--- the gateway whose book has the answer
-abbrev pub gateway_of : Ending → Option ℕ
-gateway_of (Answered gateway window start airtime carried) = Some gateway
-gateway_of (Unanswered refusal) = None
-gateway_of GivenUp = None
 
 -- what a book answers, memory aside, to the candidate
 abbrev pub refusal_by : Book → Job → Candidate → Option Refusal

@@ -1,5 +1,5 @@
 ghost use Rattle.std.specs.Prelude.{◌≡◌};
-ghost use Rattle.answer_ticket.specs.Tried.{gateway_of};
+ghost use Rattle.answer_ticket.specs.Ended.{gateway_of, IsWithinLongest};
 
 use crate::{Ending, Outcome};
 use std::marker::Model;
@@ -12,15 +12,19 @@ pub struct Stub {
 
 impl Model for Stub {
     ghost use Rattle.answer_ticket.specs.declared.outcome.Outcome.{Outcome as Ended};
+    ghost use Rattle.answer_ticket.specs.Ended.{IsWithinLongest};
 
     ghost Value = { Ended };
 
     ghost view = { λ s. s.outcome };
+
+    ghost invariant = { λ s. IsWithinLongest s.outcome.result };
 }
 
 impl Stub {
     /// The stub of the ticket with this number.
     pub(crate) fn new(number: u64, ending: Ending) -> Self
+        requires { IsWithinLongest ending }
         ensures { result ≡ record { number = number; result = ending } }
     {
         Stub {
@@ -33,14 +37,16 @@ impl Stub {
 
     /// The number of the uplink's gathering; takes no memory.
     pub fn number(&self) -> u64
-        ensures { result ≡ self.now.number }
+        ensures kept { IsWithinLongest self.now.result }
+        ensures number { result ≡ self.now.number }
     {
         self.outcome.number
     }
 
     /// The gateway whose book has the answer; `None` where the answer was not booked. Takes no memory.
     pub fn gateway(&self) -> Option<u16>
-        ensures { result ≡ gateway_of self.now.result }
+        ensures kept { IsWithinLongest self.now.result }
+        ensures gateway { result ≡ gateway_of self.now.result }
     {
         match self.outcome.result {
             Ending::Answered { gateway, .. } => Some(gateway),
@@ -50,7 +56,8 @@ impl Stub {
 
     /// Spends the stub and tells how the answer ended; takes no memory.
     pub fn end(self) -> Outcome
-        ensures { result ≡ self }
+        ensures kept { IsWithinLongest self.result }
+        ensures outcome { result ≡ self }
     {
         let Stub { outcome } = self;
         outcome

@@ -16,6 +16,7 @@ use Rattle.server_core.specs.Register.{Register}
 use Rattle.server_core.specs.Hearing.{Decision, Refuse, Join, decide, register_after}
 use Rattle.server_core.specs.Hearing as hearing
 use Rattle.server_core.specs.Answers.{Answer, Waiting, Open, Booked, Out, Settled, Known, Given, Done, Sent, known_of, is_given}
+use Rattle.server_core.specs.Airtime.{known_airtime, answer_airtime, answered_at, answered_in}
 use Rattle.server_core.specs.Settling.{sent_of, after_settling, is_here, may_settle}
 use Rattle.server_core.specs.Taking.{take_answer, after_taking}
 use Rattle.server_core.specs.World.{World, Gateway, step, ids, known, ending_of, gateway_with, answers_after, refused, try_of, try_candidate, try_on, tried_by, cancel_of, cancel_sent, cancel_at, tick_at, take_by, settle_of, settle_as, sent_for, sent_by, terms}
@@ -197,6 +198,19 @@ tick_desk w id now None g = refl
 tick_desk w id now (Some found) g =
     same_known (tick_at w now (Some found)).0 w refl (same_ids w id found (tick_step found.1.state now) g) refl
 
+same_airtime : (id : ℕ) (answer : Answer) → known_airtime id (known_of answer) ≡ answer_airtime id answer
+same_airtime id Waiting = refl
+same_airtime id (Open k job) = refl
+same_airtime id (Booked sent window carried) = refl
+same_airtime id (Out refusal) = refl
+same_airtime id (Settled sent) = refl
+
+same_answered : (id : ℕ) (answers : List Answer) → answered_at id (map known_of answers) ≡ answered_in id answers
+same_answered id [] = refl
+same_answered id (answer ∷ answers) =
+    ap (λ (n : ℕ). n + answered_at id (map known_of answers)) (same_airtime id answer)
+    ∙ ap (λ (n : ℕ). answer_airtime id answer + n) (same_answered id answers)
+
 pub desk_calls_are_steps : DeskCallsAreSteps
 unfolding step
 desk_calls_are_steps =
@@ -221,4 +235,5 @@ desk_calls_are_steps =
       try = λ w n. try_desk w n (numbered n w.answers) refl;
       cancel = λ w n. cancel_desk w n (numbered n w.answers);
       tick = λ w id now. tick_desk w id now (gateway_with id w.gateways) refl;
+      answered = λ w id. same_answered id w.answers;
     }

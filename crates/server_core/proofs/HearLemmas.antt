@@ -1,5 +1,5 @@
 -- A copy of an uplink, as the desk hears it.
-use Rattle.std.specs.Prelude.{ℕ, ◌≡◌, ◌+◌, ◌^◌, ◌<◌, ◌≤◌, nat_lt, ◌==◌, Bool, true, false, not, ◌||◌, if◌then◌else◌, ⊤, is_some, List, [], ◌∷◌, ◌++◌, map, length, All, slice_get, slice_set, get_or, Option, Some, None, Result, Ok, Err, IfOk, OnErr, MatchResult, IsOkUnless, refl}
+use Rattle.std.specs.Prelude.{ℕ, ◌≡◌, ◌+◌, ◌^◌, ◌<◌, ◌≤◌, nat_lt, nat_le, ◌==◌, Bool, true, false, not, ◌||◌, if◌then◌else◌, ⊤, is_some, List, [], ◌∷◌, ◌++◌, map, length, All, slice_get, slice_set, get_or, Option, Some, None, Result, Ok, Err, IfOk, OnErr, MatchResult, IsOkUnless, refl}
 use Rattle.std.specs.Option.{option_map}
 use Rattle.std.proofs.Common.{sym, ap, ◌∙◌, subst, arith, length-append}
 use Rattle.std.specs.List.{list_any}
@@ -87,6 +87,12 @@ is_join : (bytes : List ℕ) (d : Decision) → verdict_of bytes d ≡ says.Join
 is_join bytes (Refuse fault) e = absurd (cc)
 is_join bytes (Join n) e = (n, refl)
 is_join bytes (Open o) e = absurd (cc)
+
+-- where gatherings aren't crowded, fewer were opened than may be
+room_left : (g : Gatherings) (full ever : Bool) → (full || ever) ≡ false → nat_le g.limits.max_ever (length g.list) ≡ ever → length g.list < g.limits.max_ever
+room_left g true ever e q = absurd (cc)
+room_left g false true e q = absurd (cc)
+room_left g false false e q = grind (arith, nat_tests, q)
 
 record IsNew (bytes : List ℕ) (d : Decision) (new : NewUplink) : Type 0 where
   pub opening : Opening
@@ -222,6 +228,10 @@ module _ (d : DeskView) (bytes : List ℕ) (heard : Heard1) (arrived : ℕ) (gat
         let place : new_is.opening.place ≡ new.asked.device = ap (λ (u : NewUplink). u.asked.device) new_is.is in
         let within : new_is.opening.place < length kepts = found_within d.reg.devices kepts (addr_of bytes) new_is.opening.place k (sym (ap (option_map (λ (p : ℕ × Device). p.0)) opens.2)) in
         subst (λ (i : ℕ). i < length kepts) place within
+
+    -- and there is room for it
+    pub open_room : length gathered.list < gathered.limits.max_ever
+    open_room = subst (λ (g : Gatherings). length g.list < g.limits.max_ever) (sym s) (room_left d.reg.gathered _ (nat_le d.reg.gathered.limits.max_ever (length d.reg.gathered.list)) opens.1 refl)
 
     -- what becomes of the gatherings
     pub open_gathered : (r : Result Heard HearFault) (x : DeskHeard) → desk_answer new.repeat r ≡ Ok x → IfOk r (λ h. hear_answer gathered bytes copy.gateway arrived ≡ Ok h)

@@ -29,6 +29,7 @@ pub mod AddrLemmas
 pub mod HearLemmas
 pub mod TakeLemmas
 pub mod SettleLemmas
+pub mod AirtimeLemmas
 pub mod OpeningLemmas
 pub mod Reached
 pub mod Ready

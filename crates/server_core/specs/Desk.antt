@@ -13,6 +13,7 @@ use Rattle.server_core.specs.Passing.{pass_answer, pass_step}
 use Rattle.server_core.specs.Answers.{Known, NotGiven, Given}
 use Rattle.server_core.specs.Taking.{take_answer, after_taking}
 use Rattle.server_core.specs.Settling.{is_here, may_settle, after_settling, known_settled}
+use Rattle.server_core.specs.Airtime.{answered_at, answered_in}
 use Rattle.server_core.specs.World.{World, Queue, Hear, Pass, Take, Settle, Try, Cancel, Tick, step, ids, known, ending_of}
 use Rattle.server_core.specs.World as replies
 
@@ -85,3 +86,5 @@ pub record DeskCallsAreSteps : Type 0 where
   pub try : (w : World) (n : ℕ) → desk_of (step w (Try n)).0 ≡ desk_of w
   pub cancel : (w : World) (n : ℕ) → desk_of (step w (Cancel n)).0 ≡ desk_of w
   pub tick : (w : World) (id now : ℕ) → desk_of (step w (Tick id now)).0 ≡ desk_of w
+  -- how long a gateway was on air for what the desk knows to be settled is what it was for the answers that are settled
+  pub answered : (w : World) (id : ℕ) → answered_at id (desk_of w).known ≡ answered_in id w.answers

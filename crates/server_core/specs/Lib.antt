@@ -6,6 +6,7 @@ pub mod Hearing
 pub mod Answers
 pub mod Taking
 pub mod Settling
+pub mod Airtime
 pub mod Passing
 pub mod World
 pub mod Promise

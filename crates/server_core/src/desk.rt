@@ -13,7 +13,7 @@ ghost use Rattle.server_core.specs.Desk.{desk_of, desk_queue, desk_hear, desk_pa
 use crate::answers::{Asked, Known};
 use crate::device::Kept;
 use crate::hearing::{copy_fault, copy_of, desk_answer, is_last, named_fault};
-use crate::opening::{addrs_of, devices_of, ids_of};
+use crate::opening::{addrs_of, airtimes_of, devices_of, ids_of, max_ever};
 use crate::verdict::{NewUplink, Verdict};
 use crate::{DeskFault, DeskHeard, Heard1, QueueFault, Settings};
 use indexmap::IndexSet;
@@ -31,6 +31,8 @@ pub type NoMemory = AllocError;
 #[derive(Drop)]
 pub struct Desk<S: BuildHasher, A: Allocator = Global> {
     pub(crate) gateways: Vec<u16, A>,
+    /// How long each of them was on air for the answers that were settled, in microseconds.
+    pub(crate) answered: Vec<u64, A>,
     /// The devices' addresses, in the order of the devices.
     pub(crate) addrs: IndexSet<u32, S, A>,
     pub(crate) devices: Vec<Kept<A>, A>,
@@ -44,12 +46,13 @@ impl<S: BuildHasher, A: Allocator> Model for Desk<S, A> {
     ghost use Rattle.std.specs.Prelude.{map};
     ghost use Rattle.server_core.specs.Desk.{DeskView};
     ghost use Rattle.server_core.specs.Kept.{IsDesk, outs, shown};
+    ghost use Rattle.server_core.specs.Airtime.{AreAirtimes};
 
     ghost Value = { DeskView };
 
     ghost view = { λ d. record { ids = d.gateways.items; reg = record { devices = map shown d.devices.items; gathered = d.gather; asked = d.asked.items }; known = d.known.items } };
 
-    ghost invariant = { λ d. IsDesk d.addrs.keys (outs d.devices.items) (record { devices = map shown d.devices.items; gathered = d.gather; asked = d.asked.items }) d.known.items };
+    ghost invariant = { λ d. IsDesk d.addrs.keys (outs d.devices.items) (record { devices = map shown d.devices.items; gathered = d.gather; asked = d.asked.items }) d.known.items × AreAirtimes d.gateways.items d.answered.items d.gather.limits.max_ever d.known.items };
 }
 
 impl<S: BuildHasher + Clone, A: Allocator + Copy> Desk<S, A> {
@@ -63,12 +66,15 @@ impl<S: BuildHasher + Clone, A: Allocator + Copy> Desk<S, A> {
     ) -> Result<Self, NoMemory>
         ensures { IfOk result (λ desk. desk ≡ desk_of (opening settings.now limits)) }
     {
+        let _max_ever = max_ever(&limits);
         let gateways = ids_of(alloc, settings.gateways())?;
+        let answered = airtimes_of(alloc, settings.gateways())?;
         let devices = devices_of(alloc, settings.devices())?;
         let addrs = addrs_of(alloc, hasher.clone()?, settings.devices())?;
         let gather = Gather::new(alloc, hasher, limits)?;
         Ok(Desk {
             gateways,
+            answered,
             addrs,
             devices,
             gather,

@@ -31,7 +31,9 @@ pub fn law_every_interleaving()
 ///   of the desk's part, and answer, what the definitions of the desk's calls say;
 /// - so does an answer that is out and is settled as it ended, on a gateway of the settings where it is on one; where no
 ///   answer of a number is out, nothing changes, and no stub of that number is taken;
-/// - a try, a cancel and a tick at a gateway leave the desk's part as it is.
+/// - a try, a cancel and a tick at a gateway leave the desk's part as it is;
+/// - for how long a gateway was on air, by what the desk knows to be settled, is the airtime of the settled answers that
+///   keep this gateway.
 pub fn law_desk_calls_are_steps()
     ensures { DeskCallsAreSteps }
 {}

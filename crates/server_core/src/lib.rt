@@ -2,6 +2,7 @@
 //! thread; and what holds of the whole system over every interleaving.
 #![tactic(auto)]
 
+mod airtimes;
 mod answering;
 mod answers;
 mod books;

@@ -1,6 +1,6 @@
 // What a desk keeps of its settings before anything was heard.
 
-ghost use Rattle.std.specs.Prelude.{◌≡◌, ◌≢◌, false, map, IfOk, All, AllPairs};
+ghost use Rattle.std.specs.Prelude.{◌≡◌, ◌≢◌, ◌<◌, ◌^◌, false, map, IfOk, All, AllPairs};
 ghost use Rattle.server_core.specs.Kept.{shown};
 ghost use Rattle.server_core.specs.Register.{opened_device};
 
@@ -9,6 +9,7 @@ use crate::{DeviceSetting, GatewaySetting};
 use indexmap::IndexSet;
 use std::alloc::{AllocError, Allocator};
 use std::hash::BuildHasher;
+use uplink_gather::Limits;
 
 /// The numbers of the gateways, in their order.
 pub(crate) fn ids_of<A: Allocator + Drop>(
@@ -18,6 +19,24 @@ pub(crate) fn ids_of<A: Allocator + Drop>(
     ensures { IfOk result (λ ids. ids.items ≡ map (λ g. g.id) gateways.now) }
 {
     gateways.iter().map(|gateway| gateway.id).collect(alloc)
+}
+
+/// How many uplinks may ever be gathered: a number of 32 bits, so that the sums of their airtimes fit in 64.
+pub(crate) fn max_ever(limits: &Limits) -> u32
+    ensures value { result ≡ limits.now.max_ever }
+    ensures below { result < 2 ^ 32 }
+{
+    limits.max_ever
+}
+
+/// An airtime of 0 for each of the gateways.
+pub(crate) fn airtimes_of<A: Allocator + Drop>(
+    alloc: A,
+    gateways: &[GatewaySetting],
+) -> Result<Vec<u64, A>, AllocError>
+    ensures { IfOk result (λ airtimes. airtimes.items ≡ map (λ _. 0) gateways.now) }
+{
+    gateways.iter().map(|_| 0).collect(alloc)
 }
 
 /// The devices as they are kept, in their order.

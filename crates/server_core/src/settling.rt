@@ -1,11 +1,14 @@
 // The answer to an uplink is settled.
 
-ghost use Rattle.std.specs.Prelude.{◌≡◌, true, Ok, Err, MatchBool};
+ghost use Rattle.std.specs.Prelude.{◌≡◌, ◌+◌, ◌≤◌, true, Ok, Err, MatchBool, OnOk};
+ghost use Rattle.answer_ticket.specs.Ended.{IsWithinLongest};
 ghost use Rattle.uplink_gather.specs.Gatherings.{numbered};
 ghost use Rattle.server_core.specs.Settling.{may_settle, has_carried, sent_of, kept_by};
+ghost use Rattle.server_core.specs.Airtime.{airtime_of_ending, total_at, total_limit};
 ghost use Rattle.server_core.specs.Desk.{desk_settle, desk_settled};
 
 use crate::Desk;
+use crate::airtimes::raise;
 use crate::answers::{Known, Sent, numbered};
 use crate::hearing::has_gateway;
 use answer_ticket::{Ending, Outcome, Stub};
@@ -19,6 +22,8 @@ impl<S: BuildHasher, A: Allocator> Desk<S, A> {
     pub fn settle(&mut self, stub: Stub) -> Result<Outcome, Stub>
         ensures answer { MatchBool (may_settle self.old.ids self.old.known stub.number stub.result) (result ≡ Ok stub) (result ≡ Err stub) }
         ensures step { self.new ≡ desk_settle self.old stub.number stub.result }
+        ensures total { OnOk result (total_at self.new.ids self.new.known ≡ total_at self.old.ids self.old.known + airtime_of_ending stub.result) }
+        ensures limit { OnOk result (total_at self.new.ids self.new.known ≤ total_limit) }
     {
         if !self.may_settle(&stub) {
             return Err(stub);
@@ -54,13 +59,18 @@ impl<S: BuildHasher, A: Allocator> Desk<S, A> {
 
     /// The answer is settled that ended so.
     fn end(&mut self, outcome: &Outcome)
-        requires { may_settle self.old.ids self.old.known outcome.now.number outcome.now.result ≡ true }
-        ensures { self.new ≡ desk_settled outcome.now.result outcome.now.number self.old }
+        requires out { may_settle self.old.ids self.old.known outcome.now.number outcome.now.result ≡ true }
+        requires short { IsWithinLongest outcome.now.result }
+        ensures step { self.new ≡ desk_settled outcome.now.result outcome.now.number self.old }
+        ensures total { total_at self.new.ids self.new.known ≡ total_at self.old.ids self.old.known + airtime_of_ending outcome.now.result }
+        ensures limit { total_at self.new.ids self.new.known ≤ total_limit }
     {
         let place = outcome.number as usize - 1;
         let device = self.asked[place].device;
         self.devices[device].settle(has_carried(&outcome.result));
-        self.known[place] = Known::Done(sent_of(&outcome.result));
+        let sent = sent_of(&outcome.result);
+        raise(&self.gateways, &mut self.answered, sent);
+        self.known[place] = Known::Done(sent);
     }
 }
 

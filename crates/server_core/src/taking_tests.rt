@@ -251,3 +251,20 @@ fn is_tried_on_its_own_gateway_alone(rt: HostRuntime) -> Result<(), Fail> {
     assert!(rt; settled(&mut desk, ticket.give_up()).is_some());
     Ok(())
 }
+
+#[test]
+fn adds_up_how_long_each_gateway_was_on_air(rt: HostRuntime) -> Result<(), Fail> {
+    let mut desk = desk_that_heard(rt.alloc(), DEVICE, true, &[0, 1])?;
+    let mut book = book_of(rt.alloc(), 1)?;
+    assert_eq!(rt; desk.answered(1), Some(0));
+    let (stub, _) = booked(desk.take(1)?.try_on(&mut book)).ok_or("it is booked")?;
+    assert_eq!(rt; desk.answered(1), Some(0));
+    assert!(rt; settled(&mut desk, stub).is_some());
+    assert_eq!(rt; desk.answered(1), Some(41_216));
+    assert_eq!(rt; desk.answered(2), Some(0));
+    assert_eq!(rt; desk.answered(3), None);
+    let second = desk.take(2)?;
+    assert!(rt; settled(&mut desk, second.give_up()).is_some());
+    assert_eq!(rt; desk.answered(1), Some(41_216));
+    Ok(())
+}

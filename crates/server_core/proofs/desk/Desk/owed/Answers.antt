@@ -28,20 +28,20 @@ pub index-requires : goal.index-requires
 index-requires g c =
     omega (
       arith,
-      within_here _ _ _ _ _ _ c.self.view_is c.args.n _ c.in-Some.asked c.self.invariant (sym (c.in-Some.ensures ∙ ap (numbered c.args.n) c.deref.ensures.value)),
+      within_here _ _ _ _ _ _ c.self.view_is c.args.n _ c.in-Some.asked c.self.invariant.0 (sym (c.in-Some.ensures ∙ ap (numbered c.args.n) c.deref.ensures.value)),
       c.self.inside.devices.ok.0,
     )
 
 pub returns-in-None : goal.returns-in-None
 returns-in-None g c =
     ready_here _ _ _ _ _ _ c.self.view_is c.args.n c.in-Some.asked c.index.result.now
-    (within_here _ _ _ _ _ _ c.self.view_is c.args.n _ c.in-Some.asked c.self.invariant (sym (c.in-Some.ensures ∙ ap (numbered c.args.n) c.deref.ensures.value)))
-    c.index.ensures _ c.self.invariant c.in-Some-numbered.known c.if-not-is_closed.ensures (c.in-Some.ensures ∙ ap (numbered c.args.n) c.deref.ensures.value)
+    (within_here _ _ _ _ _ _ c.self.view_is c.args.n _ c.in-Some.asked c.self.invariant.0 (sym (c.in-Some.ensures ∙ ap (numbered c.args.n) c.deref.ensures.value)))
+    c.index.ensures _ c.self.invariant.0 c.in-Some-numbered.known c.if-not-is_closed.ensures (c.in-Some.ensures ∙ ap (numbered c.args.n) c.deref.ensures.value)
     (c.in-Some-numbered.ensures ∙ ap (numbered c.args.n) c.deref-2.ensures.value) c.if-not-is_not_given.ensures c.in-None.ensures
 
 pub returns-in-Some-take_fault : goal.returns-in-Some-take_fault
 returns-in-Some-take_fault g c =
     fault_here _ _ _ _ _ _ c.self.view_is c.args.n c.in-Some.asked c.index.result.now
-    (within_here _ _ _ _ _ _ c.self.view_is c.args.n _ c.in-Some.asked c.self.invariant (sym (c.in-Some.ensures ∙ ap (numbered c.args.n) c.deref.ensures.value)))
-    c.index.ensures _ c.self.invariant c.in-Some-numbered.known c.if-not-is_closed.ensures (c.in-Some.ensures ∙ ap (numbered c.args.n) c.deref.ensures.value)
+    (within_here _ _ _ _ _ _ c.self.view_is c.args.n _ c.in-Some.asked c.self.invariant.0 (sym (c.in-Some.ensures ∙ ap (numbered c.args.n) c.deref.ensures.value)))
+    c.index.ensures _ c.self.invariant.0 c.in-Some-numbered.known c.if-not-is_closed.ensures (c.in-Some.ensures ∙ ap (numbered c.args.n) c.deref.ensures.value)
     (c.in-Some-numbered.ensures ∙ ap (numbered c.args.n) c.deref-2.ensures.value) c.if-not-is_not_given.ensures c.in-Some-take_fault.fault c.in-Some-take_fault.ensures

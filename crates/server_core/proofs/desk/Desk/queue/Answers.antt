@@ -7,10 +7,12 @@ index_mut-requires g c =
     omega (arith, found_within _ _ c.args.addr c.in-Some.place (desk_devices c.self.view_is) c.in-Some.ensures, c.self.inside.devices.ok.0)
 
 pub invariant_of-self : goal.invariant_of-self
-invariant_of-self g c =
-    queued_holds _ _ _ _ _ c.self.invariant c.in-Some.place c.index_mut.result.now c.push.new.self
-    (found_within _ _ c.args.addr c.in-Some.place (desk_devices c.self.view_is) c.in-Some.ensures) c.index_mut.ensures.value c.push.ensures.setting
-    (pushed_servable _ _ (c.args.port, c.args.payload.now) c.push.result c.push.ensures.told c.push.ensures.pushed c.push.ensures.refused) c.push.ensures.out
+invariant_of-self g c = (
+  queued_holds _ _ _ _ _ c.self.invariant.0 c.in-Some.place c.index_mut.result.now c.push.new.self
+      (found_within _ _ c.args.addr c.in-Some.place (desk_devices c.self.view_is) c.in-Some.ensures) c.index_mut.ensures.value c.push.ensures.setting
+      (pushed_servable _ _ (c.args.port, c.args.payload.now) c.push.result c.push.ensures.told c.push.ensures.pushed c.push.ensures.refused) c.push.ensures.out,
+  c.self.invariant.1,
+)
 
 pub returns-in-Some-clause-answer : goal.returns-in-Some-clause-answer
 returns-in-Some-clause-answer g c =

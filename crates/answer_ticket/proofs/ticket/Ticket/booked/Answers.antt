@@ -1,0 +1,11 @@
+use Rattle.std.proofs.Common.{arith}
+use Rattle.answer_ticket.proofs.Longest.{within_longest}
+use Rattle.answer_ticket.proofs.ticket.Ticket.booked.Goals as goal
+
+pub ended-requires : goal.ended-requires
+ended-requires g c =
+    omega (
+      arith,
+      c.airtime.ensures.value,
+      within_longest c.args.reservation.rate c.args.reservation.len c.args.reservation.fit.sized,
+    )
