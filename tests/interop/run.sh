@@ -1,8 +1,8 @@
 #!/bin/sh
 # Compares frames of lora_frame, and those of `airbook run` in the cases, with other implementations, outside the gate:
-# python3-cryptography for all of them, and wireshark's LoRaWAN dissector (tshark) for those that it can read. Installs what it needs
-# by apt-get where it may, and says what it skips. Needs rt and python3; takes about a minute. The frames
-# are written with no proof (`rt try`): the gate proves the crates.
+# python3-cryptography for all of them, and wireshark's LoRaWAN dissector (tshark) for those that it can read. Installs
+# what it needs by apt-get where it may, and says what it skips. Needs rt and python3; takes about a minute. The frames
+# of lora_frame are written with no proof (`rt try`): the gate proves the crates.
 set -eu
 top=$(cd "$(dirname "$0")/../.." && pwd)
 work=$(mktemp -d)
