@@ -1,4 +1,6 @@
-use Rattle.std.specs.Prelude.{ℕ, ◌≤◌, ⊤, Option, Some, None}
+use Rattle.std.specs.Prelude.{ℕ, ◌≤◌, ◌≡◌, ⊤, Option, Some, None}
+use Rattle.radio_airtime.specs.TimeOnAir.{airtime_of}
+use Rattle.rx_windows.specs.declared.candidate.Candidate.{Candidate}
 use Rattle.answer_ticket.specs.declared.outcome.Ending.{Ending}
 use Rattle.answer_ticket.specs.declared.outcome.Ending.TheVariants.{Answered, Unanswered, GivenUp}
 
@@ -19,3 +21,14 @@ abbrev pub IsWithinLongest : Ending → Type 0
 IsWithinLongest (Answered gateway window start airtime carried) = airtime ≤ longest_us
 IsWithinLongest (Unanswered refusal) = ⊤
 IsWithinLongest GivenUp = ⊤
+
+-- how an answer ended that was booked as the candidate
+abbrev pub answered_as : Candidate → Ending
+answered_as c = Answered c.gateway c.window c.start (airtime_of c.rate c.len) c.carries
+
+-- an answer that was booked was booked as a candidate: it is on air for as long as the formula says of that one
+abbrev pub IsOfCandidate : Ending → Type 0
+IsOfCandidate (Answered gateway window start airtime carried) =
+    (c : Candidate) × (Answered gateway window start airtime carried ≡ answered_as c)
+IsOfCandidate (Unanswered refusal) = ⊤
+IsOfCandidate GivenUp = ⊤

@@ -12,6 +12,7 @@ use Rattle.answer_ticket.specs.declared.outcome.Outcome.{Outcome}
 use Rattle.answer_ticket.specs.declared.tried.Receipt.{Receipt}
 use Rattle.answer_ticket.specs.declared.tried.Tried.{Tried}
 use Rattle.answer_ticket.specs.declared.tried.Tried.TheVariants.{Booked, Next, Out, Wrong, NoMemory}
+use Rattle.answer_ticket.specs.Ended.{answered_as}
 use Rattle.answer_ticket.specs.Job.{Job, ask_for, frame_for}
 use Rattle.answer_ticket.specs.Ticket.{Standing, candidate_of}
 
@@ -20,10 +21,6 @@ use Rattle.answer_ticket.specs.Ticket.{Standing, candidate_of}
 -- what a book answers, memory aside, to the candidate
 abbrev pub refusal_by : Book → Job → Candidate → Option Refusal
 refusal_by book job c = refusal_of (terms_of book) book.list (ask_for job c)
-
--- how an answer ended that was booked as the candidate
-abbrev pub answered_as : Candidate → Ending
-answered_as c = Answered c.gateway c.window c.start (airtime_of c.rate c.len) c.carries
 
 -- what is left of a ticket that ended so
 abbrev pub stub_of : Job → Ending → Outcome

@@ -1,5 +1,5 @@
 ghost use Rattle.std.specs.Prelude.{◌≡◌};
-ghost use Rattle.answer_ticket.specs.Ended.{gateway_of, IsWithinLongest};
+ghost use Rattle.answer_ticket.specs.Ended.{gateway_of, IsWithinLongest, IsOfCandidate};
 
 use crate::{Ending, Outcome};
 use std::marker::Model;
@@ -12,19 +12,20 @@ pub struct Stub {
 
 impl Model for Stub {
     ghost use Rattle.answer_ticket.specs.declared.outcome.Outcome.{Outcome as Ended};
-    ghost use Rattle.answer_ticket.specs.Ended.{IsWithinLongest};
+    ghost use Rattle.answer_ticket.specs.Ended.{IsWithinLongest, IsOfCandidate};
 
     ghost Value = { Ended };
 
     ghost view = { λ s. s.outcome };
 
-    ghost invariant = { λ s. IsWithinLongest s.outcome.result };
+    ghost invariant = { λ s. IsWithinLongest s.outcome.result × IsOfCandidate s.outcome.result };
 }
 
 impl Stub {
     /// The stub of the ticket with this number.
     pub(crate) fn new(number: u64, ending: Ending) -> Self
-        requires { IsWithinLongest ending }
+        requires short { IsWithinLongest ending }
+        requires booked { IsOfCandidate ending }
         ensures { result ≡ record { number = number; result = ending } }
     {
         Stub {
@@ -38,6 +39,7 @@ impl Stub {
     /// The number of the uplink's gathering; takes no memory.
     pub fn number(&self) -> u64
         ensures kept { IsWithinLongest self.now.result }
+        ensures booked { IsOfCandidate self.now.result }
         ensures number { result ≡ self.now.number }
     {
         self.outcome.number
@@ -57,6 +59,7 @@ impl Stub {
     /// Spends the stub and tells how the answer ended; takes no memory.
     pub fn end(self) -> Outcome
         ensures kept { IsWithinLongest self.result }
+        ensures booked { IsOfCandidate self.result }
         ensures outcome { result ≡ self }
     {
         let Stub { outcome } = self;

@@ -3,7 +3,7 @@ ghost use Rattle.std.specs.Option.{option_map};
 ghost use Rattle.answer_ticket.specs.Job.{IsJob, ask_for, frame_for};
 ghost use Rattle.gateway_book.specs.Answer.{IsAsked};
 ghost use Rattle.answer_ticket.specs.Ticket.{IsStanding, candidate_of};
-ghost use Rattle.answer_ticket.specs.Ended.{IsWithinLongest};
+ghost use Rattle.answer_ticket.specs.Ended.{IsWithinLongest, IsOfCandidate};
 ghost use Rattle.answer_ticket.specs.Tried.{TriedIs, stub_of, booked_of, refused_of};
 
 use crate::{Bytes, Ending, Job, Receipt, Stub, Tried};
@@ -92,7 +92,8 @@ impl<A: Allocator> Ticket<A> {
 
     /// The stub of this ticket.
     fn ended(self, ending: Ending) -> Stub
-        requires { IsWithinLongest ending }
+        requires short { IsWithinLongest ending }
+        requires booked { IsOfCandidate ending }
         ensures { result ≡ stub_of self.job ending }
     {
         let Ticket {

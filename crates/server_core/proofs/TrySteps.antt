@@ -17,7 +17,8 @@ use Rattle.answer_ticket.specs.declared.outcome.Outcome.{Outcome}
 use Rattle.answer_ticket.specs.declared.tried.Receipt.{Receipt}
 use Rattle.answer_ticket.specs.Job.{candidates, candidate_at, ask_for, frame_for}
 use Rattle.answer_ticket.specs.Ticket.{Standing, candidate_of}
-use Rattle.answer_ticket.specs.Tried.{refusal_by, answered_as, next_of, IsBooked, IsNext as IsRefused, IsOut as IsRefusedLast, IsWrong}
+use Rattle.answer_ticket.specs.Ended.{answered_as}
+use Rattle.answer_ticket.specs.Tried.{refusal_by, next_of, IsBooked, IsNext as IsRefused, IsOut as IsRefusedLast, IsWrong}
 use Rattle.server_core.specs.declared.event.Step.TheVariants as made
 use Rattle.server_core.specs.declared.entry.Line.{Line}
 use Rattle.server_core.specs.declared.entry.Line.TheVariants as says

@@ -11,6 +11,7 @@ pub mod Passing
 pub mod World
 pub mod Promise
 pub mod Desk
+pub mod AirtimeLaws
 pub mod Kept
 pub mod Schedule
 pub mod Entries

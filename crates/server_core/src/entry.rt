@@ -36,6 +36,9 @@ pub enum Line<A: Allocator> {
     Frame { number: u64, bytes: Bytes<A> },
     /// Every candidate was refused; this is why the last one was.
     Unanswered { number: u64, refusal: Refusal },
+    /// The answer to the uplink with this number could not be settled: the desk handed its stub back. One thread that works
+    /// at one desk has no such line.
+    Stray { number: u64 },
     /// What was booked for the uplink with this number was cancelled, of this time on air in microseconds.
     Cancelled { number: u64, airtime: u64 },
     /// It was not cancelled.

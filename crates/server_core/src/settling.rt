@@ -1,7 +1,7 @@
 // The answer to an uplink is settled.
 
-ghost use Rattle.std.specs.Prelude.{◌≡◌, ◌+◌, ◌≤◌, true, Ok, Err, MatchBool, OnOk};
-ghost use Rattle.answer_ticket.specs.Ended.{IsWithinLongest};
+ghost use Rattle.std.specs.Prelude.{◌≡◌, ◌+◌, ◌≤◌, true, Ok, Err, IfOk, MatchBool, OnOk};
+ghost use Rattle.answer_ticket.specs.Ended.{IsWithinLongest, IsOfCandidate};
 ghost use Rattle.uplink_gather.specs.Gatherings.{numbered};
 ghost use Rattle.server_core.specs.Settling.{may_settle, has_carried, sent_of, kept_by};
 ghost use Rattle.server_core.specs.Airtime.{airtime_of_ending, total_at, total_limit};
@@ -22,6 +22,7 @@ impl<S: BuildHasher, A: Allocator> Desk<S, A> {
     pub fn settle(&mut self, stub: Stub) -> Result<Outcome, Stub>
         ensures answer { MatchBool (may_settle self.old.ids self.old.known stub.number stub.result) (result ≡ Ok stub) (result ≡ Err stub) }
         ensures step { self.new ≡ desk_settle self.old stub.number stub.result }
+        ensures booked { IfOk result (λ outcome. IsOfCandidate outcome.result) }
         ensures total { OnOk result (total_at self.new.ids self.new.known ≡ total_at self.old.ids self.old.known + airtime_of_ending stub.result) }
         ensures limit { OnOk result (total_at self.new.ids self.new.known ≤ total_limit) }
     {
