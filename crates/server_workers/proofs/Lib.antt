@@ -1,0 +1,9 @@
+pub mod Tallied
+pub mod Numbered
+pub mod Ordered
+pub mod Settled
+pub mod CrewLemmas
+pub mod WorkLemmas
+pub mod ShelfLemmas
+pub mod HeldLemmas
+pub mod ClosingLemmas

@@ -1,0 +1,12 @@
+use Rattle.std.proofs.Common.{refl, sym, subst}
+use Rattle.std.specs.List.Sorted.{IsNonDecreasingBy}
+use Rattle.server_workers.proofs.HeldLemmas.{once_kept}
+use Rattle.server_workers.proofs.comparing.compare.Goals as goal
+
+pub first_doubled-requires : goal.first_doubled-requires
+first_doubled-requires g c =
+    subst (IsNonDecreasingBy (λ h. h.1.number)) (sym c.deref.ensures.value) c.in-Ok.ensures.rising
+
+pub returns-clause-once : goal.returns-clause-once
+returns-clause-once g c =
+    once_kept c.args.shelf.now _ _ c.in-Ok.ensures.same c.deref.ensures.value (c.in_default-first_doubled.ensures refl)

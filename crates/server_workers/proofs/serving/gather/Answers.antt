@@ -1,0 +1,58 @@
+-- Each list fits, since no worker's list outgrows the numbers.
+use Rattle.std.proofs.Common.{◌≡◌, ◌+◌, ap, ◌∙◌, arith, vec_len}
+use Rattle.server_workers.specs.Works.{airtime_of}
+use Rattle.server_workers.proofs.CrewLemmas.{one_fits, others_fit}
+use Rattle.server_workers.proofs.WorkLemmas.{airtime_of-append}
+use Rattle.server_workers.proofs.serving.gather.Goals as goal
+
+pub take_in-requires-clause-receipts : goal.take_in-requires-clause-receipts
+take_in-requires-clause-receipts g c =
+    let e : vec_len c.pop.new.self + 1 ≡ vec_len c.loop-member.crew = omega (arith, c.in-Some.ensures.len) in
+    one_fits c.loop-member.served.receipts c.worked.result.receipts g.K.Room.room _ _ c.loop-member.invariant.room.receipts e c.worked.ensures.within.receipts
+
+pub take_in-requires-clause-outcomes : goal.take_in-requires-clause-outcomes
+take_in-requires-clause-outcomes g c =
+    let e : vec_len c.pop.new.self + 1 ≡ vec_len c.loop-member.crew = omega (arith, c.in-Some.ensures.len) in
+    one_fits c.loop-member.served.outcomes c.worked.result.outcomes g.K.Room.room _ _ c.loop-member.invariant.room.outcomes e c.worked.ensures.within.outcomes
+
+pub take_in-requires-clause-skipped : goal.take_in-requires-clause-skipped
+take_in-requires-clause-skipped g c =
+    let e : vec_len c.pop.new.self + 1 ≡ vec_len c.loop-member.crew = omega (arith, c.in-Some.ensures.len) in
+    one_fits c.loop-member.served.skipped c.worked.result.skipped g.K.Room.room _ _ c.loop-member.invariant.room.skipped e c.worked.ensures.within.skipped
+
+pub take_in-requires-clause-refused : goal.take_in-requires-clause-refused
+take_in-requires-clause-refused g c =
+    let e : vec_len c.pop.new.self + 1 ≡ vec_len c.loop-member.crew = omega (arith, c.in-Some.ensures.len) in
+    one_fits c.loop-member.served.refused c.worked.result.refused g.K.Room.room _ _ c.loop-member.invariant.room.refused e c.worked.ensures.within.refused
+
+pub take_in-requires-clause-strays : goal.take_in-requires-clause-strays
+take_in-requires-clause-strays g c =
+    let e : vec_len c.pop.new.self + 1 ≡ vec_len c.loop-member.crew = omega (arith, c.in-Some.ensures.len) in
+    one_fits c.loop-member.served.strays c.worked.result.strays g.K.Room.room _ _ c.loop-member.invariant.room.strays e c.worked.ensures.within.strays
+
+pub loop-member-preserved : goal.loop-member-preserved
+loop-member-preserved g c =
+    let e : vec_len c.pop.new.self + 1 ≡ vec_len c.loop-member.crew = omega (arith, c.in-Some.ensures.len) in
+    let all = c.loop-member.served in
+    let own = c.worked.result in
+    let new = c.take_in.new.self in
+    let room = c.loop-member.invariant.room in
+    let within = c.worked.ensures.within in
+    let joined = c.take_in.ensures in
+    let parts : new.till.parts ≡ all.till.parts + own.till.parts = ap (λ t. t.parts) joined.till in
+    let amount : new.till.amount ≡ all.till.amount + own.till.amount = ap (λ t. t.amount) joined.till in
+    let airtime : airtime_of new.outcomes.items ≡ airtime_of all.outcomes.items + airtime_of own.outcomes.items = ap airtime_of joined.outcomes.items ∙ airtime_of-append all.outcomes.items own.outcomes.items in
+    record {
+      room =
+          record {
+            receipts = others_fit all.receipts own.receipts new.receipts g.K.Room.room _ _ room.receipts e within.receipts joined.receipts;
+            outcomes = others_fit all.outcomes own.outcomes new.outcomes g.K.Room.room _ _ room.outcomes e within.outcomes joined.outcomes;
+            skipped = others_fit all.skipped own.skipped new.skipped g.K.Room.room _ _ room.skipped e within.skipped joined.skipped;
+            refused = others_fit all.refused own.refused new.refused g.K.Room.room _ _ room.refused e within.refused joined.refused;
+            strays = others_fit all.strays own.strays new.strays g.K.Room.room _ _ room.strays e within.strays joined.strays;
+          };
+      parts = omega (arith, parts, own.one_part, e, c.loop-member.invariant.parts);
+      most = c.loop-member.invariant.most;
+      amount = omega (arith, amount, airtime, own.counted, c.loop-member.invariant.amount);
+      ran = joined.ran ∙ c.loop-member.invariant.ran;
+    }

@@ -1,0 +1,34 @@
+use Rattle.std.proofs.Common.{Some, ap, arith, vec_capacity, ◌∙◌}
+use Rattle.std.proofs.lemmas.List.Elements.{All-pop}
+use Rattle.server_workers.specs.EmptyLists.{AreEmptyFor}
+use Rattle.server_workers.proofs.serving.hired.Goals as goal
+
+pub idle-requires-clause-outcomes : goal.idle-requires-clause-outcomes
+idle-requires-clause-outcomes g c =
+    let own : AreEmptyFor g.K.Room.room c.in-Some.own = (All-pop (λ own. AreEmptyFor g.K.Room.room own) c.loop-own.lists.items c.pop.new.self.items (Some c.in-Some.own) c.in-Some.ensures.items c.loop-own.invariant.empty).1 in
+    own.outcomes.none
+
+pub new-requires : goal.new-requires
+new-requires g c =
+    let own : AreEmptyFor g.K.Room.room c.in-Some.own = (All-pop (λ own. AreEmptyFor g.K.Room.room own) c.loop-own.lists.items c.pop.new.self.items (Some c.in-Some.own) c.in-Some.ensures.items c.loop-own.invariant.empty).1 in
+    let made = c.idle.ensures in
+    record {
+      receipts = omega (arith, own.receipts.fits, ap (λ v. vec_capacity v) made.receipts);
+      outcomes = omega (arith, own.outcomes.fits, ap (λ v. vec_capacity v) made.outcomes);
+      skipped = omega (arith, own.skipped.fits, ap (λ v. vec_capacity v) made.skipped);
+      refused = omega (arith, own.refused.fits, ap (λ v. vec_capacity v) made.refused);
+      strays = omega (arith, own.strays.fits, ap (λ v. vec_capacity v) made.strays);
+    }
+
+pub loop-own-preserved : goal.loop-own-preserved
+loop-own-preserved g c =
+    let before = c.loop-own.invariant in
+    let left = ap (λ t. t.parts) c.split.ensures.left in
+    record {
+      amount = ap (λ t. t.amount) c.split.ensures.left ∙ before.amount;
+      parts = omega (arith, left, before.parts, before.some, c.in-Some.ensures.len);
+      some = before.some;
+      count = omega (arith, before.count, c.in-Some.ensures.len, c.push_reserved.ensures.len);
+      places = omega (arith, before.places, c.push_reserved.ensures.capacity);
+      empty = (All-pop (λ own. AreEmptyFor g.K.Room.room own) c.loop-own.lists.items c.pop.new.self.items (Some c.in-Some.own) c.in-Some.ensures.items before.empty).0;
+    }

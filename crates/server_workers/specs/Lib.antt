@@ -1,0 +1,7 @@
+pub mod Stations
+pub mod Works
+pub mod EmptyLists
+pub mod Working
+pub mod Crew
+pub mod Serving
+pub mod Closings

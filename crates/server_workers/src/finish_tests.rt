@@ -1,0 +1,347 @@
+// A station of two gateways and two devices, finished.
+ghost use Rattle.std.specs.Prelude.{◌≡◌, ◌<◌, IfOk};
+
+use crate::held::{first_doubled, held_by_number};
+use crate::shelf::Shelf;
+use crate::{Blank, Closing, FinishCause, FinishFault, Ledger, PARTS, Station, Till};
+use answer_ticket::{Receipt, Stub, Tried};
+use gateway_book::{Ask, GatewayBook, HOUR};
+use lora_frame::{Key, Keys, Up, uplink_bytes};
+use resv_list::VecRoster;
+use server_core::{DataRate, DeviceSetting, GatewaySetting, Heard1, Settings};
+use std::alloc::Global;
+use std::hash::{BuildHasherDefault, FoldHasher};
+use std::marker::Brand;
+use std::sync::Wait;
+use std::test::Fail;
+
+type Hasher = BuildHasherDefault<FoldHasher>;
+
+type Finished<B> = Result<Closing<Hasher>, FinishFault<B, Hasher>>;
+
+/// The key of both sessions.
+const KEY: [u8; 16] = [7; 16];
+
+/// The device of number 1, which gateway 1 hears, and that of number 2, which gateway 2 hears.
+const PAIRS: [(u32, u16); 2] = [(0x2601_1bda, 1), (0x2601_1bdb, 2)];
+
+/// When RX1 of both answers begins.
+const START: u64 = 6_000_000;
+
+fn device(addr: u32) -> DeviceSetting {
+    DeviceSetting {
+        addr,
+        nwk: KEY,
+        app: KEY,
+        delay: 1,
+        offset: 0,
+        rx2_freq: 869_525_000,
+        rx2_rate: DataRate::Dr0,
+        up: None,
+        down: 0,
+    }
+}
+
+fn settings(alloc: Global) -> Result<Settings<Global>, Fail> {
+    let mut gateways = Vec::new(alloc);
+    let mut devices = Vec::new(alloc);
+    for (addr, id) in PAIRS {
+        gateways.push(GatewaySetting { id, cap: 4_096 })?;
+        devices.push(device(addr))?;
+    }
+    Ok(Settings::new(gateways, devices)?)
+}
+
+/// A confirmed uplink without a payload.
+fn frame(alloc: Global, addr: u32) -> Result<Vec<u8>, Fail> {
+    let up = Up {
+        confirmed: true,
+        addr,
+        counter: 0,
+        adr: false,
+        adr_ack_req: false,
+        ack: false,
+        options: &[],
+        body: None,
+    };
+    let keys = Keys {
+        nwk: Key::new(KEY),
+        app: Key::new(KEY),
+    };
+    Ok(uplink_bytes(alloc, &up, &keys)?)
+}
+
+/// The copy of an uplink that a gateway heard.
+fn copy(gateway: u16) -> Heard1 {
+    Heard1 {
+        gateway,
+        at: 5_000_000,
+        freq_hz: 868_100_000,
+        rate: 5,
+        snr: 0,
+        rssi: -100,
+    }
+}
+
+/// Hears an uplink of each device, and closes both.
+fn hear_both<B: Ledger, R: Wait>(
+    rt: &R,
+    alloc: Global,
+    station: &Station<B, Hasher>,
+) -> Result<(), Fail> {
+    for (addr, gateway) in PAIRS {
+        let uplink = frame(alloc, addr)?;
+        station.hear(rt, uplink.as_slice(), copy(gateway), 0)?;
+    }
+    for _ in PAIRS {
+        station.pass(rt, 200_001);
+    }
+    Ok(())
+}
+
+/// A station that heard both, and its till.
+fn station<B: Ledger, R: Wait>(
+    rt: &R,
+    alloc: Global,
+    blank: Blank,
+) -> Result<(Station<B, Hasher>, Till<B>), Fail>
+    requires name { blank.name ≡ B.name }
+    requires parts { blank.parts ≡ B.parts }
+    requires all { blank.parts ≡ PARTS }
+    ensures { IfOk result (λ made. 1 < made.1.parts) }
+{
+    let settings = settings(alloc)?;
+    let (station, till) = Station::new(alloc, BuildHasherDefault::new(), &settings, blank)?;
+    hear_both(rt, alloc, &station)?;
+    Ok((station, till))
+}
+
+/// Books the answer of a number.
+fn book<B: Ledger, R: Wait>(
+    rt: &R,
+    station: &Station<B, Hasher>,
+    n: u64,
+) -> Result<(Stub, Receipt<Global>), Fail> {
+    let tried = station.try_once(rt, station.take(rt, n)?);
+    Ok(booked(tried).ok_or("it is booked")?)
+}
+
+/// The stub and the receipt of a try that was booked; any other is spent.
+fn booked(tried: Tried<Global>) -> Option<(Stub, Receipt<Global>)> {
+    let stub = match tried {
+        Tried::Booked(stub, receipt) => return Some((stub, receipt)),
+        Tried::Next(ticket, _) => ticket.give_up(),
+        Tried::Out(stub, _) => stub,
+        Tried::Wrong(ticket) => ticket.give_up(),
+        Tried::NoMemory(ticket) => ticket.give_up(),
+    };
+    let _ = stub.end();
+    None
+}
+
+/// Books and settles number 1.
+fn settle_one<B: Ledger, R: Wait>(
+    rt: &R,
+    station: &Station<B, Hasher>,
+    till: &mut Till<B>,
+) -> Result<Receipt<Global>, Fail> {
+    let (stub, receipt) = book(rt, station, 1)?;
+    match station.settle(rt, stub, till) {
+        Ok(_) => Ok(receipt),
+        Err(stub) => {
+            let _ = stub.end();
+            Err(Fail::from("it is settled"))
+        }
+    }
+}
+
+/// One till as a list.
+fn listed<B: Ledger>(alloc: Global, till: Till<B>) -> Result<Vec<Till<B>>, Fail> {
+    let mut tills = Vec::with_capacity(alloc, 1)?;
+    tills.push_reserved(till);
+    Ok(tills)
+}
+
+/// The airtime that was booked, and what the desk knows of gateway 1, of a station that is finished; otherwise why it isn't.
+fn told<B: Ledger>(finished: Finished<B>) -> Result<(u64, Option<u64>), FinishCause> {
+    match finished {
+        Ok(closing) => Ok((closing.booked, closing.desk.answered(1))),
+        Err(fault) => Err(fault.cause),
+    }
+}
+
+/// A finish without the till that counted, and one with both tills.
+fn finish_late<B: Ledger, R: Wait>(
+    rt: &R,
+    alloc: Global,
+    blank: Blank,
+) -> Result<(FinishCause, Result<(u64, Option<u64>), FinishCause>), Fail>
+    requires name { blank.name ≡ B.name }
+    requires parts { blank.parts ≡ B.parts }
+    requires all { blank.parts ≡ PARTS }
+{
+    let (station, mut old) = station::<B, R>(rt, alloc, blank)?;
+    let mut new = old.split();
+    settle_one(rt, &station, &mut new)?;
+    let finished = station.finish(alloc, listed(alloc, old)?, &[]);
+    let FinishFault {
+        cause,
+        station,
+        mut tills,
+    } = finished.err().ok_or("a till is missing")?;
+    tills.append(&mut listed(alloc, new)?)?;
+    Ok((cause, told(station.finish(alloc, tills, &[]))))
+}
+
+#[test]
+fn wants_all_tills(rt: HostRuntime) -> Result<(), Fail> {
+    let (early, late) = finish_late::<Brand, _>(&rt, rt.alloc(), Blank::new(PARTS as u64))?;
+    assert_eq!(rt; early, FinishCause::TillMissing);
+    assert_eq!(rt; late, Ok((41_216, Some(41_216))));
+    Ok(())
+}
+
+/// A finish after number 1 was settled, and number 2 booked but not settled.
+fn finish_unsettled<B: Ledger, R: Wait>(
+    rt: &R,
+    alloc: Global,
+    blank: Blank,
+) -> Result<Result<(u64, Option<u64>), FinishCause>, Fail>
+    requires name { blank.name ≡ B.name }
+    requires parts { blank.parts ≡ B.parts }
+    requires all { blank.parts ≡ PARTS }
+{
+    let (station, mut till) = station::<B, R>(rt, alloc, blank)?;
+    settle_one(rt, &station, &mut till)?;
+    let (stub, _) = book(rt, &station, 2)?;
+    let _ = stub.end();
+    Ok(told(station.finish(alloc, listed(alloc, till)?, &[])))
+}
+
+#[test]
+fn wants_every_booking_settled(rt: HostRuntime) -> Result<(), Fail> {
+    let told = finish_unsettled::<Brand, _>(&rt, rt.alloc(), Blank::new(PARTS as u64))?;
+    let apart = FinishCause::Apart {
+        gateway: 2,
+        booked: 41_216,
+        answered: 0,
+    };
+    assert_eq!(rt; told, Err(apart));
+    Ok(())
+}
+
+/// A finish with a receipt that was cancelled, and one without it.
+fn finish_cancelled<B: Ledger, R: Wait>(
+    rt: &R,
+    alloc: Global,
+    blank: Blank,
+) -> Result<(FinishCause, Result<(u64, Option<u64>), FinishCause>), Fail>
+    requires name { blank.name ≡ B.name }
+    requires parts { blank.parts ≡ B.parts }
+    requires all { blank.parts ≡ PARTS }
+{
+    let (station, mut till) = station::<B, R>(rt, alloc, blank)?;
+    let receipt = settle_one(rt, &station, &mut till)?;
+    station.cancel(rt, &receipt)?;
+    let finished = station.finish(alloc, listed(alloc, till)?, &[receipt]);
+    let FinishFault {
+        cause,
+        station,
+        tills,
+    } = finished.err().ok_or("a receipt is lost")?;
+    Ok((cause, told(station.finish(alloc, tills, &[]))))
+}
+
+#[test]
+fn misses_a_cancelled_receipt(rt: HostRuntime) -> Result<(), Fail> {
+    let (with, without) = finish_cancelled::<Brand, _>(&rt, rt.alloc(), Blank::new(PARTS as u64))?;
+    assert_eq!(rt; with, FinishCause::Lost { number: 1 });
+    assert_eq!(rt; without, Ok((41_216, Some(41_216))));
+    Ok(())
+}
+
+/// A finish with the receipt of number 1, as if it were of this gateway; where a floor is given, it was cancelled, and the
+/// book of gateway 1 has that floor.
+fn finish_with<B: Ledger, R: Wait>(
+    rt: &R,
+    alloc: Global,
+    blank: Blank,
+    gateway: u16,
+    floor: Option<u64>,
+) -> Result<Option<FinishCause>, Fail>
+    requires name { blank.name ≡ B.name }
+    requires parts { blank.parts ≡ B.parts }
+    requires all { blank.parts ≡ PARTS }
+{
+    let (station, mut till) = station::<B, R>(rt, alloc, blank)?;
+    let mut receipt = settle_one(rt, &station, &mut till)?;
+    if let Some(floor) = floor {
+        station.cancel(rt, &receipt)?;
+        station.tick(rt, 1, floor);
+    }
+    receipt.gateway = gateway;
+    Ok(told(station.finish(alloc, listed(alloc, till)?, &[receipt])).err())
+}
+
+#[test]
+fn wants_receipts_for_an_hour(rt: HostRuntime) -> Result<(), Fail> {
+    let lost = Some(FinishCause::Lost { number: 1 });
+    let cases = [
+        (1, None, None),
+        (9, None, lost),
+        (1, Some(START + HOUR), lost),
+        (1, Some(START + HOUR + 1), None),
+    ];
+    for (gateway, floor, cause) in cases {
+        let blank = Blank::new(PARTS as u64);
+        let told = finish_with::<Brand, _>(&rt, rt.alloc(), blank, gateway, floor)?;
+        assert_eq!(rt; told, cause);
+    }
+    Ok(())
+}
+
+/// A finish without tills.
+fn finish_without_tills<B: Ledger, R: Wait>(
+    rt: &R,
+    alloc: Global,
+    blank: Blank,
+) -> Result<Result<(u64, Option<u64>), FinishCause>, Fail>
+    requires name { blank.name ≡ B.name }
+    requires parts { blank.parts ≡ B.parts }
+    requires all { blank.parts ≡ PARTS }
+{
+    let (station, _) = station::<B, R>(rt, alloc, blank)?;
+    Ok(told(station.finish(alloc, Vec::new(alloc), &[])))
+}
+
+#[test]
+fn wants_tills(rt: HostRuntime) -> Result<(), Fail> {
+    let told = finish_without_tills::<Brand, _>(&rt, rt.alloc(), Blank::new(PARTS as u64))?;
+    assert_eq!(rt; told, Err(FinishCause::TillMissing));
+    Ok(())
+}
+
+/// Two books that each keep number 7.
+fn twins(alloc: Global) -> Result<Shelf<Global>, Fail> {
+    let ask = Ask {
+        number: 7,
+        start: START,
+        freq_hz: 868_100_000,
+        rate: DataRate::Dr5,
+        len: 12,
+    };
+    let mut shelf = Vec::new(alloc);
+    for gateway in [1, 2] {
+        let mut book = GatewayBook::new(VecRoster::new(alloc), gateway, 16)?;
+        book.book(ask)?;
+        shelf.push((gateway, book))?;
+    }
+    Ok(shelf)
+}
+
+#[test]
+fn finds_a_number_that_is_kept_twice(rt: HostRuntime) -> Result<(), Fail> {
+    let held = held_by_number(rt.alloc(), &twins(rt.alloc())?)?;
+    assert_eq!(rt; first_doubled(&held), Some((7, 1, 2)));
+    Ok(())
+}

@@ -1,0 +1,80 @@
+// A worker among others.
+ghost use Rattle.std.specs.Prelude.{◌≡◌, ℕ};
+ghost use Rattle.server_workers.specs.Crew.{IsWithin};
+
+use crate::working::work_on;
+use crate::{Gate, Ledger, Station, Worked};
+use crossbeam_channel::Receiver;
+use std::alloc::Allocator;
+use std::hash::BuildHasher;
+use std::marker::{Brand, PhantomData};
+use std::sync::Wait;
+
+/// How many numbers a crew works at.
+pub(crate) trait Room {
+    ghost room: { ℕ };
+}
+
+impl Room for Brand {
+    ghost room = { 0 };
+}
+
+/// A worker of a crew. Its type keeps that its lists have no more room than the numbers need.
+#[derive(Drop)]
+pub(crate) struct Member<K: Room, B: Ledger, A: Allocator> {
+    worked: Worked<B, A>,
+    crew: PhantomData<K>,
+    ghost within: { IsWithin K.room worked },
+}
+
+/// The numbers that a crew works at, in a channel that is closed.
+#[derive(Drop)]
+pub(crate) struct Numbers<K: Room, A: Allocator> {
+    channel: Receiver<u64, A>,
+    crew: PhantomData<K>,
+}
+
+impl<K: Room, A: Allocator> Numbers<K, A> {
+    /// The numbers of a channel.
+    pub(crate) fn new(channel: Receiver<u64, A>) -> Self {
+        Numbers {
+            channel,
+            crew: PhantomData,
+        }
+    }
+}
+
+impl<K: Room, B: Ledger, A: Allocator> Member<K, B, A> {
+    /// A worker that has done so much.
+    pub(crate) fn new(worked: Worked<B, A>) -> Self
+        requires { IsWithin K.room worked }
+        ensures { result.worked ≡ worked }
+    {
+        Member {
+            worked,
+            crew: PhantomData,
+        }
+    }
+
+    /// What it has done.
+    pub(crate) fn worked(self) -> Worked<B, A>
+        ensures same { result ≡ self.worked }
+        ensures within { IsWithin K.room result }
+    {
+        let Member { worked, crew: _ } = self;
+        worked
+    }
+}
+
+impl<K: Room, B: Ledger, A: Allocator + Copy> Member<K, B, A> {
+    /// Works at the numbers.
+    pub(crate) fn work<R: Wait, S: BuildHasher, G: Gate>(
+        &mut self,
+        rt: &R,
+        station: &Station<B, S, A>,
+        numbers: &Numbers<K, A>,
+        gate: &G,
+    ) {
+        work_on(rt, station, &numbers.channel, gate, &mut self.worked);
+    }
+}

@@ -1,0 +1,262 @@
+// Workers share out the numbers of a station.
+ghost use Rattle.std.specs.Prelude.{◌≡◌, ◌≢◌, ◌+◌, ◌-◌, ◌*◌, ◌<◌, ◌≤◌, ◌↔◌, All, IsErrAnd, IfOk, IfErr, length, vec_len, vec_capacity};
+ghost use Rattle.air_ledger.specs.Tills.{all_parts};
+ghost use Rattle.server_workers.specs.Works.{airtime_of};
+ghost use Rattle.server_workers.specs.EmptyLists.{AreEmptyFor};
+ghost use Rattle.server_workers.specs.Serving.{IsOutside, HasRoomFor, IsSortedByNumber};
+
+use crate::lists::Lists;
+use crate::member::{Member, Numbers, Room};
+use crate::served::{ServeCause, ServeFault, Served};
+use crate::{Gate, Ledger, PARTS, Station, Till, Worked};
+use crossbeam_channel::{Receiver, bounded};
+use std::alloc::{AllocError, Allocator};
+use std::hash::BuildHasher;
+use std::marker::Brand;
+use std::sync::Wait;
+use std::thread::{Threads, scope, scope_env};
+
+/// The greatest number of workers.
+const MAX_WORKERS: u8 = 16;
+
+/// What a crew starts with.
+struct Outfit<K: Room, B: Ledger, A: Allocator> {
+    /// What it works at.
+    numbers: Numbers<K, A>,
+    /// Lists for each worker.
+    lists: Vec<Lists<A>, A>,
+    /// No worker yet, with room for all of them.
+    crew: Vec<Member<K, B, A>, A>,
+    /// Lists for what all workers do.
+    all: Lists<A>,
+}
+
+/// Has some workers, 1 to 16, take, try and settle these numbers of a station, as `work` does, each with a part of a till
+/// that has more than 16. A fault hands the till back as it was given: `Workers` for another number of workers, `NoMemory`
+/// where a growth was refused before any worker was started, `NoThread` where none could be started.
+pub fn serve<
+    R: Threads + Wait + Sync,
+    B: Ledger + Send + Sync,
+    S: BuildHasher + Send + Sync,
+    A: Allocator + Copy + Send + Sync,
+    G: Gate + Sync,
+>(
+    rt: &R,
+    alloc: A,
+    station: &Station<B, S, A>,
+    numbers: &[u64],
+    till: Till<B>,
+    workers: u8,
+    gate: &G,
+) -> Result<Served<B, A>, ServeFault<B>>
+where
+    S::Hasher: Send + Sync,
+    requires { 16 < till.parts }
+    ensures till { IfOk result (λ served. served.till ≡ record till { amount = till.amount + airtime_of served.outcomes.items }) }
+    ensures sorted { IfOk result (λ served. IsSortedByNumber served) }
+    ensures ran { IfOk result (λ served. served.ran ≤ workers) }
+    ensures back { IfErr result (λ fault. fault.till ≡ till) }
+    ensures outside { IsErrAnd result (λ fault. fault.cause ≡ ServeCause.Workers) ↔ IsOutside workers }
+{
+    if workers == 0 {
+        return Err(fault(ServeCause::Workers, till));
+    }
+    if workers > MAX_WORKERS {
+        return Err(fault(ServeCause::Workers, till));
+    }
+    serve_by::<Brand, R, B, S, A, G>(rt, alloc, station, numbers, till, workers, gate)
+}
+
+/// A fault that hands the till back.
+fn fault<B: Ledger>(cause: ServeCause, till: Till<B>) -> ServeFault<B>
+    ensures { result ≡ record { cause = cause; till = till } }
+{
+    ServeFault { cause, till }
+}
+
+/// The same, by 1 to 16 workers.
+fn serve_by<
+    K: Room + Send + Sync,
+    R: Threads + Wait + Sync,
+    B: Ledger + Send + Sync,
+    S: BuildHasher + Send + Sync,
+    A: Allocator + Copy + Send + Sync,
+    G: Gate + Sync,
+>(
+    rt: &R,
+    alloc: A,
+    station: &Station<B, S, A>,
+    numbers: &[u64],
+    mut till: Till<B>,
+    workers: u8,
+    gate: &G,
+) -> Result<Served<B, A>, ServeFault<B>>
+where
+    S::Hasher: Send + Sync,
+    requires crew { (length numbers.now ≡ K.room) × (0 < workers) × (workers ≤ 16) }
+    requires parts { 16 < till.parts }
+    ensures till { IfOk result (λ served. served.till ≡ record till { amount = till.amount + airtime_of served.outcomes.items }) }
+    ensures sorted { IfOk result (λ served. IsSortedByNumber served × (served.ran ≤ workers)) }
+    ensures back { IfErr result (λ fault. fault.till ≡ till) }
+    ensures inside { IfErr result (λ fault. fault.cause ≢ ServeCause.Workers) }
+{
+    let Ok(outfit) = fitted_out::<K, R, B, A>(rt, alloc, numbers, workers) else {
+        return Err(fault(ServeCause::NoMemory, till));
+    };
+    let Outfit {
+        numbers,
+        lists,
+        crew,
+        all,
+    } = outfit;
+    let parts = till.parts();
+    prove!(parts <= PARTS); // So they fit when they are joined again.
+    let mut crew = hired(&mut till, lists, crew);
+    let ran = run(rt, station, &numbers, gate, crew.as_mut_slice());
+    let mut served = Served::new(till, all, ran as u8);
+    gather(&mut served, crew);
+    if served.ran == 0 && served.is_idle() {
+        return Err(not_started(served));
+    }
+    served.sort();
+    Ok(served)
+}
+
+/// What a crew of so many workers needs for these numbers; all that is grown.
+fn fitted_out<K: Room, R: Wait, B: Ledger, A: Allocator + Copy>(
+    rt: &R,
+    alloc: A,
+    numbers: &[u64],
+    workers: u8,
+) -> Result<Outfit<K, B, A>, AllocError>
+    requires { workers ≤ 16 }
+    ensures lists { IfOk result (λ outfit. All (λ own. AreEmptyFor (length numbers.now) own) outfit.lists.items) }
+    ensures count { IfOk result (λ outfit. vec_len outfit.lists ≡ workers) }
+    ensures nobody { IfOk result (λ outfit. vec_len outfit.crew ≡ 0) }
+    ensures places { IfOk result (λ outfit. vec_capacity outfit.crew ≡ workers) }
+    ensures all { IfOk result (λ outfit. AreEmptyFor (workers * length numbers.now) outfit.all) }
+{
+    let Some(room) = usize::from(workers).checked_mul(numbers.len()) else {
+        return Err(AllocError);
+    };
+    Ok(Outfit {
+        numbers: Numbers::new(closed_channel(rt, alloc, numbers)?),
+        lists: lists_for(alloc, workers, numbers.len())?,
+        crew: Vec::with_capacity(alloc, usize::from(workers))?,
+        all: Lists::new(alloc, room)?,
+    })
+}
+
+/// These numbers in a channel that is closed.
+fn closed_channel<R: Wait, A: Allocator + Copy>(
+    rt: &R,
+    alloc: A,
+    numbers: &[u64],
+) -> Result<Receiver<u64, A>, AllocError> {
+    let (sender, receiver) = bounded(alloc, numbers.len().max(1))?;
+    for number in numbers {
+        if sender.send(rt, *number).is_err() {
+            return Err(AllocError);
+        }
+    }
+    Ok(receiver)
+}
+
+/// Lists for each worker, with room for so many items.
+fn lists_for<A: Allocator + Copy>(
+    alloc: A,
+    workers: u8,
+    room: usize,
+) -> Result<Vec<Lists<A>, A>, AllocError>
+    ensures empty { IfOk result (λ lists. All (λ own. AreEmptyFor room own) lists.items) }
+    ensures count { IfOk result (λ lists. vec_len lists ≡ workers) }
+{
+    let mut lists = Vec::with_capacity(alloc, usize::from(workers))?;
+    for _worker in 0..workers {
+        lists.push_reserved(Lists::new(alloc, room)?);
+    }
+    Ok(lists)
+}
+
+/// A worker for each of the lists, with a part of the till.
+fn hired<K: Room, B: Ledger, A: Allocator>(
+    till: &mut Till<B>,
+    lists: Vec<Lists<A>, A>,
+    crew: Vec<Member<K, B, A>, A>,
+) -> Vec<Member<K, B, A>, A>
+    requires empty { All (λ own. AreEmptyFor K.room own) lists.items }
+    requires nobody { vec_len crew ≡ 0 }
+    requires places { vec_len lists ≤ vec_capacity crew }
+    requires parts { vec_len lists < till.old.parts }
+    ensures till { till.new ≡ record till.old { parts = till.old.parts - vec_len lists } }
+    ensures count { vec_len result ≡ vec_len lists }
+{
+    let mut lists = lists;
+    let mut crew = crew;
+    while let Some(own) = lists.pop() {
+        crew.push_reserved(Member::new(Worked::idle(till.split(), own)));
+    }
+    crew
+}
+
+/// Has a crew work on threads of their own, and waits for them; how many workers were started.
+fn run<
+    K: Room + Send + Sync,
+    R: Threads + Wait + Sync,
+    B: Ledger + Send + Sync,
+    S: BuildHasher + Send + Sync,
+    A: Allocator + Copy + Send + Sync,
+    G: Gate + Sync,
+>(
+    rt: &R,
+    station: &Station<B, S, A>,
+    numbers: &Numbers<K, A>,
+    gate: &G,
+    crew: &mut [Member<K, B, A>],
+) -> usize
+where
+    S::Hasher: Send + Sync,
+    ensures { result ≤ length crew.old }
+{
+    scope(
+        scope_env(),
+        rt,
+        |scope| -> usize
+            ensures { result ≤ length crew.entry.now }
+        {
+            let mut ran = 0;
+            for member in crew.iter_mut() {
+                let started = scope.spawn(move || member.work(rt, station, numbers, gate));
+                if started.is_ok() {
+                    ran += 1;
+                }
+            }
+            ran
+        },
+    )
+}
+
+/// Adds up what a crew did.
+fn gather<K: Room, B: Ledger, A: Allocator>(
+    served: &mut Served<B, A>,
+    crew: Vec<Member<K, B, A>, A>,
+)
+    requires room { HasRoomFor (vec_len crew * K.room) served.old }
+    requires parts { served.old.till.parts + vec_len crew ≤ all_parts }
+    ensures parts { served.new.till.parts ≡ served.old.till.parts + vec_len crew }
+    ensures amount { served.new.till.amount + airtime_of served.old.outcomes.items ≡ served.old.till.amount + airtime_of served.new.outcomes.items }
+    ensures ran { served.new.ran ≡ served.old.ran }
+{
+    let mut crew = crew;
+    while let Some(member) = crew.pop() {
+        served.take_in(member.worked());
+    }
+}
+
+/// The fault of a crew of which nobody was started.
+fn not_started<B: Ledger, A: Allocator>(served: Served<B, A>) -> ServeFault<B>
+    ensures { result ≡ record { cause = ServeCause.NoThread; till = served.till } }
+{
+    let Served { till, .. } = served;
+    fault(ServeCause::NoThread, till)
+}
