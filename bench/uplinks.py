@@ -1,10 +1,10 @@
 """Prints an input of `airbook run`: settings, and confirmed uplinks of devices that gateways hear.
 
-Usage: uplinks.py UPLINKS DEVICES GATEWAYS   (devices up to 1,024, gateways up to 64)
+Usage: uplinks.py UPLINKS DEVICES GATEWAYS [EACH]   (devices up to 1,024, gateways up to 64)
 
 Uplink i is of device i modulo DEVICES, 400 ms after the one before, on one of three channels at DR5; two
-neighbouring gateways hear it. Every tenth uplink time passes, so that gatherings are closed. Every hundredth device
-has a payload queued once.
+neighbouring gateways hear it. After every EACH uplinks, 10 where it isn't given, time passes, so that gatherings are
+closed. Every hundredth device has a payload queued once.
 """
 import sys
 
@@ -12,7 +12,7 @@ GAP_US = 400_000
 CHANNELS_HZ = (868_100_000, 868_300_000, 868_500_000)
 
 
-def main(uplinks, devices, gateways):
+def main(uplinks, devices, gateways, each=10):
     lines = []
     for gateway in range(1, gateways + 1):
         lines.append(f"[[gateway]]\nid = {gateway}")
@@ -34,11 +34,11 @@ def main(uplinks, devices, gateways):
                     f"hear {gateway} {moment} {CHANNELS_HZ[i % 3]} 5 {55 - 10 * place} -90 "
                     f"{moment + 50_000 * (place + 1)} {word}"
                 )
-        if i % 10 == 9:
+        if i % each == each - 1:
             lines.append(f"pass {moment + GAP_US}")
     lines.append(f"pass {1_000_000 + uplinks * GAP_US}")
     print("\n".join(lines))
 
 
 if __name__ == "__main__":
-    main(*map(int, sys.argv[1:4]))
+    main(*map(int, sys.argv[1:5]))

@@ -9,6 +9,7 @@ A case is a folder cases/NAME with
     stdout   what standard output must be, byte for byte; none: it is not compared
     stderr   the same of standard error
     status   the exit status that is wanted; none: 0
+    also     more arguments, one set a line: with each set the case is run again, and the same is wanted
 
 A failing case has a line, and under it what differs ('-' is wanted, '+' was written). The last line is
 'N passed, M failed'. The status is 0 where none failed, 1 where one did, 2 where nothing could be run.
@@ -40,9 +41,19 @@ def differences(name, want, got):
     return shown or [f"{name} differs in its line ends: wanted {want[-40:]!r}, written {got[-40:]!r}"]
 
 
-def faults_of(program, case, folder):
+def words_in(path):
+    return path.read_text().splitlines() if path.is_file() else []
+
+
+def runs_of(name):
+    """The runs of a case: a name, and the arguments that come after the case's own."""
+    more = words_in(CASES / name / "also")
+    return [(name, [])] + [(f"{name} {words}", words.split()) for words in more]
+
+
+def faults_of(program, case, more, folder):
     """What is wrong with a case; nothing where it passes."""
-    args = (case / "args").read_text().splitlines() if (case / "args").is_file() else []
+    args = words_in(case / "args") + more
     status = int((case / "status").read_text()) if (case / "status").is_file() else 0
     given = case / "stdin"
     try:
@@ -73,14 +84,15 @@ def main():
         print(f"cases.py: no case {' '.join(missing)} in {CASES}", file=sys.stderr)
         return 2
     failed = 0
+    runs = [(name, title, more) for name in names for title, more in runs_of(name)]
     with tempfile.TemporaryDirectory() as folder:
-        for name in names:
-            faults = faults_of(program, CASES / name, folder)
+        for name, title, more in runs:
+            faults = faults_of(program, CASES / name, more, folder)
             if faults:
                 failed += 1
-                print(f"failed: {name}")
+                print(f"failed: {title}")
                 print("\n".join("    " + fault for fault in faults))
-    print(f"{len(names) - failed} passed, {failed} failed")
+    print(f"{len(runs) - failed} passed, {failed} failed")
     return 1 if failed else 0
 
 

@@ -9,8 +9,8 @@ pub enum Task {
     Toa { rate: u8, len: u8 },
     /// The book of a gateway that keeps at most `cap` transmissions.
     Book { cap: u32 },
-    /// Settings of a server, and what happens there.
-    Run,
+    /// Settings of a server, and what happens there, with so many workers; with none one thread does all.
+    Run { workers: u8 },
 }
 
 /// The command line that the program takes.
@@ -26,7 +26,7 @@ pub fn program<'a>(alloc: Global) -> Result<Command<'a>, AllocError> {
         .subcommand_required(true)
         .subcommand(toa(alloc)?)?
         .subcommand(book(alloc)?)?
-        .subcommand(run(alloc))
+        .subcommand(run(alloc)?)
 }
 
 /// The arguments of `toa`.
@@ -64,15 +64,24 @@ fn book<'a>(alloc: Global) -> Result<Command<'a>, AllocError> {
         .arg(cap)
 }
 
-/// The arguments of `run`: none.
-fn run<'a>(alloc: Global) -> Command<'a> {
+/// The arguments of `run`.
+fn run<'a>(alloc: Global) -> Result<Command<'a>, AllocError> {
+    let workers = Arg::new(alloc, "workers")
+        .help(
+            "How many workers answer the uplinks that one pass closes, 0 to 16; with 0 one thread does all",
+        )
+        .long("workers")
+        .value_name("N")
+        .default_value("0")
+        .value_parser(value_parser!(u8).range(0..=16));
     Command::new(alloc, "run")
         .about(
             "Answers the uplinks that gateways heard. Standard input: the settings in TOML, a line ---, and then lines queue ADDR PORT HEX, hear GATEWAY AT FREQ DR SNR RSSI ARRIVED HEX, pass NOW, tick GATEWAY NOW, cancel N",
         )
         .after_help(
-            "Example:\n  $ airbook run < examples/two-gateways.txt\n  opened 1\n  joined 1 2\n  send 1 2 RX1 10000000 868100000 5 12\n  frame 1 60da1b0126200000240347ca\n  gateway 1 booked 0 cancelled 0 retired 0 kept 0\n  gateway 2 booked 41216 cancelled 0 retired 0 kept 1\n  busiest 2 M 10000000 41216\n  answered 1 unanswered 0 silent 0",
+            "Example:\n  $ airbook run < examples/two-gateways.txt\n  opened 1\n  joined 1 2\n  send 1 2 RX1 10000000 868100000 5 12\n  frame 1 60da1b0126200000240347ca\n  gateway 1 booked 0 cancelled 0 retired 0 kept 0\n  gateway 2 booked 41216 cancelled 0 retired 0 kept 1\n  busiest 2 M 10000000 41216\n  answered 1 unanswered 0 silent 0\n  $ airbook run --workers 2 < examples/two-gateways.txt",
         )
+        .arg(workers)
 }
 
 /// The task that the arguments name.
@@ -85,7 +94,9 @@ pub fn task_of(matches: &ArgMatches<'_>) -> Option<Task> {
         Some(("book", book)) => Some(Task::Book {
             cap: book.get_one::<u32>("cap")?,
         }),
-        Some(("run", _)) => Some(Task::Run),
+        Some(("run", run)) => Some(Task::Run {
+            workers: run.get_one::<u8>("workers")?,
+        }),
         _ => None,
     }
 }

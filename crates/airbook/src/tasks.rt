@@ -6,6 +6,8 @@ use std::hash::RandomState;
 use std::io;
 use std::process::ExitCode;
 use std::random::RandomSource;
+use std::sync::Wait;
+use std::thread::Threads;
 use text_lines::{StdIn, StdOut};
 
 /// The status where a line of the output begins with `no` or `bad`.
@@ -16,7 +18,9 @@ const FAULT: u8 = 2;
 
 /// Does what the arguments ask for. The status is 0; 1 where a line of the output begins with `no` or `bad`; 2 for
 /// wrong arguments, and for a fault, whose name is then the last line on standard error.
-pub fn run<R: AllocGlobal + Env + Input + Print + Eprint + RandomSource>(rt: &R) -> ExitCode {
+pub fn run<R: AllocGlobal + Env + Input + Print + Eprint + RandomSource + Threads + Wait + Sync>(
+    rt: &R,
+) -> ExitCode {
     let words = match words_of(rt) {
         Ok(words) => words,
         Err(error) if error.kind() == io::ErrorKind::OutOfMemory => {
@@ -46,14 +50,17 @@ fn words_of<R: AllocGlobal + Env>(rt: &R) -> io::Result<Vec<String>> {
 }
 
 /// Does a task on standard input and output.
-fn perform<R: AllocGlobal + Input + Print + Eprint + RandomSource>(rt: &R, task: Task) -> ExitCode {
+fn perform<R: AllocGlobal + Input + Print + Eprint + RandomSource + Threads + Wait + Sync>(
+    rt: &R,
+    task: Task,
+) -> ExitCode {
     let mut reader = StdIn::new(rt.reader());
     let mut writer = StdOut::new(io::writer(rt));
     let answered = match task {
         Task::Toa { rate, len } => toa_text(rate, len, &mut writer),
         Task::Book { cap } => book_text(rt.alloc(), cap, &mut reader, &mut writer),
-        Task::Run => match RandomState::new(rt) {
-            Ok(hasher) => run_text(rt.alloc(), hasher, &mut reader, &mut writer),
+        Task::Run { workers } => match RandomState::new(rt) {
+            Ok(hasher) => run_text(rt, rt.alloc(), hasher, workers, &mut reader, &mut writer),
             Err(_) => Err(TextFault::Read),
         },
     };

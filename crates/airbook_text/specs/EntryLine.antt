@@ -5,7 +5,7 @@ use Rattle.radio_airtime.specs.DataRate.{number_of}
 use Rattle.rx_windows.specs.declared.candidate.Candidate.{Candidate}
 use Rattle.rx_windows.specs.Window.{window_text}
 use Rattle.server_core.specs.declared.entry.Line.{Line}
-use Rattle.server_core.specs.declared.entry.Line.TheVariants.{Queued, NotQueued, Heard, NotHeard, Silent, NotTaken, Send, Frame, Unanswered, Cancelled, NotCancelled, Floor, NotTicked, Bad}
+use Rattle.server_core.specs.declared.entry.Line.TheVariants.{Queued, NotQueued, Heard, NotHeard, Silent, NotTaken, Send, Frame, Unanswered, Stray, Cancelled, NotCancelled, Floor, NotTicked, Bad}
 use Rattle.server_core.specs.declared.heard.DeskHeard.{DeskHeard}
 use Rattle.server_core.specs.declared.heard.DeskHeard.TheVariants.{Opened, Joined}
 use Rattle.airbook_text.specs.Reply.{spaced, fault_word}
@@ -44,6 +44,7 @@ line_words (NotTaken number fault) = codes "no" ∷ decimal number ∷ take_name
 line_words (Send number candidate) = codes "send" ∷ decimal number ∷ candidate_words candidate
 line_words (Frame number bytes) = codes "frame" ∷ decimal number ∷ hex_word bytes ∷ []
 line_words (Unanswered number refusal) = codes "unanswered" ∷ decimal number ∷ refusal_name refusal ∷ []
+line_words (Stray number) = codes "no" ∷ decimal number ∷ codes "Stray" ∷ []
 line_words (Cancelled number airtime) = codes "cancelled" ∷ decimal number ∷ decimal airtime ∷ []
 line_words (NotCancelled number fault) = codes "no" ∷ codes "cancel" ∷ decimal number ∷ fault_word fault ∷ []
 line_words (Floor gateway floor) = codes "floor" ∷ decimal gateway ∷ decimal floor ∷ []

@@ -1,4 +1,4 @@
-use Rattle.std.specs.Prelude.{◌≡◌, ℕ, Bool, List, map, Option, Some, None, Result, Ok, Err, ⊤}
+use Rattle.std.specs.Prelude.{◌≡◌, ℕ, Bool, List, map, Option, Some, None, Result, Ok, Err, ⊤, codes}
 use Rattle.std.specs.Io.KnownBytes.{Appends, Consumes}
 use Rattle.std.specs.Str.Lines.{lines}
 use Rattle.text_lines.specs.Line.{text_of}
@@ -7,7 +7,7 @@ use Rattle.server_core.specs.declared.event.Event.{Event}
 use Rattle.server_core.specs.Settings.{SettingLists}
 use Rattle.server_core.specs.Entries.{entries, gateways_after, kept_gateway}
 use Rattle.airbook_text.specs.declared.fault.TextFault.{TextFault}
-use Rattle.airbook_text.specs.declared.fault.TextFault.TheVariants.{Settings}
+use Rattle.airbook_text.specs.declared.fault.TextFault.TheVariants.{Settings, NoMemory}
 use Rattle.airbook_text.specs.Output.{has_refusal}
 use Rattle.airbook_text.specs.ReplayText.{replay_lines}
 use Rattle.airbook_text.specs.RunInput.{settings_part, event_part}
@@ -54,3 +54,19 @@ RunsInPart A (Some bytes) left_after before after = IsRunInPart A bytes left_aft
 abbrev pub NamesFault : Option (List ℕ) → Result Bool TextFault → Type 0
 NamesFault (Some bytes) (Err (Settings name)) = IsRefusedBy (settings_in (settings_part bytes)) (Settings name)
 NamesFault left result = ⊤
+
+-- there are too many workers
+abbrev pub NamesWorkers : Result Bool TextFault → Type 0
+NamesWorkers (Err (Settings name)) = name.now ≡ codes "Workers"
+NamesWorkers result = ⊥
+
+-- why a run with workers comes to no books: a growth was refused, or the books don't go with the answers
+abbrev pub IsPlayFault : TextFault → Type 0
+IsPlayFault (Settings name) = ⊤
+IsPlayFault NoMemory = ⊤
+IsPlayFault other = ⊥
+
+-- the writer took some lines, and `refused` says whether one of them begins with `no` or `bad`
+abbrev pub TellsRefusals : Option (List ℕ) → Option (List ℕ) → Bool → Type 0
+TellsRefusals before after refused =
+    (written : List (List ℕ)) × (Appends before after (text_of written) × (refused ≡ has_refusal written))

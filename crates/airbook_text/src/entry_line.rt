@@ -44,6 +44,7 @@ pub(crate) fn is_refused<A: Allocator>(line: &Line<A>) -> bool
         Line::NotQueued(_)
         | Line::NotHeard(_)
         | Line::NotTaken { .. }
+        | Line::Stray { .. }
         | Line::NotCancelled { .. }
         | Line::NotTicked
         | Line::Bad { .. } => true,
@@ -75,6 +76,7 @@ fn write_but_frame<A: Allocator>(line: &Line<A>, text: &mut TextLine)
         Line::Unanswered { number, refusal } => {
             begin_named(text, b"unanswered", *number, refusal_name(*refusal));
         }
+        Line::Stray { number } => begin_named(text, b"no", *number, b"Stray"),
         Line::Cancelled { number, airtime } => begin_pair(text, b"cancelled", *number, *airtime),
         Line::NotCancelled { number, fault } => {
             begin(text, b"no cancel", *number);

@@ -1,6 +1,7 @@
 //! The texts of `airbook`: input lines in, answer lines out; and the settings of a server.
 #![tactic(auto)]
 
+mod answer_here;
 mod booking;
 mod command;
 mod entry_line;
@@ -8,12 +9,15 @@ mod entry_name;
 mod fault;
 mod gateway_report;
 mod laws;
+mod pass_answers;
+mod receipts;
 #[cfg(test)]
 mod replay_tests;
 mod replay_text;
 mod reply;
 mod report;
 mod run;
+mod run_alone;
 mod run_events;
 mod run_input;
 mod run_settings;
@@ -25,6 +29,7 @@ mod settings_fields;
 mod settings_reading;
 #[cfg(test)]
 mod settings_tests;
+mod station_run;
 mod tally;
 #[cfg(test)]
 mod tests;

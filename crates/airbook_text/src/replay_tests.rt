@@ -1,5 +1,5 @@
 // What no clause says: that the text is that of the worked lines; and that a failed write is answered as one.
-use crate::replay_text::write_replay;
+use crate::replay_text::write_lines;
 use answer_ticket::Bytes;
 use gateway_book::{Ask, CancelFault, GatewayBook, Refusal};
 use lora_frame::FrameFault;
@@ -144,7 +144,11 @@ fn worked(alloc: Global) -> Result<Replay<Global>, Fail> {
 fn writes_a_line_of_each_form(rt: HostRuntime) -> Result<(), Fail> {
     let replay = worked(rt.alloc())?;
     let mut writer = MemoryOut::new(rt.alloc());
-    let refused = write_replay(&replay, &mut writer)?;
+    let refused = write_lines(
+        replay.outcomes.as_slice(),
+        replay.books.as_slice(),
+        &mut writer,
+    )?;
     assert!(rt; refused);
     assert_eq!(rt; writer.bytes.as_slice(), WORKED);
     Ok(())
@@ -156,7 +160,12 @@ fn each_write_fails_in_turn(rt: HostRuntime) -> Result<(), Fail> {
     for at in 1..WORKED.len() as u64 / 64 + 2 {
         let mut writer = MemoryOut::failing(rt.alloc(), 64, at);
         assert!(rt;
-            write_replay(&replay, &mut writer).is_err(),
+            write_lines(
+                replay.outcomes.as_slice(),
+                replay.books.as_slice(),
+                &mut writer
+            )
+            .is_err(),
             "at write {at}"
         );
         assert_eq!(rt; writer.failed, 1, "at write {at}");

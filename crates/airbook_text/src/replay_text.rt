@@ -1,4 +1,4 @@
-// The text of a replay: the lines that answer its events, and a report.
+// The text of a run: the lines that answer its events, and a report.
 ghost use Rattle.std.specs.Prelude.{◌≡◌, ◌++◌, map, IfOk, OnOk, OnErr};
 ghost use Rattle.std.specs.List.{list_any};
 ghost use Rattle.std.specs.Io.KnownBytes.{Appends};
@@ -16,24 +16,24 @@ use crate::gateway_report::put_gateways;
 use crate::tally::put_tally;
 use gateway_book::GatewayBook;
 use resv_list::Roster;
-use server_core::{Entry, Replay};
+use server_core::Entry;
 use std::alloc::Allocator;
 use text_lines::{ByteOut, CallFailed, WriteBehind};
 
-/// Writes the lines of a replay, and answers whether one of them begins with `no` or `bad`. After an Err a front of
-/// them was written.
-pub(crate) fn write_replay<A: Allocator, W: ByteOut>(
-    replay: &Replay<A>,
+/// Writes the lines that answer events and the report of the gateways' books, and answers whether one of them begins with
+/// `no` or `bad`. After an Err a front of them was written.
+pub(crate) fn write_lines<A: Allocator, B: Roster, W: ByteOut>(
+    entries: &[Entry<A>],
+    books: &[GatewayBook<B>],
     writer: &mut W,
 ) -> Result<bool, CallFailed>
-    ensures ok { OnOk result (Appends (W.taken writer.old) (W.taken writer.new) (text_of (replay_lines replay.now.outcomes.items (map gateway_of replay.now.books.items)))) }
-    ensures told { IfOk result (λ refused. refused ≡ has_refusal (replay_lines replay.now.outcomes.items (map gateway_of replay.now.books.items))) }
-    ensures err { OnErr result (WritesFront (W.taken writer.old) (W.taken writer.new) (text_of (replay_lines replay.now.outcomes.items (map gateway_of replay.now.books.items)))) }
+    ensures ok { OnOk result (Appends (W.taken writer.old) (W.taken writer.new) (text_of (replay_lines entries.now (map gateway_of books.now)))) }
+    ensures told { IfOk result (λ refused. refused ≡ has_refusal (replay_lines entries.now (map gateway_of books.now))) }
+    ensures err { OnErr result (WritesFront (W.taken writer.old) (W.taken writer.new) (text_of (replay_lines entries.now (map gateway_of books.now)))) }
     ensures failed { CountsFailure (W.failed_calls writer.old) (W.failed_calls writer.new) result }
 {
-    let entries = replay.outcomes.as_slice();
     let mut output = WriteBehind::new();
-    match put_lines(entries, replay.books.as_slice(), &mut output, writer) {
+    match put_lines(entries, books, &mut output, writer) {
         Err(failed) => return Err(failed),
         Ok(()) => {}
     }

@@ -29,10 +29,39 @@ fn better_gateway_answers(rt: HostRuntime) -> Result<(), Fail> {
     let bytes = input(rt.alloc(), EVENTS)?;
     let mut reader = MemoryIn::new(bytes.as_slice());
     let mut writer = MemoryOut::new(rt.alloc());
-    let refused = run_text(rt.alloc(), Hasher::new(), &mut reader, &mut writer)?;
+    let refused = run_text(&rt, rt.alloc(), Hasher::new(), 0, &mut reader, &mut writer)?;
     assert!(rt; !refused);
     assert_eq!(rt; writer.bytes.as_slice(), ANSWERS);
     Ok(())
+}
+
+#[test]
+fn workers_give_the_same_answers(rt: HostRuntime) -> Result<(), Fail> {
+    let bytes = input(rt.alloc(), EVENTS)?;
+    for workers in 1..=2 {
+        let mut reader = MemoryIn::new(bytes.as_slice());
+        let mut writer = MemoryOut::new(rt.alloc());
+        let refused = run_text(
+            &rt,
+            rt.alloc(),
+            Hasher::new(),
+            workers,
+            &mut reader,
+            &mut writer,
+        )?;
+        assert!(rt; !refused, "with {workers} workers");
+        assert_eq!(rt; writer.bytes.as_slice(), ANSWERS, "with {workers} workers");
+    }
+    Ok(())
+}
+
+#[test]
+fn too_many_workers_are_refused(rt: HostRuntime) {
+    let mut reader = MemoryIn::new(SETTINGS);
+    let mut writer = MemoryOut::new(rt.alloc());
+    let fault = run_text(&rt, rt.alloc(), Hasher::new(), 17, &mut reader, &mut writer).err();
+    assert!(rt; matches!(fault, Some(TextFault::Settings("Workers"))));
+    assert!(rt; writer.bytes.is_empty());
 }
 
 #[test]
@@ -40,7 +69,7 @@ fn bad_line_is_a_refusal(rt: HostRuntime) -> Result<(), Fail> {
     let bytes = input(rt.alloc(), b"# a comment\n\nhears 1\n")?;
     let mut reader = MemoryIn::new(bytes.as_slice());
     let mut writer = MemoryOut::new(rt.alloc());
-    let refused = run_text(rt.alloc(), Hasher::new(), &mut reader, &mut writer)?;
+    let refused = run_text(&rt, rt.alloc(), Hasher::new(), 0, &mut reader, &mut writer)?;
     assert!(rt; refused);
     assert!(rt; writer.bytes.as_slice().starts_with(b"bad 3 Syntax\n"));
     Ok(())
@@ -50,7 +79,7 @@ fn bad_line_is_a_refusal(rt: HostRuntime) -> Result<(), Fail> {
 fn input_without_gateways_is_refused(rt: HostRuntime) -> Result<(), Fail> {
     let mut reader = MemoryIn::new(b"");
     let mut writer = MemoryOut::new(rt.alloc());
-    let fault = run_text(rt.alloc(), Hasher::new(), &mut reader, &mut writer).err();
+    let fault = run_text(&rt, rt.alloc(), Hasher::new(), 0, &mut reader, &mut writer).err();
     assert!(rt; matches!(fault, Some(TextFault::Settings("Count"))));
     assert!(rt; writer.bytes.is_empty());
     Ok(())
@@ -62,7 +91,7 @@ fn each_read_of_a_run_fails_in_turn(rt: HostRuntime) -> Result<(), Fail> {
     for at in 1..7 {
         let mut reader = MemoryIn::failing(bytes.as_slice(), 64, at);
         let mut writer = MemoryOut::new(rt.alloc());
-        let fault = run_text(rt.alloc(), Hasher::new(), &mut reader, &mut writer).err();
+        let fault = run_text(&rt, rt.alloc(), Hasher::new(), 0, &mut reader, &mut writer).err();
         assert!(rt; matches!(fault, Some(TextFault::Read)), "at read {at}");
         assert!(rt; writer.bytes.is_empty(), "at read {at}");
     }
@@ -75,7 +104,7 @@ fn each_write_of_a_run_fails_in_turn(rt: HostRuntime) -> Result<(), Fail> {
     for at in 1..17 {
         let mut reader = MemoryIn::new(bytes.as_slice());
         let mut writer = MemoryOut::failing(rt.alloc(), 16, at);
-        let fault = run_text(rt.alloc(), Hasher::new(), &mut reader, &mut writer).err();
+        let fault = run_text(&rt, rt.alloc(), Hasher::new(), 0, &mut reader, &mut writer).err();
         assert!(rt; matches!(fault, Some(TextFault::Write)), "at write {at}");
         assert!(rt;
             ANSWERS.starts_with(writer.bytes.as_slice()),

@@ -1,7 +1,7 @@
 use Rattle.std.proofs.Common.{Global, ◌∙◌, ap}
 use Rattle.airbook_text.specs.RunInput.{settings_part, event_part}
 use Rattle.airbook_text.proofs.RunWhole.{answered-by, runs}
-use Rattle.airbook_text.proofs.run.run_text.Goals as goal
+use Rattle.airbook_text.proofs.run_alone.run_alone.Goals as goal
 
 pub returns-clause-ok : goal.returns-clause-ok
 returns-clause-ok g c =
