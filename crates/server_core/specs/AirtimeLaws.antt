@@ -1,5 +1,5 @@
 use Rattle.std.specs.Prelude.{ℕ, zero, suc, ◌≡◌, ◌+◌, ◌-◌, Bool, true, false, List, [], ◌∷◌, ◌++◌, slice_get, slice_set, if◌then◌else◌, Option, Some, None, Result, Ok, Err, unwrap_or, refl}
-use Rattle.std.proofs.Common.{sym, ap, ◌∙◌, arith}
+use Rattle.std.proofs.Common.{ap, ◌∙◌, arith}
 use Rattle.std.specs.Option.{option_map_or}
 use Rattle.uplink_gather.specs.declared.limits.Limits.{Limits}
 use Rattle.uplink_gather.specs.Gatherings.{numbered, rewritten, is_closed_at}
@@ -10,7 +10,7 @@ use Rattle.server_core.specs.declared.faults.TakeFault.TheVariants.{NotReady}
 use Rattle.server_core.specs.Settings.{SettingLists}
 use Rattle.server_core.specs.Register.{Register, Asked}
 use Rattle.server_core.specs.Hearing.{Decision, Refuse, Join, Open, decide}
-use Rattle.server_core.specs.Answers.{Known, NotGiven, Given, Done, is_not_given}
+use Rattle.server_core.specs.Answers.{Known, NotGiven, Given, Done}
 use Rattle.server_core.specs.Taking.{take_answer, take_known}
 use Rattle.server_core.specs.Airtime.{known_airtime, answered_at, total_at}
 use Rattle.server_core.specs.World.{opening}

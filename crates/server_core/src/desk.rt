@@ -13,7 +13,7 @@ ghost use Rattle.server_core.specs.Desk.{desk_of, desk_queue, desk_hear, desk_pa
 use crate::answers::{Asked, Known};
 use crate::device::Kept;
 use crate::hearing::{copy_fault, copy_of, desk_answer, is_last, named_fault};
-use crate::opening::{addrs_of, airtimes_of, devices_of, ids_of, max_ever};
+use crate::opening::{addrs_of, airtimes_of, devices_of, ids_of};
 use crate::verdict::{NewUplink, Verdict};
 use crate::{DeskFault, DeskHeard, Heard1, QueueFault, Settings};
 use indexmap::IndexSet;
@@ -66,7 +66,8 @@ impl<S: BuildHasher + Clone, A: Allocator + Copy> Desk<S, A> {
     ) -> Result<Self, NoMemory>
         ensures { IfOk result (λ desk. desk ≡ desk_of (opening settings.now limits)) }
     {
-        let _max_ever = max_ever(&limits);
+        // So the sums of all airtimes fit in 64 bits.
+        prove!(limits.max_ever <= u32::MAX);
         let gateways = ids_of(alloc, settings.gateways())?;
         let answered = airtimes_of(alloc, settings.gateways())?;
         let devices = devices_of(alloc, settings.devices())?;

@@ -8,8 +8,8 @@ use crate::{DeskFault, DeskHeard, Line, NoMemory, QueueFault, TakeFault};
 use gateway_book::CancelFault;
 use std::alloc::{AllocError, Allocator};
 
-/// The line for a payload that was queued, or not.
-pub(crate) fn queued_line<A: Allocator>(
+/// The line for a payload that was queued, or not; Err(NoMemory) exactly where that is what was answered. Takes no memory.
+pub fn queued_line<A: Allocator>(
     addr: u32,
     answer: Result<usize, QueueFault>,
 ) -> Result<Line<A>, NoMemory>
@@ -26,10 +26,9 @@ pub(crate) fn queued_line<A: Allocator>(
     }
 }
 
-/// The line for a copy of an uplink that was taken in, or not.
-pub(crate) fn heard_line<A: Allocator>(
-    answer: Result<DeskHeard, DeskFault>,
-) -> Result<Line<A>, NoMemory>
+/// The line for a copy of an uplink that was taken in, or not; Err(NoMemory) exactly where that is what was answered. Takes
+/// no memory.
+pub fn heard_line<A: Allocator>(answer: Result<DeskHeard, DeskFault>) -> Result<Line<A>, NoMemory>
     ensures line { IfOk result (λ line. line ≡ heard_line answer) }
     ensures memory { IfOk result (λ line. answer ≢ Err DeskFault.NoMemory) }
     ensures wanting { IfErr result (λ none. answer ≡ Err DeskFault.NoMemory) }
@@ -59,8 +58,8 @@ pub(crate) fn not_taken_line<A: Allocator>(
     }
 }
 
-/// The line for a transmission that was cancelled, or not.
-pub(crate) fn cancelled_line<A: Allocator>(number: u64, answer: Result<u64, CancelFault>) -> Line<A>
+/// The line for a transmission that was cancelled, or not. Airtimes are in microseconds. Takes no memory.
+pub fn cancelled_line<A: Allocator>(number: u64, answer: Result<u64, CancelFault>) -> Line<A>
     ensures { result ≡ cancelled_line number answer }
 {
     match answer {

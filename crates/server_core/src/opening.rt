@@ -21,14 +21,6 @@ pub(crate) fn ids_of<A: Allocator + Drop>(
     gateways.iter().map(|gateway| gateway.id).collect(alloc)
 }
 
-/// How many uplinks may ever be gathered: a number of 32 bits, so that the sums of their airtimes fit in 64.
-pub(crate) fn max_ever(limits: &Limits) -> u32
-    ensures value { result ≡ limits.now.max_ever }
-    ensures below { result < 2 ^ 32 }
-{
-    limits.max_ever
-}
-
 /// An airtime of 0 for each of the gateways.
 pub(crate) fn airtimes_of<A: Allocator + Drop>(
     alloc: A,

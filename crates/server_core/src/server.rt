@@ -11,7 +11,7 @@ use std::alloc::Allocator;
 use std::hash::BuildHasher;
 
 /// How many uplinks are gathered at a time and in all, and how many copies of one, where nobody says so.
-const USUAL_LIMITS: Limits = Limits {
+pub const USUAL_LIMITS: Limits = Limits {
     max_open: 4_096,
     max_ever: 1_000_000,
     max_copies: 64,

@@ -12,7 +12,7 @@ invariant_of-result g c = (
   first_airtimes c.args.settings.now.gateways _ _ c.args.limits.max_ever _ _ c.devices.ensures.kept.ids_differ
       (c.in_ok-gateways.ensures ∙ ap (map (λ (g : GatewaySetting). g.id)) c.gateways.ensures.list)
       (c.in_ok-answered.ensures ∙ ap (map (λ (g : GatewaySetting). 0)) c.gateways-2.ensures.list)
-      c.new-3.ensures.items (ap (λ (s : Gatherings). s.limits.max_ever) c.in_ok-gather.ensures) (omega (arith, c.max_ever-max_ever.ensures.value, c.max_ever-max_ever.ensures.below)),
+      c.new-3.ensures.items (ap (λ (s : Gatherings). s.limits.max_ever) c.in_ok-gather.ensures) (omega (arith, c.if-prove)),
 )
 
 pub returns : goal.returns
