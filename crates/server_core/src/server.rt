@@ -10,7 +10,8 @@ use resv_list::VecRoster;
 use std::alloc::Allocator;
 use std::hash::BuildHasher;
 
-/// How many uplinks are gathered at a time and in all, and how many copies of one, where nobody says so.
+/// How many uplinks are gathered at a time and in all, and how many copies of one, where nobody says so: 4,096, 1,000,000 and
+/// 64.
 pub const USUAL_LIMITS: Limits = Limits {
     max_open: 4_096,
     max_ever: 1_000_000,

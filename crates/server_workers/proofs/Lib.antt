@@ -4,6 +4,7 @@ pub mod Ordered
 pub mod Settled
 pub mod CrewLemmas
 pub mod WorkLemmas
+pub mod TurnLemmas
 pub mod ShelfLemmas
 pub mod HeldLemmas
 pub mod ClosingLemmas

@@ -1,4 +1,4 @@
-use Rattle.std.specs.Prelude.{ℕ, ◌≡◌, ◌≢◌, ◌+◌, ◌<◌, ◌≤◌, ◌==◌, ◌⊎◌, ⊤, List, map, unwrap_or, Contains, count_by}
+use Rattle.std.specs.Prelude.{ℕ, ◌≡◌, ◌≢◌, ◌+◌, ◌<◌, ◌≤◌, ◌==◌, ◌⊎◌, ⊤, List, map, All, unwrap_or, Contains, count_by}
 use Rattle.std.specs.List.{flat_map, zip}
 use Rattle.radio_bands.specs.Band.{hour}
 use Rattle.resv_list.specs.declared.reservation.Reservation.{Reservation}
@@ -60,3 +60,15 @@ CauseTells tills receipts (Apart gateway booked answered) = booked ≢ answered
 CauseTells tills receipts (Doubled number gateway other) = ⊤
 CauseTells {A} tills receipts (Lost number) = Contains (map (λ (r : Receipt A). r.number) receipts) number
 CauseTells tills receipts NoMemory = ⊤
+
+-- each gateway has booked what its settled answers are on air for
+abbrev pub AreTogether : DeskView → List Shelved → Type 0
+AreTogether desk shelf = All (λ (s : Shelved). s.1.booked ≡ airtime_at desk s.0) shelf
+
+-- a cause is answered only where those before it don't hold
+abbrev pub IsFirst : DeskView → List Shelved → FinishCause → Type 0
+IsFirst desk shelf TillMissing = ⊤
+IsFirst desk shelf (Apart gateway booked answered) = ⊤
+IsFirst desk shelf (Doubled number gateway other) = AreTogether desk shelf
+IsFirst desk shelf (Lost number) = AreTogether desk shelf × EachStandsOnce (kept_numbers (map (λ (s : Shelved). s.1) shelf))
+IsFirst desk shelf NoMemory = ⊤

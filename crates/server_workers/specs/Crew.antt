@@ -1,4 +1,4 @@
-use Rattle.std.specs.Prelude.{ℕ, ◌≤◌, vec_capacity}
+use Rattle.std.specs.Prelude.{ℕ, ◌≡◌, ◌≤◌, Bool, false, [], vec_capacity}
 use Rattle.server_workers.specs.declared.worked.Worked.{Worked}
 
 -- A crew of workers.
@@ -10,3 +10,7 @@ pub record IsWithin {B A : Type 0} (room : ℕ) (worked : Worked B A) : Type 0 w
   pub skipped : vec_capacity worked.skipped ≤ room
   pub refused : vec_capacity worked.refused ≤ room
   pub strays : vec_capacity worked.strays ≤ room
+
+-- a worker that hasn't begun has settled nothing
+abbrev pub HasSettledNone : {B A : Type 0} → Bool → Worked B A → Type 0
+HasSettledNone has_begun worked = has_begun ≡ false → worked.outcomes.items ≡ []

@@ -1,5 +1,6 @@
 pub mod Stations
 pub mod Works
+pub mod Turns
 pub mod EmptyLists
 pub mod Working
 pub mod Crew

@@ -1,5 +1,12 @@
-use Rattle.std.specs.Prelude.{◌≤◌}
+use Rattle.std.specs.Prelude.{ℕ, ◌≡◌, ◌≤◌, Bool, true, false, if◌then◌else◌, List, [], ◌∷◌, ◌++◌, Option, Some, None}
+use Rattle.answer_ticket.specs.declared.outcome.Outcome.{Outcome}
+use Rattle.answer_ticket.specs.declared.tried.Receipt.{Receipt}
+use Rattle.server_core.specs.declared.faults.TakeFault.{TakeFault}
+use Rattle.server_core.specs.declared.faults.TakeFault.TheVariants as taking
+use Rattle.server_workers.specs.declared.turn.Turn.{Turn}
+use Rattle.server_workers.specs.declared.turn.Turn.TheVariants.{NotTaken, Settled, Stray}
 use Rattle.server_workers.specs.declared.worked.Worked.{Worked}
+use Rattle.server_workers.specs.Turns.{IsTurn, was_taken}
 use Rattle.server_workers.specs.Works.{IsOpen, IsLonger}
 
 -- How a worker goes on.
@@ -20,3 +27,57 @@ pub record IsMore {B A : Type 0} (old new : Worked B A) : Type 0 where
   pub refused : IsLonger old.refused new.refused
   pub strays : IsLonger old.strays new.strays
   pub overrun : old.overrun ≤ new.overrun
+
+-- a number without a ticket is only skipped where its device is engaged, or there is no memory: it may get one later
+abbrev pub may_come_later : TakeFault → Bool
+may_come_later taking.NotReady = false
+may_come_later taking.Taken = false
+may_come_later taking.Silent = false
+may_come_later taking.Engaged = true
+may_come_later taking.CounterSpent = false
+may_come_later taking.NoMemory = true
+
+-- what may be there, as a list
+abbrev pub items_of : {X : Type 0} → Option X → List X
+items_of None = []
+items_of (Some x) = x ∷ []
+
+-- what each list of a worker gets, by what became of number n
+abbrev pub receipts_of : {A : Type 0} → Turn A → List (Receipt A)
+receipts_of (NotTaken fault) = []
+receipts_of (Settled outcome receipt) = items_of receipt
+receipts_of (Stray receipt) = items_of receipt
+
+abbrev pub outcomes_of : {A : Type 0} → Turn A → List Outcome
+outcomes_of (NotTaken fault) = []
+outcomes_of (Settled outcome receipt) = outcome ∷ []
+outcomes_of (Stray receipt) = []
+
+abbrev pub skipped_of : {A : Type 0} → ℕ → Turn A → List ℕ
+skipped_of n (NotTaken fault) = if may_come_later fault then n ∷ [] else []
+skipped_of n (Settled outcome receipt) = []
+skipped_of n (Stray receipt) = []
+
+abbrev pub refused_of : {A : Type 0} → ℕ → Turn A → List (ℕ × TakeFault)
+refused_of n (NotTaken fault) = if may_come_later fault then [] else (n, fault) ∷ []
+refused_of n (Settled outcome receipt) = []
+refused_of n (Stray receipt) = []
+
+abbrev pub strays_of : {A : Type 0} → ℕ → Turn A → List ℕ
+strays_of n (NotTaken fault) = []
+strays_of n (Settled outcome receipt) = []
+strays_of n (Stray receipt) = n ∷ []
+
+-- what became of number n stands at the ends of the lists, and nothing else was added
+pub record IsFiled {B A : Type 0} (n : ℕ) (old new : Worked B A) (turn : Turn A) : Type 0 where
+  pub told : IsTurn n old.till new.till turn
+  pub receipts : new.receipts.items ≡ old.receipts.items ++ receipts_of turn
+  pub outcomes : new.outcomes.items ≡ old.outcomes.items ++ outcomes_of turn
+  pub skipped : new.skipped.items ≡ old.skipped.items ++ skipped_of n turn
+  pub refused : new.refused.items ≡ old.refused.items ++ refused_of n turn
+  pub strays : new.strays.items ≡ old.strays.items ++ strays_of n turn
+  pub idle : was_taken turn ≡ false → new.overrun ≡ old.overrun
+
+-- a worker took up number n once, and filed what became of it
+abbrev pub HasFiled : {B A : Type 0} → ℕ → Worked B A → Worked B A → Type 0
+HasFiled {B} {A} n old new = (turn : Turn A) × IsFiled n old new turn

@@ -2,7 +2,7 @@
 
 ghost use Rattle.std.specs.Prelude.{◌≡◌, List, map, All, IfErr, OnOk};
 ghost use Rattle.air_ledger.specs.Tills.{Holding};
-ghost use Rattle.server_workers.specs.Closings.{airtime_at, kept_numbers, EachStandsOnce, IsAccountedFor, CauseTells};
+ghost use Rattle.server_workers.specs.Closings.{airtime_at, kept_numbers, EachStandsOnce, IsAccountedFor, IsFirst, CauseTells};
 
 use crate::FinishCause;
 use crate::apart::first_apart;
@@ -26,6 +26,7 @@ pub(crate) fn compare<S: BuildHasher, A: Allocator + Copy>(
     ensures equal { OnOk result (All (λ s. s.1.booked ≡ airtime_at desk.now s.0) shelf.now) }
     ensures once { OnOk result (EachStandsOnce (kept_numbers (map (λ s. s.1) shelf.now))) }
     ensures accounted { OnOk result (All (IsAccountedFor shelf.now) receipts.now) }
+    ensures order { IfErr result (IsFirst desk.now shelf.now) }
     ensures cause { (tills : List Holding) → IfErr result (CauseTells tills receipts.now) }
 {
     let Ok(held) = held_by_number(alloc, shelf) else {

@@ -34,13 +34,19 @@ struct Asked {
     floors: [Option<u64>; 2],
     cancelled: u64,
     kept: usize,
+    /// The floor of gateway 1 before and after, and that of gateway 2 after.
+    floors_told: [u64; 3],
+    /// What gateway 2 has cancelled and keeps.
+    other: (u64, usize),
+    /// The floors of both after that of gateway 2 was raised.
+    floors_late: [u64; 2],
 }
 
 /// How the station ended: why it could not be finished, what was booked in all, and what its desk answers then.
 #[derive(Clone, Copy, Debug, PartialEq, Eq)]
 struct End {
     without_till: FinishCause,
-    with_cancelled: bool,
+    with_cancelled: FinishCause,
     booked: u64,
     queued: usize,
 }
@@ -75,8 +81,15 @@ fn inquire<B: Ledger, R: Wait>(
     let behind = station.totals(rt, 1, 10_304_001).err();
     let unknown = station.totals(rt, 9, 0).err();
     station.cancel(rt, receipt)?;
+    let before = station.totals(rt, 1, 0)?.floor;
     let floors = [station.tick(rt, 1, 1), station.tick(rt, 1, 0)];
     let totals = station.totals(rt, 1, 0)?;
+    let other = station.totals(rt, 2, 0)?;
+    station.tick(rt, 2, 7);
+    let floors_late = [
+        station.totals(rt, 1, 0)?.floor,
+        station.totals(rt, 2, 0)?.floor,
+    ];
     Ok(Asked {
         queued,
         behind,
@@ -84,6 +97,9 @@ fn inquire<B: Ledger, R: Wait>(
         floors,
         cancelled: totals.cancelled,
         kept: totals.kept,
+        floors_told: [before, totals.floor, other.floor],
+        other: (other.cancelled, other.kept),
+        floors_late,
     })
 }
 
@@ -105,7 +121,7 @@ fn end_of<B: Ledger>(
     let mut closing = third.ok().ok_or("nothing is lost")?;
     Ok(End {
         without_till: cause,
-        with_cancelled: matches!(fault.cause, FinishCause::Lost { .. }),
+        with_cancelled: fault.cause,
         booked: closing.booked,
         queued: closing.desk.queue(1, 9, b"x")?,
     })
@@ -153,11 +169,14 @@ fn two_workers_answer_500_uplinks(rt: HostRuntime) -> Result<(), Fail> {
         floors: [Some(1), Some(1)],
         cancelled: 41_216,
         kept: 249,
+        floors_told: [0, 1, 0],
+        other: (0, 250),
+        floors_late: [1, 7],
     };
     assert_eq!(rt; asked, answers);
     let last = End {
         without_till: FinishCause::TillMissing,
-        with_cancelled: true,
+        with_cancelled: FinishCause::Lost { number: 500 },
         booked: 20_608_000,
         queued: 3,
     };

@@ -201,7 +201,8 @@ fn wants_all_tills(rt: HostRuntime) -> Result<(), Fail> {
     Ok(())
 }
 
-/// A finish after number 1 was settled, and number 2 booked but not settled.
+/// A finish with two tills after number 1 was settled and cancelled, and number 2 booked but not settled; the receipt of
+/// number 1 is lent.
 fn finish_unsettled<B: Ledger, R: Wait>(
     rt: &R,
     alloc: Global,
@@ -212,10 +213,14 @@ fn finish_unsettled<B: Ledger, R: Wait>(
     requires all { blank.parts ≡ PARTS }
 {
     let (station, mut till) = station::<B, R>(rt, alloc, blank)?;
-    settle_one(rt, &station, &mut till)?;
+    let mut new = till.split();
+    let receipt = settle_one(rt, &station, &mut new)?;
+    station.cancel(rt, &receipt)?;
     let (stub, _) = book(rt, &station, 2)?;
     let _ = stub.end();
-    Ok(told(station.finish(alloc, listed(alloc, till)?, &[])))
+    let mut tills = listed(alloc, till)?;
+    tills.append(&mut listed(alloc, new)?)?;
+    Ok(told(station.finish(alloc, tills, &[receipt])))
 }
 
 #[test]

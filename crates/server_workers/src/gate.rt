@@ -6,13 +6,16 @@ use std::thread::yield_now;
 /// How often a worker asks at most, per try, whether it may go on.
 pub const MAX_TURNS: u32 = 10_000_000;
 
-/// What is told of the workers at the gateways, and may hold them up for a while.
+/// What is told of the workers at the gateways, and may hold them up for a while. Each try at a gateway of the station
+/// first calls `inside`, then asks the gateway's book, and then calls `left`.
 pub trait Gate {
     /// A worker has this gateway's lock, and is about to ask the gateway's book. Where this answers false it is asked
-    /// again, up to `MAX_TURNS` times per try.
+    /// again, up to `MAX_TURNS` times per try. The lock is held meanwhile, so this must not call the station for this
+    /// gateway: it would wait for itself.
     fn inside(&self, gateway: u16) -> bool;
 
-    /// A worker has released this gateway's lock.
+    /// A worker has asked this gateway's book, and released the gateway's lock. It is called once per try, whether the book
+    /// accepted or refused. The worker holds no lock, so this may call the station.
     fn left(&self, gateway: u16);
 }
 

@@ -11,6 +11,8 @@ mod day_tests;
 mod finish_tests;
 mod finishing;
 mod gate;
+#[cfg(test)]
+mod gate_tests;
 mod gateways;
 mod held;
 mod lists;
@@ -25,6 +27,7 @@ mod station;
 #[cfg(test)]
 mod station_tests;
 mod totals_fault;
+mod turn;
 #[cfg(test)]
 mod work_tests;
 mod worked;
@@ -38,5 +41,6 @@ pub use served::{ServeCause, ServeFault, Served};
 pub use serving::serve;
 pub use station::Station;
 pub use totals_fault::TotalsFault;
+pub use turn::Turn;
 pub use worked::Worked;
 pub use working::work;

@@ -1,6 +1,6 @@
 // A worker among others.
-ghost use Rattle.std.specs.Prelude.{◌≡◌, ℕ};
-ghost use Rattle.server_workers.specs.Crew.{IsWithin};
+ghost use Rattle.std.specs.Prelude.{◌≡◌, [], ℕ};
+ghost use Rattle.server_workers.specs.Crew.{IsWithin, HasSettledNone};
 
 use crate::working::work_on;
 use crate::{Gate, Ledger, Station, Worked};
@@ -19,12 +19,15 @@ impl Room for Brand {
     ghost room = { 0 };
 }
 
-/// A worker of a crew. Its type keeps that its lists have no more room than the numbers need.
+/// A worker of a crew. Its type keeps that its lists have no more room than the numbers need, and that it has settled
+/// nothing where it hasn't begun.
 #[derive(Drop)]
 pub(crate) struct Member<K: Room, B: Ledger, A: Allocator> {
+    has_begun: bool,
     worked: Worked<B, A>,
     crew: PhantomData<K>,
     ghost within: { IsWithin K.room worked },
+    ghost before: { HasSettledNone has_begun worked },
 }
 
 /// The numbers that a crew works at, in a channel that is closed.
@@ -45,24 +48,31 @@ impl<K: Room, A: Allocator> Numbers<K, A> {
 }
 
 impl<K: Room, B: Ledger, A: Allocator> Member<K, B, A> {
-    /// A worker that has done so much.
+    /// A worker that hasn't begun.
     pub(crate) fn new(worked: Worked<B, A>) -> Self
-        requires { IsWithin K.room worked }
+        requires within { IsWithin K.room worked }
+        requires none { worked.outcomes.items ≡ [] }
         ensures { result.worked ≡ worked }
     {
         Member {
+            has_begun: false,
             worked,
             crew: PhantomData,
         }
     }
 
-    /// What it has done.
-    pub(crate) fn worked(self) -> Worked<B, A>
-        ensures same { result ≡ self.worked }
-        ensures within { IsWithin K.room result }
+    /// Whether it has begun, and what it has done.
+    pub(crate) fn parted(self) -> (bool, Worked<B, A>)
+        ensures same { result.1 ≡ self.worked }
+        ensures within { IsWithin K.room result.1 }
+        ensures before { HasSettledNone result.0 result.1 }
     {
-        let Member { worked, crew: _ } = self;
-        worked
+        let Member {
+            has_begun,
+            worked,
+            crew: _,
+        } = self;
+        (has_begun, worked)
     }
 }
 
@@ -75,6 +85,7 @@ impl<K: Room, B: Ledger, A: Allocator + Copy> Member<K, B, A> {
         numbers: &Numbers<K, A>,
         gate: &G,
     ) {
+        self.has_begun = true;
         work_on(rt, station, &numbers.channel, gate, &mut self.worked);
     }
 }

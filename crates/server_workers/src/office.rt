@@ -11,13 +11,11 @@ ghost use Rattle.server_core.specs.Taking.{take_answer};
 
 use crate::{Ledger, Tally, Till};
 use answer_ticket::{Ending, Outcome, Stub, Ticket};
+pub use server_core::NoMemory;
 use server_core::{Desk, DeskFault, DeskHeard, Heard1, QueueFault, TakeFault};
-use std::alloc::{AllocError, Allocator, Global};
+use std::alloc::{Allocator, Global};
 use std::hash::BuildHasher;
 use std::marker::Model;
-
-/// There was no memory for a station.
-pub type NoMemory = AllocError;
 
 /// What stands behind the desk's lock: the desk, and the tally of the ledger. Its type keeps that the tally is the airtime
 /// of all settled answers, over the desk's gateways, in microseconds. Seen as its desk.

@@ -1,4 +1,4 @@
-ghost use Rattle.std.specs.Prelude.{◌≡◌, ◌≤◌, ◌==◌, nat_le, length, All, IfOk, find};
+ghost use Rattle.std.specs.Prelude.{◌≡◌, ◌≤◌, ◌==◌, nat_le, [], length, All, IfOk, find};
 ghost use Rattle.std.specs.List.{insert, position};
 ghost use Rattle.std.specs.Option.{option_map};
 ghost use Rattle.server_core.specs.Settings.{IsGatewayInRange};
@@ -48,14 +48,22 @@ fn empty_place<A: Allocator + Copy>(alloc: A, gateway: &GatewaySetting) -> Place
     requires { IsGatewayInRange gateway.now }
     ensures { result ≡ gateway.now.id }
 {
+    Place {
+        id: gateway.id,
+        book: Mutex::new(empty_book(alloc, gateway)),
+    }
+}
+
+/// The empty book of a gateway.
+fn empty_book<A: Allocator + Copy>(alloc: A, gateway: &GatewaySetting) -> GatewayBook<VecRoster<A>>
+    requires { IsGatewayInRange gateway.now }
+    ensures { result ≡ record { id = gateway.now.id; cap = gateway.now.cap; floor = 0; list = []; booked = 0; cancelled = 0; retired = 0 } }
+{
     // The cap of a setting is in range.
     let Ok(book) = GatewayBook::new(VecRoster::new(alloc), gateway.id, gateway.cap) else {
         unreachable!()
     };
-    Place {
-        id: gateway.id,
-        book: Mutex::new(book),
-    }
+    book
 }
 
 /// The first of these gateways with this number.

@@ -1,9 +1,9 @@
 // Workers share out the numbers of a station.
-ghost use Rattle.std.specs.Prelude.{◌≡◌, ◌≢◌, ◌+◌, ◌-◌, ◌*◌, ◌<◌, ◌≤◌, ◌↔◌, All, IsErrAnd, IfOk, IfErr, length, vec_len, vec_capacity};
+ghost use Rattle.std.specs.Prelude.{◌≡◌, ◌≢◌, ◌+◌, ◌-◌, ◌*◌, ◌<◌, ◌≤◌, ◌↔◌, All, IsErrAnd, IfOk, IfErr, length, map, ⊤, vec_len, vec_capacity};
 ghost use Rattle.air_ledger.specs.Tills.{all_parts};
 ghost use Rattle.server_workers.specs.Works.{airtime_of};
 ghost use Rattle.server_workers.specs.EmptyLists.{AreEmptyFor};
-ghost use Rattle.server_workers.specs.Serving.{IsOutside, HasRoomFor, IsSortedByNumber};
+ghost use Rattle.server_workers.specs.Serving.{IsOutside, HasRoomFor, IsGathered, IsSortedByNumber};
 
 use crate::lists::Lists;
 use crate::member::{Member, Numbers, Room};
@@ -20,6 +20,7 @@ use std::thread::{Threads, scope, scope_env};
 const MAX_WORKERS: u8 = 16;
 
 /// What a crew starts with.
+#[derive(Drop)]
 struct Outfit<K: Room, B: Ledger, A: Allocator> {
     /// What it works at.
     numbers: Numbers<K, A>,
@@ -32,8 +33,9 @@ struct Outfit<K: Room, B: Ledger, A: Allocator> {
 }
 
 /// Has some workers, 1 to 16, take, try and settle these numbers of a station, as `work` does, each with a part of a till
-/// that has more than 16. A fault hands the till back as it was given: `Workers` for another number of workers, `NoMemory`
-/// where a growth was refused before any worker was started, `NoThread` where none could be started.
+/// that has more than 16. Some of the workers may not be started; the others do all the work. After a fault no number was
+/// taken, and the till is handed back as it was given: `Workers` for another number of workers, `NoMemory` where a growth was
+/// refused before any worker was started, `NoThread` where none could be started.
 pub fn serve<
     R: Threads + Wait + Sync,
     B: Ledger + Send + Sync,
@@ -54,7 +56,7 @@ where
     requires { 16 < till.parts }
     ensures till { IfOk result (λ served. served.till ≡ record till { amount = till.amount + airtime_of served.outcomes.items }) }
     ensures sorted { IfOk result (λ served. IsSortedByNumber served) }
-    ensures ran { IfOk result (λ served. served.ran ≤ workers) }
+    ensures ran { IfOk result (λ served. (1 ≤ served.ran) × (served.ran ≤ workers)) }
     ensures back { IfErr result (λ fault. fault.till ≡ till) }
     ensures outside { IsErrAnd result (λ fault. fault.cause ≡ ServeCause.Workers) ↔ IsOutside workers }
 {
@@ -96,30 +98,19 @@ where
     requires crew { (length numbers.now ≡ K.room) × (0 < workers) × (workers ≤ 16) }
     requires parts { 16 < till.parts }
     ensures till { IfOk result (λ served. served.till ≡ record till { amount = till.amount + airtime_of served.outcomes.items }) }
-    ensures sorted { IfOk result (λ served. IsSortedByNumber served × (served.ran ≤ workers)) }
+    ensures sorted { IfOk result (λ served. IsSortedByNumber served) }
+    ensures ran { IfOk result (λ served. (1 ≤ served.ran) × (served.ran ≤ workers)) }
     ensures back { IfErr result (λ fault. fault.till ≡ till) }
     ensures inside { IfErr result (λ fault. fault.cause ≢ ServeCause.Workers) }
 {
     let Ok(outfit) = fitted_out::<K, R, B, A>(rt, alloc, numbers, workers) else {
         return Err(fault(ServeCause::NoMemory, till));
     };
-    let Outfit {
-        numbers,
-        lists,
-        crew,
-        all,
-    } = outfit;
     let parts = till.parts();
     prove!(parts <= PARTS); // So they fit when they are joined again.
-    let mut crew = hired(&mut till, lists, crew);
-    let ran = run(rt, station, &numbers, gate, crew.as_mut_slice());
-    let mut served = Served::new(till, all, ran as u8);
-    gather(&mut served, crew);
-    if served.ran == 0 && served.is_idle() {
-        return Err(not_started(served));
-    }
-    served.sort();
-    Ok(served)
+    let mut crew = hired(&mut till, outfit.lists, outfit.crew);
+    run(rt, station, &outfit.numbers, gate, crew.as_mut_slice());
+    summed_up(till, outfit.all, crew)
 }
 
 /// What a crew of so many workers needs for these numbers; all that is grown.
@@ -136,9 +127,8 @@ fn fitted_out<K: Room, R: Wait, B: Ledger, A: Allocator + Copy>(
     ensures places { IfOk result (λ outfit. vec_capacity outfit.crew ≡ workers) }
     ensures all { IfOk result (λ outfit. AreEmptyFor (workers * length numbers.now) outfit.all) }
 {
-    let Some(room) = usize::from(workers).checked_mul(numbers.len()) else {
-        return Err(AllocError);
-    };
+    // A product that is too great is no room that a list could have.
+    let room = usize::from(workers).saturating_mul(numbers.len());
     Ok(Outfit {
         numbers: Numbers::new(closed_channel(rt, alloc, numbers)?),
         lists: lists_for(alloc, workers, numbers.len())?,
@@ -199,7 +189,7 @@ fn hired<K: Room, B: Ledger, A: Allocator>(
     crew
 }
 
-/// Has a crew work on threads of their own, and waits for them; how many workers were started.
+/// Has a crew work on threads of their own, and waits for them. One that can't be started stays as it is.
 fn run<
     K: Room + Send + Sync,
     R: Threads + Wait + Sync,
@@ -213,50 +203,66 @@ fn run<
     numbers: &Numbers<K, A>,
     gate: &G,
     crew: &mut [Member<K, B, A>],
-) -> usize
+)
 where
     S::Hasher: Send + Sync,
-    ensures { result ≤ length crew.old }
 {
     scope(
         scope_env(),
         rt,
-        |scope| -> usize
-            ensures { result ≤ length crew.entry.now }
+        // The clause keeps what the loop captures in sight, which has to be sent to a thread.
+        |scope| -> ()
+            ensures { ⊤ }
         {
-            let mut ran = 0;
             for member in crew.iter_mut() {
-                let started = scope.spawn(move || member.work(rt, station, numbers, gate));
-                if started.is_ok() {
-                    ran += 1;
-                }
+                let _started = scope.spawn(move || member.work(rt, station, numbers, gate));
             }
-            ran
         },
     )
 }
 
-/// Adds up what a crew did.
+/// What a crew did, or the fault of one of which nobody was started.
+fn summed_up<K: Room, B: Ledger, A: Allocator>(
+    till: Till<B>,
+    all: Lists<A>,
+    crew: Vec<Member<K, B, A>, A>,
+) -> Result<Served<B, A>, ServeFault<B>>
+    requires room { AreEmptyFor (vec_len crew * K.room) all }
+    requires parts { till.parts + vec_len crew ≤ all_parts }
+    requires few { vec_len crew ≤ 16 }
+    ensures till { IfOk result (λ served. served.till ≡ record { parts = till.parts + vec_len crew; amount = till.amount + airtime_of served.outcomes.items }) }
+    ensures sorted { IfOk result (λ served. IsSortedByNumber served) }
+    ensures ran { IfOk result (λ served. (1 ≤ served.ran) × (served.ran ≤ vec_len crew)) }
+    ensures back { IfErr result (λ fault. fault.till ≡ record { parts = till.parts + vec_len crew; amount = till.amount }) }
+    ensures nobody { IfErr result (λ fault. fault.cause ≡ ServeCause.NoThread) }
+{
+    let mut served = Served::new(till, all);
+    gather(&mut served, crew);
+    if served.ran == 0 {
+        return Err(fault(ServeCause::NoThread, served.till));
+    }
+    served.sort();
+    Ok(served)
+}
+
+/// Adds what a crew did, and counts those who have begun.
 fn gather<K: Room, B: Ledger, A: Allocator>(
     served: &mut Served<B, A>,
     crew: Vec<Member<K, B, A>, A>,
 )
     requires room { HasRoomFor (vec_len crew * K.room) served.old }
     requires parts { served.old.till.parts + vec_len crew ≤ all_parts }
+    requires few { served.old.ran + vec_len crew ≤ 16 }
+    ensures all { IsGathered served.old (map (λ m. m.worked) crew.items) served.new }
     ensures parts { served.new.till.parts ≡ served.old.till.parts + vec_len crew }
     ensures amount { served.new.till.amount + airtime_of served.old.outcomes.items ≡ served.old.till.amount + airtime_of served.new.outcomes.items }
-    ensures ran { served.new.ran ≡ served.old.ran }
+    ensures ran { served.new.ran ≤ served.old.ran + vec_len crew }
+    ensures nobody { served.new.ran ≡ 0 → served.new.outcomes.items ≡ served.old.outcomes.items }
 {
     let mut crew = crew;
     while let Some(member) = crew.pop() {
-        served.take_in(member.worked());
+        let (has_begun, worked) = member.parted();
+        served.take_in(worked);
+        served.ran += u8::from(has_begun);
     }
-}
-
-/// The fault of a crew of which nobody was started.
-fn not_started<B: Ledger, A: Allocator>(served: Served<B, A>) -> ServeFault<B>
-    ensures { result ≡ record { cause = ServeCause.NoThread; till = served.till } }
-{
-    let Served { till, .. } = served;
-    fault(ServeCause::NoThread, till)
 }

@@ -1,6 +1,9 @@
 ghost use Rattle.std.specs.Prelude.{◌≡◌, ◌+◌, ◌<◌, ◌↔◌, IfOk, IfErr, OnOk, OnErr};
 ghost use Rattle.answer_ticket.specs.Ended.{IsOfCandidate, gateway_of};
 ghost use Rattle.server_core.specs.Airtime.{airtime_of_ending};
+ghost use Rattle.server_core.specs.Desk.{desk_of};
+ghost use Rattle.server_core.specs.Schedule.{usual_limits};
+ghost use Rattle.server_core.specs.World.{opening};
 ghost use Rattle.server_workers.specs.Stations.{ids_of, WasQueued, WasHeard, WasPassed, WasTaken};
 ghost use Rattle.std.specs.Prelude.{IsSome};
 
@@ -8,18 +11,13 @@ use crate::place::{Place, places_of};
 use crate::{Blank, Ledger, NoMemory, Office, PARTS, Till};
 use air_ledger::begin;
 use answer_ticket::{Outcome, Stub, Ticket};
-use server_core::{Desk, DeskFault, DeskHeard, Heard1, Limits, QueueFault, Settings, TakeFault};
+use server_core::{
+    Desk, DeskFault, DeskHeard, Heard1, QueueFault, Settings, TakeFault, USUAL_LIMITS,
+};
 use std::alloc::{Allocator, Global};
 use std::hash::BuildHasher;
 use std::marker::Model;
 use std::sync::{Mutex, Wait};
-
-/// How many uplinks are gathered at a time and in all, and how many copies of one.
-const USUAL_LIMITS: Limits = Limits {
-    max_open: 4_096,
-    max_ever: 1_000_000,
-    max_copies: 64,
-};
 
 /// A server for several threads: the desk with the ledger's tally behind one lock, and each gateway's book behind its own.
 /// Each call takes one of these locks, and waits for it, but for `new` and `finish`. Seen as the numbers of its gateways,
@@ -55,7 +53,7 @@ impl<B: Ledger, S: BuildHasher + Clone, A: Allocator + Copy> Station<B, S, A> {
         ensures gateways { IfOk result (λ made. made.0 ≡ ids_of settings.now.gateways) }
         ensures till { IfOk result (λ made. made.1 ≡ record { parts = PARTS; amount = 0 }) }
     {
-        let desk = Desk::new(alloc, hasher, settings, USUAL_LIMITS)?;
+        let desk = opening_desk(alloc, hasher, settings)?;
         let places = places_of(alloc, settings.gateways())?;
         let (tally, till) = begin(blank);
         let office = Mutex::new(Office::new(desk, tally));
@@ -117,4 +115,15 @@ impl<B: Ledger, S: BuildHasher, A: Allocator> Station<B, S, A> {
     {
         self.office.lock(rt).settle(stub, till)
     }
+}
+
+/// A desk of these settings, of which nothing was heard yet, with the usual limits.
+fn opening_desk<S: BuildHasher + Clone, A: Allocator + Copy, C: Allocator>(
+    alloc: A,
+    hasher: S,
+    settings: &Settings<C>,
+) -> Result<Desk<S, A>, NoMemory>
+    ensures { IfOk result (λ desk. desk ≡ desk_of (opening settings.now usual_limits)) }
+{
+    Desk::new(alloc, hasher, settings, USUAL_LIMITS)
 }

@@ -31,6 +31,16 @@ const DEVICE: DeviceSetting = DeviceSetting {
     down: 0,
 };
 
+/// A copy of an uplink that gateway 1 heard until 5,000,000 us.
+pub(crate) const COPY: Heard1 = Heard1 {
+    gateway: 1,
+    at: 5_000_000,
+    freq_hz: 868_100_000,
+    rate: 5,
+    snr: 0,
+    rssi: -100,
+};
+
 /// A station of the gateways 1 and 2 and of the devices from address 1 on.
 pub(crate) fn station_of<B: Ledger>(
     alloc: Global,
@@ -62,14 +72,25 @@ fn devices_of(alloc: Global, count: u32) -> Result<Vec<DeviceSetting>, Fail> {
     Ok(devices)
 }
 
-/// A station hears a confirmed uplink with this counter of a device, on the gateway `1 + addr mod 2`, until a million
-/// microseconds for each address.
-fn hear<B: Ledger, R: Wait>(
+/// A station hears a confirmed uplink of a device, the first, as this copy.
+pub(crate) fn hear_copy<B: Ledger, R: Wait>(
+    rt: &R,
+    alloc: Global,
+    station: &TestStation<B>,
+    addr: u32,
+    copy: Heard1,
+) -> Result<(), Fail> {
+    hear_again(rt, alloc, station, addr, 0, copy)
+}
+
+/// A station hears a confirmed uplink with this counter of a device, as this copy.
+fn hear_again<B: Ledger, R: Wait>(
     rt: &R,
     alloc: Global,
     station: &TestStation<B>,
     addr: u32,
     counter: u32,
+    copy: Heard1,
 ) -> Result<(), Fail> {
     let up = Up {
         confirmed: true,
@@ -86,16 +107,17 @@ fn hear<B: Ledger, R: Wait>(
         app: Key::new(DEVICE.app),
     };
     let uplink = uplink_bytes(alloc, &up, &keys)?;
-    let heard = Heard1 {
+    station.hear(rt, uplink.as_slice(), copy, 0)?;
+    Ok(())
+}
+
+/// The copy of a device's uplink that the gateway `1 + addr mod 2` heard, until a million microseconds for each address.
+fn copy_of(addr: u32) -> Heard1 {
+    Heard1 {
         gateway: 1 + (addr % 2) as u16,
         at: 1_000_000 * addr as u64,
-        freq_hz: 868_100_000,
-        rate: 5,
-        snr: 0,
-        rssi: -100,
-    };
-    station.hear(rt, uplink.as_slice(), heard, 0)?;
-    Ok(())
+        ..COPY
+    }
 }
 
 /// A station heard one uplink of each of its devices, and closed them all: the numbers that it closed.
@@ -106,13 +128,13 @@ pub(crate) fn heard_by<B: Ledger, R: Wait>(
     devices: u32,
 ) -> Result<Vec<u64>, Fail> {
     for before in 0..devices {
-        hear(rt, alloc, station, before + 1, 0)?;
+        hear_copy(rt, alloc, station, before + 1, copy_of(before + 1))?;
     }
     closed(rt, alloc, station, devices)
 }
 
 /// The numbers that a station closes, so many of them.
-fn closed<B: Ledger, R: Wait>(
+pub(crate) fn closed<B: Ledger, R: Wait>(
     rt: &R,
     alloc: Global,
     station: &TestStation<B>,
@@ -123,6 +145,18 @@ fn closed<B: Ledger, R: Wait>(
         numbers.push(station.pass(rt, 200_001).ok_or("one more is due")?)?;
     }
     Ok(numbers)
+}
+
+/// A station heard two uplinks of its first device, and closed them: the numbers 1 and 2.
+fn hear_twice<B: Ledger, R: Wait>(
+    rt: &R,
+    alloc: Global,
+    station: &TestStation<B>,
+) -> Result<(), Fail> {
+    hear_again(rt, alloc, station, 1, 0, COPY)?;
+    hear_again(rt, alloc, station, 1, 1, COPY)?;
+    closed(rt, alloc, station, 2)?;
+    Ok(())
 }
 
 /// Some numbers in a channel that is closed.
@@ -136,7 +170,7 @@ fn channel_of<R: Wait>(rt: &R, alloc: Global, numbers: &[u64]) -> Result<Receive
 
 /// What workers did: how many were started, how many answers were booked, how many receipts there are, how many numbers
 /// were not answered, and how many tries the gate didn't let in.
-fn told<B: Ledger>(served: &Served<B>) -> (u8, usize, usize, usize, u64) {
+pub(crate) fn told<B: Ledger>(served: &Served<B>) -> (u8, usize, usize, usize, u64) {
     let mut answered = 0usize;
     for outcome in served.outcomes.iter() {
         if let Ending::Answered { .. } = outcome.result {
@@ -165,7 +199,7 @@ fn are_in_order<B: Ledger>(served: &Served<B>, numbers: &[u64]) -> bool {
     true
 }
 
-/// Two workers answer 500 devices: what they did, whether it is in order, and what each gateway has booked and kept.
+/// Sixteen workers answer 500 devices: what they did, whether it is in order, and what each gateway has booked and kept.
 fn five_hundred<B: Ledger + Send + Sync, R: Threads + Wait + Sync>(
     rt: &R,
     alloc: Global,
@@ -177,7 +211,7 @@ fn five_hundred<B: Ledger + Send + Sync, R: Threads + Wait + Sync>(
 {
     let (station, till) = station_of::<B>(alloc, 500, blank)?;
     let numbers = heard_by(rt, alloc, &station, 500)?;
-    let served = serve(rt, alloc, &station, numbers.as_slice(), till, 2, &NoGate);
+    let served = serve(rt, alloc, &station, numbers.as_slice(), till, 16, &NoGate);
     let served = served.ok().ok_or("there is memory, and a thread")?;
     let one = station.totals(rt, 1, 0)?;
     let two = station.totals(rt, 2, 0)?;
@@ -188,23 +222,57 @@ fn five_hundred<B: Ledger + Send + Sync, R: Threads + Wait + Sync>(
     ))
 }
 
-/// Lets a worker go on once another is at the other gateway; counts who has left.
+/// Lets a worker go on once another is at the other gateway; counts who has left, and marks whether one found the other
+/// inside while nobody had left.
 #[derive(Drop)]
 struct Meeting {
     first: AtomicU64,
     second: AtomicU64,
+    met: AtomicU64,
     left_first: AtomicU64,
     left_second: AtomicU64,
 }
 
+impl Meeting {
+    /// Nobody is there yet.
+    fn new() -> Self {
+        Meeting {
+            first: AtomicU64::new(0),
+            second: AtomicU64::new(0),
+            met: AtomicU64::new(0),
+            left_first: AtomicU64::new(0),
+            left_second: AtomicU64::new(0),
+        }
+    }
+
+    /// Whether a worker has left a gateway.
+    fn has_one_left(&self) -> bool {
+        self.left_first.load(Ordering::SeqCst) > 0 || self.left_second.load(Ordering::SeqCst) > 0
+    }
+
+    /// Whether two were inside at once, and how many left each gateway.
+    fn told(&self) -> [u64; 3] {
+        [
+            self.met.load(Ordering::SeqCst),
+            self.left_first.load(Ordering::SeqCst),
+            self.left_second.load(Ordering::SeqCst),
+        ]
+    }
+}
+
 impl Gate for Meeting {
     fn inside(&self, gateway: u16) -> bool {
-        if gateway == 1 {
-            self.first.store(1, Ordering::SeqCst);
-            return self.second.load(Ordering::SeqCst) == 1;
+        let (own, other) = if gateway == 1 {
+            (&self.first, &self.second)
+        } else {
+            (&self.second, &self.first)
+        };
+        own.store(1, Ordering::SeqCst);
+        let is_other_in = other.load(Ordering::SeqCst) == 1;
+        if is_other_in && !self.has_one_left() {
+            self.met.store(1, Ordering::SeqCst);
         }
-        self.second.store(1, Ordering::SeqCst);
-        self.first.load(Ordering::SeqCst) == 1
+        is_other_in
     }
 
     fn left(&self, gateway: u16) {
@@ -216,31 +284,22 @@ impl Gate for Meeting {
     }
 }
 
-/// Two workers meet at two gateways: what they did, and how many left each gateway.
+/// Two workers meet at two gateways: what they did, whether they were inside at once, and how many left each gateway.
 fn meet<B: Ledger + Send + Sync, R: Threads + Wait + Sync>(
     rt: &R,
     alloc: Global,
     blank: Blank,
-) -> Result<((u8, usize, usize, usize, u64), u64, u64), Fail>
+) -> Result<((u8, usize, usize, usize, u64), [u64; 3]), Fail>
     requires name { blank.name ≡ B.name }
     requires parts { blank.parts ≡ B.parts }
     requires all { blank.parts ≡ PARTS }
 {
     let (station, till) = station_of::<B>(alloc, 2, blank)?;
     let numbers = heard_by(rt, alloc, &station, 2)?;
-    let meeting = Meeting {
-        first: AtomicU64::new(0),
-        second: AtomicU64::new(0),
-        left_first: AtomicU64::new(0),
-        left_second: AtomicU64::new(0),
-    };
+    let meeting = Meeting::new();
     let served = serve(rt, alloc, &station, numbers.as_slice(), till, 2, &meeting);
     let served = served.ok().ok_or("there is memory, and a thread")?;
-    Ok((
-        told(&served),
-        meeting.left_first.load(Ordering::SeqCst),
-        meeting.left_second.load(Ordering::SeqCst),
-    ))
+    Ok((told(&served), meeting.told()))
 }
 
 /// Why nobody serves with so many workers, and the parts of the till that is handed back.
@@ -293,10 +352,7 @@ fn passed_over<B: Ledger, R: Wait>(
     requires all { blank.parts ≡ PARTS }
 {
     let (station, till) = station_of::<B>(alloc, 1, blank)?;
-    hear(rt, alloc, &station, 1, 0)?;
-    hear(rt, alloc, &station, 1, 1)?;
-    station.pass(rt, 200_001);
-    station.pass(rt, 200_001);
+    hear_twice(rt, alloc, &station)?;
     let mut till = till;
     let worked = Worked::new(alloc, till.split(), 2);
     let worked = worked.ok().ok_or("there is memory")?;
@@ -314,11 +370,35 @@ fn passed_over<B: Ledger, R: Wait>(
     Ok((skipped, refused))
 }
 
+/// Two workers are given the second uplink of a device whose first ticket is out: what was skipped, and what they did.
+fn engaged<B: Ledger + Send + Sync, R: Threads + Wait + Sync>(
+    rt: &R,
+    alloc: Global,
+    blank: Blank,
+) -> Result<(Vec<u64>, (u8, usize, usize, usize, u64)), Fail>
+    requires name { blank.name ≡ B.name }
+    requires parts { blank.parts ≡ B.parts }
+    requires all { blank.parts ≡ PARTS }
+{
+    let (station, mut till) = station_of::<B>(alloc, 1, blank)?;
+    hear_twice(rt, alloc, &station)?;
+    let mut own = till.split();
+    let first = station.take(rt, 1)?;
+    let served = serve(rt, alloc, &station, &[2], till, 2, &NoGate);
+    if let Err(stub) = station.settle(rt, first.give_up(), &mut own) {
+        let _ = stub.end();
+    }
+    let served = served.ok().ok_or("there is memory, and a thread")?;
+    let told = told(&served);
+    let Served { skipped, .. } = served;
+    Ok((skipped, told))
+}
+
 #[test]
-fn two_workers_answer_five_hundred_devices(rt: HostRuntime) -> Result<(), Fail> {
+fn sixteen_workers_answer_five_hundred_devices(rt: HostRuntime) -> Result<(), Fail> {
     let blank = Blank::new(PARTS as u64);
     let (told, in_order, booked) = five_hundred::<Brand, _>(&rt, rt.alloc(), blank)?;
-    assert_eq!(rt; told, (2, 500, 500, 0, 0));
+    assert_eq!(rt; told, (16, 500, 500, 0, 0));
     assert!(rt; in_order);
     assert_eq!(rt; booked, [(10_304_000, 250), (10_304_000, 250)]);
     Ok(())
@@ -328,7 +408,7 @@ fn two_workers_answer_five_hundred_devices(rt: HostRuntime) -> Result<(), Fail> 
 fn two_workers_are_at_two_gateways_at_once(rt: HostRuntime) -> Result<(), Fail> {
     let blank = Blank::new(PARTS as u64);
     let met = meet::<Brand, _>(&rt, rt.alloc(), blank)?;
-    assert_eq!(rt; met, ((2, 2, 2, 0, 0), 1, 1));
+    assert_eq!(rt; met, ((2, 2, 2, 0, 0), [1, 1, 1]));
     Ok(())
 }
 
@@ -360,5 +440,14 @@ fn a_worker_tells_whom_it_passed_over(rt: HostRuntime) -> Result<(), Fail> {
     let (skipped, refused) = passed_over::<Brand, _>(&rt, rt.alloc(), blank)?;
     assert_eq!(rt; skipped.as_slice(), [2].as_slice());
     assert_eq!(rt; refused.as_slice(), [(9, TakeFault::NotReady)].as_slice());
+    Ok(())
+}
+
+#[test]
+fn workers_skip_an_engaged_device(rt: HostRuntime) -> Result<(), Fail> {
+    let blank = Blank::new(PARTS as u64);
+    let (skipped, told) = engaged::<Brand, _>(&rt, rt.alloc(), blank)?;
+    assert_eq!(rt; skipped.as_slice(), [2].as_slice());
+    assert_eq!(rt; told, (2, 0, 0, 1, 0));
     Ok(())
 }

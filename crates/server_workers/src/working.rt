@@ -1,22 +1,16 @@
 // A worker takes, tries and settles one number after another.
-ghost use Rattle.std.specs.Prelude.{◌≡◌, ◌+◌, ◌≤◌, ◌↔◌, ◌++◌, List, IsTrue};
+ghost use Rattle.std.specs.Prelude.{◌≡◌, ◌+◌, ◌↔◌, ◌++◌, List, IsTrue, vec_capacity};
 ghost use Rattle.answer_ticket.specs.declared.outcome.Outcome.{Outcome as Ends};
 ghost use Rattle.server_workers.specs.Works.{IsOpen, airtime_of};
-ghost use Rattle.server_workers.specs.Working.{HasRoom, IsMore};
+ghost use Rattle.server_workers.specs.Working.{HasFiled, HasRoom, IsFiled, IsMore, items_of};
 
-use crate::{Gate, Ledger, Station, Worked};
-use answer_ticket::{Receipt, Stub, Ticket, Tried};
+use crate::{Gate, Ledger, Station, Turn, Worked};
+use answer_ticket::Receipt;
 use crossbeam_channel::Receiver;
 use server_core::TakeFault;
 use std::alloc::Allocator;
 use std::hash::BuildHasher;
 use std::sync::Wait;
-
-/// What is left of a ticket that was tried for as long as it could be, with the receipt where it was booked.
-struct Ended<A: Allocator> {
-    stub: Stub,
-    receipt: Option<Receipt<A>>,
-}
 
 /// Takes a ticket for each number of a channel, tries it until it is booked or refused to the last, and settles it,
 /// until the channel is closed and empty, or a list of `worked` has no room left. A try that finds no memory, or no such
@@ -69,34 +63,22 @@ impl<B: Ledger, A: Allocator> Worked<B, A> {
             && is_open(&self.strays)
     }
 
-    /// Keeps what was booked.
-    fn keep(&mut self, receipt: Option<Receipt<A>>)
-        requires { IsOpen self.old.receipts }
+    /// Files a number that got no ticket.
+    fn pass_over(&mut self, number: u64, fault: TakeFault)
+        requires skipped { IsOpen self.old.skipped }
+        requires refused { IsOpen self.old.refused }
         ensures more { IsMore self.old self.new }
-        ensures outcomes { self.new.outcomes ≡ self.old.outcomes }
-        ensures strays { self.new.strays ≡ self.old.strays }
+        ensures filed { IsFiled number self.old self.new (Turn.NotTaken fault) }
     {
-        let Some(receipt) = receipt else {
-            return;
-        };
-        self.receipts.push_reserved(receipt);
-    }
-
-    /// Settles what is left of a ticket.
-    fn settle<R: Wait, S: BuildHasher>(&mut self, rt: &R, station: &Station<B, S, A>, stub: Stub)
-        requires outcomes { IsOpen self.old.outcomes }
-        requires strays { IsOpen self.old.strays }
-        ensures { IsMore self.old self.new }
-    {
-        match station.settle(rt, stub, &mut self.till) {
-            Ok(outcome) => self.outcomes.push_reserved(outcome),
-            Err(stub) => self.strays.push_reserved(stub.end().number),
+        match fault {
+            TakeFault::Engaged | TakeFault::NoMemory => self.skipped.push_reserved(number),
+            other => self.refused.push_reserved((number, other)),
         }
     }
 }
 
 impl<B: Ledger, A: Allocator + Copy> Worked<B, A> {
-    /// Answers the uplink with this number.
+    /// Answers the uplink with this number, and files what became of it.
     fn answer<R: Wait, S: BuildHasher, G: Gate>(
         &mut self,
         rt: &R,
@@ -105,55 +87,31 @@ impl<B: Ledger, A: Allocator + Copy> Worked<B, A> {
         number: u64,
     )
         requires { HasRoom self.old }
-        ensures { IsMore self.old self.new }
+        ensures more { IsMore self.old self.new }
+        ensures filed { HasFiled number self.old self.new }
     {
-        match station.take(rt, number) {
-            Ok(ticket) => {
-                let Ended { stub, receipt } = tried(rt, station, gate, ticket, &mut self.overrun);
-                self.keep(receipt);
-                self.settle(rt, station, stub);
+        match station.answer(rt, gate, number, &mut self.till, &mut self.overrun) {
+            Turn::NotTaken(fault) => self.pass_over(number, fault),
+            Turn::Settled(outcome, receipt) => {
+                self.outcomes.push_reserved(outcome);
+                keep(&mut self.receipts, receipt);
             }
-            Err(TakeFault::Engaged | TakeFault::NoMemory) => self.skipped.push_reserved(number),
-            Err(fault) => self.refused.push_reserved((number, fault)),
+            Turn::Stray(receipt) => {
+                self.strays.push_reserved(number);
+                keep(&mut self.receipts, receipt);
+            }
         }
     }
 }
 
-/// Tries a ticket until it is booked or refused to the last, or gives it up.
-fn tried<R: Wait, B: Ledger, S: BuildHasher, A: Allocator + Copy, G: Gate>(
-    rt: &R,
-    station: &Station<B, S, A>,
-    gate: &G,
-    ticket: Ticket<A>,
-    overrun: &mut u64,
-) -> Ended<A>
-    ensures { overrun.old ≤ overrun.new }
+/// Keeps what was booked.
+fn keep<A: Allocator>(receipts: &mut Vec<Receipt<A>, A>, receipt: Option<Receipt<A>>)
+    requires { IsOpen receipts.old }
+    ensures items { receipts.new.items ≡ receipts.old.items ++ items_of receipt }
+    ensures room { vec_capacity receipts.new ≡ vec_capacity receipts.old }
 {
-    let mut ticket = ticket;
-    loop {
-        match station.try_through(rt, gate, ticket, overrun) {
-            Tried::Booked(stub, receipt) => return booked(stub, receipt),
-            Tried::Next(next, _) => ticket = next,
-            Tried::Out(stub, _) => return unbooked(stub),
-            Tried::Wrong(ticket) => return unbooked(ticket.give_up()),
-            Tried::NoMemory(ticket) => return unbooked(ticket.give_up()),
-        }
-    }
-}
-
-/// What is left of a ticket that was booked.
-fn booked<A: Allocator>(stub: Stub, receipt: Receipt<A>) -> Ended<A> {
-    Ended {
-        stub,
-        receipt: Some(receipt),
-    }
-}
-
-/// What is left of a ticket that wasn't booked.
-fn unbooked<A: Allocator>(stub: Stub) -> Ended<A> {
-    Ended {
-        stub,
-        receipt: None,
+    if let Some(receipt) = receipt {
+        receipts.push_reserved(receipt);
     }
 }
 

@@ -1,16 +1,21 @@
-use Rattle.std.proofs.Common.{◌≡◌, ◌+◌, ◌*◌, ◌≤◌, vec_len}
+use Rattle.std.proofs.Common.{◌≡◌, ◌+◌, ◌-◌, ◌*◌, ◌^◌, ◌≤◌, map, vec_len}
 use Rattle.server_workers.specs.Works.{airtime_of}
 use Rattle.server_workers.specs.Serving.{HasRoomFor}
+use Rattle.server_workers.proofs.CrewLemmas.{IsOwed}
 use Rattle.server_workers.proofs.serving.gather.Given as goal
 
 abbrev pub invariant-loop-member : goal.invariant-loop-member
 invariant-loop-member g l =
     record {
       room : HasRoomFor (vec_len l.crew * g.K.Room.room) l.served;
+      owed : IsOwed l.fn.served (map (λ m. m.worked) l.fn.crew.items) l.served (map (λ m. m.worked) l.crew.items);
+      fits : l.served.overrun ≤ 2 ^ 64 - 1;
       parts : l.served.till.parts + vec_len l.crew ≡ l.fn.served.till.parts + vec_len l.fn.crew;
       most : l.fn.served.till.parts + vec_len l.fn.crew ≤ 65536;
       amount : l.served.till.amount + airtime_of l.fn.served.outcomes.items ≡ l.fn.served.till.amount + airtime_of l.served.outcomes.items;
-      ran : l.served.ran ≡ l.fn.served.ran;
+      few : l.fn.served.ran + vec_len l.fn.crew ≤ 16;
+      ran : l.served.ran + vec_len l.crew ≤ l.fn.served.ran + vec_len l.fn.crew;
+      nobody : l.served.ran ≡ 0 → l.served.outcomes.items ≡ l.fn.served.outcomes.items;
     }
 
 abbrev pub decreases-loop-member : goal.decreases-loop-member

@@ -8,8 +8,8 @@ idle-requires-clause-outcomes g c =
     let own : AreEmptyFor g.K.Room.room c.in-Some.own = (All-pop (λ own. AreEmptyFor g.K.Room.room own) c.loop-own.lists.items c.pop.new.self.items (Some c.in-Some.own) c.in-Some.ensures.items c.loop-own.invariant.empty).1 in
     own.outcomes.none
 
-pub new-requires : goal.new-requires
-new-requires g c =
+pub new-requires-clause-within : goal.new-requires-clause-within
+new-requires-clause-within g c =
     let own : AreEmptyFor g.K.Room.room c.in-Some.own = (All-pop (λ own. AreEmptyFor g.K.Room.room own) c.loop-own.lists.items c.pop.new.self.items (Some c.in-Some.own) c.in-Some.ensures.items c.loop-own.invariant.empty).1 in
     let made = c.idle.ensures in
     record {
@@ -19,6 +19,11 @@ new-requires g c =
       refused = omega (arith, own.refused.fits, ap (λ v. vec_capacity v) made.refused);
       strays = omega (arith, own.strays.fits, ap (λ v. vec_capacity v) made.strays);
     }
+
+pub new-requires-clause-none : goal.new-requires-clause-none
+new-requires-clause-none g c =
+    let own : AreEmptyFor g.K.Room.room c.in-Some.own = (All-pop (λ own. AreEmptyFor g.K.Room.room own) c.loop-own.lists.items c.pop.new.self.items (Some c.in-Some.own) c.in-Some.ensures.items c.loop-own.invariant.empty).1 in
+    ap (λ v. v.items) c.idle.ensures.outcomes ∙ own.outcomes.none
 
 pub loop-own-preserved : goal.loop-own-preserved
 loop-own-preserved g c =

@@ -1,18 +1,23 @@
--- Where nothing was done, the till is as it was.
-use Rattle.std.proofs.Common.{◌≡◌, ap, ◌∙◌, arith, rules}
+-- With the parts that the crew had, the till has the parts that it had before.
+use Rattle.std.proofs.Common.{◌≡◌, ◌+◌, ◌≤◌, ap, ◌∙◌, arith, subst, IfOk, vec_len}
 use Rattle.server_workers.specs.Works.{airtime_of}
-use Rattle.server_workers.specs.Serving.{IsIdle}
-use Rattle.server_workers.proofs.WorkLemmas.{holds}
+use Rattle.server_workers.proofs.CrewLemmas.{summed_ok, summed_err}
 use Rattle.server_workers.proofs.serving.serve_by.Goals as goal
 
-pub returns-then-is_idle-clause-back : goal.returns-then-is_idle-clause-back
-returns-then-is_idle-clause-back g c =
-    let served = c.gather.new.served in
-    let idle : IsIdle served = search rules in
-    let none : airtime_of served.outcomes.items ≡ 0 = ap airtime_of idle.outcomes in
-    let had : airtime_of c.new-served.result.outcomes.items ≡ 0 = ap (λ v. airtime_of v.items) c.new-served.ensures.outcomes ∙ ap airtime_of c.in-Ok.ensures.all.outcomes.none in
-    let left = ap (λ t. t.parts) c.new-served.ensures.till ∙ ap (λ t. t.parts) c.hired-crew.ensures.till in
-    let same = ap (λ t. t.amount) c.new-served.ensures.till ∙ ap (λ t. t.amount) c.hired-crew.ensures.till in
-    let parts : served.till.parts ≡ c.args.till.parts = omega (arith, left, c.gather.ensures.parts, c.hired-crew.ensures.count, c.in-Ok.ensures.count, c.requires.parts) in
-    let amount : served.till.amount ≡ c.args.till.amount = omega (arith, same, none, had, c.gather.ensures.amount) in
-    ap (λ f. f.till) c.not_started.ensures ∙ holds c.args.till served.till c.args.till.amount parts amount
+pub returns-clause-till : goal.returns-clause-till
+returns-clause-till g c =
+    let left = ap (λ t. t.parts) c.hired-crew.ensures.till in
+    let parts : c.hired-crew.new.till.parts + vec_len c.hired-crew.result ≡ c.args.till.parts = omega (arith, left, c.hired-crew.ensures.count, c.in-Ok.ensures.count, c.requires.parts, c.requires.crew.2) in
+    let amount = ap (λ t. t.amount) c.hired-crew.ensures.till in
+    summed_ok c.args.till c.hired-crew.new.till (vec_len c.hired-crew.result) parts amount (λ s. s.till) (λ s. airtime_of s.outcomes.items) c.summed_up.result c.summed_up.ensures.till
+
+pub returns-clause-back : goal.returns-clause-back
+returns-clause-back g c =
+    let left = ap (λ t. t.parts) c.hired-crew.ensures.till in
+    let parts : c.hired-crew.new.till.parts + vec_len c.hired-crew.result ≡ c.args.till.parts = omega (arith, left, c.hired-crew.ensures.count, c.in-Ok.ensures.count, c.requires.parts, c.requires.crew.2) in
+    let amount = ap (λ t. t.amount) c.hired-crew.ensures.till in
+    summed_err c.args.till c.hired-crew.new.till (vec_len c.hired-crew.result) parts amount (λ f. f.till) c.summed_up.result c.summed_up.ensures.back
+
+pub returns-clause-ran : goal.returns-clause-ran
+returns-clause-ran g c =
+    subst (λ n. IfOk c.summed_up.result (λ s. (1 ≤ s.ran) × (s.ran ≤ n))) (c.hired-crew.ensures.count ∙ c.in-Ok.ensures.count) c.summed_up.ensures.ran

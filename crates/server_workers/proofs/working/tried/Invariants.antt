@@ -1,9 +1,0 @@
-use Rattle.std.proofs.Common.{◌≤◌, ◌-◌, length}
-use Rattle.answer_ticket.specs.Job.{candidates}
-use Rattle.server_workers.proofs.working.tried.Given as goal
-
-abbrev pub invariant-loop-stub : goal.invariant-loop-stub
-invariant-loop-stub g l = l.initial.overrun ≤ l.overrun
-
-abbrev pub decreases-loop-stub : goal.decreases-loop-stub
-decreases-loop-stub g l = length (candidates l.ticket.job) - l.ticket.at
