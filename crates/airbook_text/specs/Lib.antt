@@ -19,3 +19,4 @@ pub mod RunEvents
 pub mod RunInput
 pub mod RunSettings
 pub mod RunOutput
+pub mod PassAnswers

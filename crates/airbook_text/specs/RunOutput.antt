@@ -1,4 +1,4 @@
-use Rattle.std.specs.Prelude.{◌≡◌, ℕ, Bool, List, map, Option, Some, None, Result, Ok, Err, ⊤, codes}
+use Rattle.std.specs.Prelude.{◌≡◌, ◌⊎◌, ℕ, Bool, List, map, Option, Some, None, Result, Ok, Err, ⊤, codes}
 use Rattle.std.specs.Io.KnownBytes.{Appends, Consumes}
 use Rattle.std.specs.Str.Lines.{lines}
 use Rattle.text_lines.specs.Line.{text_of}
@@ -6,13 +6,16 @@ use Rattle.text_lines.specs.Writing.{WritesFront}
 use Rattle.server_core.specs.declared.event.Event.{Event}
 use Rattle.server_core.specs.Settings.{SettingLists}
 use Rattle.server_core.specs.Entries.{entries, gateways_after, kept_gateway}
+use Rattle.server_workers.specs.declared.closing.FinishCause.{FinishCause}
+use Rattle.server_workers.specs.declared.closing.FinishCause.TheVariants as causes
+use Rattle.airbook_text.specs.declared.settings_fault.ReadFault.{ReadFault}
 use Rattle.airbook_text.specs.declared.fault.TextFault.{TextFault}
 use Rattle.airbook_text.specs.declared.fault.TextFault.TheVariants.{Settings, NoMemory}
 use Rattle.airbook_text.specs.Output.{has_refusal}
 use Rattle.airbook_text.specs.ReplayText.{replay_lines}
 use Rattle.airbook_text.specs.RunInput.{settings_part, event_part}
 use Rattle.airbook_text.specs.RunEvents.{events_of}
-use Rattle.airbook_text.specs.RunSettings.{settings_in, IsRefusedBy}
+use Rattle.airbook_text.specs.RunSettings.{settings_in, IsNamed, IsRefusedBy}
 
 -- The output of `airbook run`, and what its text promises of a reader and a writer that tell their bytes.
 
@@ -60,11 +63,41 @@ abbrev pub NamesWorkers : Result Bool TextFault → Type 0
 NamesWorkers (Err (Settings name)) = name.now ≡ codes "Workers"
 NamesWorkers result = ⊥
 
+-- why a station could not be closed, as a text call answers it: by its own name, but for want of memory
+abbrev pub IsFinishFault : FinishCause → TextFault → Type 0
+IsFinishFault causes.TillMissing (Settings name) = name.now ≡ codes "TillMissing"
+IsFinishFault (causes.Apart gateway booked answered) (Settings name) = name.now ≡ codes "Apart"
+IsFinishFault (causes.Doubled number gateway other) (Settings name) = name.now ≡ codes "Doubled"
+IsFinishFault (causes.Lost number) (Settings name) = name.now ≡ codes "Lost"
+IsFinishFault causes.NoMemory NoMemory = ⊤
+IsFinishFault cause other = ⊥
+
+-- the name says how the books don't go with the answers
+abbrev pub IsFinishName : List ℕ → Type 0
+IsFinishName name =
+    (name ≡ codes "TillMissing") ⊎ ((name ≡ codes "Apart") ⊎ ((name ≡ codes "Doubled") ⊎ (name ≡ codes "Lost")))
+
 -- why a run with workers comes to no books: a growth was refused, or the books don't go with the answers
 abbrev pub IsPlayFault : TextFault → Type 0
-IsPlayFault (Settings name) = ⊤
+IsPlayFault (Settings name) = IsFinishName name.now
 IsPlayFault NoMemory = ⊤
 IsPlayFault other = ⊥
+
+-- a name comes for the settings that some bytes say, where they are refused; where they aren't, for the books
+abbrev pub IsNamedFor : Result SettingLists ReadFault → TextFault → Type 0
+IsNamedFor (Ok settings) fault = IsPlayFault fault
+IsNamedFor (Err fault) named = IsNamed fault named
+
+-- the bytes say settings
+abbrev pub SaysSettings : Result SettingLists ReadFault → Type 0
+SaysSettings said = (settings : SettingLists) × (said ≡ Ok settings)
+
+-- with workers: an Ok comes only for bytes that say settings, and `Settings` names the fault of those that say none,
+-- or how the books don't go with the answers
+abbrev pub NamesFaultOfWorkers : {T : Type 0} → Option (List ℕ) → Result T TextFault → Type 0
+NamesFaultOfWorkers (Some bytes) (Ok _) = SaysSettings (settings_in (settings_part bytes))
+NamesFaultOfWorkers (Some bytes) (Err (Settings name)) = IsNamedFor (settings_in (settings_part bytes)) (Settings name)
+NamesFaultOfWorkers left result = ⊤
 
 -- the writer took some lines, and `refused` says whether one of them begins with `no` or `bad`
 abbrev pub TellsRefusals : Option (List ℕ) → Option (List ℕ) → Bool → Type 0

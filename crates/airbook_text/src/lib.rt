@@ -1,7 +1,6 @@
 //! The texts of `airbook`: input lines in, answer lines out; and the settings of a server.
 #![tactic(auto)]
 
-mod answer_here;
 mod booking;
 mod command;
 mod entry_line;
@@ -30,6 +29,8 @@ mod settings_reading;
 #[cfg(test)]
 mod settings_tests;
 mod station_run;
+#[cfg(test)]
+mod station_run_tests;
 mod tally;
 #[cfg(test)]
 mod tests;

@@ -2,7 +2,7 @@
 ghost use Rattle.std.specs.Prelude.{◌≡◌, ◌≢◌, ◌<◌, ◌≤◌, Err, IfOk, IfErr};
 ghost use Rattle.airbook_text.specs.Fault.{CountsReads, CountsWrites};
 ghost use Rattle.airbook_text.specs.RunInput.{KeepsInputLimit};
-ghost use Rattle.airbook_text.specs.RunOutput.{Runs, RunsInPart, NamesFault, NamesWorkers, IsPlayFault, TellsRefusals};
+ghost use Rattle.airbook_text.specs.RunOutput.{Runs, RunsInPart, NamesFault, NamesFaultOfWorkers, NamesWorkers, IsPlayFault, TellsRefusals};
 
 use crate::TextFault;
 use crate::replay_text::write_lines;
@@ -55,6 +55,7 @@ where
     ensures front { workers ≡ 0 → result ≡ Err TextFault.Write → RunsInPart Global (R.left reader.old) (R.left reader.new) (W.taken writer.old) (W.taken writer.new) }
     ensures told { 0 < workers → IfOk result (λ refused. TellsRefusals (W.taken writer.old) (W.taken writer.new) refused) }
     ensures settings { workers ≡ 0 → NamesFault (R.left reader.old) result }
+    ensures named { 0 < workers → workers ≤ 16 → NamesFaultOfWorkers (R.left reader.old) result }
     ensures workers { 16 < workers → NamesWorkers result }
     ensures unread { 16 < workers → reader.new ≡ reader.old }
     ensures untouched { IfErr result (λ fault. fault ≢ TextFault.Write → writer.new ≡ writer.old) }
@@ -88,6 +89,7 @@ fn read_and_play<T: Threads + Wait + Sync, S: BuildHasher + Clone + Drop + Send 
 ) -> Result<Played, TextFault>
 where
     S::Hasher: Send + Sync,
+    ensures named { NamesFaultOfWorkers (R.left reader.old) result }
     ensures written { IfErr result (λ fault. fault ≢ TextFault.Write) }
     ensures limit { KeepsInputLimit (R.left reader.old) result }
     ensures read { CountsReads (R.failed_calls reader.old) (R.failed_calls reader.new) result }

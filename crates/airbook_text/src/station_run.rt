@@ -1,21 +1,21 @@
 // A run on a station with workers: what the events ask for, one after another, and the books at the end.
-ghost use Rattle.std.specs.Prelude.{◌≡◌, IfErr};
-ghost use Rattle.airbook_text.specs.RunOutput.{IsPlayFault};
+ghost use Rattle.std.specs.Prelude.{◌≡◌, ◌++◌, IfOk, IfErr};
+ghost use Rattle.airbook_text.specs.PassAnswers.{numbers_of};
+ghost use Rattle.airbook_text.specs.RunOutput.{IsFinishFault, IsPlayFault};
 
 use crate::TextFault;
-use crate::answer_here::answer_here;
 use crate::pass_answers::{Answer, PassAnswers};
 use crate::receipts::Receipts;
 use answer_ticket::{Outcome, Receipt};
 use gateway_book::{CancelFault, GatewayBook};
 use resv_list::VecRoster;
 use server_core::{
-    DeskFault, DeskHeard, Entry, Event, Line, NoMemory, QueueFault, Settings, TakeFault,
+    Entry, Event, Line, NoMemory, Settings, TakeFault, cancelled_line, heard_line, queued_line,
 };
 use server_workers::{
     Blank, Closing, FinishCause, Ledger, NoGate, PARTS, Served, Station, Till, serve,
 };
-use std::alloc::{AllocError, Global};
+use std::alloc::Global;
 use std::hash::BuildHasher;
 use std::sync::Wait;
 use std::thread::Threads;
@@ -160,13 +160,11 @@ where
                 fault: CancelFault::NotHere,
             };
         };
-        match self.station.cancel(rt, &booking.receipt) {
-            Ok(airtime) => {
-                booking.is_cancelled = true;
-                Line::Cancelled { number, airtime }
-            }
-            Err(fault) => Line::NotCancelled { number, fault },
+        let answer = self.station.cancel(rt, &booking.receipt);
+        if answer.is_ok() {
+            booking.is_cancelled = true;
         }
+        cancelled_line(number, answer)
     }
 
     /// Closes all gatherings that are due, and answers their uplinks.
@@ -188,8 +186,15 @@ where
             entries,
             workers,
         } = self;
-        let (till, answered) = answered(rt, alloc, &station, numbers.as_slice(), till, workers);
-        let (answers, booked) = answered?.by_number();
+        let (till, answers) = answer_with_workers(
+            rt,
+            alloc,
+            &station,
+            numbers.as_slice(),
+            till,
+            workers,
+        );
+        let (answers, booked) = answers?.by_number();
         let mut shift = Shift {
             station,
             till,
@@ -265,7 +270,11 @@ where
 
 /// Answers the uplinks with these numbers by so many workers. What they skipped, and all where none could work, the calling
 /// thread answers.
-fn answered<B: Ledger + Send + Sync, S: BuildHasher + Send + Sync, R: Threads + Wait + Sync>(
+pub(crate) fn answer_with_workers<
+    B: Ledger + Send + Sync,
+    S: BuildHasher + Send + Sync,
+    R: Threads + Wait + Sync,
+>(
     rt: &R,
     alloc: Global,
     station: &Station<B, S>,
@@ -283,7 +292,7 @@ where
         Err(fault) => {
             let mut till = fault.till;
             let answers = PassAnswers::with(alloc, Vec::new(alloc));
-            let answers = answered_here(rt, alloc, station, numbers, &mut till, answers);
+            let answers = answer_each(rt, alloc, station, numbers, &mut till, answers);
             (till, answers)
         }
     }
@@ -319,7 +328,7 @@ fn after_workers<B: Ledger, S: BuildHasher, R: Wait>(
         Ok(answers) => answers,
         Err(wanting) => return (till, Err(wanting)),
     };
-    let answers = answered_here(rt, alloc, station, skipped.as_slice(), &mut till, answers);
+    let answers = answer_each(rt, alloc, station, skipped.as_slice(), &mut till, answers);
     (till, answers)
 }
 
@@ -332,14 +341,14 @@ fn gathered(
     strays: &[u64],
 ) -> Result<PassAnswers, NoMemory> {
     let mut answers = answers;
-    answers.settled(alloc, outcomes)?;
-    answers.refused(refused)?;
-    answers.strays(strays)?;
+    answers.add_outcomes(alloc, outcomes)?;
+    answers.add_refused(refused)?;
+    answers.add_strays(strays)?;
     Ok(answers)
 }
 
-/// The answers with those of the calling thread to the uplinks with these numbers.
-fn answered_here<B: Ledger, S: BuildHasher, R: Wait>(
+/// The answers with those of the calling thread to the uplinks with these numbers, one for each.
+fn answer_each<B: Ledger, S: BuildHasher, R: Wait>(
     rt: &R,
     alloc: Global,
     station: &Station<B, S>,
@@ -347,32 +356,15 @@ fn answered_here<B: Ledger, S: BuildHasher, R: Wait>(
     till: &mut Till<B>,
     answers: PassAnswers,
 ) -> Result<PassAnswers, NoMemory>
-    ensures { till.new.parts ≡ till.old.parts }
+    ensures parts { till.new.parts ≡ till.old.parts }
+    ensures each { IfOk result (λ after. numbers_of after.answers.items ≡ numbers_of answers.answers.items ++ numbers.now) }
 {
     let mut answers = answers;
     for number in numbers {
-        let worked = answer_here(rt, station, till, *number);
-        answers.worked(alloc, *number, worked)?;
+        let turn = station.answer(rt, &NoGate, *number, till, &mut 0);
+        answers.add_turn(alloc, *number, turn)?;
     }
     Ok(answers)
-}
-
-/// The line for a payload that was queued, or not.
-fn queued_line(addr: u32, answer: Result<usize, QueueFault>) -> Result<Line<Global>, NoMemory> {
-    match answer {
-        Ok(count) => Ok(Line::Queued { addr, count }),
-        Err(QueueFault::NoMemory) => Err(AllocError),
-        Err(fault) => Ok(Line::NotQueued(fault)),
-    }
-}
-
-/// The line for a copy of an uplink that was taken in, or not.
-fn heard_line(answer: Result<DeskHeard, DeskFault>) -> Result<Line<Global>, NoMemory> {
-    match answer {
-        Ok(heard) => Ok(Line::Heard(heard)),
-        Err(DeskFault::NoMemory) => Err(AllocError),
-        Err(fault) => Ok(Line::NotHeard(fault)),
-    }
 }
 
 /// The line for a gateway's floor, if the station has the gateway.
@@ -384,8 +376,9 @@ fn floor_line(gateway: u16, floor: Option<u64>) -> Line<Global> {
 }
 
 /// Why a station could not be closed, as a text call answers it.
-fn named(cause: FinishCause) -> TextFault
-    ensures { IsPlayFault result }
+pub(crate) fn named(cause: FinishCause) -> TextFault
+    ensures exact { IsFinishFault cause result }
+    ensures play { IsPlayFault result }
 {
     match cause {
         FinishCause::TillMissing => TextFault::Settings("TillMissing"),
