@@ -3,7 +3,7 @@
 PROGRAM := crates/airbook/out/airbook
 PREFIX ?= /usr/local
 
-.PHONY: demo test install
+.PHONY: demo test mutants install
 
 # The main job on a machine where nothing is built. rt try compiles and runs, and proves nothing.
 demo:
@@ -16,6 +16,10 @@ demo:
 test:
 	rt ci
 	python3 tests/cases.py $(PROGRAM)
+
+# The edits in mutants/, which the gate leaves out: before a release. On a clone of what is committed.
+mutants:
+	python3 tests/mutants.py
 
 # The proved program, as PREFIX/bin/airbook.
 install:

@@ -1,0 +1,139 @@
+#!/usr/bin/env python3
+"""Runs the gate on a clone of this repository, and tells where its processor time goes.
+
+Usage: bench/gate.py [COMMIT]      (COMMIT: what is checked out in the clone; none: HEAD)
+
+For each crate it prints the processor seconds of its proof, of its tests and of its must-fail edits, how many edits
+there are, and its chain: the proofs of the crates below it that have to end first, then its own proof, tests and edits,
+one after another. Last it prints the sum, the longest chain, and the time that went by. The status is the gate's.
+
+Nothing else should run on the machine meanwhile: processor time hardly depends on that, but the time that goes by does.
+It needs git, python3, Linux's /proc and the toolchain's command rt.
+"""
+import collections
+import os
+import pathlib
+import subprocess
+import sys
+import tempfile
+import time
+
+TOP = pathlib.Path(__file__).resolve().parent.parent
+TICKS = os.sysconf("SC_CLK_TCK")
+POLL_SECONDS = 0.2
+PARTS = ("proof", "tests", "edits")
+
+
+def processes():
+    """Each process: its parent, and its processor seconds with those of its children that have ended."""
+    found = {}
+    for pid in filter(str.isdigit, os.listdir("/proc")):
+        try:
+            fields = pathlib.Path(f"/proc/{pid}/stat").read_text().rpartition(")")[2].split()
+        except OSError:
+            continue
+        found[int(pid)] = int(fields[1]), sum(map(int, fields[11:15])) / TICKS
+    return found
+
+
+def task_of(pid):
+    """Which crate a process of the prover works on, and for which part of the gate; None for any other process."""
+    try:
+        words = pathlib.Path(f"/proc/{pid}/cmdline").read_bytes().decode(errors="replace").split("\0")
+        folder = os.path.basename(os.readlink(f"/proc/{pid}/cwd"))
+    except OSError:
+        return None
+    if os.path.basename(words[0]) != "rattle" or "--crate-name" not in words:
+        return None
+    part = "edits" if folder.startswith("rt-edit-") else "tests" if "--test" in words else "proof"
+    return words[words.index("--crate-name") + 1], part
+
+
+class Meter:
+    """The processor seconds of each run of the prover below one process, by what it worked on."""
+
+    def __init__(self, top):
+        self.top = top
+        self.runs = {}
+
+    def look(self):
+        found = processes()
+        below = collections.defaultdict(list)
+        for pid, (parent, _) in found.items():
+            below[parent].append(pid)
+        waiting = [self.top]
+        while waiting:
+            for pid in below[waiting.pop()]:
+                task = self.runs.get(pid, (None, 0))[0] or task_of(pid)
+                if task is None:
+                    waiting.append(pid)
+                else:
+                    self.note(pid, task, found, below)
+
+    def note(self, pid, task, found, below):
+        seconds, waiting = 0, [pid]
+        while waiting:
+            one = waiting.pop()
+            seconds += found[one][1]
+            waiting += below[one]
+        self.runs[pid] = task, max(seconds, self.runs.get(pid, (task, 0))[1])
+
+    def sums(self):
+        sums = collections.Counter()
+        for task, seconds in self.runs.values():
+            sums[task] += seconds
+        return sums
+
+
+def crates_below(folder):
+    """The crates of crates.txt, each with those of the repository that it stands on."""
+    lines = [line.split("#")[0] for line in (folder / "crates.txt").read_text().splitlines()]
+    named = [line.split(":", 1) for line in lines if ":" in line]
+    stands_on = {name.split()[0]: words.split() for name, words in named}
+    return {name: [word for word in words if word in stands_on] for name, words in stands_on.items()}
+
+
+def chain_of_proofs(crate, below, sums):
+    return sums[crate, "proof"] + max([chain_of_proofs(it, below, sums) for it in below[crate]], default=0)
+
+
+def print_table(folder, sums):
+    below = crates_below(folder)
+    chains = {it: chain_of_proofs(it, below, sums) + sums[it, "tests"] + sums[it, "edits"] for it in below}
+    print("| Crate | Proof | Tests | Edits | Number of edits | Own | Chain |")
+    print("|---|---|---|---|---|---|---|")
+    for crate in sorted(below, key=lambda it: -chains[it]):
+        parts = [sums[crate, part] for part in PARTS]
+        edits = len(list((folder / "crates" / crate / "must-fail").glob("*.edit")))
+        shown = " | ".join(f"{seconds:.0f}" for seconds in parts)
+        print(f"| `{crate}` | {shown} | {edits} | {sum(parts):.0f} | {chains[crate]:.0f} |")
+    whole = [sum(sums[crate, part] for crate in below) for part in PARTS]
+    print(f"| all | {' | '.join(f'{seconds:.0f}' for seconds in whole)} | | {sum(whole):.0f} | {max(chains.values()):.0f} |")
+    longest = max(chains, key=chains.get)
+    print(f"In processor seconds. Sum: {sum(whole) / 60:.0f} min. Longest chain: {chains[longest] / 60:.0f} min ({longest}).")
+
+
+def main():
+    commit = sys.argv[1] if len(sys.argv) > 1 else "HEAD"
+    with tempfile.TemporaryDirectory(prefix="gate-") as room:
+        folder = pathlib.Path(room, "clone")
+        subprocess.run(["git", "clone", "--quiet", TOP, folder], check=True)
+        subprocess.run(["git", "-C", folder, "checkout", "--quiet", subprocess.check_output(["git", "-C", TOP, "rev-parse", commit], text=True).strip()], check=True)
+        started = time.monotonic()
+        with open(pathlib.Path(room, "said"), "w+") as said:
+            gate = subprocess.Popen(["bash", ".ci/run"], cwd=folder, stdin=subprocess.DEVNULL, stdout=said, stderr=subprocess.STDOUT)
+            meter = Meter(gate.pid)
+            while gate.poll() is None:
+                meter.look()
+                time.sleep(POLL_SECONDS)
+            said.seek(0)
+            lines = said.read().splitlines()
+        print_table(folder, meter.sums())
+        print(f"{(time.monotonic() - started) / 60:.0f} minutes went by. The gate's last line: {lines[-1] if lines else ''}")
+        if gate.returncode:
+            print("\n".join(lines), file=sys.stderr)
+    return gate.returncode
+
+
+if __name__ == "__main__":
+    sys.exit(main())
