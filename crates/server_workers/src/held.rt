@@ -1,8 +1,8 @@
 // All kept lists as one.
 
-ghost use Rattle.std.specs.Prelude.{◌≡◌, ◌++◌, map, IfOk, OnOk, IsNone};
+ghost use Rattle.std.specs.Prelude.{◌≡◌, ◌++◌, map, IfOk, OnOk, IsNone, IfSome};
 ghost use Rattle.std.specs.List.Sorted.{IsPermutation, IsNonDecreasingBy};
-ghost use Rattle.server_workers.specs.Closings.{held_by, EachStandsOnce};
+ghost use Rattle.server_workers.specs.Closings.{held_by, EachStandsOnce, StandsTwice};
 
 use crate::NoMemory;
 use gateway_book::GatewayBook;
@@ -28,7 +28,8 @@ pub(crate) fn held_by_number<A: Allocator + Copy>(
 /// The first number that stands twice in a list in the order of the numbers, and the gateways that keep it. Takes no memory.
 pub(crate) fn first_doubled(held: &[Held]) -> Option<(u64, u16, u16)>
     requires { IsNonDecreasingBy (λ h. h.1.number) held.now }
-    ensures { IsNone result → EachStandsOnce (map (λ h. h.1.number) held.now) }
+    ensures none { IsNone result → EachStandsOnce (map (λ h. h.1.number) held.now) }
+    ensures twice { IfSome result (StandsTwice held.now) }
 {
     for i in 1..held.len() {
         let (gateway, member) = held[i - 1];

@@ -5,14 +5,8 @@
 mod apart;
 mod closing;
 mod comparing;
-#[cfg(test)]
-mod day_tests;
-#[cfg(test)]
-mod finish_tests;
 mod finishing;
 mod gate;
-#[cfg(test)]
-mod gate_tests;
 mod gateways;
 mod held;
 mod lists;
@@ -24,12 +18,8 @@ mod served;
 mod serving;
 mod shelf;
 mod station;
-#[cfg(test)]
-mod station_tests;
 mod totals_fault;
 mod turn;
-#[cfg(test)]
-mod work_tests;
 mod worked;
 mod working;
 

@@ -9,11 +9,11 @@ first_doubled-requires g c =
 
 pub returns-clause-once : goal.returns-clause-once
 returns-clause-once g c =
-    once_kept c.args.shelf.now _ _ c.in-Ok.ensures.same c.deref.ensures.value (c.in_default-first_doubled.ensures refl)
+    once_kept c.args.shelf.now _ _ c.in-Ok.ensures.same c.deref.ensures.value (c.in_default-first_doubled.ensures.none refl)
 
 pub returns-in-Some-first_doubled-clause-order : goal.returns-in-Some-first_doubled-clause-order
 returns-in-Some-first_doubled-clause-order g c = c.in_default-first_apart.ensures
 
 pub returns-in-Some-first_lost-clause-order : goal.returns-in-Some-first_lost-clause-order
 returns-in-Some-first_lost-clause-order g c =
-    (c.in_default-first_apart.ensures, once_kept c.args.shelf.now _ _ c.in-Ok.ensures.same c.deref.ensures.value (c.in_default-first_doubled.ensures refl))
+    (c.in_default-first_apart.ensures, once_kept c.args.shelf.now _ _ c.in-Ok.ensures.same c.deref.ensures.value (c.in_default-first_doubled.ensures.none refl))

@@ -1,4 +1,0 @@
-use Rattle.server_workers.proofs.finish_tests.wants_tills.Given as goal
-
-abbrev pub ghosts-finish_without_tills : goal.ghosts-finish_without_tills
-ghosts-finish_without_tills g a = record { name = a.blank.name; parts = a.blank.parts }

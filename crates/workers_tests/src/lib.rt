@@ -1,0 +1,17 @@
+//! Tests of a station and its workers.
+#![tactic(auto)]
+
+#[cfg(test)]
+mod day_tests;
+#[cfg(test)]
+mod finish_tests;
+#[cfg(test)]
+mod fixtures;
+#[cfg(test)]
+mod gate_tests;
+#[cfg(test)]
+mod meeting_tests;
+#[cfg(test)]
+mod station_tests;
+#[cfg(test)]
+mod work_tests;
