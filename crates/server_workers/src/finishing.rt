@@ -9,7 +9,7 @@ ghost use Rattle.server_workers.specs.Closings.{shelved, counted, airtime_at, ke
 use crate::closing::{Closing, FinishCause, FinishFault};
 use crate::comparing::compare;
 use crate::place::Place;
-use crate::shelf::{Lists, Shelf, part, put_back, take_out};
+use crate::shelf::{ClosingLists, Shelf, part, put_back, take_out};
 use crate::{Ledger, Office, PARTS, Station, Tally, Till};
 use answer_ticket::Receipt;
 use server_core::Desk;
@@ -45,7 +45,7 @@ impl<B: Ledger, S: BuildHasher, A: Allocator + Copy> Station<B, S, A> {
             return Err(FinishFault::new(FinishCause::TillMissing, self, tills));
         }
         let Station { office, mut places } = self;
-        let Ok(mut lists) = Lists::with_room(alloc, places.len()) else {
+        let Ok(mut lists) = ClosingLists::with_room(alloc, places.len()) else {
             let station = Station { office, places };
             return Err(FinishFault::new(FinishCause::NoMemory, station, tills));
         };
@@ -81,7 +81,7 @@ fn close<B: Ledger, S: BuildHasher, A: Allocator>(
     desk: Desk<S, A>,
     tally: Tally<B>,
     tills: Vec<Till<B>, A>,
-    lists: Lists<A>,
+    lists: ClosingLists<A>,
 ) -> Closing<S, A>
     requires tally { tally ≡ total_of desk }
     requires all_in { parts_of tills.items ≡ all_parts }
@@ -95,7 +95,7 @@ fn close<B: Ledger, S: BuildHasher, A: Allocator>(
     ensures totals { result.totals.items ≡ map counted lists.shelf.items }
     ensures books { result.books.items ≡ map (λ s. s.1) lists.shelf.items }
 {
-    let Lists {
+    let ClosingLists {
         mut shelf,
         mut totals,
         mut books,

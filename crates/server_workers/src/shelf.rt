@@ -15,20 +15,20 @@ pub(crate) type Shelf<A> = Vec<(u16, GatewayBook<VecRoster<A>>), A>;
 
 /// Lists with room for a station's books.
 #[derive(Drop)]
-pub(crate) struct Lists<A: Allocator> {
+pub(crate) struct ClosingLists<A: Allocator> {
     pub(crate) shelf: Shelf<A>,
     pub(crate) totals: Vec<(u16, Totals), A>,
     pub(crate) books: Vec<GatewayBook<VecRoster<A>>, A>,
 }
 
-impl<A: Allocator + Copy> Lists<A> {
+impl<A: Allocator + Copy> ClosingLists<A> {
     /// Empty lists with room for so many books.
     pub(crate) fn with_room(alloc: A, len: usize) -> Result<Self, NoMemory>
         ensures no_shelf { IfOk result (λ lists. (lists.shelf.items ≡ []) × (vec_capacity lists.shelf ≡ len)) }
         ensures no_totals { IfOk result (λ lists. (lists.totals.items ≡ []) × (vec_capacity lists.totals ≡ len)) }
         ensures no_books { IfOk result (λ lists. (lists.books.items ≡ []) × (vec_capacity lists.books ≡ len)) }
     {
-        Ok(Lists {
+        Ok(ClosingLists {
             shelf: Vec::with_capacity(alloc, len)?,
             totals: Vec::with_capacity(alloc, len)?,
             books: Vec::with_capacity(alloc, len)?,
