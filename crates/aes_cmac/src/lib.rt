@@ -8,8 +8,6 @@ mod schedule;
 mod state;
 mod subkeys;
 mod tables;
-#[cfg(test)]
-mod tests;
 mod whole;
 
 pub use keys::{Key, encrypt};

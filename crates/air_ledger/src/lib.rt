@@ -4,8 +4,6 @@
 
 mod opening;
 mod tally;
-#[cfg(test)]
-mod tests;
 mod till;
 
 pub use opening::{PARTS, begin};

@@ -8,8 +8,6 @@ mod copies;
 mod job;
 mod outcome;
 mod stub;
-#[cfg(test)]
-mod tests;
 mod ticket;
 mod tried;
 

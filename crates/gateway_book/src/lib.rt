@@ -8,8 +8,6 @@ mod cancel;
 mod duty;
 mod laws;
 mod refusal;
-#[cfg(test)]
-mod tests;
 mod totals;
 
 pub use ask::Ask;

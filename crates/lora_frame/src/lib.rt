@@ -7,8 +7,6 @@ mod counting;
 mod laws;
 mod parts;
 mod reading;
-#[cfg(test)]
-mod tests;
 mod writing;
 
 pub use aes_cmac::Key;

@@ -42,36 +42,3 @@ fn quarter_symbol_us(rate: DataRate) -> u64
         DataRate::Dr6 => 128,
     }
 }
-
-#[cfg(test)]
-mod tests {
-    use super::*;
-
-    #[test]
-    fn of_the_shortest_downlink_at_each_rate(rt: HostRuntime) {
-        let cases = [
-            (DataRate::Dr0, 991_232),
-            (DataRate::Dr1, 577_536),
-            (DataRate::Dr2, 288_768),
-            (DataRate::Dr3, 144_384),
-            (DataRate::Dr4, 72_192),
-            (DataRate::Dr5, 41_216),
-            (DataRate::Dr6, 20_608),
-        ];
-        for (rate, time_us) in cases {
-            assert_eq!(rt; airtime(rate, 12), time_us, "at {rate:?}");
-        }
-    }
-
-    #[test]
-    fn of_the_longest_and_the_shortest_frames(rt: HostRuntime) {
-        let cases = [
-            (DataRate::Dr0, 64, 2_793_472),
-            (DataRate::Dr5, 255, 394_496),
-            (DataRate::Dr5, 0, 20_736),
-        ];
-        for (rate, len, time_us) in cases {
-            assert_eq!(rt; airtime(rate, len), time_us, "at {rate:?} with {len} bytes");
-        }
-    }
-}

@@ -73,26 +73,3 @@ impl Band {
         }
     }
 }
-
-#[cfg(test)]
-mod tests {
-    use super::*;
-
-    #[test]
-    fn of_channels_at_the_edges(rt: HostRuntime) {
-        let cases = [
-            (868_537_500, DataRate::Dr5, Some(Band::M)),
-            (868_537_501, DataRate::Dr5, None),
-            (865_000_000, DataRate::Dr5, None),
-            (865_000_000, DataRate::Dr0, None),
-            (869_525_000, DataRate::Dr0, Some(Band::P)),
-        ];
-        for (freq_hz, rate, band) in cases {
-            assert_eq!(rt;
-                Band::of(freq_hz, rate),
-                band,
-                "at {freq_hz} Hz and {rate:?}"
-            );
-        }
-    }
-}

@@ -14,23 +14,3 @@ pub fn limit_us(band: Band) -> u64
         Band::P => 360_000_000,
     }
 }
-
-#[cfg(test)]
-mod tests {
-    use super::*;
-
-    #[test]
-    fn of_each_band(rt: HostRuntime) {
-        let cases = [
-            (Band::K, 3_600_000),
-            (Band::L, 36_000_000),
-            (Band::M, 36_000_000),
-            (Band::N, 3_600_000),
-            (Band::P, 360_000_000),
-            (Band::Q, 36_000_000),
-        ];
-        for (band, limit) in cases {
-            assert_eq!(rt; limit_us(band), limit, "in {band:?}");
-        }
-    }
-}

@@ -155,6 +155,3 @@ fn airtime_in(member: &Reservation, band: Band) -> u64
         0
     }
 }
-
-#[cfg(test)]
-mod tests;

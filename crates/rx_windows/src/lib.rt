@@ -6,8 +6,6 @@ mod candidate;
 mod laws;
 mod plan;
 mod ranking;
-#[cfg(test)]
-mod tests;
 mod windows;
 
 pub use candidate::{Candidate, Window};

@@ -9,8 +9,6 @@ mod limits;
 mod newest;
 mod rules;
 mod stored;
-#[cfg(test)]
-mod tests;
 
 pub use answers::{Heard, Place};
 pub use fault::HearFault;

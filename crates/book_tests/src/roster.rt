@@ -1,8 +1,9 @@
+// Rosters, called through their trait.
 ghost use Rattle.std.specs.Prelude.{◌≡◌, IsTrue};
 ghost use Rattle.resv_list.specs.Reservations.{IsFree};
 
-use crate::{Reservation, Roster, RosterFault, VecRoster};
 use radio_airtime::DataRate;
+use resv_list::{Reservation, Roster, RosterFault, VecRoster};
 use std::process::Abort;
 use std::test::Fail;
 
@@ -32,11 +33,17 @@ fn put<R: Roster>(rt: &impl Abort, roster: &mut R, start: u64) -> Result<(), Ros
     }
 }
 
+/// The starts of the members on either side of a moment.
+fn nearest<R: Roster>(roster: &R, start: u64) -> (Option<u64>, Option<u64>) {
+    let before = roster.before(start).map(|member| member.number);
+    (before, roster.first_from(start).map(|member| member.number))
+}
+
 #[test]
 fn keeps_reservations_by_start(rt: HostRuntime) -> Result<(), Fail> {
     let mut roster = VecRoster::new(rt.alloc());
     assert_eq!(rt; roster.len(), 0);
-    assert_eq!(rt; roster.first_from(0), None);
+    assert_eq!(rt; nearest(&roster, 0), (None, None));
     for start in [20, 0, 10] {
         put(&rt, &mut roster, start)?;
     }
@@ -50,17 +57,9 @@ fn keeps_reservations_by_start(rt: HostRuntime) -> Result<(), Fail> {
         (21, Some(20), None),
     ];
     for (start, before, from) in cases {
-        assert_eq!(rt;
-            roster.before(start),
-            before.map(|s| reservation_at(&rt, s)),
-            "before {start}"
-        );
-        assert_eq!(rt;
-            roster.first_from(start),
-            from.map(|s| reservation_at(&rt, s)),
-            "from {start}"
-        );
+        assert_eq!(rt; nearest(&roster, start), (before, from), "round {start}");
     }
+    assert_eq!(rt; roster.first_from(20), Some(reservation_at(&rt, 20)));
     Ok(())
 }
 

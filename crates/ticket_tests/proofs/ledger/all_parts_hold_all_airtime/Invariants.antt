@@ -1,4 +1,4 @@
-use Rattle.air_ledger.proofs.tests.all_parts_hold_all_airtime.Given as goal
+use Rattle.ticket_tests.proofs.ledger.all_parts_hold_all_airtime.Given as goal
 
 abbrev pub ghosts-day : goal.ghosts-day
 ghosts-day g a = record { name = a.blank.name; parts = a.blank.parts }

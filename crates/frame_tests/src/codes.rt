@@ -1,6 +1,6 @@
 // Vectors of FIPS 197 (appendices B and C.1) and of RFC 4493 (section 4).
 
-use super::*;
+use aes_cmac::{Cmac, Key, cmac, encrypt};
 
 const KEY: [u8; 16] = [
     0x2b, 0x7e, 0x15, 0x16, 0x28, 0xae, 0xd2, 0xa6, 0xab, 0xf7, 0x15, 0x88, 0x09, 0xcf, 0x4f, 0x3c,
@@ -60,10 +60,28 @@ fn encrypts(rt: HostRuntime) {
 #[test]
 fn codes_of_whole_messages(rt: HostRuntime) {
     let key = Key::new(KEY);
-    assert!(rt; cmac(&key, &[]) == CODE_OF_NONE);
-    assert!(rt; cmac(&key, &MESSAGE[..16]) == CODE_OF_16);
-    assert!(rt; cmac(&key, &MESSAGE[..40]) == CODE_OF_40);
-    assert!(rt; cmac(&key, &MESSAGE) == CODE_OF_64);
+    for (length, wanted) in [
+        (0, CODE_OF_NONE),
+        (16, CODE_OF_16),
+        (40, CODE_OF_40),
+        (64, CODE_OF_64),
+    ] {
+        let length: usize = length;
+        assert!(rt; length <= 64);
+        assert!(rt;
+            cmac(&key, &MESSAGE[..length]) == wanted,
+            "of {length} bytes"
+        );
+    }
+}
+
+/// The code of a message in three pieces.
+fn code_of_three(key: &Key, first: &[u8], second: &[u8], third: &[u8]) -> [u8; 16] {
+    let mut state = Cmac::new(key);
+    state.update(first);
+    state.update(second);
+    state.update(third);
+    state.finish()
 }
 
 #[test]
@@ -81,11 +99,13 @@ fn codes_of_pieces(rt: HostRuntime) {
         let first: usize = first;
         let second: usize = second;
         assert!(rt; first <= second && second <= 40);
-        let mut state = Cmac::new(&key);
-        state.update(&MESSAGE[..first]);
-        state.update(&MESSAGE[first..second]);
-        state.update(&MESSAGE[second..40]);
-        assert!(rt; state.finish() == CODE_OF_40, "cut at {first} and {second}");
+        let code = code_of_three(
+            &key,
+            &MESSAGE[..first],
+            &MESSAGE[first..second],
+            &MESSAGE[second..40],
+        );
+        assert!(rt; code == CODE_OF_40, "cut at {first} and {second}");
     }
     let mut state = Cmac::new(&key);
     for byte in &MESSAGE {

@@ -4,8 +4,8 @@ ghost use Rattle.std.specs.Prelude.{◌≡◌, ◌^◌, ◌≤◌};
 ghost use Rattle.std.specs.Option.{ForSome};
 ghost use Rattle.rx_windows.specs.Windows.{IsHeard, IsPlan};
 
-use crate::{Candidate, Plan, Window, candidates, rank};
 use radio_airtime::DataRate;
+use rx_windows::{Candidate, Plan, Window, candidates, rank};
 use std::test::Fail;
 use uplink_gather::HeardCopy;
 
@@ -75,7 +75,13 @@ fn three_copies(rt: HostRuntime) -> Result<(), Fail> {
         copy(3, 7_000_000, -20, -60),
     ];
     rank(&mut copies);
-    let found = candidates(rt.alloc(), &copies, &plan(1, 2, None))?;
+    let ranked = [
+        copy(2, 6_000_000, 55, -80),
+        copy(1, 5_000_000, 55, -90),
+        copy(3, 7_000_000, -20, -60),
+    ];
+    assert!(rt; copies.as_slice() == ranked.as_slice());
+    let found = candidates(rt.alloc(), &ranked, &plan(1, 2, None))?;
     let wanted = [
         first(2, 7_000_000, DataRate::Dr3),
         first(1, 6_000_000, DataRate::Dr3),

@@ -3,8 +3,8 @@
 ghost use Rattle.std.specs.Prelude.{IfOk};
 ghost use Rattle.answer_ticket.specs.Job.{IsJob};
 
-use crate::{Bytes, Copies, Ending, Job, NoMemory, Outcome, Receipt, Stub, Ticket, Tried};
-use gateway_book::{Ask, GatewayBook, Refusal};
+use answer_ticket::{Bytes, Copies, Ending, Job, NoMemory, Outcome, Receipt, Stub, Ticket, Tried};
+use gateway_book::{Ask, GatewayBook, OpenFault, Refusal};
 use lora_frame::{Key, Keys};
 use radio_airtime::DataRate;
 use resv_list::{Roster, VecRoster};
@@ -101,15 +101,68 @@ fn spent<A: Allocator, X>(tried: Tried<A>) -> Option<X> {
     None
 }
 
-/// What a book is asked for that is to have no room for RX1.
-fn ask_at_rx1() -> Ask {
-    Ask {
-        number: 99,
-        start: 6_000_000,
-        freq_hz: 868_100_000,
-        rate: DataRate::Dr5,
-        len: 12,
-    }
+/// The book that these tickets are tried on.
+type Book = GatewayBook<VecRoster<Global>>;
+
+fn opened(alloc: Global, id: u16) -> Result<Book, OpenFault> {
+    GatewayBook::new(VecRoster::new(alloc), id, 4_096)
+}
+
+/// The ticket for that answer.
+fn ticket(alloc: Global) -> Result<Ticket<Global>, NoMemory> {
+    Ticket::new(alloc, job(alloc)?)
+}
+
+/// Tries a ticket on any book.
+fn tried<R: Roster>(ticket: Ticket<Global>, book: &mut GatewayBook<R>) -> Tried<Global> {
+    ticket.try_on(book)
+}
+
+/// What a ticket tells: its number, the gateway to try next, and its counter.
+fn told(ticket: &Ticket<Global>) -> (u64, u16, u32) {
+    (ticket.number(), ticket.gateway(), ticket.counter())
+}
+
+/// What a stub tells, and how its answer ended.
+fn ended(stub: Stub) -> (u64, Option<u16>, Outcome) {
+    (stub.number(), stub.gateway(), stub.end())
+}
+
+/// What a receipt tells: its number, gateway and window, the start, rate and length of the reservation, the length of
+/// the frame.
+fn receipt_told(receipt: &Receipt<Global>) -> (u64, u16, Window, u64, DataRate, u8, usize) {
+    let made = &receipt.reservation;
+    (
+        receipt.number,
+        receipt.gateway,
+        receipt.window,
+        made.start,
+        made.rate,
+        made.len,
+        receipt.frame.as_slice().len(),
+    )
+}
+
+/// Whether the frame of a receipt begins with these bytes.
+fn begins_with(receipt: &Receipt<Global>, head: &[u8]) -> bool {
+    receipt.frame.as_slice().starts_with(head)
+}
+
+/// The ending of the answer that gateway 1 sends.
+fn answered(
+    window: Window,
+    start: u64,
+    airtime: u64,
+    carried: bool,
+) -> (u64, Option<u16>, Outcome) {
+    let result = Ending::Answered {
+        gateway: 1,
+        window,
+        start,
+        airtime,
+        carried,
+    };
+    (17, Some(1), Outcome { number: 17, result })
 }
 
 #[test]
@@ -125,106 +178,84 @@ fn lists_are_as_given(rt: HostRuntime) -> Result<(), Fail> {
 
 #[test]
 fn first_window_carries_the_payload(rt: HostRuntime) -> Result<(), Fail> {
-    let mut book = GatewayBook::new(VecRoster::new(rt.alloc()), 1, 4_096)?;
-    let ticket = Ticket::new(rt.alloc(), job(rt.alloc())?)?;
-    assert_eq!(rt; ticket.number(), 17);
-    assert_eq!(rt; ticket.gateway(), 1);
-    assert_eq!(rt; ticket.counter(), 0);
-    let (stub, receipt) = booked(ticket.try_on(&mut book)).ok_or("it is booked")?;
-    assert_eq!(rt; stub.number(), 17);
-    assert_eq!(rt; stub.gateway(), Some(1));
-    let outcome = Outcome {
-        number: 17,
-        result: Ending::Answered {
-            gateway: 1,
-            window: Window::Rx1,
-            start: 6_000_000,
-            airtime: 189_696,
-            carried: true,
-        },
-    };
-    assert_eq!(rt; stub.end(), outcome);
-    assert_eq!(rt; receipt.number, 17);
-    assert_eq!(rt; receipt.gateway, 1);
-    assert_eq!(rt; receipt.window, Window::Rx1);
-    assert_eq!(rt; receipt.reservation.start, 6_000_000);
-    assert_eq!(rt; receipt.reservation.len, 113);
-    let frame = receipt.frame.as_slice();
-    assert_eq!(rt; frame.len(), 113);
+    let mut book = opened(rt.alloc(), 1)?;
+    let ticket = ticket(rt.alloc())?;
+    assert_eq!(rt; told(&ticket), (17, 1, 0));
+    let (stub, receipt) = booked(tried(ticket, &mut book)).ok_or("it is booked")?;
     assert_eq!(rt;
-        &frame[..9],
-        [0x60, 0xda, 0x1b, 0x01, 0x26, 0x20, 0, 0, 9].as_slice()
+        ended(stub),
+        answered(Window::Rx1, 6_000_000, 189_696, true)
     );
+    let wanted = (17, 1, Window::Rx1, 6_000_000, DataRate::Dr5, 113, 113);
+    assert_eq!(rt; receipt_told(&receipt), wanted);
+    let head = [0x60, 0xda, 0x1b, 0x01, 0x26, 0x20, 0, 0, 9];
+    assert!(rt; begins_with(&receipt, &head));
     let members = book.list(rt.alloc())?;
     assert_eq!(rt; members.as_slice(), [receipt.reservation].as_slice());
     Ok(())
 }
 
+/// Books what leaves no room for RX1.
+fn fill_rx1(book: &mut Book) -> Result<(), Refusal> {
+    book.book(Ask {
+        number: 99,
+        start: 6_000_000,
+        freq_hz: 868_100_000,
+        rate: DataRate::Dr5,
+        len: 12,
+    })?;
+    Ok(())
+}
+
 #[test]
 fn second_window_leaves_the_payload_waiting(rt: HostRuntime) -> Result<(), Fail> {
-    let mut book = GatewayBook::new(VecRoster::new(rt.alloc()), 1, 4_096)?;
-    book.book(ask_at_rx1())?;
-    let ticket = Ticket::new(rt.alloc(), job(rt.alloc())?)?;
-    let (ticket, refusal) = refused(ticket.try_on(&mut book)).ok_or("RX2 follows")?;
+    let mut book = opened(rt.alloc(), 1)?;
+    fill_rx1(&mut book)?;
+    let first = ticket(rt.alloc())?;
+    let (ticket, refusal) = refused(tried(first, &mut book)).ok_or("RX2 follows")?;
     assert_eq!(rt; refusal, Refusal::Taken { start: 6_000_000 });
-    assert_eq!(rt; ticket.number(), 17);
-    assert_eq!(rt; ticket.gateway(), 1);
-    assert_eq!(rt; ticket.counter(), 0);
-    let (stub, receipt) = booked(ticket.try_on(&mut book)).ok_or("it is booked")?;
-    let outcome = Outcome {
-        number: 17,
-        result: Ending::Answered {
-            gateway: 1,
-            window: Window::Rx2,
-            start: 7_000_000,
-            airtime: 991_232,
-            carried: false,
-        },
-    };
-    assert_eq!(rt; stub.end(), outcome);
-    assert_eq!(rt; receipt.window, Window::Rx2);
-    assert_eq!(rt; receipt.reservation.start, 7_000_000);
-    assert_eq!(rt; receipt.reservation.rate, DataRate::Dr0);
-    let frame = receipt.frame.as_slice();
-    assert_eq!(rt; frame.len(), 12);
+    assert_eq!(rt; told(&ticket), (17, 1, 0));
+    let (stub, receipt) = booked(tried(ticket, &mut book)).ok_or("it is booked")?;
     assert_eq!(rt;
-        &frame[..8],
-        [0x60, 0xda, 0x1b, 0x01, 0x26, 0x30, 0, 0].as_slice()
+        ended(stub),
+        answered(Window::Rx2, 7_000_000, 991_232, false)
     );
+    let wanted = (17, 1, Window::Rx2, 7_000_000, DataRate::Dr0, 12, 12);
+    assert_eq!(rt; receipt_told(&receipt), wanted);
+    let head = [0x60, 0xda, 0x1b, 0x01, 0x26, 0x30, 0, 0];
+    assert!(rt; begins_with(&receipt, &head));
     Ok(())
 }
 
 #[test]
 fn book_of_another_gateway_is_not_asked(rt: HostRuntime) -> Result<(), Fail> {
-    let mut book = GatewayBook::new(VecRoster::new(rt.alloc()), 2, 4_096)?;
-    let ticket = Ticket::new(rt.alloc(), job(rt.alloc())?)?;
-    let ticket = handed_back(ticket.try_on(&mut book)).ok_or("it is handed back")?;
-    assert_eq!(rt; ticket.gateway(), 1);
-    let _ = ticket.give_up().end();
+    let mut book = opened(rt.alloc(), 2)?;
+    let first = ticket(rt.alloc())?;
+    let ticket = handed_back(tried(first, &mut book)).ok_or("it is handed back")?;
+    assert_eq!(rt; told(&ticket), (17, 1, 0));
+    let _ = ended(ticket.give_up());
     assert_eq!(rt; book.totals().kept, 0);
     Ok(())
 }
 
 #[test]
 fn book_that_refuses_both_windows(rt: HostRuntime) -> Result<(), Fail> {
-    let mut book = GatewayBook::new(VecRoster::new(rt.alloc()), 1, 4_096)?;
+    let mut book = opened(rt.alloc(), 1)?;
     book.tick(7_000_001);
-    let ticket = Ticket::new(rt.alloc(), job(rt.alloc())?)?;
-    let (ticket, refusal) = refused(ticket.try_on(&mut book)).ok_or("RX2 follows")?;
+    let first = ticket(rt.alloc())?;
+    let (ticket, refusal) = refused(tried(first, &mut book)).ok_or("RX2 follows")?;
     assert_eq!(rt; refusal, Refusal::Passed);
-    let (stub, refusal) = refused_last(ticket.try_on(&mut book)).ok_or("RX2 is the last")?;
+    let (stub, refusal) = refused_last(tried(ticket, &mut book)).ok_or("RX2 is the last")?;
     assert_eq!(rt; refusal, Refusal::Passed);
-    assert_eq!(rt; stub.number(), 17);
-    assert_eq!(rt; stub.gateway(), None);
-    assert_eq!(rt; stub.end().result, Ending::Unanswered(Refusal::Passed));
+    let result = Ending::Unanswered(Refusal::Passed);
+    assert_eq!(rt; ended(stub), (17, None, Outcome { number: 17, result }));
     Ok(())
 }
 
 #[test]
 fn given_up(rt: HostRuntime) -> Result<(), Fail> {
-    let stub = Ticket::new(rt.alloc(), job(rt.alloc())?)?.give_up();
-    assert_eq!(rt; stub.number(), 17);
-    assert_eq!(rt; stub.gateway(), None);
-    assert_eq!(rt; stub.end().result, Ending::GivenUp);
+    let stub = ticket(rt.alloc())?.give_up();
+    let result = Ending::GivenUp;
+    assert_eq!(rt; ended(stub), (17, None, Outcome { number: 17, result }));
     Ok(())
 }

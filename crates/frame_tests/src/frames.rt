@@ -1,6 +1,10 @@
 // Worked frames, and the published example of a LoRaWAN decoder.
 
-use super::*;
+use lora_frame::{
+    Body, Down, DownFault, FrameFault, Key, Keys, Up, UpFault, Uplink, check_mic, downlink, infer,
+    read_uplink, uplink_bytes,
+};
+use std::alloc::Global;
 use std::test::Fail;
 
 const NWK: [u8; 16] = [
@@ -43,16 +47,26 @@ fn empty_up() -> Up<'static> {
     }
 }
 
+/// The bytes of a downlink under the keys of these tests.
+fn down(alloc: Global, down: &Down) -> Result<Vec<u8>, DownFault> {
+    downlink(alloc, down, &keys())
+}
+
+/// The bytes of an uplink under the keys of these tests.
+fn up(alloc: Global, up: &Up) -> Result<Vec<u8>, UpFault> {
+    uplink_bytes(alloc, up, &keys())
+}
+
 #[test]
 fn downlinks(rt: HostRuntime) -> Result<(), Fail> {
-    let frame = downlink(rt.alloc(), &empty_down(), &keys())?;
+    let frame = down(rt.alloc(), &empty_down())?;
     assert_eq!(rt; frame.len(), 12);
     assert!(rt; frame.as_slice()[..8] == [0x60, 0xda, 0x1b, 0x01, 0x26, 0x20, 0x00, 0x00]);
     let more = Down {
         pending: true,
         ..empty_down()
     };
-    let frame = downlink(rt.alloc(), &more, &keys())?;
+    let frame = down(rt.alloc(), &more)?;
     assert_eq!(rt; frame.len(), 12);
     assert_eq!(rt; frame[5], 0x30);
     let zeros = [0u8; 243];
@@ -70,11 +84,11 @@ fn downlinks(rt: HostRuntime) -> Result<(), Fail> {
             port,
             payload: &zeros[..size],
         });
-        let down = Down {
+        let full = Down {
             body,
             ..empty_down()
         };
-        let found = downlink(rt.alloc(), &down, &keys()).map(|frame| frame.len());
+        let found = down(rt.alloc(), &full).map(|frame| frame.len());
         assert_eq!(rt; found, wanted, "port {port} and {size} bytes");
     }
     Ok(())
@@ -82,7 +96,7 @@ fn downlinks(rt: HostRuntime) -> Result<(), Fail> {
 
 #[test]
 fn uplinks(rt: HostRuntime) -> Result<(), Fail> {
-    let frame = uplink_bytes(rt.alloc(), &empty_up(), &keys())?;
+    let frame = up(rt.alloc(), &empty_up())?;
     assert_eq!(rt; frame.len(), 12);
     assert!(rt; frame.as_slice()[..8] == [0x80, 0xda, 0x1b, 0x01, 0x26, 0x00, 0x07, 0x00]);
     let zeros = [0u8; 243];
@@ -102,12 +116,12 @@ fn uplinks(rt: HostRuntime) -> Result<(), Fail> {
             port,
             payload: &zeros[..size],
         });
-        let up = Up {
+        let full = Up {
             options: &zeros[..options],
             body,
             ..empty_up()
         };
-        let found = uplink_bytes(rt.alloc(), &up, &keys()).map(|frame| frame.len());
+        let found = up(rt.alloc(), &full).map(|frame| frame.len());
         assert_eq!(rt;
             found,
             wanted,
@@ -147,38 +161,55 @@ fn published_uplink(rt: HostRuntime) -> Result<(), Fail> {
     Ok(())
 }
 
+/// What bytes say as an uplink.
+fn read(bytes: &[u8]) -> Result<Uplink, FrameFault> {
+    read_uplink(bytes)
+}
+
+/// Whether bytes are an uplink that ends in its MIC.
+fn has_mic(bytes: &[u8], counter: u32) -> bool {
+    read_uplink(bytes).is_ok() && check_mic(bytes, &keys().nwk, counter)
+}
+
 #[test]
 fn faults_of_uplinks(rt: HostRuntime) {
     let cut = [0x40, 0, 0, 0, 0, 1, 0, 0, 0, 0, 0, 0];
-    assert_eq!(rt; read_uplink(&cut[..11]), Err(FrameFault::Short));
-    assert_eq!(rt; read_uplink(&[0x40; 256]), Err(FrameFault::Long));
-    assert_eq!(rt; read_uplink(&cut), Err(FrameFault::OptionsCut));
-    assert_eq!(rt; read_uplink(&[0; 12]), Err(FrameFault::NotData));
-    assert_eq!(rt; read_uplink(&[0x41; 12]), Err(FrameFault::Major));
+    for (bytes, fault) in [
+        (&cut[..11], FrameFault::Short),
+        ([0x40; 256].as_slice(), FrameFault::Long),
+        (cut.as_slice(), FrameFault::OptionsCut),
+        ([0; 12].as_slice(), FrameFault::NotData),
+        ([0x41; 12].as_slice(), FrameFault::Major),
+    ] {
+        assert_eq!(rt; read(bytes), Err(fault));
+    }
 }
 
 #[test]
 fn codes_of_uplinks(rt: HostRuntime) -> Result<(), Fail> {
-    let mut frame = uplink_bytes(rt.alloc(), &empty_up(), &keys())?;
-    let uplink = read_uplink(frame.as_slice())?;
+    let mut frame = up(rt.alloc(), &empty_up())?;
+    let uplink = read(frame.as_slice())?;
     assert!(rt; uplink.confirmed && uplink.addr == ADDR && uplink.low == 7);
     assert_eq!(rt; uplink.port, None);
     assert_eq!(rt; uplink.payload_at, 8);
-    assert!(rt; read_uplink(frame.as_slice()).is_ok());
-    assert!(rt; check_mic(frame.as_slice(), &keys().nwk, 7));
-    assert!(rt; !check_mic(frame.as_slice(), &keys().nwk, 65543));
+    assert!(rt; has_mic(frame.as_slice(), 7));
+    assert!(rt; !has_mic(frame.as_slice(), 65543));
     assert_eq!(rt; frame.len(), 12);
     frame[11] ^= 1;
-    assert!(rt; read_uplink(frame.as_slice()).is_ok());
-    assert!(rt; !check_mic(frame.as_slice(), &keys().nwk, 7));
+    assert!(rt; read(frame.as_slice()).is_ok());
+    assert!(rt; !has_mic(frame.as_slice(), 7));
     Ok(())
 }
 
 #[test]
 fn counters(rt: HostRuntime) {
-    assert_eq!(rt; infer(None, 7), Some(7));
-    assert_eq!(rt; infer(Some(131_071), 0), Some(131_072));
-    assert_eq!(rt; infer(Some(5), 5), Some(5));
-    assert_eq!(rt; infer(Some(5), 4), Some(65_540));
-    assert_eq!(rt; infer(Some(4_294_967_295), 0), None);
+    for (last, low, counter) in [
+        (None, 7, Some(7)),
+        (Some(131_071), 0, Some(131_072)),
+        (Some(5), 5, Some(5)),
+        (Some(5), 4, Some(65_540)),
+        (Some(4_294_967_295), 0, None),
+    ] {
+        assert_eq!(rt; infer(last, low), counter, "{low} after {last:?}");
+    }
 }

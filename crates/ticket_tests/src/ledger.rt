@@ -1,7 +1,7 @@
 // A day of a station's ledger, with two workers' tills.
 ghost use Rattle.std.specs.Prelude.{◌≡◌};
 
-use crate::{Blank, Ledger, PARTS, Till, begin};
+use air_ledger::{Blank, Ledger, PARTS, Till, begin};
 use std::alloc::Global;
 use std::marker::Brand;
 use std::process::Abort;

@@ -1,0 +1,249 @@
+// Worked books: calls in turn, each with what it is to answer.
+
+use gateway_book::{Ask, CancelFault, GatewayBook, OpenFault, Refusal, Totals};
+use radio_airtime::DataRate;
+use radio_bands::Band;
+use resv_list::{Reservation, Roster, VecRoster};
+use std::alloc::Global;
+use std::test::Fail;
+
+type Book = GatewayBook<VecRoster<Global>>;
+
+/// A call, and what it is to answer; an ask answers when its reservation ends.
+#[derive(Clone, Copy)]
+enum Step {
+    /// An ask in sub-band M: its number and its start.
+    InM(u64, u64, Result<u64, Refusal>),
+    /// An ask in sub-band K, where three fill an hour: its start.
+    InK(u64, Result<u64, Refusal>),
+    Cancel(u64, u64, Result<u64, CancelFault>),
+    Tick(u64),
+    Busiest(Band, Option<(u64, u64)>),
+}
+
+/// Three members of sub-band K fill the hour that opens here.
+const FULL_FROM_0: Result<u64, Refusal> = Err(Refusal::DutyFull {
+    band: Band::K,
+    from: 0,
+    spent: 2_973_696,
+});
+
+const FULL_LATER: Result<u64, Refusal> = Err(Refusal::DutyFull {
+    band: Band::K,
+    from: 3_000_000_000,
+    spent: 2_973_696,
+});
+
+const HOUR_AFTER: [Step; 6] = [
+    Step::InK(0, Ok(991_232)),
+    Step::InK(1_000_000, Ok(1_991_232)),
+    Step::InK(2_000_000, Ok(2_991_232)),
+    Step::InK(3_599_999_999, FULL_FROM_0),
+    Step::InK(3_600_000_000, Ok(3_600_991_232)),
+    Step::Busiest(Band::K, Some((0, 2_973_696))),
+];
+
+const HOUR_BETWEEN: [Step; 5] = [
+    Step::InK(0, Ok(991_232)),
+    Step::InK(3_000_000_000, Ok(3_000_991_232)),
+    Step::InK(4_000_000_000, Ok(4_000_991_232)),
+    Step::InK(4_001_000_000, Ok(4_001_991_232)),
+    Step::InK(3_500_000_000, FULL_LATER),
+];
+
+const HOUR_BEFORE: [Step; 4] = [
+    Step::InK(1_000_000_000, Ok(1_000_991_232)),
+    Step::InK(1_001_000_000, Ok(1_001_991_232)),
+    Step::InK(1_002_000_000, Ok(1_002_991_232)),
+    Step::InK(0, FULL_FROM_0),
+];
+
+const CANCELLED: [Step; 8] = [
+    Step::InM(1, 10_000_000, Ok(10_041_216)),
+    Step::Tick(9_999_999),
+    Step::Cancel(1, 10_000_000, Ok(41_216)),
+    Step::Cancel(1, 10_000_000, Err(CancelFault::NotHere)),
+    Step::InM(2, 20_000_000, Ok(20_041_216)),
+    Step::Tick(20_000_000),
+    Step::Cancel(2, 20_000_000, Err(CancelFault::Begun)),
+    Step::InM(3, 19_999_999, Err(Refusal::Passed)),
+];
+
+const TO_THE_END: [Step; 2] = [
+    Step::InM(1, 2_305_843_009_213_652_737, Err(Refusal::PastEnd)),
+    Step::InM(2, 2_305_843_009_213_652_736, Ok(2_305_843_009_213_693_952)),
+];
+
+const ONE_KEPT: [Step; 2] = [
+    Step::InM(1, 0, Ok(41_216)),
+    Step::InM(2, 1_000_000, Err(Refusal::Full)),
+];
+
+/// Twelve bytes on 868.1 MHz at DR5, in sub-band M: 41,216 microseconds on air.
+fn ask_in_m(number: u64, start: u64) -> Ask {
+    Ask {
+        number,
+        start,
+        freq_hz: 868_100_000,
+        rate: DataRate::Dr5,
+        len: 12,
+    }
+}
+
+/// Twelve bytes at DR0, with its start as its number: 991,232 microseconds on air.
+fn slow_ask(start: u64, freq_hz: u32) -> Ask {
+    Ask {
+        number: start,
+        start,
+        freq_hz,
+        rate: DataRate::Dr0,
+        len: 12,
+    }
+}
+
+fn opened(alloc: Global, id: u16, cap: u32) -> Result<Book, OpenFault> {
+    GatewayBook::new(VecRoster::new(alloc), id, cap)
+}
+
+fn booked<R: Roster>(book: &mut GatewayBook<R>, ask: Ask) -> Result<Reservation, Refusal> {
+    book.book(ask)
+}
+
+fn end_of<R: Roster>(book: &mut GatewayBook<R>, ask: Ask) -> Result<u64, Refusal> {
+    Ok(book.book(ask)?.end())
+}
+
+/// Whether the call answers as it is to.
+fn holds<R: Roster>(book: &mut GatewayBook<R>, step: Step) -> bool {
+    match step {
+        Step::InM(number, start, wanted) => end_of(book, ask_in_m(number, start)) == wanted,
+        Step::InK(start, wanted) => end_of(book, slow_ask(start, 863_500_000)) == wanted,
+        Step::Cancel(number, start, wanted) => book.cancel(number, start) == wanted,
+        Step::Tick(now) => {
+            book.tick(now);
+            true
+        }
+        Step::Busiest(band, wanted) => book.busiest(band) == wanted,
+    }
+}
+
+/// The place of the first step that doesn't answer as it is to.
+fn first_wrong<R: Roster>(book: &mut GatewayBook<R>, steps: &[Step]) -> Option<usize> {
+    steps.iter().position(|&step| !holds(book, step))
+}
+
+/// What a book has counted, with its number and its cap.
+fn told<R: Roster>(book: &GatewayBook<R>) -> (u16, u32, Totals) {
+    (book.id(), book.cap(), book.totals())
+}
+
+#[test]
+fn worked_books(rt: HostRuntime) -> Result<(), Fail> {
+    // (name, cap, steps, all that was booked, all that was cancelled)
+    for (name, cap, steps, all, cancelled) in [
+        (
+            "the hour after",
+            65_536,
+            HOUR_AFTER.as_slice(),
+            3_964_928,
+            0,
+        ),
+        (
+            "an hour between",
+            65_536,
+            HOUR_BETWEEN.as_slice(),
+            3_964_928,
+            0,
+        ),
+        (
+            "the hour before",
+            65_536,
+            HOUR_BEFORE.as_slice(),
+            2_973_696,
+            0,
+        ),
+        (
+            "what has not begun is cancelled",
+            65_536,
+            CANCELLED.as_slice(),
+            82_432,
+            41_216,
+        ),
+        ("the end of time", 65_536, TO_THE_END.as_slice(), 41_216, 0),
+        (
+            "no more than may be kept",
+            1,
+            ONE_KEPT.as_slice(),
+            41_216,
+            0,
+        ),
+    ] {
+        let mut book = opened(rt.alloc(), 1, cap)?;
+        assert_eq!(rt; first_wrong(&mut book, steps), None, "step of: {name}");
+        let (_, _, totals) = told(&book);
+        assert_eq!(rt;
+            (totals.booked, totals.cancelled),
+            (all, cancelled),
+            "{name}"
+        );
+    }
+    Ok(())
+}
+
+#[test]
+fn opens_with_a_cap_in_range(rt: HostRuntime) {
+    let cases = [
+        (0, Some(OpenFault::BadCap)),
+        (1, None),
+        (65_536, None),
+        (65_537, Some(OpenFault::BadCap)),
+    ];
+    for (cap, fault) in cases {
+        assert_eq!(rt; opened(rt.alloc(), 7, cap).err(), fault, "at {cap}");
+    }
+}
+
+const NEIGHBOURS: [Step; 3] = [
+    Step::InM(3, 10_041_215, Err(Refusal::Taken { start: 10_000_000 })),
+    Step::Busiest(Band::M, Some((10_000_000, 82_432))),
+    Step::Busiest(Band::K, None),
+];
+
+#[test]
+fn keeps_what_it_has_booked(rt: HostRuntime) -> Result<(), Fail> {
+    let mut book = opened(rt.alloc(), 7, 65_536)?;
+    let first = booked(&mut book, ask_in_m(1, 10_000_000))?;
+    let second = booked(&mut book, ask_in_m(2, 10_041_216))?;
+    assert_eq!(rt; (first.end(), second.end()), (10_041_216, 10_082_432));
+    assert_eq!(rt; first_wrong(&mut book, &NEIGHBOURS), None);
+    let members = book.list(rt.alloc())?;
+    assert_eq!(rt; members.as_slice(), [first, second].as_slice());
+    let totals = Totals {
+        booked: 82_432,
+        cancelled: 0,
+        retired: 0,
+        kept_airtime: 82_432,
+        kept: 2,
+        floor: 0,
+    };
+    assert_eq!(rt; told(&book), (7, 65_536, totals));
+    Ok(())
+}
+
+#[test]
+fn fills_an_hour_of_the_widest_limit(rt: HostRuntime) -> Result<(), Fail> {
+    let mut book = opened(rt.alloc(), 1, 65_536)?;
+    for place in 0..363 {
+        booked(&mut book, slow_ask(place * 991_232, 869_525_000))?;
+    }
+    let full = Refusal::DutyFull {
+        band: Band::P,
+        from: 0,
+        spent: 359_817_216,
+    };
+    assert_eq!(rt;
+        end_of(&mut book, slow_ask(363 * 991_232, 869_525_000)),
+        Err(full)
+    );
+    Ok(())
+}

@@ -1,0 +1,9 @@
+//! Tests of times on air, sub-bands, rosters and books, in a crate of their own: a crate with tests is proved twice.
+#![tactic(auto)]
+
+#[cfg(test)]
+mod book;
+#[cfg(test)]
+mod radio;
+#[cfg(test)]
+mod roster;
