@@ -8,8 +8,6 @@ mod answers;
 mod books;
 mod calling;
 mod desk;
-#[cfg(test)]
-mod desk_tests;
 mod device;
 mod entry;
 mod event;
@@ -19,20 +17,14 @@ mod hearing;
 mod laws;
 mod lines;
 mod opening;
-#[cfg(test)]
-mod replay_tests;
 mod replayed;
 mod replaying;
 mod server;
 mod setting;
 mod settings;
 mod settings_fault;
-#[cfg(test)]
-mod settings_tests;
 mod settling;
 mod taking;
-#[cfg(test)]
-mod taking_tests;
 mod trying;
 mod verdict;
 

@@ -1,0 +1,92 @@
+// Settings as a server is given them.
+
+use server_core::{DeviceSetting, GatewaySetting, Settings, SettingsFault};
+use std::alloc::Global;
+use std::test::Fail;
+use worked_inputs::{DEVICE, settings_of};
+
+const GATEWAY: GatewaySetting = GatewaySetting { id: 1, cap: 4_096 };
+
+/// The name of the fault of settings with these lists.
+fn fault_of(
+    alloc: Global,
+    gateways: &[GatewaySetting],
+    devices: &[DeviceSetting],
+) -> Result<Option<&'static str>, Fail> {
+    Ok(named(gateways.to_vec(alloc)?, devices.to_vec(alloc)?))
+}
+
+/// The name of the fault of these settings.
+fn named(gateways: Vec<GatewaySetting>, devices: Vec<DeviceSetting>) -> Option<&'static str> {
+    match Settings::new(gateways, devices) {
+        Ok(_) => None,
+        Err(fault) => Some(fault.name()),
+    }
+}
+
+/// The settings of these gateways alone.
+fn settings_without_devices(
+    alloc: Global,
+    gateways: &[GatewaySetting],
+) -> Result<Settings<Global>, Fail> {
+    Ok(Settings::new(gateways.to_vec(alloc)?, Vec::new(alloc))?)
+}
+
+#[test]
+fn settings_show_the_lists_as_given(rt: HostRuntime) -> Result<(), Fail> {
+    let last = GatewaySetting {
+        id: 65_535,
+        cap: 65_536,
+    };
+    let gateways = [GATEWAY, last];
+    let settings = settings_without_devices(rt.alloc(), &gateways)?;
+    assert_eq!(rt; settings.gateways(), gateways.as_slice());
+    let settings = settings_of(rt.alloc(), &[DEVICE])?;
+    assert_eq!(rt; settings.devices(), [DEVICE].as_slice());
+    Ok(())
+}
+
+#[test]
+fn the_first_fault_of_the_gateways_is_named(rt: HostRuntime) -> Result<(), Fail> {
+    let zero = GatewaySetting { id: 0, cap: 4_096 };
+    let wide = GatewaySetting { id: 2, cap: 65_537 };
+    let cases: [(&[GatewaySetting], &str); 5] = [
+        (&[zero; 65], "Count"),
+        (&[], "Count"),
+        (&[GATEWAY, zero, GATEWAY], "Range"),
+        (&[GATEWAY, GATEWAY, wide], "DoubleGateway"),
+        (&[wide], "Range"),
+    ];
+    for (gateways, name) in cases {
+        assert_eq!(rt; fault_of(rt.alloc(), gateways, &[])?, Some(name));
+    }
+    Ok(())
+}
+
+#[test]
+fn the_first_fault_of_the_devices_is_named(rt: HostRuntime) -> Result<(), Fail> {
+    let slow = DeviceSetting {
+        delay: 16,
+        ..DEVICE
+    };
+    let spent = DeviceSetting {
+        down: 4_294_967_297,
+        ..DEVICE
+    };
+    let between = DeviceSetting {
+        rx2_freq: 865_000_000,
+        ..DEVICE
+    };
+    let cases: [(&[DeviceSetting], &str); 6] = [
+        (&[slow], "Range"),
+        (&[spent], "Range"),
+        (&[between], "NoBand"),
+        (&[DEVICE, between, slow], "NoBand"),
+        (&[DEVICE, DEVICE], "DoubleDevice"),
+        (&[DEVICE; 1_025], "Count"),
+    ];
+    for (devices, name) in cases {
+        assert_eq!(rt; fault_of(rt.alloc(), &[GATEWAY], devices)?, Some(name));
+    }
+    Ok(())
+}
