@@ -1,7 +1,7 @@
 // A station of two gateways and two devices, finished.
 ghost use Rattle.std.specs.Prelude.{◌≡◌, ◌<◌, IfOk};
 
-use crate::fixtures::{COPY, Hasher, TestStation, booked, closed, hear_copy, station_of};
+use crate::fixtures::{TestStation, closed, hear_copy, station_of};
 use answer_ticket::{Receipt, Stub};
 use gateway_book::HOUR;
 use server_core::Heard1;
@@ -10,8 +10,9 @@ use std::alloc::Global;
 use std::marker::Brand;
 use std::sync::Wait;
 use std::test::Fail;
+use worked_inputs::{COPY, WorkedHasher, booked};
 
-type Finished<B> = Result<Closing<Hasher>, FinishFault<B, Hasher>>;
+type Finished<B> = Result<Closing<WorkedHasher>, FinishFault<B, WorkedHasher>>;
 
 /// When RX1 of both answers begins.
 const START: u64 = 6_000_000;

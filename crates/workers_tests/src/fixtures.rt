@@ -1,41 +1,14 @@
 // Stations that tests begin with: their gateways and devices, and what they heard.
 ghost use Rattle.std.specs.Prelude.{◌≡◌, IfOk};
 
-use answer_ticket::{Receipt, Stub, Ticket, Tried};
-use lora_frame::{Key, Keys, Up, uplink_bytes};
-use server_core::{DataRate, DeskHeard, DeviceSetting, GatewaySetting, Heard1, Settings};
+use server_core::{DeskHeard, DeviceSetting, GatewaySetting, Heard1, Settings};
 use server_workers::{Blank, Ledger, PARTS, Station, Till};
-use std::alloc::{Allocator, Global};
-use std::hash::{BuildHasherDefault, FoldHasher};
+use std::alloc::Global;
 use std::sync::Wait;
 use std::test::Fail;
+use worked_inputs::{COPY, WorkedHasher, device, hasher, uplink};
 
-pub(crate) type Hasher = BuildHasherDefault<FoldHasher>;
-
-pub(crate) type TestStation<B> = Station<B, Hasher>;
-
-/// A device with the default windows, of which nothing was heard yet.
-const DEVICE: DeviceSetting = DeviceSetting {
-    addr: 1,
-    nwk: [1; 16],
-    app: [2; 16],
-    delay: 1,
-    offset: 0,
-    rx2_freq: 869_525_000,
-    rx2_rate: DataRate::Dr0,
-    up: None,
-    down: 0,
-};
-
-/// A copy of an uplink that gateway 1 heard until 5,000,000 us.
-pub(crate) const COPY: Heard1 = Heard1 {
-    gateway: 1,
-    at: 5_000_000,
-    freq_hz: 868_100_000,
-    rate: 5,
-    snr: 0,
-    rssi: -100,
-};
+pub(crate) type TestStation<B> = Station<B, WorkedHasher>;
 
 /// A station of these gateways and of the devices from address 1 on, and the till with all parts of its ledger.
 pub(crate) fn station_with<B: Ledger>(
@@ -57,7 +30,7 @@ pub(crate) fn station_with<B: Ledger>(
         })?;
     }
     let settings = Settings::new(settings, devices_of(alloc, devices)?)?;
-    Ok(Station::new(alloc, BuildHasherDefault::new(), &settings, blank)?)
+    Ok(Station::new(alloc, hasher(), &settings, blank)?)
 }
 
 /// A station of the gateways 1 and 2 and of the devices from address 1 on.
@@ -78,10 +51,7 @@ pub(crate) fn station_of<B: Ledger>(
 fn devices_of(alloc: Global, count: u32) -> Result<Vec<DeviceSetting>, Fail> {
     let mut devices = Vec::new(alloc);
     for before in 0..count {
-        devices.push(DeviceSetting {
-            addr: before + 1,
-            ..DEVICE
-        })?;
+        devices.push(device(before + 1))?;
     }
     Ok(devices)
 }
@@ -106,21 +76,7 @@ pub(crate) fn hear_again<B: Ledger, R: Wait>(
     counter: u32,
     copy: Heard1,
 ) -> Result<DeskHeard, Fail> {
-    let up = Up {
-        confirmed: true,
-        addr,
-        counter,
-        adr: false,
-        adr_ack_req: false,
-        ack: false,
-        options: &[],
-        body: None,
-    };
-    let keys = Keys {
-        nwk: Key::new(DEVICE.nwk),
-        app: Key::new(DEVICE.app),
-    };
-    let uplink = uplink_bytes(alloc, &up, &keys)?;
+    let uplink = uplink(alloc, true, addr, counter)?;
     Ok(station.hear(rt, uplink.as_slice(), copy, 0)?)
 }
 
@@ -158,33 +114,4 @@ pub(crate) fn closed<B: Ledger, R: Wait>(
         numbers.push(station.pass(rt, 200_001).ok_or("one more is due")?)?;
     }
     Ok(numbers)
-}
-
-/// The stub and the receipt of a try that was booked; any other is spent.
-pub(crate) fn booked<A: Allocator>(tried: Tried<A>) -> Option<(Stub, Receipt<A>)> {
-    match tried {
-        Tried::Booked(stub, receipt) => Some((stub, receipt)),
-        other => spent(other),
-    }
-}
-
-/// The ticket of a try on another gateway's book; any other is spent.
-pub(crate) fn handed_back<A: Allocator>(tried: Tried<A>) -> Option<Ticket<A>> {
-    match tried {
-        Tried::Wrong(ticket) => Some(ticket),
-        other => spent(other),
-    }
-}
-
-/// Spends what a try gave.
-fn spent<A: Allocator, X>(tried: Tried<A>) -> Option<X> {
-    let stub = match tried {
-        Tried::Booked(stub, _) => stub,
-        Tried::Next(ticket, _) => ticket.give_up(),
-        Tried::Out(stub, _) => stub,
-        Tried::Wrong(ticket) => ticket.give_up(),
-        Tried::NoMemory(ticket) => ticket.give_up(),
-    };
-    let _ = stub.end();
-    None
 }

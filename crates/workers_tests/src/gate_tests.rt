@@ -1,7 +1,7 @@
 // Workers at gates, and what they do where a gateway refuses them.
 ghost use Rattle.std.specs.Prelude.{◌≡◌};
 
-use crate::fixtures::{COPY, TestStation, closed, hear_copy, heard_by, station_of};
+use crate::fixtures::{TestStation, closed, hear_copy, heard_by, station_of};
 use answer_ticket::Ending;
 use rx_windows::Window;
 use server_core::Heard1;
@@ -11,6 +11,7 @@ use std::marker::Brand;
 use std::sync::Wait;
 use std::sync::atomic::{AtomicU64, Ordering};
 use std::test::Fail;
+use worked_inputs::COPY;
 
 /// Lets nobody in; counts how often it was asked for each gateway.
 #[derive(Drop)]

@@ -1,7 +1,7 @@
 // A station on one thread.
 ghost use Rattle.std.specs.Prelude.{◌≡◌};
 
-use crate::fixtures::{COPY, TestStation, booked, handed_back, hear_copy, station_with};
+use crate::fixtures::{TestStation, hear_copy, station_with};
 use answer_ticket::{Ending, Outcome, Receipt, Stub};
 use gateway_book::CancelFault;
 use rx_windows::Window;
@@ -11,6 +11,7 @@ use std::alloc::Global;
 use std::marker::Brand;
 use std::sync::Wait;
 use std::test::Fail;
+use worked_inputs::{COPY, booked, handed_back};
 
 /// How the answer to that copy ends that finds its gateway free.
 const ANSWERED: Outcome = Outcome {

@@ -1,7 +1,7 @@
 // Workers at a station of two gateways.
 ghost use Rattle.std.specs.Prelude.{◌≡◌};
 
-use crate::fixtures::{COPY, TestStation, closed, hear_again, heard_by, station_of};
+use crate::fixtures::{TestStation, closed, hear_again, heard_by, station_of};
 use answer_ticket::Ending;
 use crossbeam_channel::{Receiver, bounded};
 use server_core::TakeFault;
@@ -11,6 +11,7 @@ use std::marker::Brand;
 use std::sync::Wait;
 use std::test::Fail;
 use std::thread::Threads;
+use worked_inputs::COPY;
 
 /// A station heard two uplinks of its first device, and closed them: the numbers 1 and 2.
 fn hear_twice<B: Ledger, R: Wait>(
