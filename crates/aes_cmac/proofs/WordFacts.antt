@@ -33,22 +33,6 @@ pub word_bytes-from : (a b c d n : ℕ) → a < 256 → b < 256 → c < 256 → 
 unfolding word_bytes
 word_bytes-from a b c d n ha hb hc hd e = be_bytes_4 (a ∷ b ∷ c ∷ d ∷ []) n refl (four_below a b c d ha hb hc hd) e
 
-pub byte_of-first : (n : ℕ) → n < 2 ^ 32 → n / 2 ^ 24 ≡ byte_of n 0
-unfolding byte_of
-byte_of-first n h = omega arith
-
-pub byte_of-second : (n : ℕ) → n / 2 ^ 16 % 256 ≡ byte_of n 1
-unfolding byte_of
-byte_of-second n = refl
-
-pub byte_of-third : (n : ℕ) → n / 2 ^ 8 % 256 ≡ byte_of n 2
-unfolding byte_of
-byte_of-third n = refl
-
-pub byte_of-fourth : (n : ℕ) → n % 256 ≡ byte_of n 3
-unfolding byte_of
-byte_of-fourth n = refl
-
 -- n elements of a list from place i on
 places : List ℕ → ℕ → ℕ → List ℕ
 places b i zero = []

@@ -1,6 +1,6 @@
-use Rattle.std.specs.Prelude.{ℕ, ◌≡◌, ◌+◌, ◌<◌, ◌≤◌, nat_lt, Bool, true, false, ◌↔◌, List, [], ◌∷◌, Some, slice_get, find}
+use Rattle.std.specs.Prelude.{ℕ, ◌≡◌, ◌+◌, ◌<◌, ◌≤◌, nat_lt, Bool, true, false, List, [], ◌∷◌, Some, slice_get, find}
 use Rattle.std.specs.Option.{option_map}
-use Rattle.std.proofs.Common.{refl, ap, ◌∙◌, arith, zero, suc, inl, inr}
+use Rattle.std.proofs.Common.{refl, ap, arith, zero, suc, inl, inr}
 use Rattle.std.proofs.lemmas.Bool.{ltb-true, ltb-false}
 use Rattle.radio_airtime.specs.Bounds.{airtime_of-positive}
 use Rattle.resv_list.specs.declared.reservation.Reservation.{Reservation}
@@ -10,26 +10,13 @@ use Rattle.gateway_book.specs.Disjoint.{AreDisjoint}
 use Rattle.gateway_book.specs.Lawful.{AreApart}
 use Rattle.gateway_book.specs.Least.{first_start}
 use Rattle.gateway_book.specs.Spaced.{SpacedFrom}
-use Rattle.gateway_book.specs.Spaced.{or_else, keep_if}
 use Rattle.gateway_book.specs.SpacedLaws.{least-find}
-use Rattle.gateway_book.specs.Overlap.{find-neighbours}
-use Rattle.gateway_book.specs.Answer.{overlap}
-use Rattle.resv_list.specs.Reservations.{member_before, member_from}
 
 -- Laws that tie the forms that the code looks at to the definitions.
 
 -- a reservation ends after it starts
 pub ends_later : (r : Reservation) → start_of r < end_of r
 ends_later r = omega (arith, airtime_of-positive r.rate r.len)
-
--- neighbours of a list by start are spaced exactly where members at different places are disjoint
-abbrev pub SpacedIsApart : Type 0
-SpacedIsApart = (l : List Reservation) → IsByStart l → SpacedFrom start_of end_of 0 l ↔ AreApart l
-
--- the first member of a list by start that passes a test has the least start of those that do
-abbrev pub FirstHasLeastStart : Type 0
-FirstHasLeastStart =
-    (test : Reservation → Bool) (l : List Reservation) → IsByStart l → first_start test l ≡ option_map start_of (find test l)
 
 pub first_has_least_start : (test : Reservation → Bool) (l : List Reservation) → IsByStart l → first_start test l ≡ option_map start_of (find test l)
 first_has_least_start test l s = least-find start_of test 0 l s
@@ -71,12 +58,3 @@ apart_spaced low (x ∷ []) r a = (r.0, tt)
 apart_spaced low (x ∷ y ∷ ys) r a =
     let rest = apart_spaced (x.start + 1) (y ∷ ys) r.1 (λ i j q s e f n. a (suc i) (suc j) q s e f (λ m. n (omega arith))) in
     (r.0, (first_two x y (omega (arith, r.1.0)) (a zero (suc zero) x y refl refl (λ m. absurd (omega arith))), rest.1))
-
-pub spaced_is_apart : (l : List Reservation) → IsByStart l → SpacedFrom start_of end_of 0 l ↔ AreApart l
-spaced_is_apart l s = (λ h. spaced_apart 0 l h, λ a. apart_spaced 0 l s a)
-
--- only the last member that begins before what is asked for, and the first that doesn't, can overlap it
-pub overlap-neighbours : (l : List Reservation) (from to : ℕ) → IsByStart l → AreApart l → from < to → overlap l from to ≡ option_map start_of (or_else (keep_if (λ b. nat_lt from (end_of b)) (member_before from l)) (keep_if (λ n. nat_lt n.start to) (member_from from l)))
-unfolding overlap
-overlap-neighbours l from to s a h =
-    first_has_least_start _ l s ∙ ap (option_map start_of) (find-neighbours start_of end_of ends_later 0 from to l h (apart_spaced 0 l s a))

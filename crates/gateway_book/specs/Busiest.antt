@@ -1,4 +1,4 @@
-use Rattle.std.specs.Prelude.{ℕ, ◌≡◌, ◌≤◌, max, ◌==◌, ◌↔◌, List, [], ◌∷◌, Option, map, filter, Contains, MatchOption}
+use Rattle.std.specs.Prelude.{ℕ, ◌≡◌, ◌≤◌, max, ◌==◌, List, [], ◌∷◌, Option, map, filter, Contains, MatchOption, nat_lt, Some, None, cond}
 use Rattle.std.specs.Option.{option_map}
 use Rattle.radio_bands.specs.declared.band.Band.{Band}
 use Rattle.resv_list.specs.declared.reservation.Reservation.{Reservation}
@@ -34,6 +34,6 @@ unfoldable pub busiest_of : List Reservation → Band → Option (ℕ × ℕ)
 busiest_of l band =
     option_map (λ from. (from, spent l band from)) (least (filter (λ t. spent l band t == most_spent l band) (starts_in l band)))
 
--- the law: for every list the answer is the busiest hour, and there is one such answer
-abbrev pub BusiestIsExact : Type 0
-BusiestIsExact = (l : List Reservation) (band : Band) (o : Option (ℕ × ℕ)) → IsBusiestAnswer l band o ↔ (o ≡ busiest_of l band)
+abbrev pub busier : Option (ℕ × ℕ) → ℕ → ℕ → Option (ℕ × ℕ)
+busier None start sum = Some (start, sum)
+busier (Some p) start sum = cond (nat_lt p.1 sum) (Some (start, sum)) (Some p)

@@ -27,3 +27,7 @@ starts_in l band = map start_of (filter (is_in band) l)
 -- the least opening of such an hour, among the start and the starts of the members of the band
 unfoldable pub full_hour : List Reservation → Band → ℕ → ℕ → Option ℕ
 full_hour l band start airtime = least (filter (is_overfull l band start airtime) (start ∷ starts_in l band))
+
+-- whether a member of the band opens an hour that would be overfull
+abbrev pub opens_full : List Reservation → Band → ℕ → ℕ → Reservation → Bool
+opens_full l band start airtime r = is_in band r && is_overfull l band start airtime r.start

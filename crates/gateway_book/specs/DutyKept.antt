@@ -7,7 +7,8 @@ use Rattle.radio_bands.specs.BandLaws.{lies_in-true, LiesIn-band_of}
 use Rattle.resv_list.specs.declared.reservation.Reservation.{Reservation}
 use Rattle.resv_list.specs.Reservations.{airtime_us, is_in, spent, place}
 use Rattle.gateway_book.specs.Duty.{full_hour}
-use Rattle.gateway_book.specs.DutyLaws.{IsDutyAnswer, full_hour_answers, begun-place}
+use Rattle.gateway_book.specs.Laws.{IsDutyAnswer}
+use Rattle.gateway_book.specs.DutyLaws.{full_hour_answers, begun-place}
 
 -- A reservation that overfills no hour keeps the limits of every hour.
 

@@ -1,14 +1,15 @@
-use Rattle.std.specs.Prelude.{ℕ, ◌≡◌, ◌+◌, ◌<◌, ◌≤◌, nat_lt, nat_le, Bool, true, false, ◌&&◌, ◌⊎◌, List, [], ◌∷◌, Option, Some, None, map, filter, cond, ⊤, refl, ◌↔◌, Contains, All, MatchOption}
+use Rattle.std.specs.Prelude.{ℕ, ◌≡◌, ◌+◌, ◌<◌, ◌≤◌, nat_lt, nat_le, Bool, true, false, ◌&&◌, List, [], ◌∷◌, Option, Some, None, map, filter, cond, ⊤, refl, Contains, All, MatchOption}
 use Rattle.std.proofs.Common.{sym, ap, ◌∙◌, arith, subst, inl, inr, zero, suc}
 use Rattle.std.proofs.lemmas.Bool.{leb-true, leb-false, ltb-true, ltb-false}
 use Rattle.std.proofs.lemmas.Bool.Decides.{nat_tests}
 use Rattle.radio_bands.specs.declared.band.Band.{Band}
 use Rattle.radio_bands.specs.Band.{hour, limit_of}
 use Rattle.resv_list.specs.declared.reservation.Reservation.{Reservation}
-use Rattle.resv_list.specs.Reservations.{start_of, airtime_us, is_in, share, begun, spent, net, place}
+use Rattle.resv_list.specs.Reservations.{start_of, airtime_us, is_in, share, begun, spent, place}
 use Rattle.resv_list.specs.Begun.{begun-cons, begun-nil}
 use Rattle.gateway_book.specs.LeastLaws.{least_is_least}
 use Rattle.gateway_book.specs.Duty.{is_within_hour, would_pass, is_overfull, starts_in, full_hour}
+use Rattle.gateway_book.specs.Laws.{IsOpening, IsDutyAnswer}
 
 -- Of all hours, only finitely many want a look: those that open at a start.
 
@@ -18,9 +19,6 @@ OfStarts band P [] = ⊤
 OfStarts band P (r ∷ rs) = (is_in band r ≡ true → P r.start) × OfStarts band P rs
 
 -- the least start of a member of the band from t on, or `end` if none lies before it
-abbrev sooner : Bool → ℕ → ℕ → ℕ
-sooner p s n = cond p s n
-
 abbrev pub next_opening : Band → ℕ → ℕ → List Reservation → ℕ
 next_opening band t end [] = end
 next_opening band t end (r ∷ rs) =
@@ -86,29 +84,6 @@ spent_later band t m (r ∷ rs) h o =
     let s = share_by (is_in band r) t m r.start (airtime_us r) h o.0 in
     omega (arith, begun-cons band t (t + hour) r rs, begun-cons band m (m + hour) r rs, i, s)
 
--- a longer stretch holds no less
-wider_by : (p : Bool) (from to low high s air : ℕ) → low ≤ from → to ≤ high → cond (p && nat_le from s && nat_lt s to) air 0 ≤ cond (p && nat_le low s && nat_lt s high) air 0
-wider_by true from to low high s air h g = grind (arith, nat_tests)
-wider_by false from to low high s air h g = omega arith
-
-pub begun_wider : (band : Band) (from to low high : ℕ) (l : List Reservation) → low ≤ from → to ≤ high → begun band from to l ≤ begun band low high l
-begun_wider band from to low high [] h g = omega (arith, begun-nil band from to, begun-nil band low high)
-begun_wider band from to low high (r ∷ rs) h g =
-    let i = begun_wider band from to low high rs h g in
-    let s = wider_by (is_in band r) from to low high r.start (airtime_us r) h g in
-    omega (arith, begun-cons band from to r rs, begun-cons band low high r rs, i, s)
-
--- no stretch holds more than all members together
-part_by : (p : Bool) (air : ℕ) → cond p air 0 ≤ air
-part_by true air = omega arith
-part_by false air = omega arith
-
-pub begun_net : (band : Band) (from to : ℕ) (l : List Reservation) → begun band from to l ≤ net l
-unfolding net
-begun_net band from to [] = omega (arith, begun-nil band from to)
-begun_net band from to (r ∷ rs) =
-    omega (arith, begun-cons band from to r rs, begun_net band from to rs, part_by (is_in band r && nat_le from r.start && nat_lt r.start to) (airtime_us r))
-
 -- one more member adds its share to every stretch
 begun_placed : (band : Band) (from to : ℕ) (r s : Reservation) (ss : List Reservation) (t : Bool) → begun band from to (place r ss) ≡ share band from to r + begun band from to ss → begun band from to (cond t (s ∷ place r ss) (r ∷ s ∷ ss)) ≡ share band from to r + begun band from to (s ∷ ss)
 begun_placed band from to r s ss true h = omega (arith, begun-cons band from to s (place r ss), begun-cons band from to s ss, h)
@@ -135,63 +110,6 @@ few_hours l band start airtime h o t = by_hour (is_within_hour start t) refl
         let clear : is_overfull l band start airtime n ≡ false = next_is (λ s. is_overfull l band start airtime s ≡ false) band t start l h o in
         let more = spent_later band t n l between.0 (none_before_next band t start l) in
         no_more t n start (spent l band t) (spent l band n) airtime (limit_of band) between.0 between.1 late more clear
-
-pub OfStarts-map : (P Q : ℕ → Type 0) (band : Band) (l : List Reservation) → ((s : ℕ) → P s → Q s) → OfStarts band P l → OfStarts band Q l
-OfStarts-map P Q band [] f o = tt
-OfStarts-map P Q band (r ∷ rs) f o = (λ p. f r.start (o.0 p), OfStarts-map P Q band rs f o.1)
-
--- an hour in which no member of the band begins holds nothing
-nothing_by : (p : Bool) (t s air : ℕ) → (p ≡ true → t ≤ s → t + hour ≤ s) → cond (p && nat_le t s && nat_lt s (t + hour)) air 0 ≡ 0
-nothing_by true t s air g = let k : t ≤ s → t + hour ≤ s = g refl in grind (arith, nat_tests)
-nothing_by false t s air g = refl
-
-spent_nothing : (band : Band) (t : ℕ) (l : List Reservation) → OfStarts band (λ s. t ≤ s → t + hour ≤ s) l → spent l band t ≡ 0
-spent_nothing band t [] o = begun-nil band t (t + hour)
-spent_nothing band t (r ∷ rs) o =
-    omega (arith, begun-cons band t (t + hour) r rs, nothing_by (is_in band r) t r.start (airtime_us r) o.0, spent_nothing band t rs o.1)
-
--- Where no hour that opens at a start of a member of the band has more than so much, no hour has.
-pub none_more : (l : List Reservation) (band : Band) (most : ℕ) → OfStarts band (λ s. spent l band s ≤ most) l → (t : ℕ) → spent l band t ≤ most
-none_more l band most o t =
-    let between = next_between band t (t + hour) l (omega arith) in
-    let P : ℕ → Type 0 = λ n. t ≤ n → OfStarts band (λ s. t ≤ s → n ≤ s) l → spent l band t ≤ most in
-    next_is
-    P
-    band
-    t
-    (t + hour)
-    l
-    (λ h g. omega (arith, spent_nothing band t l g))
-    (OfStarts-map (λ s. spent l band s ≤ most) P band l (λ s h g k. omega (arith, spent_later band t s l g k)) o)
-    between.0
-    (none_before_next band t (t + hour) l)
-
--- the start of what is asked for, or of a member of the band
-abbrev pub IsOpening : List Reservation → Band → ℕ → ℕ → Type 0
-IsOpening l band start t = (t ≡ start) ⊎ Contains (starts_in l band) t
-
--- the least such start whose hour holds what is asked for and would pass the limit
-pub record IsFirstFullHour (l : List Reservation) (band : Band) (start airtime from : ℕ) : Type 0 where
-  pub opens : IsOpening l band start from
-  pub begins : from ≤ start
-  pub lasts : start < from + hour
-  pub passes : limit_of band < spent l band from + airtime
-  pub first : (t : ℕ) → IsOpening l band start t → t ≤ start → start < t + hour → limit_of band < spent l band t + airtime → from ≤ t
-
--- what the row of the duty cycle says: no hour that holds the start would pass the limit, wherever it opens; or the
--- first full hour
-abbrev pub IsDutyAnswer : List Reservation → Band → ℕ → ℕ → Option ℕ → Type 0
-IsDutyAnswer l band start airtime o =
-    MatchOption
-    o
-    ((t : ℕ) → t ≤ start → start < t + hour → spent l band t + airtime ≤ limit_of band)
-    (IsFirstFullHour l band start airtime)
-
--- the law: the answer is the one of the row, for every list and every natural moment
-abbrev pub DutyRowIsExact : Type 0
-DutyRowIsExact =
-    (l : List Reservation) (band : Band) (start airtime : ℕ) (o : Option ℕ) →
-    IsDutyAnswer l band start airtime o ↔ (o ≡ full_hour l band start airtime)
 
 -- members of a list that is filtered
 kept_by : (test : ℕ → Bool) (c m : ℕ) (cs : List ℕ) (t : Bool) → test c ≡ t → Contains (cond t (c ∷ filter test cs) (filter test cs)) m → (Contains (filter test cs) m → (test m ≡ true) × Contains cs m) → (test m ≡ true) × Contains (c ∷ cs) m
@@ -233,7 +151,7 @@ none_of test cs t true e n c =
     let none : Contains [] t = subst P n (filter-Contains test t cs e c) in
     absurd (omega (arith, none.1))
 
-within_limit : (start airtime t at_t limit : ℕ) → (nat_le t start && nat_lt start (t + hour) && nat_lt limit (at_t + airtime)) ≡ false → t ≤ start → start < t + hour → at_t + airtime ≤ limit
+pub within_limit : (start airtime t at_t limit : ℕ) → (nat_le t start && nat_lt start (t + hour) && nat_lt limit (at_t + airtime)) ≡ false → t ≤ start → start < t + hour → at_t + airtime ≤ limit
 within_limit start airtime t at_t limit e h g = grind (arith, nat_tests)
 
 overfull_if : (start airtime t at_t limit : ℕ) → t ≤ start → start < t + hour → limit < at_t + airtime → (nat_le t start && nat_lt start (t + hour) && nat_lt limit (at_t + airtime)) ≡ true
@@ -271,36 +189,3 @@ pub full_hour_answers : (l : List Reservation) (band : Band) (start airtime : �
 unfolding full_hour
 full_hour_answers l band start airtime =
     answers l band start airtime (full_hour l band start airtime) (least_is_least (filter (is_overfull l band start airtime) (start ∷ starts_in l band)))
-
-one_answer : (l : List Reservation) (band : Band) (start airtime : ℕ) (o u : Option ℕ) → IsDutyAnswer l band start airtime o → IsDutyAnswer l band start airtime u → o ≡ u
-one_answer l band start airtime None None a b = refl
-one_answer l band start airtime None (Some m) a b = absurd (let h = a m b.begins b.lasts in let p = b.passes in omega arith)
-one_answer l band start airtime (Some m) None a b = absurd (let h = b m a.begins a.lasts in let p = a.passes in omega arith)
-one_answer l band start airtime (Some m) (Some n) a b =
-    let h = a.first n b.opens b.begins b.lasts b.passes in
-    let g = b.first m a.opens a.begins a.lasts a.passes in
-    let e : m ≡ n = omega arith in
-    ap Some e
-
-pub duty_row_is_exact : (l : List Reservation) (band : Band) (start airtime : ℕ) (o : Option ℕ) → IsDutyAnswer l band start airtime o ↔ (o ≡ full_hour l band start airtime)
-duty_row_is_exact l band start airtime o = (
-  λ a. one_answer l band start airtime o (full_hour l band start airtime) a (full_hour_answers l band start airtime),
-  λ e. let P : Option ℕ → Type 0 = λ u. IsDutyAnswer l band start airtime u in subst P (sym e) (full_hour_answers l band start airtime),
-)
-
--- the law: where no hour that opens at the start, or at the start of a member of the band within the
--- hour before it, would pass the limit, no hour at all would
-abbrev pub FewHoursSuffice : Type 0
-FewHoursSuffice =
-    (l : List Reservation) (band : Band) (start airtime : ℕ) →
-    ((t : ℕ) → IsOpening l band start t → t ≤ start → start < t + hour → spent l band t + airtime ≤ limit_of band) →
-    (t : ℕ) → t ≤ start → start < t + hour → spent l band t + airtime ≤ limit_of band
-
-not_overfull : (start airtime t at_t limit : ℕ) → (t ≤ start → start < t + hour → at_t + airtime ≤ limit) → (nat_le t start && nat_lt start (t + hour) && nat_lt limit (at_t + airtime)) ≡ false
-not_overfull start airtime t at_t limit h = grind (arith, nat_tests)
-
-pub few_hours_suffice : (l : List Reservation) (band : Band) (start airtime : ℕ) → ((t : ℕ) → IsOpening l band start t → t ≤ start → start < t + hour → spent l band t + airtime ≤ limit_of band) → (t : ℕ) → t ≤ start → start < t + hour → spent l band t + airtime ≤ limit_of band
-few_hours_suffice l band start airtime h t a b =
-    let own = not_overfull start airtime start (spent l band start) (limit_of band) (h start (inl refl)) in
-    let others = OfStarts-from (λ s. is_overfull l band start airtime s ≡ false) band l (λ s c. not_overfull start airtime s (spent l band s) (limit_of band) (h s (inr c))) in
-    within_limit start airtime t (spent l band t) (limit_of band) (few_hours l band start airtime own others t) a b

@@ -3,10 +3,6 @@ use Rattle.std.proofs.Common.{refl, sym, subst, arith, zero, suc, inl, inr}
 use Rattle.std.proofs.lemmas.Bool.{cases_lt}
 use Rattle.gateway_book.specs.Least.{least, at_most}
 
--- the least of some numbers is one of them, and none of them is less; there is none of no numbers
-abbrev pub LeastIsLeast : Type 0
-LeastIsLeast = (ns : List ℕ) → MatchOption (least ns) (ns ≡ []) (λ m. Contains ns m × All (λ n. m ≤ n) ns)
-
 the_less : (n m : ℕ) (ns : List ℕ) → Contains ns m → (n ≤ m) ⊎ (m ≤ n) → Contains (n ∷ ns) (min n m)
 the_less n m ns c (inl h) =
     let e : min n m ≡ n = omega arith in

@@ -2,10 +2,8 @@ pub mod Disjoint
 pub mod Lawful
 pub mod Spaced
 pub mod SpacedLaws
-pub mod DutySearch
 pub mod Busiest
-pub mod BusiestLaws
-pub mod Overlap
+pub mod Laws
 pub mod Kept
 pub mod KeptLaws
 pub mod Least

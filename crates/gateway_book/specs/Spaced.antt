@@ -3,10 +3,6 @@ use Rattle.std.specs.Prelude.{ℕ, ◌≤◌, nat_le, Bool, not, ◌||◌, List,
 -- Lists whose members begin at a key and last until their end, in the form that the code looks at:
 -- neighbours are spaced.
 
-abbrev pub or_else : {X : Type 0} → Option X → Option X → Option X
-or_else None o = o
-or_else (Some x) o = Some x
-
 abbrev pub keep_if : {X : Type 0} → (X → Bool) → Option X → Option X
 keep_if test None = None
 keep_if test (Some x) = cond (test x) (Some x) None

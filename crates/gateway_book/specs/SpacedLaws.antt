@@ -35,12 +35,6 @@ module _ {X : Type 0} (key end : X → ℕ) (positive : (x : X) → key x < end 
   SpacedFrom-lower low high [] h s = tt
   SpacedFrom-lower low high (x ∷ xs) h s = (omega arith, s.1)
 
-  -- a spaced list rises
-  pub SpacedFrom-RisesFrom : (low : ℕ) (xs : List X) → SpacedFrom key end low xs → RisesFrom key low xs
-  SpacedFrom-RisesFrom low [] s = tt
-  SpacedFrom-RisesFrom low (x ∷ xs) s =
-      (s.0, SpacedFrom-RisesFrom (key x + 1) xs (SpacedFrom-lower (key x + 1) (end x) xs (omega (arith, positive x)) s.1))
-
   spaced_placed : (low : ℕ) (x y : X) (ys : List X) (t : Bool) → nat_lt (key y) (key x) ≡ t → low ≤ key x → overlaps key end (key x) (end x) y ≡ false → SpacedFrom key end low (y ∷ ys) → (end y ≤ key x → SpacedFrom key end (end y) (place_by key x ys)) → SpacedFrom key end low (cond t (y ∷ place_by key x ys) (x ∷ y ∷ ys))
   spaced_placed low x y ys true e h o s rest =
       let p = positive x in

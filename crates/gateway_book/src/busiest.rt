@@ -1,7 +1,6 @@
 ghost use Rattle.std.specs.Prelude.{◌≡◌, if◌then◌else◌};
 ghost use Rattle.resv_list.specs.Reservations.{is_in, spent};
-ghost use Rattle.gateway_book.specs.Busiest.{busiest_of};
-ghost use Rattle.gateway_book.specs.BusiestLaws.{busier};
+ghost use Rattle.gateway_book.specs.Busiest.{busiest_of, busier};
 
 use crate::duty::HOUR;
 use radio_bands::Band;

@@ -1,8 +1,7 @@
 ghost use Rattle.std.specs.Prelude.{◌≡◌, ◌≤◌, ◌<◌, ◌+◌, ◌^◌, ◌&&◌, find, IfSome};
 ghost use Rattle.std.specs.Option.{option_map};
 ghost use Rattle.resv_list.specs.Reservations.{start_of, is_in, begun, net};
-ghost use Rattle.gateway_book.specs.Duty.{would_pass, full_hour};
-ghost use Rattle.gateway_book.specs.DutySearch.{opens_full};
+ghost use Rattle.gateway_book.specs.Duty.{would_pass, full_hour, opens_full};
 
 use radio_bands::{Band, limit_us};
 use resv_list::{Reservation, Roster};

@@ -1,7 +1,4 @@
-ghost use Rattle.gateway_book.specs.ApartLaws.{SpacedIsApart, FirstHasLeastStart};
-ghost use Rattle.gateway_book.specs.LeastLaws.{LeastIsLeast};
-ghost use Rattle.gateway_book.specs.DutyLaws.{FewHoursSuffice, DutyRowIsExact};
-ghost use Rattle.gateway_book.specs.Busiest.{BusiestIsExact};
+ghost use Rattle.gateway_book.specs.Laws.{SpacedIsApart, FirstHasLeastStart, LeastIsLeast, FewHoursSuffice, DutyRowIsExact, BusiestIsExact};
 
 /// Members at different places of a list by start are disjoint exactly where each begins no earlier
 /// than the one before it ends.

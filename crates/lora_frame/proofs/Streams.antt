@@ -58,12 +58,6 @@ crypted_more start items added payload key block direction addr counter i done w
     ∙ ap (λ (x : List ℕ). xor_bytes x (key_stream key direction addr counter i ++ block)) (sym (take_block payload i))
     ∙ ap (λ (x : List ℕ). xor_bytes (take (16 * (i + 1)) payload) x) (sym (key_stream-more key block direction addr counter i eb)))
 
--- the lengths after one block more
-pub length_more : (payload : List ℕ) (i : ℕ) → 16 * i ≤ length payload
-    → length (take (16 * (i + 1)) payload) ≡ length (take (16 * i) payload) + min 16 (length payload - 16 * i)
-length_more payload i within =
-    length-take (16 * (i + 1)) payload ∙ omega (arith, length-take (16 * i) payload)
-
 -- a whole payload
 pub crypted_all : (start items payload key : List ℕ) (direction addr counter i : ℕ) → i ≡ (length payload + 15) / 16
     → items ≡ start ++ xor_bytes (take (16 * i) payload) (key_stream key direction addr counter i)

@@ -14,13 +14,3 @@ airtime_of-positive Dr3 len = omega (arith, airtime_of-whole Dr3 len)
 airtime_of-positive Dr4 len = omega (arith, airtime_of-whole Dr4 len)
 airtime_of-positive Dr5 len = omega (arith, airtime_of-whole Dr5 len)
 airtime_of-positive Dr6 len = omega (arith, airtime_of-whole Dr6 len)
-
--- every frame is on air for less than ten seconds, far below an hour
-pub airtime_of-short : (rate : DataRate) (len : ℕ) → len < 256 → airtime_of rate len < 10000000
-airtime_of-short Dr0 len h = omega (arith, airtime_of-whole Dr0 len)
-airtime_of-short Dr1 len h = omega (arith, airtime_of-whole Dr1 len)
-airtime_of-short Dr2 len h = omega (arith, airtime_of-whole Dr2 len)
-airtime_of-short Dr3 len h = omega (arith, airtime_of-whole Dr3 len)
-airtime_of-short Dr4 len h = omega (arith, airtime_of-whole Dr4 len)
-airtime_of-short Dr5 len h = omega (arith, airtime_of-whole Dr5 len)
-airtime_of-short Dr6 len h = omega (arith, airtime_of-whole Dr6 len)

@@ -8,10 +8,6 @@ use Rattle.radio_bands.specs.declared.band.Band.{Band}
 use Rattle.radio_bands.specs.declared.band.Band.TheVariants.{K, L, M, N, P, Q}
 use Rattle.radio_bands.specs.Band.{LiesIn, lies_in, band_of}
 
--- the test says what the relation says
-pub LiesIn-test : (freq_hz : ℕ) (rate : DataRate) (band : Band) → LiesIn freq_hz rate band → lies_in freq_hz rate band ≡ true
-LiesIn-test f r b h = grind (arith, nat_tests)
-
 pub lies_in-true : (freq_hz : ℕ) (rate : DataRate) (band : Band) → lies_in freq_hz rate band ≡ true → LiesIn freq_hz rate band
 lies_in-true f r b h = record { from_low = grind (arith, nat_tests); to_high = grind (arith, nat_tests) }
 
@@ -34,10 +30,3 @@ LiesIn-band_of f r M h = let w = has_width r in grind (arith, nat_tests)
 LiesIn-band_of f r N h = let w = has_width r in grind (arith, nat_tests)
 LiesIn-band_of f r P h = let w = has_width r in grind (arith, nat_tests)
 LiesIn-band_of f r Q h = let w = has_width r in grind (arith, nat_tests)
-
--- no channel lies in two bands
-pub one_band : (freq_hz : ℕ) (rate : DataRate) (b c : Band) → LiesIn freq_hz rate b → LiesIn freq_hz rate c → b ≡ c
-one_band f r b c h g =
-    let e = LiesIn-band_of f r b h in
-    let d = LiesIn-band_of f r c g in
-    cc

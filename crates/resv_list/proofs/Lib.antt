@@ -1,1 +1,3 @@
 pub mod NearestLemmas
+pub mod CutLemmas
+pub mod BegunLemmas

@@ -4,7 +4,7 @@ use Rattle.std.proofs.lemmas.Bool.{ltb-true, ltb-false, leb-true, leb-false}
 use Rattle.resv_list.specs.declared.reservation.Reservation.{Reservation}
 use Rattle.resv_list.specs.Reservations.{start_of, member_before, member_from}
 use Rattle.resv_list.specs.Sorted.{RisesFrom, last, below}
-use Rattle.resv_list.specs.SortedLaws.{RisesFrom-get}
+use Rattle.resv_list.proofs.CutLemmas.{RisesFrom-get}
 use Rattle.resv_list.specs.Nearest.{IsLastBefore, IsFirstFrom, NearestAreFound}
 
 -- a test of the first member and of all others is one of all members

@@ -7,7 +7,7 @@ use Rattle.std.proofs.lemmas.Cmp.{nat_cmp_total, int_cmp_total, on_total, then_t
 use Rattle.std.proofs.lemmas.List.Sorted.{ranks_by, sorted_far}
 use Rattle.uplink_gather.specs.declared.heard.HeardCopy.{HeardCopy}
 use Rattle.rx_windows.specs.Rank.{HaveDistinctGateways, IsBefore, is_before}
-use Rattle.rx_windows.specs.RankLaws.{IsBefore-either, is_before-passes}
+use Rattle.rx_windows.proofs.RankLemmas.{IsBefore-either, is_before-passes}
 
 -- the key
 abbrev pub key_of : HeardCopy → Reverse ℤ × Reverse ℤ × ℕ

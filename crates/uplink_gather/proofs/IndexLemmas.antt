@@ -53,9 +53,6 @@ module _ {K : Type 0} (text : K → List ℕ) where
 same_bytes : (a b : List ℕ) → bytes_eq a b ≡ true → a ≡ b
 same_bytes a b h = (bytes_eq-Decides a b).0 h
 
-own_bytes : (a : List ℕ) → bytes_eq a a ≡ true
-own_bytes a = (bytes_eq-Decides a a).1 refl
-
 -- the first bytes that pass the test stand at this place
 abbrev IsFirstAt : (List ℕ → Bool) → Index → ℕ → Type 0
 IsFirstAt t [] i = ⊥

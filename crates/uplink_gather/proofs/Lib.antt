@@ -1,3 +1,6 @@
 pub mod IndexLemmas
 pub mod UnclosedLemmas
 pub mod KeptLemmas
+pub mod NumberedLemmas
+pub mod NewestLemmas
+pub mod CallLemmas

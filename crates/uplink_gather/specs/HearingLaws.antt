@@ -1,4 +1,4 @@
-use Rattle.std.proofs.Common.{ℕ, ◌≡◌, ◌+◌, Bool, true, false, if◌then◌else◌, List, length, nat_le, Option, Some, None, Result, Ok, Err, IsSome, refl, sym, ap, subst, ◌∙◌}
+use Rattle.std.proofs.Common.{ℕ, ◌≡◌, ◌+◌, Bool, true, false, if◌then◌else◌, List, length, nat_le, Option, Some, None, Result, Ok, Err, refl, sym, ap, subst, ◌∙◌}
 use Rattle.uplink_gather.specs.declared.fault.HearFault.{HearFault}
 use Rattle.uplink_gather.specs.declared.fault.HearFault.TheVariants.{SameGateway, TooManyCopies, Late, Crowded}
 use Rattle.uplink_gather.specs.declared.answers.Place.{Place}
@@ -44,26 +44,9 @@ joins_at s bytes gateway arrived n e = by (newest bytes s.list) refl e
         let There : ℕ → Type 0 = λ m. numbered m s.list ≡ Some x.1 in
         record { gathering = x.1; there = subst There number at.0; newest_is = p ∙ ap (λ m. Some (m, x.1)) number; same = at.1 }
 
-pub joins_some : (s : Gatherings) (bytes : List ℕ) (gateway arrived n : ℕ) → place_of s bytes gateway arrived ≡ Ok (Joins n) → IsSome (numbered n s.list)
-joins_some s bytes gateway arrived n e =
-    let There : Option Gathering → Type 0 = λ o. IsSome o in subst There (sym (joins_at s bytes gateway arrived n e).there) refl
-
--- what an answer tells: where the copy went, and that there was room where it opened a gathering
-crowded_or : (t : Bool) (k n : ℕ) → (if t then Err Crowded else Ok (Opened k)) ≡ Ok (Opened n) → (t ≡ false) × (n ≡ k)
-crowded_or true k n e = absurd (cc)
-crowded_or false k n e = (refl, cc)
-
 not_joined : (t : Bool) (k n m : ℕ) → (if t then Err Crowded else Ok (Opened k)) ≡ Ok (Joined n m) → ⊥
 not_joined true k n m e = absurd (cc)
 not_joined false k n m e = absurd (cc)
-
-pub answer_opened : (s : Gatherings) (bytes : List ℕ) (gateway arrived n : ℕ) → hear_answer s bytes gateway arrived ≡ Ok (Opened n) → (place_of s bytes gateway arrived ≡ Ok Opens) × (is_crowded s ≡ false) × (n ≡ length s.list + 1)
-answer_opened s bytes gateway arrived n e = by (place_of s bytes gateway arrived) e
-  where
-    by : (place : Result Place HearFault) → answer_at s place ≡ Ok (Opened n) → (place ≡ Ok Opens) × (is_crowded s ≡ false) × (n ≡ length s.list + 1)
-    by (Ok (Joins m)) e = absurd (cc)
-    by (Ok Opens) e = let h = crowded_or (is_crowded s) (length s.list + 1) n e in (refl, h.0, h.1)
-    by (Err fault) e = absurd (cc)
 
 pub answer_joined : (s : Gatherings) (bytes : List ℕ) (gateway arrived n copies : ℕ) → hear_answer s bytes gateway arrived ≡ Ok (Joined n copies) → (place_of s bytes gateway arrived ≡ Ok (Joins n)) × (copies ≡ length (copies_of n s.list) + 1)
 answer_joined s bytes gateway arrived n copies e = by (place_of s bytes gateway arrived) e

@@ -3,7 +3,8 @@ use Rattle.std.specs.Option.{option_map}
 use Rattle.radio_bands.specs.Band.{hour}
 use Rattle.resv_list.specs.Walk.{rest_from, rest_from-None}
 use Rattle.resv_list.specs.Reservations.{start_of}
-use Rattle.gateway_book.specs.DutySearch.{opens_full, find_rest, too_early, is_next, none_further, found_here, found_later}
+use Rattle.gateway_book.specs.Duty.{opens_full}
+use Rattle.gateway_book.proofs.DutySearch.{find_rest, too_early, is_next, none_further, found_here, found_later}
 use Rattle.gateway_book.proofs.duty.first_full.Goals as goal
 
 pub loop-member-init : goal.loop-member-init

@@ -1,7 +1,7 @@
 use Rattle.std.proofs.Common.{◌+◌, sym, ◌∙◌, arith, true, false}
 use Rattle.radio_bands.specs.Band.{hour}
-use Rattle.gateway_book.specs.DutyLaws.{begun_net}
-use Rattle.gateway_book.specs.DutySearch.{full_hour-spare, full_hour-found, full_hour-own, full_hour-early}
+use Rattle.gateway_book.proofs.DutyRow.{begun_net}
+use Rattle.gateway_book.proofs.DutySearch.{full_hour-spare, full_hour-found, full_hour-own, full_hour-early}
 use Rattle.gateway_book.proofs.duty.full_hour.Goals as goal
 
 pub overflow_add-spent : goal.overflow_add-spent

@@ -1,6 +1,6 @@
 use Rattle.std.proofs.Common.{◌+◌, arith}
 use Rattle.radio_bands.specs.Band.{hour}
-use Rattle.gateway_book.specs.DutyLaws.{begun_net}
+use Rattle.gateway_book.proofs.DutyRow.{begun_net}
 use Rattle.gateway_book.proofs.duty.would_pass.Goals as goal
 
 pub overflow_add-result : goal.overflow_add-result

@@ -1,4 +1,4 @@
-use Rattle.gateway_book.specs.BusiestLaws.{busiest_is_exact}
+use Rattle.gateway_book.proofs.BusiestLaws.{busiest_is_exact}
 use Rattle.gateway_book.proofs.laws.law_busiest_is_exact.Goals as goal
 
 pub returns : goal.returns

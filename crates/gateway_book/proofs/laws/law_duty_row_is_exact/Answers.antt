@@ -1,4 +1,4 @@
-use Rattle.gateway_book.specs.DutyLaws.{duty_row_is_exact}
+use Rattle.gateway_book.proofs.DutyRow.{duty_row_is_exact}
 use Rattle.gateway_book.proofs.laws.law_duty_row_is_exact.Goals as goal
 
 pub returns : goal.returns

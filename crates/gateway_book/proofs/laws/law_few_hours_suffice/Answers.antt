@@ -1,4 +1,4 @@
-use Rattle.gateway_book.specs.DutyLaws.{few_hours_suffice}
+use Rattle.gateway_book.proofs.DutyRow.{few_hours_suffice}
 use Rattle.gateway_book.proofs.laws.law_few_hours_suffice.Goals as goal
 
 pub returns : goal.returns

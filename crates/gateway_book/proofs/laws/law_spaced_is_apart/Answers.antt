@@ -1,4 +1,4 @@
-use Rattle.gateway_book.specs.ApartLaws.{spaced_is_apart}
+use Rattle.gateway_book.proofs.OverlapLaws.{spaced_is_apart}
 use Rattle.gateway_book.proofs.laws.law_spaced_is_apart.Goals as goal
 
 pub returns : goal.returns

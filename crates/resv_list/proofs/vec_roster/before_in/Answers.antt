@@ -1,6 +1,6 @@
 use Rattle.std.proofs.Common.{◌<◌, ℕ, nat_lt, sym, ◌∙◌, ap, take, arith}
 use Rattle.resv_list.specs.Sorted.{last}
-use Rattle.resv_list.specs.SortedLaws.{filter-cut, last-take_before}
+use Rattle.resv_list.proofs.CutLemmas.{filter-cut, last-take_before}
 use Rattle.resv_list.specs.Reservations.{start_of}
 use Rattle.resv_list.proofs.vec_roster.before_in.Goals as goal
 

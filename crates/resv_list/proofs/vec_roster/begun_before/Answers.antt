@@ -1,8 +1,9 @@
 use Rattle.std.proofs.Common.{◌≡◌, ◌≤◌, ◌+◌, ◌∷◌, drop, arith, sym, ◌∙◌, ap}
 use Rattle.std.proofs.lemmas.List.{at_drop_more, at_drop_all}
 use Rattle.resv_list.specs.Reservations.{start_of, begun}
-use Rattle.resv_list.specs.SortedLaws.{RisesFrom-get}
-use Rattle.resv_list.specs.Begun.{begun-cons, begun-nil, share_within, begun_behind}
+use Rattle.resv_list.proofs.CutLemmas.{RisesFrom-get}
+use Rattle.resv_list.specs.Begun.{begun-cons, begun-nil}
+use Rattle.resv_list.proofs.BegunLemmas.{share_within, begun_behind}
 use Rattle.resv_list.proofs.vec_roster.begun_before.Goals as goal
 
 pub returns-then-member-to : goal.returns-then-member-to

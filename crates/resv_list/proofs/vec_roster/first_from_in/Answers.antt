@@ -1,6 +1,6 @@
 use Rattle.std.proofs.Common.{nat_lt, nat_le, sym, ◌∙◌, arith}
 use Rattle.std.proofs.lemmas.Bool.Decides.{nat_tests}
-use Rattle.resv_list.specs.SortedLaws.{find-cut}
+use Rattle.resv_list.proofs.CutLemmas.{find-cut}
 use Rattle.resv_list.specs.Reservations.{start_of}
 use Rattle.resv_list.proofs.vec_roster.first_from_in.Goals as goal
 

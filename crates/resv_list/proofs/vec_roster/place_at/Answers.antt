@@ -1,6 +1,6 @@
 use Rattle.std.proofs.Common.{◌≡◌, ◌≤◌, Some, slice_get, length, arith, sym, ap, ◌∙◌}
 use Rattle.resv_list.specs.Reservations.{start_of}
-use Rattle.resv_list.specs.SortedLaws.{at_cut, not_at_cut, slice_get-read, nothing_past}
+use Rattle.resv_list.proofs.CutLemmas.{at_cut, not_at_cut, slice_get-read, nothing_past}
 use Rattle.resv_list.proofs.vec_roster.place_at.Goals as goal
 
 pub returns-then-place-members-clause-found : goal.returns-then-place-members-clause-found

@@ -3,8 +3,8 @@ use Rattle.std.proofs.lemmas.List.{take_rest}
 use Rattle.resv_list.specs.declared.reservation.Reservation.{Reservation}
 use Rattle.resv_list.specs.Sorted.{RisesFrom}
 use Rattle.resv_list.specs.Reservations.{start_of, begun}
-use Rattle.resv_list.specs.SortedLaws.{RisesFrom-cut}
-use Rattle.resv_list.specs.Begun.{begun-cut}
+use Rattle.resv_list.proofs.CutLemmas.{RisesFrom-cut}
+use Rattle.resv_list.proofs.BegunLemmas.{begun-cut}
 use Rattle.resv_list.proofs.vec_roster.spent_in.Goals as goal
 
 pub begun_before-requires-clause-rising : goal.begun_before-requires-clause-rising

@@ -1,7 +1,7 @@
 use Rattle.std.proofs.Common.{rules}
 use Rattle.std.proofs.lemmas.List.Sorted.{answers_always}
 use Rattle.rx_windows.specs.Rank.{ranked}
-use Rattle.rx_windows.specs.RankLaws.{one_ranking, ranked-ranking, HaveDistinctGateways-permutation}
+use Rattle.rx_windows.proofs.RankLemmas.{one_ranking, ranked-ranking, HaveDistinctGateways-permutation}
 use Rattle.rx_windows.proofs.KeyLemmas.{key_of, pairs_from_sorted}
 use Rattle.rx_windows.proofs.ranking.rank.Goals as goal
 

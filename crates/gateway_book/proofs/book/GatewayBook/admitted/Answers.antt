@@ -1,7 +1,7 @@
 use Rattle.std.proofs.Common.{◌≡◌, nat_lt, false, [], ◌∷◌, sym, ◌∙◌, subst}
 use Rattle.std.proofs.lemmas.Bool.{le-ltb}
 use Rattle.gateway_book.specs.Answer.{no_band, too_long, past_end, first_some, refusal_of}
-use Rattle.gateway_book.specs.AnswerLaws.{not_refused, answer_duty, answer_match, overlap_asked, duty_asked}
+use Rattle.gateway_book.proofs.AdmittedLaws.{not_refused, answer_duty, answer_match, overlap_asked, duty_asked}
 use Rattle.gateway_book.specs.Book.{Book, terms_of}
 use Rattle.gateway_book.proofs.book.GatewayBook.admitted.Goals as goal
 

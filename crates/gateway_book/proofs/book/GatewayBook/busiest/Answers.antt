@@ -1,7 +1,7 @@
 use Rattle.std.proofs.Common.{◌≡◌, subst}
 use Rattle.gateway_book.specs.Book.{Book}
 use Rattle.gateway_book.specs.Busiest.{busiest_of}
-use Rattle.gateway_book.specs.BusiestLaws.{busiest_is_exact}
+use Rattle.gateway_book.proofs.BusiestLaws.{busiest_is_exact}
 use Rattle.gateway_book.proofs.book.GatewayBook.busiest.Goals as goal
 
 pub returns-clause-hour : goal.returns-clause-hour

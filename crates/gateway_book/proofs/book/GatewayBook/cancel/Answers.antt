@@ -1,5 +1,5 @@
 use Rattle.std.proofs.Common.{sym}
-use Rattle.gateway_book.specs.BookLaws.{sound_after_cancel}
+use Rattle.gateway_book.proofs.SoundLaws.{sound_after_cancel}
 use Rattle.gateway_book.proofs.book.GatewayBook.cancel.Goals as goal
 
 pub invariant_of-self : goal.invariant_of-self

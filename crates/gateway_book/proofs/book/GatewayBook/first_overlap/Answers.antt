@@ -1,10 +1,12 @@
 use Rattle.std.proofs.Common.{◌≡◌, nat_lt, Some, None, sym, ap, ◌∙◌, subst}
 use Rattle.std.specs.Option.{option_map}
 use Rattle.resv_list.specs.Reservations.{end_of, start_of, member_before, member_from}
-use Rattle.gateway_book.specs.Spaced.{keep_if, or_else}
+use Rattle.gateway_book.specs.Spaced.{keep_if}
+use Rattle.gateway_book.proofs.OverlapLaws.{or_else}
 use Rattle.gateway_book.specs.Answer.{overlap}
 use Rattle.gateway_book.specs.Book.{Book}
-use Rattle.gateway_book.specs.ApartLaws.{overlap-neighbours, ends_later}
+use Rattle.gateway_book.proofs.OverlapLaws.{overlap-neighbours}
+use Rattle.gateway_book.specs.ApartLaws.{ends_later}
 use Rattle.gateway_book.proofs.book.GatewayBook.first_overlap.Goals as goal
 
 pub returns-in-Some : goal.returns-in-Some

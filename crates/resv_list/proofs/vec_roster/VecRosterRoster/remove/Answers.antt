@@ -1,7 +1,8 @@
 use Rattle.std.proofs.Common.{◌≡◌, ◌<◌, List, slice_get, length, remove, sym, ◌∙◌, subst}
 use Rattle.resv_list.specs.declared.reservation.Reservation.{Reservation}
 use Rattle.resv_list.specs.Reservations.{start_of, IsByStart, member_at, without}
-use Rattle.resv_list.specs.SortedLaws.{RisesFrom-filter, slice_get-read}
+use Rattle.resv_list.specs.SortedLaws.{RisesFrom-filter}
+use Rattle.resv_list.proofs.CutLemmas.{slice_get-read}
 use Rattle.resv_list.proofs.vec_roster.VecRosterRoster.remove.Goals as goal
 
 pub invariant_of-self-clause-by_start : goal.invariant_of-self-clause-by_start

@@ -1,5 +1,5 @@
 use Rattle.std.proofs.Common.{◌≡◌, ◌+◌, length, refl, arith}
-use Rattle.uplink_gather.proofs.KeptLemmas.{whole_append, append_looks}
+use Rattle.uplink_gather.proofs.CallLemmas.{whole_append, append_looks}
 use Rattle.uplink_gather.proofs.gather.Gather.append.Goals as goal
 
 pub invariant_of-self-2 : goal.invariant_of-self-2

@@ -1,5 +1,5 @@
 use Rattle.std.proofs.Common.{sym, arith}
-use Rattle.uplink_gather.proofs.KeptLemmas.{closing_found, whole_closing, closing_open, closing_looks, not_open_found, not_open_step}
+use Rattle.uplink_gather.proofs.CallLemmas.{closing_found, whole_closing, closing_open, closing_looks, not_open_found, not_open_step}
 use Rattle.uplink_gather.proofs.gather.Gather.close.Goals as goal
 
 pub overflow_sub-n : goal.overflow_sub-n

@@ -1,5 +1,5 @@
 use Rattle.std.proofs.Common.{◌∙◌}
-use Rattle.uplink_gather.proofs.KeptLemmas.{due_is}
+use Rattle.uplink_gather.proofs.CallLemmas.{due_is}
 use Rattle.uplink_gather.proofs.gather.Gather.due.Goals as goal
 
 pub returns : goal.returns

@@ -1,5 +1,5 @@
 use Rattle.std.proofs.Common.{◌∙◌, arith}
-use Rattle.uplink_gather.proofs.KeptLemmas.{crowded_by_open, crowded_by_ever}
+use Rattle.uplink_gather.proofs.CallLemmas.{crowded_by_open, crowded_by_ever}
 use Rattle.uplink_gather.proofs.gather.Gather.is_crowded.Goals as goal
 
 pub returns-then-len-self : goal.returns-then-len-self

@@ -1,6 +1,6 @@
 use Rattle.std.proofs.Common.{ℕ, ◌≡◌, ◌+◌, length, ap, arith}
 use Rattle.uplink_gather.specs.declared.answers.Heard.TheVariants.{Joined}
-use Rattle.uplink_gather.proofs.KeptLemmas.{whole_joining, joining_refused, joining_count, joining_looks}
+use Rattle.uplink_gather.proofs.CallLemmas.{whole_joining, joining_refused, joining_count, joining_looks}
 use Rattle.uplink_gather.proofs.gather.Gather.join.Goals as goal
 
 pub invariant_of-self : goal.invariant_of-self

@@ -1,5 +1,5 @@
 use Rattle.std.proofs.Common.{sym, ◌∙◌, arith}
-use Rattle.uplink_gather.proofs.KeptLemmas.{number_within, place_found}
+use Rattle.uplink_gather.proofs.CallLemmas.{number_within, place_found}
 use Rattle.uplink_gather.proofs.gather.Gather.place.Goals as goal
 
 pub overflow_sub-n : goal.overflow_sub-n

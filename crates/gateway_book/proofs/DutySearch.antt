@@ -12,14 +12,12 @@ use Rattle.resv_list.specs.Walk.{rest_from, rest_from-Some}
 use Rattle.resv_list.specs.Reservations.{start_of, is_in, begun, IsByStart, member_from}
 use Rattle.gateway_book.specs.Least.{least}
 use Rattle.gateway_book.specs.SpacedLaws.{least-find}
-use Rattle.gateway_book.specs.Duty.{is_within_hour, would_pass, is_overfull, starts_in, full_hour}
-use Rattle.gateway_book.specs.DutyLaws.{IsDutyAnswer, IsFirstFullHour, full_hour_answers, begun_wider, duty_row_is_exact}
+use Rattle.gateway_book.specs.Duty.{is_within_hour, would_pass, is_overfull, starts_in, full_hour, opens_full}
+use Rattle.gateway_book.specs.Laws.{IsDutyAnswer, IsFirstFullHour}
+use Rattle.gateway_book.specs.DutyLaws.{full_hour_answers}
+use Rattle.gateway_book.proofs.DutyRow.{begun_wider, duty_row_is_exact}
 
 -- The search for a full hour, from one member of the last hour to the next.
-
--- whether a member of the band opens an hour that would be overfull
-abbrev pub opens_full : List Reservation → Band → ℕ → ℕ → Reservation → Bool
-opens_full l band start airtime r = is_in band r && is_overfull l band start airtime r.start
 
 module _ {X : Type 0} (key : X → ℕ) (test : X → Bool) where
   -- what lies below a limit, and fails, may be left out of a search

@@ -1,12 +1,22 @@
-use Rattle.std.specs.Prelude.{ℕ, ◌≡◌, ◌<◌, ◌≤◌, nat_lt, nat_le, Bool, true, false, List, [], ◌∷◌, Option, Some, None, find, cond, unwrap_or}
+use Rattle.std.specs.Prelude.{ℕ, ◌≡◌, ◌<◌, ◌≤◌, nat_lt, nat_le, Bool, true, false, List, [], ◌∷◌, Option, Some, None, find, cond, unwrap_or, ◌↔◌}
 use Rattle.std.proofs.Common.{refl, sym, ap, ◌∙◌, arith}
 use Rattle.std.proofs.lemmas.Bool.{leb-true, leb-false, le-leb, lt-leb, lt-ltb, le-ltb, ltb-true, ltb-false}
 use Rattle.std.proofs.lemmas.Bool.Decides.{nat_tests}
 use Rattle.resv_list.specs.Sorted.{last, below, last_below, first_from}
-use Rattle.gateway_book.specs.Spaced.{or_else, keep_if, SpacedFrom, overlaps}
+use Rattle.gateway_book.specs.Spaced.{keep_if, SpacedFrom, overlaps}
+use Rattle.std.specs.Option.{option_map}
+use Rattle.resv_list.specs.declared.reservation.Reservation.{Reservation}
+use Rattle.resv_list.specs.Reservations.{start_of, end_of, IsByStart, member_before, member_from}
+use Rattle.gateway_book.specs.Lawful.{AreApart}
+use Rattle.gateway_book.specs.Answer.{overlap}
+use Rattle.gateway_book.specs.ApartLaws.{ends_later, first_has_least_start, spaced_apart, apart_spaced}
 
 -- Only two neighbours of what is asked for can overlap it: the last member that begins before it, and
 -- the first that doesn't.
+
+abbrev pub or_else : {X : Type 0} → Option X → Option X → Option X
+or_else None o = o
+or_else (Some x) o = Some x
 
 pub last-cons : {X : Type 0} (x : X) (ys : List X) → last (x ∷ ys) ≡ Some (unwrap_or (last ys) x)
 last-cons x [] = refl
@@ -83,3 +93,12 @@ module _ {X : Type 0} (key end : X → ℕ) (positive : (x : X) → key x < end 
   pub find-neighbours : (low from to : ℕ) (xs : List X) → from < to → SpacedFrom key end low xs → find (overlaps key end from to) xs ≡ or_else (neighbour_before from xs) (neighbour_from from to xs)
   find-neighbours low from to [] h s = refl
   find-neighbours low from to (x ∷ xs) h s = neighbours_by low from to x xs (nat_lt (key x) from) refl h s (find-neighbours (end x) from to xs h s.1)
+
+pub spaced_is_apart : (l : List Reservation) → IsByStart l → SpacedFrom start_of end_of 0 l ↔ AreApart l
+spaced_is_apart l s = (λ h. spaced_apart 0 l h, λ a. apart_spaced 0 l s a)
+
+-- only the last member that begins before what is asked for, and the first that doesn't, can overlap it
+pub overlap-neighbours : (l : List Reservation) (from to : ℕ) → IsByStart l → AreApart l → from < to → overlap l from to ≡ option_map start_of (or_else (keep_if (λ b. nat_lt from (end_of b)) (member_before from l)) (keep_if (λ n. nat_lt n.start to) (member_from from l)))
+unfolding overlap
+overlap-neighbours l from to s a h =
+    first_has_least_start _ l s ∙ ap (option_map start_of) (find-neighbours start_of end_of ends_later 0 from to l h (apart_spaced 0 l s a))

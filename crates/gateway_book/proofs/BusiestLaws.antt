@@ -10,8 +10,9 @@ use Rattle.resv_list.specs.Reservations.{start_of, is_in, spent, IsByStart}
 use Rattle.gateway_book.specs.Least.{least}
 use Rattle.gateway_book.specs.LeastLaws.{least_is_least}
 use Rattle.gateway_book.specs.Duty.{starts_in}
-use Rattle.gateway_book.specs.DutyLaws.{OfStarts-from, none_more, all_at, Contains-filter, filter-Contains}
-use Rattle.gateway_book.specs.Busiest.{IsBusiestAnswer, greatest, most_spent, busiest_of}
+use Rattle.gateway_book.specs.Busiest.{IsBusiestAnswer, greatest, most_spent, busiest_of, busier}
+use Rattle.gateway_book.specs.DutyLaws.{OfStarts-from, all_at, Contains-filter, filter-Contains}
+use Rattle.gateway_book.proofs.DutyRow.{none_more}
 
 -- the greatest is one of the numbers, and none of them is greater
 pub greatest_above : (f : ℕ → ℕ) (ns : List ℕ) (t : ℕ) → Contains ns t → f t ≤ greatest (map f ns)
@@ -86,10 +87,6 @@ busiest_is_exact l band o = (
 )
 
 -- The walk that finds it: from one member to the next, the first of those with the most so far is kept.
-
-abbrev pub busier : Option (ℕ × ℕ) → ℕ → ℕ → Option (ℕ × ℕ)
-busier None start sum = Some (start, sum)
-busier (Some p) start sum = cond (nat_lt p.1 sum) (Some (start, sum)) (Some p)
 
 abbrev pub busiest_from : (ℕ → ℕ) → Band → Option (ℕ × ℕ) → List Reservation → Option (ℕ × ℕ)
 busiest_from f band best [] = best
