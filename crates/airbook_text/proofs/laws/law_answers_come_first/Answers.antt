@@ -1,5 +1,0 @@
-use Rattle.airbook_text.proofs.LawLemmas.{answers_come_first}
-use Rattle.airbook_text.proofs.laws.law_answers_come_first.Goals as goal
-
-pub returns : goal.returns
-returns c = answers_come_first

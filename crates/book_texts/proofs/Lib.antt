@@ -1,0 +1,7 @@
+pub mod LineLemmas
+pub mod TurnLemmas
+pub mod RunLemmas
+pub mod SoFar
+pub mod ReportLemmas
+pub mod LawLemmas
+pub mod Worked

@@ -1,0 +1,9 @@
+pub mod Said
+pub mod Reply
+pub mod Report
+pub mod Turn
+pub mod Output
+pub mod Toa
+pub mod Progress
+pub mod Promise
+pub mod Laws

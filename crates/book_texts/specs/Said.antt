@@ -1,0 +1,64 @@
+use Rattle.std.specs.Prelude.{ℕ, ◌^◌, if◌then◌else◌, List, [], ◌∷◌, Option, Some, None, option_and_then, codes}
+use Rattle.std.specs.Option.{option_map}
+use Rattle.radio_airtime.specs.declared.data_rate.DataRate.{DataRate}
+use Rattle.text_lines.specs.Line.{is_too_long}
+use Rattle.text_lines.specs.Number.{number_below}
+use Rattle.text_lines.specs.Words.{words_of, is_passed_over}
+use Rattle.gateway_book.specs.declared.ask.Ask.{Ask}
+use Rattle.book_texts.specs.declared.command.Command.{Command}
+use Rattle.book_texts.specs.declared.command.Command.TheVariants.{Book, Cancel, Tick}
+use Rattle.book_texts.specs.declared.command.Said.{Said}
+use Rattle.book_texts.specs.declared.command.Said.TheVariants.{Nothing, Order, Malformed}
+use Rattle.text_words.specs.Rates.{rate_numbered}
+use Rattle.text_words.specs.Words.{is_named}
+
+-- What a line of input says: a command by its words.
+
+-- the data rate whose number the word is
+abbrev pub rate_word : List ℕ → Option DataRate
+rate_word word = option_and_then rate_numbered (number_below (2 ^ 8) word)
+
+-- an ask of these fields, where each is there
+abbrev pub ask_with : Option ℕ → Option ℕ → Option ℕ → Option DataRate → Option ℕ → Option Ask
+ask_with (Some number) (Some start) (Some freq_hz) (Some rate) (Some len) =
+    Some (record { number = number; start = start; freq_hz = freq_hz; rate = rate; len = len })
+ask_with _ _ _ _ _ = None
+
+-- what follows the word `book`: NUMBER START FREQ DR LEN
+abbrev pub book_command : List (List ℕ) → Option Command
+book_command (number ∷ start ∷ freq_hz ∷ rate ∷ len ∷ []) =
+    option_map Book (ask_with (number_below (2 ^ 64) number) (number_below (2 ^ 64) start) (number_below (2 ^ 32) freq_hz) (rate_word rate) (number_below (2 ^ 8) len))
+book_command _ = None
+
+-- a cancellation of these fields, where each is there
+abbrev pub cancel_with : Option ℕ → Option ℕ → Option Command
+cancel_with (Some number) (Some start) = Some (Cancel number start)
+cancel_with _ _ = None
+
+-- what follows the word `cancel`: NUMBER START
+abbrev pub cancel_command : List (List ℕ) → Option Command
+cancel_command (number ∷ start ∷ []) = cancel_with (number_below (2 ^ 64) number) (number_below (2 ^ 64) start)
+cancel_command _ = None
+
+-- what follows the word `tick`: NOW
+abbrev pub tick_command : List (List ℕ) → Option Command
+tick_command (now ∷ []) = option_map Tick (number_below (2 ^ 64) now)
+tick_command _ = None
+
+-- the command that the words are, if they are one: the first word decides which
+abbrev pub command_of : List (List ℕ) → Option Command
+command_of [] = None
+command_of (name ∷ words) =
+    if is_named (codes "book") name then book_command words
+    else (if is_named (codes "cancel") name then cancel_command words
+    else (if is_named (codes "tick") name then tick_command words else None))
+
+abbrev pub order_or_malformed : Option Command → Said
+order_or_malformed None = Malformed
+order_or_malformed (Some command) = Order command
+
+-- a line is passed over, or is a command, or is malformed, as each line is that is too long
+abbrev pub said : List ℕ → Said
+said line =
+    if is_passed_over line then Nothing
+    else (if is_too_long line then Malformed else order_or_malformed (command_of (words_of line)))

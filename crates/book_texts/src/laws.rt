@@ -1,0 +1,18 @@
+// Laws on the definitions of the output.
+ghost use Rattle.book_texts.specs.Laws.{OkWhereAccepted, OneAnswerALine, AnswersComeFirst};
+
+/// A booking is answered by a line that begins with neither `no` nor `bad` exactly where the book accepts what is
+/// asked for and finds memory for it.
+pub fn law_ok_where_accepted()
+    ensures { OkWhereAccepted }
+{}
+
+/// Each line of the input that is not passed over has one line that answers it, and no other line has.
+pub fn law_one_answer_a_line()
+    ensures { OneAnswerALine }
+{}
+
+/// What answers some lines comes first in what answers them and others after them: no answer looks ahead.
+pub fn law_answers_come_first()
+    ensures { AnswersComeFirst }
+{}

@@ -1,0 +1,13 @@
+//! The texts of one gateway's book and of a time on air: input lines in, answer lines and a report out.
+#![tactic(auto)]
+
+mod booking;
+mod command;
+mod laws;
+mod reply;
+mod report;
+mod toa;
+
+pub use booking::book_text;
+pub use laws::{law_answers_come_first, law_ok_where_accepted, law_one_answer_a_line};
+pub use toa::toa_text;

@@ -1,0 +1,78 @@
+// The answer to a line, and its text.
+ghost use Rattle.std.specs.Prelude.{◌≡◌, [], ◌∷◌, ◌++◌};
+
+use gateway_book::{CancelFault, Refusal};
+use text_lines::TextLine;
+use text_words::{add_fault, add_number, add_refusal, add_word};
+
+/// The answer to a line of input.
+#[derive(Clone, Copy, Debug, PartialEq, Eq)]
+pub(crate) enum Reply {
+    /// `ok NUMBER START END`: it was reserved, from `start` on and before `end`, in microseconds.
+    Booked { number: u64, start: u64, end: u64 },
+    /// `no NUMBER REFUSAL`: it was refused.
+    Refused { number: u64, refusal: Refusal },
+    /// `cancelled NUMBER AIRTIME`: it was taken out, with its airtime in microseconds.
+    Cancelled { number: u64, airtime: u64 },
+    /// `no NUMBER FAULT`: it was not taken out.
+    NotCancelled { number: u64, fault: CancelFault },
+    /// `floor FLOOR`: where the floor lies now, in microseconds.
+    Floor { floor: u64 },
+    /// `bad LINE Syntax`: line `line` of the input, counted from 1, is malformed.
+    Bad { line: u64 },
+}
+
+impl Reply {
+    ghost use Rattle.book_texts.specs.Reply.{reply_line};
+    ghost use Rattle.text_words.specs.Words.{is_refusal};
+
+    /// Makes `text` the answer's line, with its end.
+    pub(crate) fn write(&self, text: &mut TextLine)
+        ensures { text.new ≡ reply_line self.now ++ (10 ∷ []) }
+    {
+        text.clear();
+        match self {
+            Reply::Booked { number, start, end } => {
+                text.text(b"ok");
+                add_number(text, *number);
+                add_number(text, *start);
+                add_number(text, *end);
+            }
+            Reply::Refused { number, refusal } => {
+                text.text(b"no");
+                add_number(text, *number);
+                add_refusal(text, *refusal);
+            }
+            Reply::Cancelled { number, airtime } => {
+                text.text(b"cancelled");
+                add_number(text, *number);
+                add_number(text, *airtime);
+            }
+            Reply::NotCancelled { number, fault } => {
+                text.text(b"no");
+                add_number(text, *number);
+                add_fault(text, *fault);
+            }
+            Reply::Floor { floor } => {
+                text.text(b"floor");
+                add_number(text, *floor);
+            }
+            Reply::Bad { line } => {
+                text.text(b"bad");
+                add_number(text, *line);
+                add_word(text, b"Syntax");
+            }
+        }
+        text.text(b"\n");
+    }
+
+    /// Whether the answer's line begins with `no` or `bad`.
+    pub(crate) fn is_refusal(&self) -> bool
+        ensures { result ≡ is_refusal (reply_line self.now) }
+    {
+        match self {
+            Reply::Booked { .. } | Reply::Cancelled { .. } | Reply::Floor { .. } => false,
+            Reply::Refused { .. } | Reply::NotCancelled { .. } | Reply::Bad { .. } => true,
+        }
+    }
+}

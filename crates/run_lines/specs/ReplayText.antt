@@ -1,0 +1,82 @@
+use Rattle.std.specs.Prelude.{ℕ, ◌+◌, ◌-◌, Bool, true, false, nat_le, if◌then◌else◌, List, [], ◌∷◌, ◌++◌, length, map, Some, codes, decimal}
+use Rattle.std.specs.List.{flat_map, count_by}
+use Rattle.resv_list.specs.Reservations.{net}
+use Rattle.gateway_book.specs.Step.{State}
+use Rattle.gateway_book.specs.declared.totals.Totals.{Totals}
+use Rattle.server_core.specs.declared.entry.Entry.{Entry}
+use Rattle.server_core.specs.declared.entry.Line.{Line}
+use Rattle.server_core.specs.declared.entry.Line.TheVariants.{Send, Unanswered, Silent}
+use Rattle.server_core.specs.World.{Gateway}
+use Rattle.text_words.specs.Words.{spaced}
+use Rattle.run_lines.specs.EntryLine.{line_text}
+use Rattle.text_words.specs.Busiest.{all_busiest_lines}
+
+-- The lines of a replay: an answer's lines for each event, and then a report.
+
+-- a gateway in its place by id, before those with the same id
+abbrev pub placed : Gateway → List Gateway → List Gateway
+placed g [] = g ∷ []
+placed g (other ∷ more) = if nat_le g.id other.id then g ∷ other ∷ more else other ∷ placed g more
+
+-- gateways by id, the least first; those with the same id keep their order
+abbrev pub by_id : List Gateway → List Gateway
+by_id [] = []
+by_id (g ∷ more) = placed g (by_id more)
+
+-- what was counted at a gateway whose list is what it keeps: what was booked, and is neither cancelled nor kept, is
+-- retired
+abbrev pub totals_at : State → Totals
+totals_at s =
+    record {
+      booked = s.booked;
+      cancelled = s.cancelled;
+      retired = s.booked - (s.cancelled + net s.list);
+      kept_airtime = net s.list;
+      kept = length s.list;
+      floor = s.floor;
+    }
+
+-- the line of it
+abbrev pub counts_line : ℕ → Totals → List ℕ
+counts_line id totals =
+    spaced (codes "gateway" ∷ decimal id
+    ∷ codes "booked" ∷ decimal totals.booked
+    ∷ codes "cancelled" ∷ decimal totals.cancelled
+    ∷ codes "retired" ∷ decimal totals.retired
+    ∷ codes "kept" ∷ decimal totals.kept ∷ [])
+
+-- the report of a gateway whose list is what it keeps
+abbrev pub gateway_lines : Gateway → List (List ℕ)
+gateway_lines g = counts_line g.id (totals_at g.state) ∷ all_busiest_lines (Some g.id) g.state.list
+
+-- which lines are counted at the end
+abbrev pub is_sent : {A : Type 0} → Line A → Bool
+is_sent (Send number candidate) = true
+is_sent line = false
+
+abbrev pub is_unanswered : {A : Type 0} → Line A → Bool
+is_unanswered (Unanswered number refusal) = true
+is_unanswered line = false
+
+abbrev pub is_silent : {A : Type 0} → Line A → Bool
+is_silent (Silent number) = true
+is_silent line = false
+
+-- how many uplinks were answered, were not, and were owed no answer
+abbrev pub tally_line : {A : Type 0} → List (Entry A) → List ℕ
+tally_line entries =
+    spaced (codes "answered" ∷ decimal (count_by (λ e. is_sent e.line) entries)
+    ∷ codes "unanswered" ∷ decimal (count_by (λ e. is_unanswered e.line) entries)
+    ∷ codes "silent" ∷ decimal (count_by (λ e. is_silent e.line) entries) ∷ [])
+
+-- the lines that answer the events
+abbrev pub entry_lines : {A : Type 0} → List (Entry A) → List (List ℕ)
+entry_lines entries = map (λ e. line_text e.line) entries
+
+-- the report at the end
+abbrev pub report_lines : {A : Type 0} → List (Entry A) → List Gateway → List (List ℕ)
+report_lines entries gateways = flat_map gateway_lines (by_id gateways) ++ tally_line entries ∷ []
+
+-- all lines
+abbrev pub replay_lines : {A : Type 0} → List (Entry A) → List Gateway → List (List ℕ)
+replay_lines entries gateways = entry_lines entries ++ report_lines entries gateways

@@ -1,0 +1,15 @@
+//! The lines of a run: the input's two parts and the events of its lines, and the lines that answer them and report.
+#![tactic(auto)]
+
+mod entry_line;
+mod entry_name;
+mod gateway_report;
+mod replay_text;
+mod run_events;
+mod run_input;
+mod run_words;
+mod tally;
+
+pub use replay_text::write_lines;
+pub use run_events::events_of;
+pub use run_input::{parts_of, read_all};

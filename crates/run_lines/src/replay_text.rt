@@ -1,0 +1,91 @@
+// The text of a run: the lines that answer its events, and a report.
+ghost use Rattle.std.specs.Prelude.{◌≡◌, ◌++◌, map, IfOk, OnOk, OnErr};
+ghost use Rattle.std.specs.List.{list_any};
+ghost use Rattle.std.specs.Io.KnownBytes.{Appends};
+ghost use Rattle.text_lines.specs.Calls.{CountsFailure};
+ghost use Rattle.text_lines.specs.Line.{text_of};
+ghost use Rattle.text_lines.specs.Writing.{WritesAllBut, WritesFront};
+ghost use Rattle.server_core.specs.Entries.{gateway_of};
+ghost use Rattle.text_words.specs.Words.{is_refusal};
+ghost use Rattle.text_words.specs.Words.{has_refusal};
+ghost use Rattle.run_lines.specs.EntryLine.{line_text};
+ghost use Rattle.run_lines.specs.ReplayText.{entry_lines, replay_lines};
+
+use crate::entry_line::{is_refused, put_line};
+use crate::gateway_report::put_gateways;
+use crate::tally::put_tally;
+use gateway_book::GatewayBook;
+use resv_list::Roster;
+use server_core::Entry;
+use std::alloc::Allocator;
+use text_lines::{ByteOut, CallFailed, WriteBehind};
+
+/// Writes the lines that answer events and the report of the gateways' books, and answers whether one of them begins with
+/// `no` or `bad`. After an Err a front of them was written.
+pub fn write_lines<A: Allocator, B: Roster, W: ByteOut>(
+    entries: &[Entry<A>],
+    books: &[GatewayBook<B>],
+    writer: &mut W,
+) -> Result<bool, CallFailed>
+    ensures ok { OnOk result (Appends (W.taken writer.old) (W.taken writer.new) (text_of (replay_lines entries.now (map gateway_of books.now)))) }
+    ensures told { IfOk result (λ refused. refused ≡ has_refusal (replay_lines entries.now (map gateway_of books.now))) }
+    ensures err { OnErr result (WritesFront (W.taken writer.old) (W.taken writer.new) (text_of (replay_lines entries.now (map gateway_of books.now)))) }
+    ensures failed { CountsFailure (W.failed_calls writer.old) (W.failed_calls writer.new) result }
+{
+    let mut output = WriteBehind::new();
+    match put_lines(entries, books, &mut output, writer) {
+        Err(failed) => return Err(failed),
+        Ok(()) => {}
+    }
+    match output.flush(writer) {
+        Err(failed) => Err(failed),
+        Ok(()) => Ok(has_refused(entries)),
+    }
+}
+
+/// Whether a line that answers an event begins with `no` or `bad`.
+fn has_refused<A: Allocator>(entries: &[Entry<A>]) -> bool
+    ensures { result ≡ list_any (λ e. is_refusal (line_text e.line)) entries.now }
+{
+    entries.iter().any(|entry| is_refused(&entry.line))
+}
+
+/// Writes the lines of a replay behind what is gathered.
+fn put_lines<A: Allocator, B: Roster, W: ByteOut>(
+    entries: &[Entry<A>],
+    books: &[GatewayBook<B>],
+    output: &mut WriteBehind,
+    writer: &mut W,
+) -> Result<(), CallFailed>
+    ensures ok { OnOk result (WritesAllBut (W.taken writer.old) (W.taken writer.new) (output.old ++ text_of (replay_lines entries.now (map gateway_of books.now))) output.new) }
+    ensures err { OnErr result (WritesFront (W.taken writer.old) (W.taken writer.new) (output.old ++ text_of (replay_lines entries.now (map gateway_of books.now)))) }
+    ensures failed { CountsFailure (W.failed_calls writer.old) (W.failed_calls writer.new) result }
+{
+    match put_entries(entries, output, writer) {
+        Err(failed) => return Err(failed),
+        Ok(()) => {}
+    }
+    match put_gateways(books, output, writer) {
+        Err(failed) => Err(failed),
+        Ok(()) => put_tally(entries, output, writer),
+    }
+}
+
+/// Writes the lines that answer the events behind what is gathered.
+fn put_entries<A: Allocator, W: ByteOut>(
+    entries: &[Entry<A>],
+    output: &mut WriteBehind,
+    writer: &mut W,
+) -> Result<(), CallFailed>
+    ensures ok { OnOk result (WritesAllBut (W.taken writer.old) (W.taken writer.new) (output.old ++ text_of (entry_lines entries.now)) output.new) }
+    ensures err { OnErr result (WritesFront (W.taken writer.old) (W.taken writer.new) (output.old ++ text_of (entry_lines entries.now))) }
+    ensures failed { CountsFailure (W.failed_calls writer.old) (W.failed_calls writer.new) result }
+{
+    for entry in entries {
+        match put_line(&entry.line, output, writer) {
+            Err(failed) => return Err(failed),
+            Ok(()) => {}
+        }
+    }
+    Ok(())
+}

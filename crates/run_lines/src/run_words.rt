@@ -1,0 +1,162 @@
+// What the words of an event line say.
+ghost use Rattle.std.specs.Prelude.{◌≡◌, ◌^◌, ◌<◌, [], ◌∷◌, ◌++◌, length, IfOk};
+ghost use Rattle.std.specs.Option.{option_map};
+ghost use Rattle.run_lines.specs.RunWords.{addr_word, hex_word, Kind, kind_of, keys_for, bare_message, bare_uplink, made_word, uplink_word};
+ghost use Rattle.lora_frame.specs.Frame.{with_mic};
+
+use answer_ticket::Bytes;
+use hex::{FromHex, FromHexError};
+use lora_frame::{Key, Keys, Up, uplink_bytes};
+use server_core::DeviceSetting;
+use std::alloc::{AllocError, Global};
+use text_lines::number_u32;
+
+/// There was no memory for what a line says.
+pub(crate) type NoMemory = AllocError;
+
+/// ADDR: an address of 8 hexadecimal digits, the most significant first.
+pub(crate) fn addr_word(word: &[u8]) -> Option<u32>
+    ensures { result ≡ addr_word word.now }
+{
+    let bytes = <[u8; 4] as FromHex>::from_hex(word).ok()?;
+    Some(u32::from_be_bytes(bytes))
+}
+
+/// HEX: two hexadecimal digits for each byte, or `-` for none.
+pub(crate) fn hex_word(alloc: Global, word: &[u8]) -> Result<Option<Bytes<Global>>, NoMemory>
+    ensures { IfOk result (λ bytes. bytes ≡ hex_word word.now) }
+{
+    if let [b'-'] = word {
+        return Ok(Some(Bytes::new(Vec::new(alloc))));
+    }
+    match hex::decode(alloc, word) {
+        Ok(bytes) => Ok(Some(Bytes::new(bytes))),
+        Err(FromHexError::OutOfMemory) => Err(AllocError),
+        Err(_) => Ok(None),
+    }
+}
+
+/// The session keys of the device with this address, of at most 1,024 devices.
+fn keys_for(addr: u32, devices: &[DeviceSetting]) -> Option<Keys>
+    ensures { result ≡ keys_for addr devices.now }
+{
+    let device = devices.iter().find(|device| device.addr == addr)?;
+    Some(Keys {
+        nwk: Key::new(device.nwk),
+        app: Key::new(device.app),
+    })
+}
+
+/// A kind of uplink: whether it is confirmed, and whether it has ADRACKReq.
+fn kind_of(byte: u8) -> Option<(bool, bool)>
+    ensures { result ≡ kind_of byte }
+{
+    match byte {
+        b'c' => Some((true, false)),
+        b'u' => Some((false, false)),
+        b'a' => Some((false, true)),
+        _ => None,
+    }
+}
+
+/// An uplink of a device without FOpts, FPort and FRMPayload, made with its keys; without keys its MIC is four zeros.
+fn bare_uplink(
+    alloc: Global,
+    keys: Option<Keys>,
+    kind: (bool, bool),
+    addr: u32,
+    counter: u32,
+) -> Result<Bytes<Global>, NoMemory>
+    ensures { IfOk result (λ bytes. bytes ≡ bare_uplink keys kind addr counter) }
+{
+    match keys {
+        Some(keys) => made_uplink(alloc, &keys, kind, addr, counter),
+        None => unsigned_uplink(alloc, kind, addr, counter),
+    }
+}
+
+/// The uplink, made with these keys.
+#[tactic(auto, unfolding(lora_frame::specs::Frame::up_bytes))]
+fn made_uplink(
+    alloc: Global,
+    keys: &Keys,
+    kind: (bool, bool),
+    addr: u32,
+    counter: u32,
+) -> Result<Bytes<Global>, NoMemory>
+    ensures { IfOk result (λ bytes. bytes ≡ with_mic keys.now 0 addr counter (bare_message kind addr counter)) }
+{
+    let up = Up {
+        confirmed: kind.0,
+        addr,
+        counter,
+        adr: false,
+        adr_ack_req: kind.1,
+        ack: false,
+        options: &[],
+        body: None,
+    };
+    match uplink_bytes(alloc, &up, keys) {
+        Ok(bytes) => Ok(Bytes::new(bytes)),
+        Err(_) => Err(AllocError),
+    }
+}
+
+/// The uplink, with four zeros for its MIC.
+fn unsigned_uplink(
+    alloc: Global,
+    kind: (bool, bool),
+    addr: u32,
+    counter: u32,
+) -> Result<Bytes<Global>, NoMemory>
+    ensures { IfOk result (λ bytes. bytes ≡ bare_message kind addr counter ++ 0 ∷ 0 ∷ 0 ∷ 0 ∷ []) }
+{
+    let no_key = Key::new([0; 16]);
+    let keys = Keys {
+        nwk: no_key,
+        app: no_key,
+    };
+    let made = made_uplink(alloc, &keys, kind, addr, counter)?;
+    let mut bytes = Vec::with_capacity(alloc, 12)?;
+    bytes.extend_from_slice(&made.as_slice()[..8])?;
+    bytes.extend_from_slice(&[0; 4])?;
+    Ok(Bytes::new(bytes))
+}
+
+/// The uplink that a word `@KIND:ADDR:COUNTER` asks to be made.
+fn made_word(
+    alloc: Global,
+    devices: &[DeviceSetting],
+    word: &[u8],
+) -> Result<Option<Bytes<Global>>, NoMemory>
+    ensures { IfOk result (λ bytes. bytes ≡ made_word devices.now word.now) }
+{
+    if word.len() <= 12 || word[2] != b':' || word[11] != b':' {
+        return Ok(None);
+    }
+    let Some(kind) = kind_of(word[1]) else {
+        return Ok(None);
+    };
+    let Some(addr) = addr_word(&word[3..11]) else {
+        return Ok(None);
+    };
+    let Some(counter) = number_u32(&word[12..]) else {
+        return Ok(None);
+    };
+    let bytes = bare_uplink(alloc, keys_for(addr, devices), kind, addr, counter)?;
+    Ok(Some(bytes))
+}
+
+/// The bytes of an uplink, given in hexadecimal digits, or made.
+pub(crate) fn uplink_word(
+    alloc: Global,
+    devices: &[DeviceSetting],
+    word: &[u8],
+) -> Result<Option<Bytes<Global>>, NoMemory>
+    ensures { IfOk result (λ bytes. bytes ≡ uplink_word devices.now word.now) }
+{
+    match word {
+        [b'@', ..] => made_word(alloc, devices, word),
+        _ => hex_word(alloc, word),
+    }
+}

@@ -1,0 +1,2 @@
+pub mod SettingsIn
+pub mod RunWhole

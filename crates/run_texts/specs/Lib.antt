@@ -1,0 +1,3 @@
+pub mod RunSettings
+pub mod RunOutput
+pub mod PassAnswers

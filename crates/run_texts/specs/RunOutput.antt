@@ -1,0 +1,105 @@
+use Rattle.std.specs.Prelude.{◌≡◌, ◌⊎◌, ℕ, Bool, List, map, Option, Some, None, Result, Ok, Err, ⊤, codes}
+use Rattle.std.specs.Io.KnownBytes.{Appends, Consumes}
+use Rattle.std.specs.Str.Lines.{lines}
+use Rattle.text_lines.specs.Line.{text_of}
+use Rattle.text_lines.specs.Writing.{WritesFront}
+use Rattle.server_core.specs.declared.event.Event.{Event}
+use Rattle.server_core.specs.Settings.{SettingLists}
+use Rattle.server_core.specs.Entries.{entries, gateways_after, kept_gateway}
+use Rattle.server_workers.specs.declared.closing.FinishCause.{FinishCause}
+use Rattle.server_workers.specs.declared.closing.FinishCause.TheVariants as causes
+use Rattle.settings_text.specs.declared.settings_fault.ReadFault.{ReadFault}
+use Rattle.text_words.specs.declared.fault.TextFault.{TextFault}
+use Rattle.text_words.specs.declared.fault.TextFault.TheVariants.{Settings, NoMemory}
+use Rattle.text_words.specs.Words.{has_refusal}
+use Rattle.run_lines.specs.ReplayText.{replay_lines}
+use Rattle.run_lines.specs.RunInput.{settings_part, event_part}
+use Rattle.run_lines.specs.RunEvents.{events_of}
+use Rattle.run_texts.specs.RunSettings.{settings_in, IsNamed, IsRefusedBy}
+
+-- The output of `airbook run`, and what its text promises of a reader and a writer that tell their bytes.
+
+-- the lines for these events: what one thread answers, and its report
+abbrev pub lines_for : {A : Type 0} → SettingLists → List (Event A) → List (List ℕ)
+lines_for settings events = replay_lines (entries settings events) (map kept_gateway (gateways_after settings events))
+
+-- the lines for an input with these settings: the bytes after the line that parts it are event lines
+abbrev pub run_lines : Type 0 → SettingLists → List ℕ → List (List ℕ)
+run_lines A settings bytes = lines_for {A = A} settings (events_of settings.devices (lines (event_part bytes)))
+
+-- all these bytes were read, and say settings; the writer took the output for them, and `refused` says whether a line of
+-- it begins with `no` or `bad`
+pub record IsRun (A : Type 0) (bytes : List ℕ) (left_after before after : Option (List ℕ)) (refused : Bool) : Type 0 where
+  pub settings : SettingLists
+  pub given : settings_in (settings_part bytes) ≡ Ok settings
+  pub consumed : Consumes (Some bytes) left_after bytes
+  pub written : Appends before after (text_of (run_lines A settings bytes))
+  pub told : refused ≡ has_refusal (run_lines A settings bytes)
+
+-- the same where the reader tells what it has left
+abbrev pub Runs : Type 0 → Option (List ℕ) → Option (List ℕ) → Option (List ℕ) → Option (List ℕ) → Bool → Type 0
+Runs A None left_after before after refused = ⊤
+Runs A (Some bytes) left_after before after refused = IsRun A bytes left_after before after refused
+
+-- all these bytes were read, and say settings; the writer took a front of the output for them
+pub record IsRunInPart (A : Type 0) (bytes : List ℕ) (left_after before after : Option (List ℕ)) : Type 0 where
+  pub settings : SettingLists
+  pub given : settings_in (settings_part bytes) ≡ Ok settings
+  pub consumed : Consumes (Some bytes) left_after bytes
+  pub written : WritesFront before after (text_of (run_lines A settings bytes))
+
+-- where a write failed, the same for a reader that tells what it has left
+abbrev pub RunsInPart : Type 0 → Option (List ℕ) → Option (List ℕ) → Option (List ℕ) → Option (List ℕ) → Type 0
+RunsInPart A None left_after before after = ⊤
+RunsInPart A (Some bytes) left_after before after = IsRunInPart A bytes left_after before after
+
+-- `Settings` comes only for bytes that say no settings, and names their fault
+abbrev pub NamesFault : Option (List ℕ) → Result Bool TextFault → Type 0
+NamesFault (Some bytes) (Err (Settings name)) = IsRefusedBy (settings_in (settings_part bytes)) (Settings name)
+NamesFault left result = ⊤
+
+-- there are too many workers
+abbrev pub NamesWorkers : Result Bool TextFault → Type 0
+NamesWorkers (Err (Settings name)) = name.now ≡ codes "Workers"
+NamesWorkers result = ⊥
+
+-- why a station could not be closed, as a text call answers it: by its own name, but for want of memory
+abbrev pub IsFinishFault : FinishCause → TextFault → Type 0
+IsFinishFault causes.TillMissing (Settings name) = name.now ≡ codes "TillMissing"
+IsFinishFault (causes.Apart gateway booked answered) (Settings name) = name.now ≡ codes "Apart"
+IsFinishFault (causes.Doubled number gateway other) (Settings name) = name.now ≡ codes "Doubled"
+IsFinishFault (causes.Lost number) (Settings name) = name.now ≡ codes "Lost"
+IsFinishFault causes.NoMemory NoMemory = ⊤
+IsFinishFault cause other = ⊥
+
+-- the name says how the books don't go with the answers
+abbrev pub IsFinishName : List ℕ → Type 0
+IsFinishName name =
+    (name ≡ codes "TillMissing") ⊎ ((name ≡ codes "Apart") ⊎ ((name ≡ codes "Doubled") ⊎ (name ≡ codes "Lost")))
+
+-- why a run with workers comes to no books: a growth was refused, or the books don't go with the answers
+abbrev pub IsPlayFault : TextFault → Type 0
+IsPlayFault (Settings name) = IsFinishName name.now
+IsPlayFault NoMemory = ⊤
+IsPlayFault other = ⊥
+
+-- a name comes for the settings that some bytes say, where they are refused; where they aren't, for the books
+abbrev pub IsNamedFor : Result SettingLists ReadFault → TextFault → Type 0
+IsNamedFor (Ok settings) fault = IsPlayFault fault
+IsNamedFor (Err fault) named = IsNamed fault named
+
+-- the bytes say settings
+abbrev pub SaysSettings : Result SettingLists ReadFault → Type 0
+SaysSettings said = (settings : SettingLists) × (said ≡ Ok settings)
+
+-- with workers: an Ok comes only for bytes that say settings, and `Settings` names the fault of those that say none,
+-- or how the books don't go with the answers
+abbrev pub NamesFaultOfWorkers : {T : Type 0} → Option (List ℕ) → Result T TextFault → Type 0
+NamesFaultOfWorkers (Some bytes) (Ok _) = SaysSettings (settings_in (settings_part bytes))
+NamesFaultOfWorkers (Some bytes) (Err (Settings name)) = IsNamedFor (settings_in (settings_part bytes)) (Settings name)
+NamesFaultOfWorkers left result = ⊤
+
+-- the writer took some lines, and `refused` says whether one of them begins with `no` or `bad`
+abbrev pub TellsRefusals : Option (List ℕ) → Option (List ℕ) → Bool → Type 0
+TellsRefusals before after refused =
+    (written : List (List ℕ)) × (Appends before after (text_of written) × (refused ≡ has_refusal written))

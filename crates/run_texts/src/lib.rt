@@ -1,0 +1,15 @@
+//! The text of a run: settings and events in, answers and a report out, on one thread or with workers.
+#![tactic(auto)]
+
+mod pass_answers;
+mod receipts;
+mod run;
+mod run_alone;
+mod run_settings;
+mod station_close;
+mod station_pass;
+mod station_run;
+
+pub use pass_answers::{Answer, PassAnswers};
+pub use run::run_text;
+pub use station_pass::answer_with_workers;

@@ -1,0 +1,134 @@
+// The text of `airbook run`: settings and events in, answers and a report out.
+ghost use Rattle.std.specs.Prelude.{◌≡◌, ◌≢◌, ◌<◌, ◌≤◌, Err, IfOk, IfErr};
+ghost use Rattle.text_words.specs.Fault.{CountsReads, CountsWrites};
+ghost use Rattle.run_lines.specs.RunInput.{KeepsInputLimit};
+ghost use Rattle.run_texts.specs.RunOutput.{Runs, RunsInPart, NamesFault, NamesFaultOfWorkers, NamesWorkers, IsPlayFault, TellsRefusals};
+
+use crate::run_alone::run_alone;
+use crate::run_settings::settings_in;
+use crate::station_run::{Played, play};
+use run_lines::{events_of, parts_of, read_all, write_lines};
+use server_core::Settings;
+use server_workers::{Blank, PARTS};
+use std::alloc::Global;
+use std::hash::BuildHasher;
+use std::marker::Brand;
+use std::sync::Wait;
+use std::thread::Threads;
+use text_lines::{ByteIn, ByteOut};
+use text_words::TextFault;
+
+/// The most workers that a run may have.
+const MAX_WORKERS: u8 = 16;
+
+/// Runs a server: reads settings up to the first line that is exactly `---`, and then events, does what they ask for, and
+/// writes an answer to each event that has one, and at the end a report. It answers whether a line of the output begins
+/// with `no` or `bad`. Devices and uplinks are looked up through this hasher and a clone of it.
+///
+/// With no worker one thread does all. With 1 to 16 workers they answer the uplinks that one `pass` closes, at the same
+/// time; which gateway and window an answer gets then depends on the schedule. What the workers skip the calling thread
+/// answers once more, and where none of them could work it answers all. The gateways' books are compared with the answers
+/// before anything is written.
+///
+/// `Settings`: the settings are refused, by the name of their fault; there are more than 16 workers, by the name Workers,
+/// and then nothing was read; or the books don't go with the answers, by the name of `Station::finish`'s fault. `Read`: a
+/// call of the reader failed. `TooMuch`: the input has more than 2^28 bytes. `NoMemory`: a growth was refused. After each
+/// of these nothing was written. `Write`: a call of the writer failed, and a front of the output was written.
+pub fn run_text<
+    T: Threads + Wait + Sync,
+    S: BuildHasher + Clone + Drop + Send + Sync,
+    R: ByteIn,
+    W: ByteOut,
+>(
+    rt: &T,
+    alloc: Global,
+    hasher: S,
+    workers: u8,
+    reader: &mut R,
+    writer: &mut W,
+) -> Result<bool, TextFault>
+where
+    S::Hasher: Send + Sync,
+    ensures ok { workers ≡ 0 → IfOk result (λ refused. Runs Global (R.left reader.old) (R.left reader.new) (W.taken writer.old) (W.taken writer.new) refused) }
+    ensures front { workers ≡ 0 → result ≡ Err TextFault.Write → RunsInPart Global (R.left reader.old) (R.left reader.new) (W.taken writer.old) (W.taken writer.new) }
+    ensures told { 0 < workers → IfOk result (λ refused. TellsRefusals (W.taken writer.old) (W.taken writer.new) refused) }
+    ensures settings { workers ≡ 0 → NamesFault (R.left reader.old) result }
+    ensures named { 0 < workers → workers ≤ 16 → NamesFaultOfWorkers (R.left reader.old) result }
+    ensures workers { 16 < workers → NamesWorkers result }
+    ensures unread { 16 < workers → reader.new ≡ reader.old }
+    ensures untouched { IfErr result (λ fault. fault ≢ TextFault.Write → writer.new ≡ writer.old) }
+    ensures limit { workers ≤ 16 → KeepsInputLimit (R.left reader.old) result }
+    ensures read { CountsReads (R.failed_calls reader.old) (R.failed_calls reader.new) result }
+    ensures write { CountsWrites (W.failed_calls writer.old) (W.failed_calls writer.new) result }
+{
+    if workers > MAX_WORKERS {
+        return Err(TextFault::Settings("Workers"));
+    }
+    if workers == 0 {
+        return run_alone(alloc, hasher, reader, writer);
+    }
+    let played = match read_and_play(rt, alloc, hasher, workers, reader) {
+        Err(fault) => return Err(fault),
+        Ok(played) => played,
+    };
+    match write_lines(played.entries.as_slice(), played.books.as_slice(), writer) {
+        Err(_) => Err(TextFault::Write),
+        Ok(refused) => Ok(refused),
+    }
+}
+
+/// Reads settings and events, and does what these ask for, with workers.
+fn read_and_play<T: Threads + Wait + Sync, S: BuildHasher + Clone + Drop + Send + Sync, R: ByteIn>(
+    rt: &T,
+    alloc: Global,
+    hasher: S,
+    workers: u8,
+    reader: &mut R,
+) -> Result<Played, TextFault>
+where
+    S::Hasher: Send + Sync,
+    ensures named { NamesFaultOfWorkers (R.left reader.old) result }
+    ensures written { IfErr result (λ fault. fault ≢ TextFault.Write) }
+    ensures limit { KeepsInputLimit (R.left reader.old) result }
+    ensures read { CountsReads (R.failed_calls reader.old) (R.failed_calls reader.new) result }
+{
+    let input = match read_all(alloc, reader) {
+        Err(fault) => return Err(fault),
+        Ok(input) => input,
+    };
+    let (settings_text, event_text) = parts_of(input.as_slice());
+    let settings = match settings_in(alloc, settings_text) {
+        Err(fault) => return Err(fault),
+        Ok(settings) => settings,
+    };
+    play_text(rt, alloc, hasher, &settings, event_text, workers)
+}
+
+/// Does what the events of a text ask for, with workers and a ledger of its own.
+fn play_text<T: Threads + Wait + Sync, S: BuildHasher + Clone + Drop + Send + Sync>(
+    rt: &T,
+    alloc: Global,
+    hasher: S,
+    settings: &Settings<Global>,
+    text: &[u8],
+    workers: u8,
+) -> Result<Played, TextFault>
+where
+    S::Hasher: Send + Sync,
+    ensures { IfErr result IsPlayFault }
+{
+    let events = match events_of(alloc, settings.devices(), text) {
+        Err(_) => return Err(TextFault::NoMemory),
+        Ok(events) => events,
+    };
+    let blank = Blank::new(PARTS as u64);
+    play::<Brand, S, T>(
+        rt,
+        alloc,
+        hasher,
+        settings,
+        events.as_slice(),
+        workers,
+        blank,
+    )
+}

@@ -1,0 +1,52 @@
+// The end of a run on a station: the books are compared with what was answered.
+ghost use Rattle.std.specs.Prelude.{IfErr};
+ghost use Rattle.run_texts.specs.RunOutput.{IsFinishFault, IsPlayFault};
+
+use crate::station_run::{Played, Shift};
+use server_workers::{Closing, FinishCause, Ledger};
+use std::alloc::Global;
+use std::hash::BuildHasher;
+use text_words::TextFault;
+
+impl<B: Ledger + Send + Sync, S: BuildHasher + Drop + Send + Sync> Shift<B, S>
+where
+    S::Hasher: Send + Sync,
+{
+    /// Compares the books with what was answered, and with the receipts of what was not cancelled.
+    pub(crate) fn close(self, alloc: Global) -> Result<Played, TextFault>
+        ensures { IfErr result IsPlayFault }
+    {
+        let Shift {
+            station,
+            till,
+            receipts,
+            entries,
+            workers: _,
+        } = self;
+        let Ok(receipts) = receipts.not_cancelled(alloc) else {
+            return Err(TextFault::NoMemory);
+        };
+        let Ok(mut tills) = Vec::with_capacity(alloc, 1) else {
+            return Err(TextFault::NoMemory);
+        };
+        tills.push_reserved(till);
+        match station.finish(alloc, tills, receipts.as_slice()) {
+            Ok(Closing { books, .. }) => Ok(Played { entries, books }),
+            Err(fault) => Err(named(fault.cause)),
+        }
+    }
+}
+
+/// Why a station could not be closed, as a text call answers it.
+pub(crate) fn named(cause: FinishCause) -> TextFault
+    ensures exact { IsFinishFault cause result }
+    ensures play { IsPlayFault result }
+{
+    match cause {
+        FinishCause::TillMissing => TextFault::Settings("TillMissing"),
+        FinishCause::Apart { .. } => TextFault::Settings("Apart"),
+        FinishCause::Doubled { .. } => TextFault::Settings("Doubled"),
+        FinishCause::Lost { .. } => TextFault::Settings("Lost"),
+        FinishCause::NoMemory => TextFault::NoMemory,
+    }
+}

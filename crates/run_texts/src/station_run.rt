@@ -1,0 +1,172 @@
+// A run on a station with workers: what the events ask for, one after another.
+ghost use Rattle.std.specs.Prelude.{◌≡◌, IfErr};
+ghost use Rattle.run_texts.specs.RunOutput.{IsPlayFault};
+
+use crate::receipts::Receipts;
+use gateway_book::{CancelFault, GatewayBook};
+use resv_list::VecRoster;
+use server_core::{
+    Entry, Event, Line, NoMemory, Settings, cancelled_line, heard_line, queued_line,
+};
+use server_workers::{Blank, Ledger, PARTS, Station, Till};
+use std::alloc::Global;
+use std::hash::BuildHasher;
+use std::sync::Wait;
+use std::thread::Threads;
+use text_words::TextFault;
+
+/// What a run left: the lines that answer its events, and the gateways' books, by the gateways' numbers.
+#[derive(Drop)]
+pub(crate) struct Played {
+    pub(crate) entries: Vec<Entry<Global>>,
+    pub(crate) books: Vec<GatewayBook<VecRoster<Global>>>,
+}
+
+/// A station at work, the till with all parts of its ledger, what was booked, and the lines that were told.
+#[derive(Drop)]
+pub(crate) struct Shift<B: Ledger, S: BuildHasher> {
+    pub(crate) station: Station<B, S>,
+    pub(crate) till: Till<B>,
+    pub(crate) receipts: Receipts,
+    pub(crate) entries: Vec<Entry<Global>>,
+    pub(crate) workers: u8,
+    ghost whole: { till.parts ≡ 65536 },
+}
+
+/// Does what the events ask for at a station with these settings, with so many workers for the numbers that a `pass`
+/// closes, and compares the books at the end.
+pub(crate) fn play<
+    B: Ledger + Send + Sync,
+    S: BuildHasher + Clone + Drop + Send + Sync,
+    R: Threads + Wait + Sync,
+>(
+    rt: &R,
+    alloc: Global,
+    hasher: S,
+    settings: &Settings<Global>,
+    events: &[Event<Global>],
+    workers: u8,
+    blank: Blank,
+) -> Result<Played, TextFault>
+where
+    S::Hasher: Send + Sync,
+    requires name { blank.name ≡ B.name }
+    requires parts { blank.parts ≡ B.parts }
+    requires all { blank.parts ≡ PARTS }
+    ensures { IfErr result IsPlayFault }
+{
+    match Shift::<B, S>::new(alloc, hasher, settings, workers, blank) {
+        Ok(shift) => shift.play(rt, alloc, events),
+        Err(_) => Err(TextFault::NoMemory),
+    }
+}
+
+impl<B: Ledger, S: BuildHasher + Clone + Drop> Shift<B, S> {
+    /// A station with these settings that has heard nothing.
+    fn new(
+        alloc: Global,
+        hasher: S,
+        settings: &Settings<Global>,
+        workers: u8,
+        blank: Blank,
+    ) -> Result<Self, NoMemory>
+        requires name { blank.name ≡ B.name }
+        requires parts { blank.parts ≡ B.parts }
+        requires all { blank.parts ≡ PARTS }
+    {
+        let (station, till) = Station::new(alloc, hasher, settings, blank)?;
+        Ok(Shift {
+            station,
+            till,
+            receipts: Receipts::new(alloc),
+            entries: Vec::new(alloc),
+            workers,
+        })
+    }
+}
+
+impl<B: Ledger + Send + Sync, S: BuildHasher + Drop + Send + Sync> Shift<B, S>
+where
+    S::Hasher: Send + Sync,
+{
+    /// Does what the events ask for, and compares the books at the end.
+    fn play<R: Threads + Wait + Sync>(
+        self,
+        rt: &R,
+        alloc: Global,
+        events: &[Event<Global>],
+    ) -> Result<Played, TextFault>
+        ensures { IfErr result IsPlayFault }
+    {
+        let mut shift = self;
+        for (place, event) in events.iter().enumerate() {
+            shift = match shift.answer(rt, alloc, place, event) {
+                Ok(shift) => shift,
+                Err(_) => return Err(TextFault::NoMemory),
+            };
+        }
+        shift.close(alloc)
+    }
+
+    /// Does what an event asks for.
+    fn answer<R: Threads + Wait + Sync>(
+        self,
+        rt: &R,
+        alloc: Global,
+        place: usize,
+        event: &Event<Global>,
+    ) -> Result<Self, NoMemory> {
+        let mut shift = self;
+        let line = match event {
+            Event::Pass { now } => return shift.pass(rt, alloc, place, *now),
+            Event::Queue {
+                addr,
+                port,
+                payload,
+            } => queued_line(
+                *addr,
+                shift.station.queue(rt, *addr, *port, payload.as_slice()),
+            )?,
+            Event::Hear {
+                bytes,
+                heard,
+                arrived,
+            } => heard_line(shift.station.hear(rt, bytes.as_slice(), *heard, *arrived))?,
+            Event::Tick { gateway, now } => {
+                floor_line(*gateway, shift.station.tick(rt, *gateway, *now))
+            }
+            Event::Cancel { number } => shift.cancel(rt, *number),
+            Event::Bad { line } => Line::Bad { line: *line },
+        };
+        shift.tell(place, line)?;
+        Ok(shift)
+    }
+
+    /// Tells a line.
+    pub(crate) fn tell(&mut self, place: usize, line: Line<Global>) -> Result<(), NoMemory> {
+        Ok(self.entries.push(Entry { event: place, line })?)
+    }
+
+    /// Cancels what was booked for the uplink with this number.
+    fn cancel<R: Wait>(&mut self, rt: &R, number: u64) -> Line<Global> {
+        let Some(booking) = self.receipts.numbered(number) else {
+            return Line::NotCancelled {
+                number,
+                fault: CancelFault::NotHere,
+            };
+        };
+        let answer = self.station.cancel(rt, &booking.receipt);
+        if answer.is_ok() {
+            booking.is_cancelled = true;
+        }
+        cancelled_line(number, answer)
+    }
+}
+
+/// The line for a gateway's floor, if the station has the gateway.
+fn floor_line(gateway: u16, floor: Option<u64>) -> Line<Global> {
+    match floor {
+        Some(floor) => Line::Floor { gateway, floor },
+        None => Line::NotTicked,
+    }
+}

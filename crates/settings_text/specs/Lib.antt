@@ -1,0 +1,3 @@
+pub mod SettingsFaultName
+pub mod SettingsFields
+pub mod SettingsOfTable

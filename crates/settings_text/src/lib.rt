@@ -1,0 +1,10 @@
+//! The settings of a server, read from TOML.
+#![tactic(auto)]
+
+mod settings_fault;
+mod settings_fields;
+mod settings_reading;
+
+pub use server_core::{DataRate, DeviceSetting, GatewaySetting, Settings, SettingsFault};
+pub use settings_fault::ReadFault;
+pub use settings_reading::read_settings;

@@ -1,0 +1,38 @@
+// Why a text gives no settings.
+ghost use Rattle.std.specs.Prelude.{◌≡◌};
+
+use server_core::SettingsFault;
+use thiserror::Error;
+
+/// Why a text gives no settings.
+#[derive(Clone, Copy, Debug, PartialEq, Eq, Error)]
+pub enum ReadFault {
+    #[error("the settings are not TOML")]
+    NotToml,
+    #[error("a key is missing in the settings: a gateway needs id; a device needs addr, nwkskey and appskey")]
+    Missing,
+    #[error("a value in the settings is of another kind than its key's: gateway and device are arrays of tables; addr is a text of 8 hexadecimal digits, nwkskey and appskey of 32; all others are whole numbers, rx2_dr at most 6")]
+    Kind,
+    /// The settings were read, and refused.
+    #[error(transparent)]
+    Checked(SettingsFault),
+    #[error("there is no memory for the settings")]
+    NoMemory,
+}
+
+impl ReadFault {
+    ghost use Rattle.settings_text.specs.SettingsFaultName.{name_of};
+
+    /// The fault's own name, as a program prints it; for `Checked` that of the fault that it holds.
+    pub fn name(self) -> &'static str
+        ensures { result.now ≡ name_of self }
+    {
+        match self {
+            ReadFault::NotToml => "NotToml",
+            ReadFault::Missing => "Missing",
+            ReadFault::Kind => "Kind",
+            ReadFault::Checked(fault) => fault.name(),
+            ReadFault::NoMemory => "NoMemory",
+        }
+    }
+}

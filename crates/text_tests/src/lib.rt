@@ -1,0 +1,9 @@
+//! Tests of the texts of `airbook`: of what no clause says and no worked case shows.
+#![tactic(auto)]
+
+#[cfg(test)]
+mod failing_calls;
+#[cfg(test)]
+mod passes;
+#[cfg(test)]
+mod settings;

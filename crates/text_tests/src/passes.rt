@@ -1,0 +1,185 @@
+// The answers of one `pass` with workers that no run brings about at will: what the workers skip is answered by the calling
+// thread, and all where none could work; and the lines of answers that hardly ever come.
+ghost use Rattle.std.specs.Prelude.{◌≡◌, IfOk};
+
+use airbook_text::{Settings, read_settings};
+use answer_ticket::{Ending, Outcome};
+use gateway_book::GatewayBook;
+use resv_list::VecRoster;
+use run_lines::{events_of, write_lines};
+use run_texts::{Answer, PassAnswers, answer_with_workers};
+use server_core::{Entry, Event, Line, TakeFault};
+use server_workers::{Blank, Ledger, PARTS, Station, Till};
+use std::alloc::Global;
+use std::hash::{BuildHasherDefault, FoldHasher};
+use std::marker::Brand;
+use std::sync::Wait;
+use std::test::Fail;
+use std::thread::Threads;
+use text_lines::MemoryOut;
+
+type TestStation<B> = Station<B, BuildHasherDefault<FoldHasher>>;
+
+const SETTINGS: &str =
+    "[[gateway]]\nid = 1\n[[device]]\naddr = \"0000000a\"\nnwkskey = \"2b7e151628aed2a6abf7158809cf4f3c\"\nappskey = \"000102030405060708090a0b0c0d0e0f\"\n[[device]]\naddr = \"0000000b\"\nnwkskey = \"2b7e151628aed2a6abf7158809cf4f3c\"\nappskey = \"000102030405060708090a0b0c0d0e0f\"\n[[device]]\naddr = \"0000000c\"\nnwkskey = \"2b7e151628aed2a6abf7158809cf4f3c\"\nappskey = \"000102030405060708090a0b0c0d0e0f\"\n[[device]]\naddr = \"26011bda\"\nnwkskey = \"2b7e151628aed2a6abf7158809cf4f3c\"\nappskey = \"000102030405060708090a0b0c0d0e0f\"\n";
+
+/// Three devices are heard until the same moment.
+const AT_ONCE: &[u8] =
+    b"hear 1 5000000 868100000 5 0 -100 0 @c:0000000a:0\nhear 1 5000000 868100000 5 0 -100 10 @c:0000000b:0\nhear 1 5000000 868100000 5 0 -100 20 @c:0000000c:0\n";
+
+/// One device is heard twice.
+const TWICE: &[u8] =
+    b"hear 1 5000000 868100000 5 0 -100 0 @c:26011bda:0\nhear 1 15000000 868100000 5 0 -100 10 @c:26011bda:1\n";
+
+/// The answer to its second uplink while the ticket of its first is out.
+const ENGAGED: &[u8] = b"no 2 Engaged\nanswered 0 unanswered 0 silent 0\n";
+
+/// The answer to it once that ticket was settled.
+const SENT_LATER: &[u8] =
+    b"send 2 1 RX1 16000000 868100000 5 12\nframe 2 60da1b01262001002e22e36b\nanswered 1 unanswered 0 silent 0\n";
+
+/// The answers to the three devices.
+const ANSWERED_HERE: &[u8] =
+    b"send 1 1 RX1 6000000 868100000 5 12\nframe 1 600a00000020000087c940f9\nsend 2 1 RX2 7000000 869525000 0 12\nframe 2 600b0000002000000b784269\nunanswered 3 Taken\nanswered 2 unanswered 1 silent 0\n";
+
+/// What is told of an answer that was given up, of two that got no ticket, and of a stray.
+const RARE: &[u8] =
+    b"unanswered 1 NoMemory\nno 2 NoMemory\nsilent 3\nno 4 Stray\nanswered 0 unanswered 1 silent 1\n";
+
+/// Whether a line begins with `no`, and the text.
+type Told = (bool, Vec<u8>);
+
+/// A station that heard these copies and closed their gatherings, and the till with all parts of its ledger.
+fn station_that_heard<B: Ledger, R: Wait>(
+    rt: &R,
+    alloc: Global,
+    copies: &[u8],
+    blank: Blank,
+) -> Result<(TestStation<B>, Till<B>), Fail>
+    requires name { blank.name ≡ B.name }
+    requires parts { blank.parts ≡ B.parts }
+    requires all { blank.parts ≡ PARTS }
+    ensures { IfOk result (λ made. made.1.parts ≡ 65536) }
+{
+    let settings = read_settings(alloc, SETTINGS)?;
+    let (station, till) = Station::new(alloc, BuildHasherDefault::new(), &settings, blank)?;
+    hear_all(rt, alloc, &station, &settings, copies)?;
+    Ok((station, till))
+}
+
+/// Has a station hear these copies and close their gatherings.
+fn hear_all<B: Ledger, R: Wait>(
+    rt: &R,
+    alloc: Global,
+    station: &TestStation<B>,
+    settings: &Settings<Global>,
+    copies: &[u8],
+) -> Result<(), Fail> {
+    let events = events_of(alloc, settings.devices(), copies)?;
+    for event in events.as_slice() {
+        if let Event::Hear {
+            bytes,
+            heard,
+            arrived,
+        } = event
+        {
+            station.hear(rt, bytes.as_slice(), *heard, *arrived)?;
+        }
+    }
+    for _ in 0..events.len() {
+        station.pass(rt, 300_000).ok_or("one more is due")?;
+    }
+    Ok(())
+}
+
+/// The text of some answers, and of their counts.
+fn told(alloc: Global, answers: PassAnswers) -> Result<Told, Fail> {
+    let (answers, _) = answers.by_number();
+    let mut entries = Vec::new(alloc);
+    for answer in answers {
+        let Answer {
+            number,
+            line,
+            frame,
+        } = answer;
+        entries.push(Entry { event: 0, line })?;
+        if let Some(bytes) = frame {
+            let line = Line::Frame { number, bytes };
+            entries.push(Entry { event: 0, line })?;
+        }
+    }
+    let books: Vec<GatewayBook<VecRoster<Global>>> = Vec::new(alloc);
+    let mut writer = MemoryOut::new(alloc);
+    let refused = write_lines(entries.as_slice(), books.as_slice(), &mut writer)?;
+    Ok((refused, writer.bytes))
+}
+
+/// What is told of a device's second uplink while the ticket of its first is out, and what once that is settled.
+fn held<B: Ledger + Send + Sync, R: Threads + Wait + Sync>(
+    rt: &R,
+    alloc: Global,
+    blank: Blank,
+) -> Result<(Told, Told), Fail>
+    requires name { blank.name ≡ B.name }
+    requires parts { blank.parts ≡ B.parts }
+    requires all { blank.parts ≡ PARTS }
+{
+    let (station, till) = station_that_heard::<B, R>(rt, alloc, TWICE, blank)?;
+    let ticket = station.take(rt, 1)?;
+    let (mut till, before) = answer_with_workers(rt, alloc, &station, &[2], till, 1);
+    if let Err(stub) = station.settle(rt, ticket.give_up(), &mut till) {
+        stub.end();
+    }
+    let (_, after) = answer_with_workers(rt, alloc, &station, &[2], till, 1);
+    Ok((told(alloc, before?)?, told(alloc, after?)?))
+}
+
+/// What is told of three uplinks by so many workers.
+fn answered<B: Ledger + Send + Sync, R: Threads + Wait + Sync>(
+    rt: &R,
+    alloc: Global,
+    workers: u8,
+    blank: Blank,
+) -> Result<Told, Fail>
+    requires name { blank.name ≡ B.name }
+    requires parts { blank.parts ≡ B.parts }
+    requires all { blank.parts ≡ PARTS }
+{
+    let (station, till) = station_that_heard::<B, R>(rt, alloc, AT_ONCE, blank)?;
+    let (_, answers) = answer_with_workers(rt, alloc, &station, &[1, 2, 3], till, workers);
+    told(alloc, answers?)
+}
+
+#[test]
+fn what_is_skipped_is_answered_once_more(rt: HostRuntime) -> Result<(), Fail> {
+    let (before, after) = held::<Brand, _>(&rt, rt.alloc(), Blank::new(PARTS as u64))?;
+    assert!(rt; before.0);
+    assert_eq!(rt; before.1.as_slice(), ENGAGED);
+    assert!(rt; !after.0);
+    assert_eq!(rt; after.1.as_slice(), SENT_LATER);
+    Ok(())
+}
+
+#[test]
+fn calling_thread_answers_where_nobody_works(rt: HostRuntime) -> Result<(), Fail> {
+    let (refused, text) = answered::<Brand, _>(&rt, rt.alloc(), 17, Blank::new(PARTS as u64))?;
+    assert!(rt; !refused);
+    assert_eq!(rt; text.as_slice(), ANSWERED_HERE);
+    Ok(())
+}
+
+#[test]
+fn rare_answers_are_told(rt: HostRuntime) -> Result<(), Fail> {
+    let mut answers = PassAnswers::with(rt.alloc(), Vec::new(rt.alloc()));
+    answers.add_strays(&[4])?;
+    answers.add_refused(&[(3, TakeFault::Silent), (2, TakeFault::NoMemory)])?;
+    let given_up = Outcome {
+        number: 1,
+        result: Ending::GivenUp,
+    };
+    answers.add_outcomes(rt.alloc(), &[given_up])?;
+    let (refused, text) = told(rt.alloc(), answers)?;
+    assert!(rt; refused);
+    assert_eq!(rt; text.as_slice(), RARE);
+    Ok(())
+}

@@ -1,0 +1,26 @@
+use Rattle.std.specs.Prelude.{◌≡◌, ℕ, List, Result, Ok, Err, codes}
+use Rattle.text_lines.specs.Calls.{next_count}
+use Rattle.text_words.specs.declared.fault.TextFault.{TextFault}
+use Rattle.text_words.specs.declared.fault.TextFault.TheVariants.{Read, Write, TooMuch, Settings, NoMemory}
+
+-- What the faults of the text calls say.
+
+-- the fault's own name
+abbrev pub name_of : TextFault → List ℕ
+name_of Read = codes "Read"
+name_of Write = codes "Write"
+name_of TooMuch = codes "TooMuch"
+name_of (Settings name) = name.now
+name_of NoMemory = codes "NoMemory"
+
+-- a call of the reader failed exactly where `Read` is answered
+abbrev pub CountsReads : {T : Type 0} → ℕ → ℕ → Result T TextFault → Type 0
+CountsReads old new (Ok _) = new ≡ old
+CountsReads old new (Err Read) = new ≡ next_count old
+CountsReads old new (Err _) = new ≡ old
+
+-- a call of the writer failed exactly where `Write` is answered
+abbrev pub CountsWrites : {T : Type 0} → ℕ → ℕ → Result T TextFault → Type 0
+CountsWrites old new (Ok _) = new ≡ old
+CountsWrites old new (Err Write) = new ≡ next_count old
+CountsWrites old new (Err _) = new ≡ old

@@ -1,0 +1,4 @@
+pub mod Fault
+pub mod Rates
+pub mod Words
+pub mod Busiest

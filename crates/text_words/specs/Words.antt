@@ -1,0 +1,63 @@
+use Rattle.std.specs.Prelude.{ℕ, Bool, ◌||◌, nat_eq, List, [], ◌∷◌, codes, decimal}
+use Rattle.std.specs.Cmp.Lexicographic.{pointwise}
+use Rattle.std.specs.List.{join_with_byte, list_any, starts_with}
+use Rattle.radio_bands.specs.declared.band.Band.{Band}
+use Rattle.radio_bands.specs.declared.band.Band.TheVariants.{K, L, M, N, P, Q}
+use Rattle.gateway_book.specs.declared.cancel.CancelFault.{CancelFault}
+use Rattle.gateway_book.specs.declared.cancel.CancelFault.TheVariants.{Begun, NotHere}
+use Rattle.gateway_book.specs.declared.refusal.Refusal.{Refusal}
+use Rattle.gateway_book.specs.declared.refusal.Refusal.TheVariants.{NoBand, TooLong, PastEnd, Passed, Taken, DutyFull, Full, TotalsFull, NoMemory}
+
+-- The words of lines: of those that are read, and of those that answer and report.
+
+-- whether the word is this name
+abbrev pub is_named : List ℕ → List ℕ → Bool
+is_named name word = pointwise nat_eq word name
+
+-- a line of output: its words, with a space between two
+abbrev pub spaced : List (List ℕ) → List ℕ
+spaced words = join_with_byte 32 words
+
+-- whether a line of output begins with `no` or `bad`
+abbrev pub is_refusal : List ℕ → Bool
+is_refusal line = starts_with nat_eq line (codes "no") || starts_with nat_eq line (codes "bad")
+
+-- whether one of these lines does
+abbrev pub has_refusal : List (List ℕ) → Bool
+has_refusal lines = list_any is_refusal lines
+
+-- the letter of a sub-band
+abbrev pub band_word : Band → List ℕ
+band_word K = codes "K"
+band_word L = codes "L"
+band_word M = codes "M"
+band_word N = codes "N"
+band_word P = codes "P"
+band_word Q = codes "Q"
+
+-- why nothing was cancelled
+abbrev pub fault_word : CancelFault → List ℕ
+fault_word Begun = codes "Begun"
+fault_word NotHere = codes "NotHere"
+
+-- why a reservation was refused, without the refusal's numbers
+abbrev pub refusal_name : Refusal → List ℕ
+refusal_name NoBand = codes "NoBand"
+refusal_name TooLong = codes "TooLong"
+refusal_name PastEnd = codes "PastEnd"
+refusal_name Passed = codes "Passed"
+refusal_name (Taken start) = codes "Taken"
+refusal_name (DutyFull band from spent) = codes "DutyFull"
+refusal_name Full = codes "Full"
+refusal_name TotalsFull = codes "TotalsFull"
+refusal_name NoMemory = codes "NoMemory"
+
+-- what a refusal says beside its name
+abbrev pub refusal_numbers : Refusal → List (List ℕ)
+refusal_numbers (Taken start) = decimal start ∷ []
+refusal_numbers (DutyFull band from spent) = band_word band ∷ decimal from ∷ decimal spent ∷ []
+refusal_numbers refusal = []
+
+-- the words of a refusal
+abbrev pub refusal_words : Refusal → List (List ℕ)
+refusal_words refusal = refusal_name refusal ∷ refusal_numbers refusal

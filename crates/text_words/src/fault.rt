@@ -1,0 +1,41 @@
+// Why a text call stopped.
+ghost use Rattle.std.specs.Prelude.{◌≡◌};
+
+use thiserror::Error;
+
+/// Why a text call stopped. What was written before is a front of the output.
+#[derive(Clone, Copy, Debug, PartialEq, Eq, Error)]
+pub enum TextFault {
+    /// A call of the reader failed.
+    #[error("the input could not be read")]
+    Read,
+    /// A call of the writer failed.
+    #[error("the output could not be written")]
+    Write,
+    /// The input has more than 268,435,456 bytes.
+    #[error("the input has more than 268435456 bytes")]
+    TooMuch,
+    /// A setting was refused, by the name of its fault. Nothing was written.
+    #[error("the settings were refused: {0}")]
+    Settings(&'static str),
+    /// There was no memory.
+    #[error("there is not enough memory")]
+    NoMemory,
+}
+
+impl TextFault {
+    ghost use Rattle.text_words.specs.Fault.{name_of};
+
+    /// The fault's own name: that of its variant, and for `Settings` the name that it holds.
+    pub fn name(&self) -> &'static str
+        ensures { result.now ≡ name_of self.now }
+    {
+        match self {
+            TextFault::Read => "Read",
+            TextFault::Write => "Write",
+            TextFault::TooMuch => "TooMuch",
+            TextFault::Settings(name) => *name,
+            TextFault::NoMemory => "NoMemory",
+        }
+    }
+}

@@ -1,0 +1,13 @@
+//! What the texts of `airbook` share: why a text call stops, a data rate by its number, and the words of answers
+//! and reports.
+#![tactic(auto)]
+
+mod busiest;
+mod fault;
+mod rate;
+mod words;
+
+pub use busiest::add_busiest;
+pub use fault::TextFault;
+pub use rate::numbered_rate;
+pub use words::{add_band, add_fault, add_number, add_refusal, add_word, refusal_name};
