@@ -8,8 +8,6 @@ mod byte_out;
 mod held_line;
 mod memory;
 mod numbers;
-#[cfg(test)]
-mod tests;
 mod text_line;
 mod words;
 mod write_behind;

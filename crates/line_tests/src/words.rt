@@ -1,0 +1,101 @@
+// Worked words and numbers of a line.
+use std::process::Abort;
+use text_lines::{
+    WORD_LIMIT, Words, is_passed_over, is_word, number_i16, number_u8, number_u16, number_u32,
+    number_u64,
+};
+
+/// Whether a line is the word `book`, the number 1 and a word that is no number.
+fn is_parted(line: &[u8]) -> bool {
+    match Words::of(line).as_slice() {
+        [name, number, last] => {
+            is_word(name, b"book")
+                && number_u64(number) == Some(1)
+                && is_word(last, b"10041216\r")
+                && number_u64(last).is_none()
+        }
+        _ => false,
+    }
+}
+
+/// How many words of a line are held.
+fn held(line: &[u8]) -> usize {
+    Words::of(line).as_slice().len()
+}
+
+#[test]
+fn words_are_parted(rt: HostRuntime) {
+    assert!(rt; is_parted(b" book\t1  10041216\r"));
+    assert_eq!(rt; held(b"1 2 3 4 5 6 7 8 9 10 11"), WORD_LIMIT);
+    for (line, passed) in [
+        (b"# a".as_slice(), true),
+        (b" \t", true),
+        (b"", true),
+        (b" # a", false),
+        (b"\r", false),
+        (b"book", false),
+    ] {
+        assert_eq!(rt; is_passed_over(line), passed);
+    }
+}
+
+/// The number that a word is, as one of so many bits.
+fn numbered(bits: u8, word: &[u8]) -> Option<u64> {
+    match bits {
+        8 => number_u8(word).map(u64::from),
+        16 => number_u16(word).map(u64::from),
+        32 => number_u32(word).map(u64::from),
+        _ => number_u64(word),
+    }
+}
+
+#[test]
+fn numbers_are_read(rt: HostRuntime) {
+    let table: [(u8, &[u8], Option<u64>); 15] = [
+        (64, b"", None),
+        (64, b"0", Some(0)),
+        (64, b"007", Some(7)),
+        (64, b"00000000000000000007", Some(7)),
+        (64, b"000000000000000000007", None),
+        (
+            64,
+            b"18446744073709551615",
+            Some(18_446_744_073_709_551_615),
+        ),
+        (64, b"18446744073709551616", None),
+        (64, b"+7", None),
+        (64, b"7a", None),
+        (32, b"4294967295", Some(4_294_967_295)),
+        (32, b"4294967296", None),
+        (16, b"65535", Some(65_535)),
+        (16, b"65536", None),
+        (8, b"255", Some(255)),
+        (8, b"256", None),
+    ];
+    for (bits, word, want) in table {
+        assert_eq!(rt; numbered(bits, word), want);
+    }
+}
+
+/// The number that a word is, which may have a sign.
+fn signed(word: &[u8]) -> Option<i16> {
+    number_i16(word)
+}
+
+#[test]
+fn signed_numbers_are_read(rt: HostRuntime) {
+    let table: [(&[u8], Option<i16>); 9] = [
+        (b"-32768", Some(-32_768)),
+        (b"-32769", None),
+        (b"32767", Some(32_767)),
+        (b"32768", None),
+        (b"-90", Some(-90)),
+        (b"-00090", Some(-90)),
+        (b"000055", None),
+        (b"-", None),
+        (b"--5", None),
+    ];
+    for (word, want) in table {
+        assert_eq!(rt; signed(word), want);
+    }
+}
