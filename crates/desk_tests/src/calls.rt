@@ -1,7 +1,7 @@
 // Calls of a desk as values, so that a run of them is a table.
 
 use answer_ticket::{Stub, Ticket};
-use server_core::{DeskFault, DeskHeard, Limits, QueueFault, TakeFault};
+use server_desk::{DeskFault, DeskHeard, Limits, QueueFault, TakeFault};
 use std::alloc::Global;
 use std::process::Abort;
 use std::test::Fail;

@@ -1,7 +1,7 @@
 // Copies of uplinks at a desk.
 
 use crate::calls::{Answer, Call, OPENED_1, Row, desk_after};
-use server_core::{DeskFault, Limits};
+use server_desk::{DeskFault, Limits};
 use std::test::Fail;
 
 /// One uplink at a time.

@@ -1,6 +1,6 @@
 // Settings as a server is given them.
 
-use server_core::{DeviceSetting, GatewaySetting, Settings, SettingsFault};
+use server_desk::{DeviceSetting, GatewaySetting, Settings, SettingsFault};
 use std::alloc::Global;
 use std::test::Fail;
 use worked_inputs::{DEVICE, settings_of};

@@ -2,7 +2,7 @@
 
 use crate::calls::{Answer, Call, OPENED_1, OPENED_2, Row, answers, desk_after};
 use answer_ticket::Outcome;
-use server_core::TakeFault;
+use server_desk::TakeFault;
 use std::test::Fail;
 use worked_inputs::{AMPLE, WorkedDesk, given_up, settled, taken};
 

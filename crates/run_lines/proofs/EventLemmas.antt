@@ -3,10 +3,10 @@ use Rattle.std.proofs.Common.{◌≡◌, ◌≢◌, ℕ, ◌+◌, List, [], ◌�
 use Rattle.std.specs.Option.{option_to_list}
 use Rattle.server_core.specs.declared.event.Event.{Event}
 use Rattle.text_lines.specs.Number.{number_signed}
-use Rattle.server_core.specs.declared.setting.DeviceSetting.{DeviceSetting}
+use Rattle.server_desk.specs.declared.setting.DeviceSetting.{DeviceSetting}
 use Rattle.run_lines.specs.RunWords.{uplink_word}
 use Rattle.run_lines.specs.RunEvents.{number_of, heard_with, hear_with, hear_event, line_event, events_from, events_of}
-use Rattle.server_core.specs.declared.heard.Heard1.{Heard1}
+use Rattle.server_desk.specs.declared.heard.Heard1.{Heard1}
 
 -- a copy has just eight words after its name
 pub hear_event-other : {A X : Type 0} (f : X → List ℕ) (devices : List DeviceSetting) (words : List X) → length words ≢ 8 → hear_event {A = A} devices (map f words) ≡ None

@@ -14,18 +14,18 @@ use Rattle.gateway_book.specs.Step.{State, book_step}
 use Rattle.rx_windows.specs.declared.candidate.Window.TheVariants.{Rx1, Rx2}
 use Rattle.server_core.specs.declared.entry.Line.{Line}
 use Rattle.server_core.specs.declared.entry.Line.TheVariants.{Queued, NotQueued, Heard, NotHeard, Silent, NotTaken, Send, Frame, Unanswered, Stray, Cancelled, NotCancelled, Floor, NotTicked, Bad}
-use Rattle.server_core.specs.declared.heard.DeskHeard.TheVariants.{Opened, Joined}
+use Rattle.server_desk.specs.declared.heard.DeskHeard.TheVariants.{Opened, Joined}
 use Rattle.lora_frame.specs.declared.reading.FrameFault.TheVariants.{Short, OptionsCut}
 use Rattle.server_core.specs.Entries.{entry_at}
 use Rattle.run_lines.specs.ReplayText.{replay_lines}
-use Rattle.server_core.specs.declared.faults.QueueFault.TheVariants.{QueueFull}
-use Rattle.server_core.specs.declared.faults.TakeFault.TheVariants.{CounterSpent}
+use Rattle.server_desk.specs.declared.faults.QueueFault.TheVariants.{QueueFull}
+use Rattle.server_desk.specs.declared.faults.TakeFault.TheVariants.{CounterSpent}
 use Rattle.gateway_book.specs.declared.cancel.CancelFault.TheVariants.{Begun}
 use Rattle.radio_bands.specs.declared.band.Band.TheVariants.{K}
 use Rattle.std.specs.List.{list_any}
 use Rattle.text_words.specs.Words.{is_refusal}
 use Rattle.run_lines.specs.EntryLine.{line_text}
-use Rattle.server_core.specs.declared.faults.DeskFault.TheVariants as hears
+use Rattle.server_desk.specs.declared.faults.DeskFault.TheVariants as hears
 
 -- nothing was sent at a gateway
 pub none_sent : State

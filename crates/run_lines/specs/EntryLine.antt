@@ -6,8 +6,8 @@ use Rattle.rx_windows.specs.declared.candidate.Candidate.{Candidate}
 use Rattle.rx_windows.specs.Window.{window_text}
 use Rattle.server_core.specs.declared.entry.Line.{Line}
 use Rattle.server_core.specs.declared.entry.Line.TheVariants.{Queued, NotQueued, Heard, NotHeard, Silent, NotTaken, Send, Frame, Unanswered, Stray, Cancelled, NotCancelled, Floor, NotTicked, Bad}
-use Rattle.server_core.specs.declared.heard.DeskHeard.{DeskHeard}
-use Rattle.server_core.specs.declared.heard.DeskHeard.TheVariants.{Opened, Joined}
+use Rattle.server_desk.specs.declared.heard.DeskHeard.{DeskHeard}
+use Rattle.server_desk.specs.declared.heard.DeskHeard.TheVariants.{Opened, Joined}
 use Rattle.text_words.specs.Words.{spaced, fault_word, refusal_name}
 use Rattle.run_lines.specs.EntryName.{queue_name, hear_name, take_name}
 

@@ -1,12 +1,12 @@
 use Rattle.std.specs.Prelude.{ℕ, List, codes}
 use Rattle.lora_frame.specs.declared.reading.FrameFault.{FrameFault}
-use Rattle.server_core.specs.declared.faults.QueueFault.{QueueFault}
-use Rattle.server_core.specs.declared.faults.DeskFault.{DeskFault}
-use Rattle.server_core.specs.declared.faults.TakeFault.{TakeFault}
+use Rattle.server_desk.specs.declared.faults.QueueFault.{QueueFault}
+use Rattle.server_desk.specs.declared.faults.DeskFault.{DeskFault}
+use Rattle.server_desk.specs.declared.faults.TakeFault.{TakeFault}
 use Rattle.lora_frame.specs.declared.reading.FrameFault.TheVariants as frames
-use Rattle.server_core.specs.declared.faults.QueueFault.TheVariants as queues
-use Rattle.server_core.specs.declared.faults.DeskFault.TheVariants as hears
-use Rattle.server_core.specs.declared.faults.TakeFault.TheVariants as takes
+use Rattle.server_desk.specs.declared.faults.QueueFault.TheVariants as queues
+use Rattle.server_desk.specs.declared.faults.DeskFault.TheVariants as hears
+use Rattle.server_desk.specs.declared.faults.TakeFault.TheVariants as takes
 
 -- The names of faults in the lines that answer events: each is its variant's name.
 

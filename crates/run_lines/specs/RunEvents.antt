@@ -3,12 +3,12 @@ use Rattle.std.specs.Option.{option_map, option_to_list}
 use Rattle.text_lines.specs.Line.{is_too_long}
 use Rattle.text_lines.specs.Number.{number_below, number_signed}
 use Rattle.text_lines.specs.Words.{words_of, is_passed_over}
-use Rattle.server_core.specs.declared.setting.DeviceSetting.{DeviceSetting}
+use Rattle.server_desk.specs.declared.setting.DeviceSetting.{DeviceSetting}
 use Rattle.server_core.specs.declared.event.Event.{Event}
 use Rattle.server_core.specs.declared.event.Event.TheVariants.{Queue, Hear, Pass, Tick, Cancel, Bad}
 use Rattle.text_words.specs.Words.{is_named}
 use Rattle.run_lines.specs.RunWords.{addr_word, hex_word, uplink_word}
-use Rattle.server_core.specs.declared.heard.Heard1.{Heard1}
+use Rattle.server_desk.specs.declared.heard.Heard1.{Heard1}
 
 -- What the lines of `airbook run` ask for, by the devices of its settings (docs/FORMATS.md, "airbook run").
 

@@ -5,7 +5,7 @@ use Rattle.hex.specs.Hex.{decode_of, decode_sized}
 use Rattle.text_lines.specs.Number.{number_below}
 use Rattle.lora_frame.specs.declared.parts.Keys.{Keys}
 use Rattle.lora_frame.specs.Frame.{header_bytes, bit_worth, with_mic}
-use Rattle.server_core.specs.declared.setting.DeviceSetting.{DeviceSetting}
+use Rattle.server_desk.specs.declared.setting.DeviceSetting.{DeviceSetting}
 use Rattle.server_core.specs.Taking.{keys_of}
 
 -- What the words of an event line say.

@@ -9,8 +9,8 @@ use Rattle.gateway_book.specs.declared.refusal.Refusal.TheVariants as refusals
 use Rattle.rx_windows.specs.declared.candidate.Candidate.{Candidate}
 use Rattle.server_core.specs.declared.entry.Line.{Line}
 use Rattle.server_core.specs.declared.entry.Line.TheVariants as lines
-use Rattle.server_core.specs.declared.faults.TakeFault.{TakeFault}
-use Rattle.server_core.specs.declared.faults.TakeFault.TheVariants.{Silent}
+use Rattle.server_desk.specs.declared.faults.TakeFault.{TakeFault}
+use Rattle.server_desk.specs.declared.faults.TakeFault.TheVariants.{Silent}
 use Rattle.server_workers.specs.declared.turn.Turn.{Turn}
 use Rattle.server_workers.specs.declared.turn.Turn.TheVariants.{NotTaken, Settled, Stray}
 use Rattle.run_texts.specs.declared.pass_answers.Answer.{Answer}

@@ -9,12 +9,13 @@ use Rattle.rx_windows.specs.declared.candidate.Candidate.{Candidate}
 use Rattle.answer_ticket.specs.Job.{candidates}
 use Rattle.answer_ticket.specs.Ticket.{Standing, candidate_of}
 use Rattle.answer_ticket.specs.Tried.{refusal_by}
-use Rattle.server_core.specs.Answers.{Open}
-use Rattle.server_core.specs.World.{World, Gateway, Step, Try, step, gateway_with, tried_by, try_on, try_candidate, try_of}
+use Rattle.server_desk.specs.Answers.{Open}
+use Rattle.server_desk.specs.World.{World, Gateway, gateway_with}
+use Rattle.server_core.specs.Steps.{Step, Try, step, tried_by, try_on, try_candidate, try_of}
 use Rattle.server_core.specs.Schedule.{up_to_first, is_none, accepts, is_accepted}
 use Rattle.server_core.specs.Entries.{gateway_of}
 use Rattle.server_core.specs.Turns.{tries_from}
-use Rattle.server_core.proofs.Places.{some_inj}
+use Rattle.server_desk.specs.Places.{some_inj}
 
 module _ {X : Type 0} where
   -- what is left from a place on

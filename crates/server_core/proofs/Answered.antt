@@ -11,20 +11,24 @@ use Rattle.answer_ticket.specs.Job.{Job}
 use Rattle.answer_ticket.specs.Ticket.{Standing}
 use Rattle.server_core.specs.declared.event.Step.TheVariants as made
 use Rattle.server_core.specs.declared.entry.Line.{Line}
-use Rattle.server_core.specs.declared.faults.TakeFault.{TakeFault}
-use Rattle.server_core.specs.Register.{Device, Asked, Register}
-use Rattle.server_core.specs.Answers.{Answer, Waiting, Open, Known, Given, Done, known_of, is_given}
-use Rattle.server_core.specs.Taking.{take_answer, job_of, taken_from}
-use Rattle.server_core.specs.Settling.{delivered, has_carried, sent_of}
-use Rattle.server_core.specs.Desk.{DeskView, desk_taken, desk_take, desk_settled}
-use Rattle.server_core.specs.World.{World, Step, Take, After, step, known, take_by}
-use Rattle.server_core.specs.World as replies
+use Rattle.server_desk.specs.declared.faults.TakeFault.{TakeFault}
+use Rattle.server_desk.specs.declared.answers.Asked.{Asked}
+use Rattle.server_desk.specs.Register.{Device, Register}
+use Rattle.server_desk.specs.declared.answers.Known.{Known}
+use Rattle.server_desk.specs.declared.answers.Known.TheVariants.{Given, Done}
+use Rattle.server_desk.specs.Answers.{Answer, Waiting, Open, known_of, is_given}
+use Rattle.server_desk.specs.Taking.{take_answer, job_of, taken_from}
+use Rattle.server_desk.specs.Settling.{delivered, has_carried, sent_of}
+use Rattle.server_desk.specs.Desk.{DeskView, desk_taken, desk_take, desk_settled}
+use Rattle.server_desk.specs.World.{World, known}
+use Rattle.server_core.specs.Steps.{Step, Take, After, step, take_by}
+use Rattle.server_core.specs.Steps as replies
 use Rattle.server_core.specs.Schedule.{given_steps, answer_steps}
 use Rattle.server_core.specs.Entries.{not_taken, lines_for, step_lines, entry_at, gateway_of}
 use Rattle.server_core.specs.Server.{Seen, IsAt, Goes, Makes, AreHere, AreHeard, IsReady, IsIdle, with_step, with_lines, is_among, ids_of}
 use Rattle.server_core.specs.Turns.{IsGivenTo, IsAnswered}
-use Rattle.server_core.proofs.Places.{all_get}
-use Rattle.server_core.proofs.Numbers.{numbered-here, numbered_cases, rewritten-found}
+use Rattle.server_desk.specs.Places.{all_get}
+use Rattle.server_desk.specs.Numbers.{numbered-here, numbered_cases, rewritten-found}
 use Rattle.server_core.proofs.Tickets.{IsTicket, ticket, still_waits}
 use Rattle.server_core.proofs.DeskSteps.{desk_calls_are_steps}
 use Rattle.server_core.proofs.Reached.{reached_one}

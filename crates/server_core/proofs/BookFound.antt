@@ -5,11 +5,11 @@ use Rattle.std.proofs.Common.{ap, sym, ◌∙◌, subst}
 use Rattle.std.proofs.lemmas.Option.{slice_get_within, get_or_from_slice_get}
 use Rattle.gateway_book.specs.Book.{Book, state_of}
 use Rattle.gateway_book.specs.Step.{State}
-use Rattle.server_core.specs.World.{Gateway, gateway_with}
+use Rattle.server_desk.specs.World.{Gateway, gateway_with}
 use Rattle.server_core.specs.Entries.{gateway_of}
-use Rattle.server_core.proofs.Places.{some_inj, from_map}
-use Rattle.server_core.proofs.Found.{found_there}
-use Rattle.server_core.proofs.DeskSteps.{map-set}
+use Rattle.server_desk.specs.Places.{some_inj, from_map}
+use Rattle.server_desk.specs.Found.{found_there}
+use Rattle.server_desk.specs.Numbers.{map-set}
 
 -- the book of a gateway, which was found by its number
 pub record IsBookOf (gateway at : ℕ) (books : List Book) : Type 0 where

@@ -9,7 +9,8 @@ use Rattle.gateway_book.specs.Answer.{IsAsked, refusal_of}
 use Rattle.gateway_book.specs.Step.{State, is_fit-IsFit, book_step}
 use Rattle.gateway_book.specs.AnswerLaws.{accepted, book_step-accepted}
 use Rattle.gateway_book.specs.BookLaws.{may_book, sound_booked, free_where_clear}
-use Rattle.server_core.specs.World.{Gateway, terms}
+use Rattle.server_desk.specs.World.{Gateway}
+use Rattle.server_core.specs.Steps.{terms}
 use Rattle.server_core.proofs.Holds.{IsInOrder, book_of}
 
 -- the reservation with the asked fields

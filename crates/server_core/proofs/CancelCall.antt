@@ -9,14 +9,19 @@ use Rattle.gateway_book.specs.Step.{cancel_answer, cancel_step}
 use Rattle.uplink_gather.specs.Gatherings.{numbered}
 use Rattle.server_core.specs.declared.event.Step.TheVariants as made
 use Rattle.server_core.specs.declared.entry.Line.{Line}
-use Rattle.server_core.specs.Answers.{Answer, Waiting, Open, Booked, Out, Settled, Known, Sent, known_of, is_given}
-use Rattle.server_core.specs.Desk.{DeskView}
-use Rattle.server_core.specs.World.{World, Gateway, Cancel, After, step, known, gateway_with, sent_for, cancel_at, cancel_sent, cancel_of}
-use Rattle.server_core.specs.World as replies
+use Rattle.server_desk.specs.declared.answers.Sent.{Sent}
+use Rattle.server_desk.specs.declared.answers.Known.{Known}
+use Rattle.server_desk.specs.Answers.{Answer, Waiting, Open, Booked, Out, Settled, known_of, is_given}
+use Rattle.server_desk.specs.Desk.{DeskView}
+use Rattle.server_desk.specs.World.{World, Gateway, known, gateway_with}
+use Rattle.server_core.specs.Steps.{Cancel, After, step, sent_for, cancel_at, cancel_sent, cancel_of}
+use Rattle.server_core.specs.Steps as replies
 use Rattle.server_core.specs.Entries.{lines_for, entry_at, gateway_of}
 use Rattle.server_core.specs.Server.{Seen, IsAt, Makes, IsReady, IsIdle, IsCancelled, with_step, with_lines, ids_of, cancelled_line}
-use Rattle.server_core.specs.Settling.{kept_by}
-use Rattle.server_core.proofs.DeskSteps.{map-set_same, numbered-map, desk_calls_are_steps}
+use Rattle.server_desk.specs.Settling.{kept_by}
+use Rattle.server_desk.specs.Numbers.{numbered-map}
+use Rattle.server_desk.specs.Places.{map_set}
+use Rattle.server_core.proofs.DeskSteps.{desk_calls_are_steps}
 use Rattle.server_core.proofs.Going.{one_step}
 use Rattle.server_core.proofs.Ready.{ready_same}
 use Rattle.server_core.proofs.BookFound.{IsBookOf, book_found, no_book, same_book, gateway_with_state, book_written}
@@ -104,7 +109,7 @@ module _ {A : Type 0} (n : ℕ) (old new : Seen A) (ready : IsReady old) where
             steps = ap (λ (s : Seen A). s.steps) is;
             outcomes = ap (λ (s : Seen A). s.outcomes) is;
             books = ap (λ (s : Seen A). ids_of s.books) is
-                ∙ map-set_same (λ (x : Book). x.id) old.books i kept.book after kept.there (same_id result cancelled refused ∙ ap (λ (x : Book). x.id) same_kept);
+                ∙ map_set (λ (x : Book). x.id) old.books i kept.book after kept.there (same_id result cancelled refused ∙ ap (λ (x : Book). x.id) same_kept);
             gateways = λ w at.
                 ap (λ (s : Seen A). map gateway_of s.books) is ∙ book_written old.books w.gateways i after cancelled_gateway at.gateways cancelled_is
                 ∙ sym (ap (λ (a : After). a.0.gateways) (step_is w at));

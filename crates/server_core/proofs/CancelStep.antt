@@ -10,11 +10,13 @@ use Rattle.gateway_book.specs.Step.{is_named, found_or, cancel_answer, without_n
 use Rattle.gateway_book.specs.CancelLaws.{named_found, named_none}
 use Rattle.gateway_book.specs.BookLaws.{sound_cancelled}
 use Rattle.answer_ticket.specs.Job.{Job}
-use Rattle.server_core.specs.Settings.{SettingLists}
-use Rattle.server_core.specs.Answers.{Answer, Sent}
-use Rattle.server_core.specs.World.{Gateway, World, gateway_with, sent_for, cancel_at, cancel_sent, cancel_of, cancel}
+use Rattle.server_desk.specs.Settings.{SettingLists}
+use Rattle.server_desk.specs.declared.answers.Sent.{Sent}
+use Rattle.server_desk.specs.Answers.{Answer}
+use Rattle.server_desk.specs.World.{Gateway, World, gateway_with}
+use Rattle.server_core.specs.Steps.{sent_for, cancel_at, cancel_sent, cancel_of, cancel}
 use Rattle.uplink_gather.specs.Gatherings.{numbered}
-use Rattle.server_core.proofs.Found.{found_there}
+use Rattle.server_desk.specs.Found.{found_there}
 use Rattle.server_core.proofs.Members.{filter_member}
 use Rattle.server_core.proofs.Holds.{IsInOrder, AllStand, Holds, IsGood, IsGoodStep, book_of, unchanged}
 use Rattle.server_core.proofs.Written.{with_gateway, gateway_written}

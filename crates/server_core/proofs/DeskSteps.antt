@@ -1,70 +1,34 @@
 -- The calls of the desk are the world's steps on its part.
-use Rattle.std.specs.Prelude.{ℕ, zero, suc, ◌≡◌, ◌+◌, ◌-◌, ◌==◌, Bool, true, false, ◌&&◌, if◌then◌else◌, List, [], ◌∷◌, map, slice_get, slice_set, Option, Some, None, Result, Ok, Err, refl}
+use Rattle.std.specs.Prelude.{ℕ, ◌≡◌, ◌+◌, ◌==◌, Bool, true, false, ◌&&◌, if◌then◌else◌, List, [], ◌∷◌, map, slice_set, Option, Some, None, Result, Ok, Err, refl}
 use Rattle.std.specs.Option.{option_map, option_map_or, option_and_then}
-use Rattle.std.proofs.Common.{sym, ap, ◌∙◌, subst, arith}
-use Rattle.std.proofs.lemmas.Option.{slice_get-map}
+use Rattle.std.proofs.Common.{sym, ap, ◌∙◌}
 use Rattle.std.proofs.lemmas.List.{map-append}
 use Rattle.gateway_book.specs.declared.refusal.Refusal.{Refusal}
 use Rattle.gateway_book.specs.Answer.{refusal_of}
 use Rattle.gateway_book.specs.Step.{State, book_step, cancel_step, tick_step}
-use Rattle.uplink_gather.specs.Gatherings.{numbered, rewritten}
+use Rattle.uplink_gather.specs.Gatherings.{numbered}
 use Rattle.rx_windows.specs.declared.candidate.Candidate.{Candidate}
 use Rattle.answer_ticket.specs.declared.outcome.Ending.{Ending}
 use Rattle.answer_ticket.specs.Job.{Job, candidate_at, ask_for}
-use Rattle.server_core.specs.declared.faults.TakeFault.{TakeFault}
-use Rattle.server_core.specs.Register.{Register}
-use Rattle.server_core.specs.Hearing.{Decision, Refuse, Join, decide, register_after}
-use Rattle.server_core.specs.Hearing as hearing
-use Rattle.server_core.specs.Answers.{Answer, Waiting, Open, Booked, Out, Settled, Known, Given, Done, Sent, known_of, is_given}
-use Rattle.server_core.specs.Airtime.{known_airtime, answer_airtime, answered_at, answered_in}
-use Rattle.server_core.specs.Settling.{sent_of, after_settling, is_here, may_settle}
-use Rattle.server_core.specs.Taking.{take_answer, after_taking}
-use Rattle.server_core.specs.World.{World, Gateway, step, ids, known, ending_of, gateway_with, answers_after, refused, try_of, try_candidate, try_on, tried_by, cancel_of, cancel_sent, cancel_at, tick_at, take_by, settle_of, settle_as, sent_for, sent_by, terms}
-use Rattle.server_core.specs.World as replies
-use Rattle.server_core.specs.Desk.{DeskCallsAreSteps, told, desk_of, desk_taken, desk_settled, known_after}
-use Rattle.server_core.proofs.Places.{some_inj}
-use Rattle.server_core.proofs.Numbers.{rewritten-found, rewritten-none}
-use Rattle.server_core.proofs.Found.{found_there}
-
-module _ {X Y : Type 0} (f : X → Y) where
-  pub map-set : (xs : List X) (i : ℕ) (y : X) → map f (slice_set xs i y) ≡ slice_set (map f xs) i (f y)
-  map-set [] i y = refl
-  map-set (x ∷ xs) zero y = refl
-  map-set (x ∷ xs) (suc i) y = ap (λ (l : List Y). f x ∷ l) (map-set xs i y)
-
-  -- where the new member looks the same, the list does
-  pub map-set_same : (xs : List X) (i : ℕ) (x y : X) → slice_get xs i ≡ Some x → f y ≡ f x → map f (slice_set xs i y) ≡ map f xs
-  map-set_same [] i x y e s = refl
-  map-set_same (z ∷ xs) zero x y e s = ap (λ (v : Y). v ∷ map f xs) (s ∙ ap f (sym (some_inj e)))
-  map-set_same (z ∷ xs) (suc i) x y e s = ap (λ (l : List Y). f z ∷ l) (map-set_same xs i x y e s)
-
-  pub numbered-map : (n : ℕ) (xs : List X) → numbered n (map f xs) ≡ option_map f (numbered n xs)
-  numbered-map zero xs = refl
-  numbered-map (suc i) xs = slice_get-map f xs i
-
-  map-rewritten_by : (g : X → X) (h : Y → Y) → ((x : X) → f (g x) ≡ h (f x)) → (n : ℕ) (xs : List X) (o : Option X) → numbered n xs ≡ o
-      → map f (rewritten g n xs) ≡ rewritten h n (map f xs)
-  map-rewritten_by g h s n xs None e =
-      ap (map f) (rewritten-none g n xs e) ∙ sym (rewritten-none h n (map f xs) (numbered-map n xs ∙ ap (option_map f) e))
-  map-rewritten_by g h s n xs (Some x) e =
-      ap (map f) (rewritten-found g n xs x e) ∙ map-set xs (n - 1) (g x) ∙ ap (slice_set (map f xs) (n - 1)) (s x)
-      ∙ sym (rewritten-found h n (map f xs) (f x) (numbered-map n xs ∙ ap (option_map f) e))
-
-  -- a member that is written anew is written anew on the list of what the members look like
-  pub map-rewritten : (g : X → X) (h : Y → Y) → ((x : X) → f (g x) ≡ h (f x)) → (n : ℕ) (xs : List X) → map f (rewritten g n xs) ≡ rewritten h n (map f xs)
-  map-rewritten g h s n xs = map-rewritten_by g h s n xs (numbered n xs) refl
-
-  same_rewritten_by : (g : X → X) (n : ℕ) (xs : List X) (o : Option X) → ((x : X) → o ≡ Some x → f (g x) ≡ f x) → numbered n xs ≡ o → map f (rewritten g n xs) ≡ map f xs
-  same_rewritten_by g n xs None s e = ap (map f) (rewritten-none g n xs e)
-  same_rewritten_by g zero xs (Some x) s e = absurd (cc)
-  same_rewritten_by g (suc i) xs (Some x) s e =
-      ap (map f) (rewritten-found g (suc i) xs x e) ∙ map-set_same xs (suc i - 1) x (g x) (ap (slice_get xs) (omega arith) ∙ e) (s x refl)
-
-  -- where what is written anew looks the same, the list does
-  pub same_rewritten : (g : X → X) (n : ℕ) (xs : List X) (x : X) → numbered n xs ≡ Some x → f (g x) ≡ f x → map f (rewritten g n xs) ≡ map f xs
-  same_rewritten g n xs x e s =
-      let P : X → Type 0 = λ z. f (g z) ≡ f z in
-      same_rewritten_by g n xs (numbered n xs) (λ y q. subst P (sym (some_inj (sym q ∙ e))) s) refl
+use Rattle.server_desk.specs.declared.faults.TakeFault.{TakeFault}
+use Rattle.server_desk.specs.Register.{Register}
+use Rattle.server_desk.specs.Hearing.{Decision, Refuse, Join, decide, register_after}
+use Rattle.server_desk.specs.Hearing as hearing
+use Rattle.server_desk.specs.declared.answers.Sent.{Sent}
+use Rattle.server_desk.specs.declared.answers.Known.{Known}
+use Rattle.server_desk.specs.declared.answers.Known.TheVariants.{Given, Done}
+use Rattle.server_desk.specs.Answers.{Answer, Waiting, Open, Booked, Out, Settled, known_of, is_given}
+use Rattle.server_desk.specs.Airtime.{known_airtime, answer_airtime, answered_at, answered_in}
+use Rattle.server_desk.specs.Settling.{sent_of, after_settling, is_here, may_settle}
+use Rattle.server_desk.specs.Taking.{take_answer, after_taking}
+use Rattle.server_desk.specs.World.{World, Gateway, ids, known, gateway_with}
+use Rattle.server_core.specs.Steps.{step, ending_of, answers_after, refused, try_of, try_candidate, try_on, tried_by, cancel_of, cancel_sent, cancel_at, tick_at, take_by, settle_of, settle_as, sent_for, sent_by, terms}
+use Rattle.server_core.specs.Steps as replies
+use Rattle.server_desk.specs.Desk.{desk_of, desk_taken, desk_settled, known_after}
+use Rattle.server_core.specs.DeskCalls.{DeskCallsAreSteps, told}
+use Rattle.server_desk.specs.Found.{found_there}
+use Rattle.server_desk.specs.Places.{map_set}
+use Rattle.server_desk.specs.Numbers.{numbered-map, map-rewritten, same_rewritten}
 
 -- the desk's part, by its parts
 same_known : (w v : World) → w.reg ≡ v.reg → ids w ≡ ids v → known w ≡ known v → desk_of w ≡ desk_of v
@@ -145,7 +109,7 @@ may_not w n ending e =
 same_ids : (w : World) (id : ℕ) (found : ℕ × Gateway) (s : State) → gateway_with id w.gateways ≡ Some found
     → map (λ g. g.id) (slice_set w.gateways found.0 (record found.1 { state = s })) ≡ map (λ g. g.id) w.gateways
 same_ids w id found s e =
-    map-set_same (λ g. g.id) w.gateways found.0 found.1 (record found.1 { state = s }) (found_there (λ g. g.id == id) w.gateways found e).0 refl
+    map_set (λ g. g.id) w.gateways found.0 found.1 (record found.1 { state = s }) (found_there (λ g. g.id == id) w.gateways found e).0 refl
 
 refused_known : (k : ℕ) (job : Job) (refusal : Refusal) (o : Option Candidate) → known_of (refused k job refusal o) ≡ Given
 refused_known k job refusal None = refl

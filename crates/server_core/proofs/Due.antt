@@ -5,8 +5,8 @@ use Rattle.std.specs.Option.{option_map_or}
 use Rattle.std.proofs.Common.{ap, sym, ◌∙◌, arith}
 use Rattle.uplink_gather.specs.Gatherings.{Gathering, Gatherings, rewritten, is_open, is_due, due_of, close_step, join_us}
 use Rattle.server_core.specs.Schedule.{due_from, due_numbers}
-use Rattle.server_core.proofs.Places.{some_inj}
-use Rattle.server_core.proofs.Numbers.{rewritten-found}
+use Rattle.server_desk.specs.Places.{some_inj}
+use Rattle.server_desk.specs.Numbers.{rewritten-found}
 
 abbrev closed : Gathering → Gathering
 closed g = record g { closed = true }

@@ -9,11 +9,12 @@ use Rattle.rx_windows.specs.declared.plan.Plan.{Plan}
 use Rattle.rx_windows.specs.declared.candidate.Candidate.{Candidate}
 use Rattle.rx_windows.specs.Laws.{IsWindowOf}
 use Rattle.answer_ticket.specs.Job.{Job}
-use Rattle.server_core.specs.Settings.{SettingLists}
-use Rattle.server_core.specs.Register.{Asked}
-use Rattle.server_core.specs.Answers.{Answer, Waiting, Open, Sent}
-use Rattle.server_core.specs.World.{World}
-use Rattle.server_core.proofs.Numbers.{numbered-append, numbered-append_cases, numbered_after, rewritten-none}
+use Rattle.server_desk.specs.Settings.{SettingLists}
+use Rattle.server_desk.specs.declared.answers.Asked.{Asked}
+use Rattle.server_desk.specs.declared.answers.Sent.{Sent}
+use Rattle.server_desk.specs.Answers.{Answer, Waiting, Open}
+use Rattle.server_desk.specs.World.{World}
+use Rattle.server_desk.specs.Numbers.{numbered-append, numbered-append_cases, numbered_after, rewritten-none}
 use Rattle.server_core.proofs.Holds.{IsOfDevice, IsJobFor, IsKept, Stands, Holds, IsGivenAt, IsGood, Follows-refl}
 
 -- a gathering keeps its bytes and its copies

@@ -5,8 +5,9 @@ use Rattle.std.proofs.lemmas.List.{map-append}
 use Rattle.server_core.specs.declared.event.Step.{Step as Made}
 use Rattle.server_core.specs.declared.entry.Entry.{Entry}
 use Rattle.server_core.specs.declared.entry.Line.{Line}
-use Rattle.server_core.specs.Desk.{DeskView, desk_of}
-use Rattle.server_core.specs.World.{World, Step, step}
+use Rattle.server_desk.specs.Desk.{DeskView, desk_of}
+use Rattle.server_desk.specs.World.{World}
+use Rattle.server_core.specs.Steps.{Step, step}
 use Rattle.server_core.specs.Schedule.{reached, step_of}
 use Rattle.server_core.specs.Entries.{lines_for, step_lines, entry_at, gateway_of}
 use Rattle.server_core.specs.Server.{Seen, IsAt, Goes, with_step, with_lines}

@@ -1,17 +1,18 @@
 -- A copy of an uplink is heard at the desk.
 use Rattle.std.specs.Prelude.{ℕ, ◌≡◌, ◌≢◌, List, [], ◌∷◌, Result, Ok, Err, IfOk, OnOk, OnErr, MatchResult, IsOkUnless, refl}
 use Rattle.std.proofs.Common.{ap, sym, ◌∙◌, subst}
-use Rattle.server_core.specs.declared.heard.Heard1.{Heard1}
-use Rattle.server_core.specs.declared.heard.DeskHeard.{DeskHeard}
-use Rattle.server_core.specs.declared.faults.DeskFault.{DeskFault}
+use Rattle.server_desk.specs.declared.heard.Heard1.{Heard1}
+use Rattle.server_desk.specs.declared.heard.DeskHeard.{DeskHeard}
+use Rattle.server_desk.specs.declared.faults.DeskFault.{DeskFault}
 use Rattle.server_core.specs.declared.event.Step.TheVariants as made
 use Rattle.server_core.specs.declared.entry.Line.{Line}
-use Rattle.server_core.specs.declared.faults.DeskFault.TheVariants as hears
-use Rattle.server_core.specs.Hearing.{Decision, Refuse, Join, copy_of, decide, answer_to, after_hearing}
-use Rattle.server_core.specs.Hearing as hearing
-use Rattle.server_core.specs.Desk.{DeskView, desk_hear, known_after}
-use Rattle.server_core.specs.World.{World, Hear, step}
-use Rattle.server_core.specs.World as replies
+use Rattle.server_desk.specs.declared.faults.DeskFault.TheVariants as hears
+use Rattle.server_desk.specs.Hearing.{Decision, Refuse, Join, copy_of, decide, answer_to, after_hearing}
+use Rattle.server_desk.specs.Hearing as hearing
+use Rattle.server_desk.specs.Desk.{DeskView, desk_hear, known_after}
+use Rattle.server_desk.specs.World.{World}
+use Rattle.server_core.specs.Steps.{Hear, step}
+use Rattle.server_core.specs.Steps as replies
 use Rattle.server_core.specs.Entries.{lines_for}
 use Rattle.server_core.specs.Server.{Seen, Makes, with_step, with_lines, IsReady, IsIdle, AreHeard, ids_of, heard_line}
 use Rattle.server_core.proofs.DeskSteps.{desk_calls_are_steps}

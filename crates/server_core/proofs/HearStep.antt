@@ -13,15 +13,16 @@ use Rattle.uplink_gather.specs.Gatherings.{Gathering, Gatherings, rewritten}
 use Rattle.uplink_gather.specs.Hearing.{place_of, is_crowded, answer_at, with_copy, hear_step}
 use Rattle.uplink_gather.specs.Hearing as gathers
 use Rattle.answer_ticket.specs.Job.{Job}
-use Rattle.server_core.specs.declared.heard.Heard1.{Heard1}
-use Rattle.server_core.specs.Settings.{SettingLists}
-use Rattle.server_core.specs.Register.{Device}
-use Rattle.server_core.specs.Hearing.{Decision, Refuse, Join, Open, Opening, copy_of, asked_by, decide}
-use Rattle.server_core.specs.Answers.{Waiting}
-use Rattle.server_core.specs.World.{World, hear_by, hear, ids}
-use Rattle.server_core.proofs.Numbers.{numbered_next, length-rewritten}
-use Rattle.server_core.proofs.Found.{found_there}
-use Rattle.server_core.proofs.Decided.{IsDecided, decided}
+use Rattle.server_desk.specs.declared.heard.Heard1.{Heard1}
+use Rattle.server_desk.specs.Settings.{SettingLists}
+use Rattle.server_desk.specs.Register.{Device}
+use Rattle.server_desk.specs.Hearing.{Decision, Refuse, Join, Open, Opening, copy_of, asked_by, decide}
+use Rattle.server_desk.specs.Answers.{Waiting}
+use Rattle.server_desk.specs.World.{World, ids}
+use Rattle.server_core.specs.Steps.{hear_by, hear}
+use Rattle.server_desk.specs.Numbers.{numbered_next, length-rewritten}
+use Rattle.server_desk.specs.Found.{found_there}
+use Rattle.server_desk.specs.Decided.{IsDecided, decided}
 use Rattle.server_core.proofs.Holds.{IsOfDevice, Holds, IsGood, IsGoodStep, unchanged, both_good}
 use Rattle.server_core.proofs.Served.{equal_where_tested, device_setting}
 use Rattle.server_core.proofs.Written.{with_device, device_written}

@@ -9,12 +9,15 @@ use Rattle.uplink_gather.specs.Gatherings.{Gathering, numbered}
 use Rattle.rx_windows.specs.declared.candidate.Candidate.{Candidate}
 use Rattle.rx_windows.specs.Laws.{IsWindowOf}
 use Rattle.answer_ticket.specs.Job.{Job, candidate_at}
-use Rattle.server_core.specs.declared.setting.DeviceSetting.{DeviceSetting}
-use Rattle.server_core.specs.Settings.{SettingLists}
-use Rattle.server_core.specs.Register.{Device, Asked}
-use Rattle.server_core.specs.Answers.{Answer, Open, Sent, known_of, is_not_given}
-use Rattle.server_core.specs.Taking.{plan_for}
-use Rattle.server_core.specs.World.{Gateway, World, Reply, Given, sent_for}
+use Rattle.server_desk.specs.declared.setting.DeviceSetting.{DeviceSetting}
+use Rattle.server_desk.specs.Settings.{SettingLists}
+use Rattle.server_desk.specs.declared.answers.Asked.{Asked}
+use Rattle.server_desk.specs.Register.{Device}
+use Rattle.server_desk.specs.declared.answers.Sent.{Sent}
+use Rattle.server_desk.specs.Answers.{Answer, Open, known_of, is_not_given}
+use Rattle.server_desk.specs.Taking.{plan_for}
+use Rattle.server_desk.specs.World.{Gateway, World}
+use Rattle.server_core.specs.Steps.{Reply, Given, sent_for}
 use Rattle.server_core.specs.Promise.{IsTaken, setting_of}
 
 -- a gathered uplink of the device with this place and setting: the address in its bytes is the device's

@@ -1,11 +1,7 @@
-pub mod Places
-pub mod Numbers
-pub mod Found
 pub mod Members
 pub mod Holds
 pub mod Written
 pub mod Gathered
-pub mod Decided
 pub mod Served
 pub mod QueueStep
 pub mod PassStep
@@ -20,17 +16,7 @@ pub mod TakeStep
 pub mod Opened
 pub mod Safe
 pub mod Runs
-mod SettingsLemmas
-pub mod OutLemmas
-pub mod CopyLemmas
 pub mod DeskSteps
-pub mod DeskLemmas
-pub mod AddrLemmas
-pub mod HearLemmas
-pub mod TakeLemmas
-pub mod SettleLemmas
-pub mod AirtimeLemmas
-pub mod OpeningLemmas
 pub mod Reached
 pub mod Ready
 pub mod Due

@@ -3,7 +3,7 @@ use Rattle.std.specs.Prelude.{ℕ, zero, suc, ◌≡◌, ◌≢◌, ◌⊎◌, �
 use Rattle.std.proofs.Common.{inl, inr, sym, ap, ◌∙◌, arith}
 use Rattle.resv_list.specs.Sorted.{RisesFrom, place_by}
 use Rattle.rx_windows.specs.RankLaws.{AllPairs-head, AllPairs-tail}
-use Rattle.server_core.proofs.Places.{some_inj, all_get}
+use Rattle.server_desk.specs.Places.{some_inj, all_get}
 
 module _ {X : Type 0} where
   -- a member of what is left of a list is one of the list

@@ -5,12 +5,12 @@ use Rattle.gateway_book.specs.BookLaws.{sound_empty}
 use Rattle.uplink_gather.specs.declared.limits.Limits.{Limits}
 use Rattle.uplink_gather.specs.Gatherings.{numbered}
 use Rattle.answer_ticket.specs.Job.{Job}
-use Rattle.server_core.specs.declared.setting.GatewaySetting.{GatewaySetting}
-use Rattle.server_core.specs.Settings.{SettingLists, AreSettings, IsGatewayInRange}
-use Rattle.server_core.specs.Register.{opened_device}
-use Rattle.server_core.specs.World.{Gateway, opened_gateway, opening}
+use Rattle.server_desk.specs.declared.setting.GatewaySetting.{GatewaySetting}
+use Rattle.server_desk.specs.Settings.{SettingLists, AreSettings, IsGatewayInRange}
+use Rattle.server_desk.specs.Register.{opened_device}
+use Rattle.server_desk.specs.World.{Gateway, opened_gateway, opening}
 use Rattle.server_core.specs.Promise.{setting_of}
-use Rattle.server_core.proofs.Places.{from_map, all_get}
+use Rattle.server_desk.specs.Places.{from_map, all_get}
 use Rattle.server_core.proofs.Holds.{IsInOrder, AllStand, Holds}
 
 map_back : {X Y : Type 0} (f : Y → X) (g : X → Y) → ((x : X) → f (g x) ≡ x) → (xs : List X) → map f (map g xs) ≡ xs

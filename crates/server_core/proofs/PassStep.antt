@@ -3,10 +3,11 @@ use Rattle.std.specs.Prelude.{ℕ, Bool, true, false, if◌then◌else◌, Optio
 use Rattle.std.proofs.Common.{sym}
 use Rattle.uplink_gather.specs.Gatherings.{Gathering, rewritten, is_open_at}
 use Rattle.answer_ticket.specs.Job.{Job}
-use Rattle.server_core.specs.Settings.{SettingLists}
-use Rattle.server_core.specs.Passing.{pass_answer, closing}
-use Rattle.server_core.specs.World.{World, pass}
-use Rattle.server_core.proofs.Numbers.{length-rewritten}
+use Rattle.server_desk.specs.Settings.{SettingLists}
+use Rattle.server_desk.specs.Passing.{pass_answer, closing}
+use Rattle.server_desk.specs.World.{World}
+use Rattle.server_core.specs.Steps.{pass}
+use Rattle.server_desk.specs.Numbers.{length-rewritten}
 use Rattle.server_core.proofs.Holds.{Holds, IsGood, IsGoodStep, unchanged}
 use Rattle.server_core.proofs.Gathered.{Grow-rewritten, gathered_grown}
 

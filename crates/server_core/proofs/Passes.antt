@@ -3,9 +3,10 @@ use Rattle.std.specs.Prelude.{ℕ, ◌≡◌, ◌<◌, List, [], ◌∷◌, ◌+
 use Rattle.std.proofs.Common.{ap, sym, ◌∙◌, subst, arith, append-nil}
 use Rattle.uplink_gather.specs.Gatherings.{Gatherings, close_step}
 use Rattle.server_core.specs.declared.event.Step.TheVariants as made
-use Rattle.server_core.specs.Passing.{pass_answer, closing}
-use Rattle.server_core.specs.Desk.{DeskView, desk_pass}
-use Rattle.server_core.specs.World.{World, Step, Pass, step}
+use Rattle.server_desk.specs.Passing.{pass_answer, closing}
+use Rattle.server_desk.specs.Desk.{DeskView, desk_pass}
+use Rattle.server_desk.specs.World.{World}
+use Rattle.server_core.specs.Steps.{Step, Pass, step}
 use Rattle.server_core.specs.Schedule.{reached, due_numbers, answer_steps, closing_steps, pass_steps}
 use Rattle.server_core.specs.Entries.{step_lines, entry_at, gateway_of}
 use Rattle.server_core.specs.Server.{Seen, IsAt, Goes, Makes, IsReady, IsIdle, AreHeard, with_step, ids_of, pass_whole}

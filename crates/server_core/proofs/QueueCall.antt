@@ -2,16 +2,17 @@
 use Rattle.std.specs.Prelude.{ℕ, ◌≡◌, ◌≢◌, List, [], ◌∷◌, Option, Some, None, Result, Ok, Err, IfOk, OnOk, OnErr, MatchResult, IsOkUnless, refl}
 use Rattle.std.proofs.Common.{ap, sym, ◌∙◌}
 use Rattle.answer_ticket.specs.Job.{Payload}
-use Rattle.server_core.specs.declared.faults.QueueFault.{QueueFault}
+use Rattle.server_desk.specs.declared.faults.QueueFault.{QueueFault}
 use Rattle.server_core.specs.declared.event.Step.TheVariants as made
 use Rattle.server_core.specs.declared.entry.Line.{Line}
-use Rattle.server_core.specs.Register.{Device, Register}
-use Rattle.server_core.specs.declared.faults.QueueFault.TheVariants as queues
-use Rattle.server_core.specs.Queueing.{queue_answer, after_queueing}
-use Rattle.server_core.specs.Register.{device_with}
-use Rattle.server_core.specs.Desk.{DeskView, desk_queue}
-use Rattle.server_core.specs.World.{World, Queue, step}
-use Rattle.server_core.specs.World as replies
+use Rattle.server_desk.specs.Register.{Device, Register}
+use Rattle.server_desk.specs.declared.faults.QueueFault.TheVariants as queues
+use Rattle.server_desk.specs.Queueing.{queue_answer, after_queueing}
+use Rattle.server_desk.specs.Register.{device_with}
+use Rattle.server_desk.specs.Desk.{DeskView, desk_queue}
+use Rattle.server_desk.specs.World.{World}
+use Rattle.server_core.specs.Steps.{Queue, step}
+use Rattle.server_core.specs.Steps as replies
 use Rattle.server_core.specs.Entries.{lines_for}
 use Rattle.server_core.specs.Server.{Seen, Makes, with_step, with_lines, IsReady, ids_of, queued_line}
 use Rattle.server_core.proofs.Going.{desk_step}

@@ -2,12 +2,13 @@
 use Rattle.std.specs.Prelude.{ℕ, ◌≡◌, ◌==◌, Option, Some, None, Result, Ok, Err, refl}
 use Rattle.std.proofs.Common.{arith}
 use Rattle.answer_ticket.specs.Job.{Job, Payload}
-use Rattle.server_core.specs.declared.faults.QueueFault.{QueueFault}
-use Rattle.server_core.specs.Settings.{SettingLists}
-use Rattle.server_core.specs.Register.{Device, device_with}
-use Rattle.server_core.specs.Queueing.{queue_answer, with_payload, after_queueing}
-use Rattle.server_core.specs.World.{World, queue}
-use Rattle.server_core.proofs.Found.{found_there}
+use Rattle.server_desk.specs.declared.faults.QueueFault.{QueueFault}
+use Rattle.server_desk.specs.Settings.{SettingLists}
+use Rattle.server_desk.specs.Register.{Device, device_with}
+use Rattle.server_desk.specs.Queueing.{queue_answer, with_payload, after_queueing}
+use Rattle.server_desk.specs.World.{World}
+use Rattle.server_core.specs.Steps.{queue}
+use Rattle.server_desk.specs.Found.{found_there}
 use Rattle.server_core.proofs.Holds.{Holds, IsGood, IsGoodStep, unchanged}
 use Rattle.server_core.proofs.Written.{device_written}
 

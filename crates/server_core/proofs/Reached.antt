@@ -2,7 +2,8 @@
 use Rattle.std.specs.Prelude.{◌≡◌, List, [], ◌∷◌, ◌++◌, refl}
 use Rattle.std.proofs.Common.{ap, sym, ◌∙◌, append_assoc, append-nil}
 use Rattle.server_core.specs.declared.entry.Line.{Line}
-use Rattle.server_core.specs.World.{World, Step, step, run_from}
+use Rattle.server_desk.specs.World.{World}
+use Rattle.server_core.specs.Steps.{Step, step, run_from}
 use Rattle.server_core.specs.Schedule.{reached}
 use Rattle.server_core.specs.Entries.{lines_for, step_lines}
 

@@ -11,18 +11,20 @@ use Rattle.uplink_gather.specs.declared.answers.Heard.{Heard}
 use Rattle.uplink_gather.specs.declared.answers.Heard.TheVariants.{Opened, Joined}
 use Rattle.uplink_gather.specs.Gatherings.{Gathering, Gatherings, numbered, rewritten, is_open_at, close_step}
 use Rattle.uplink_gather.specs.Hearing.{opening, with_copy, after_hearing, hear_answer}
-use Rattle.server_core.specs.declared.heard.Heard1.{Heard1}
+use Rattle.server_desk.specs.declared.heard.Heard1.{Heard1}
 use Rattle.server_core.specs.declared.event.Step.{Step as Made}
-use Rattle.server_core.specs.declared.faults.DeskFault.{DeskFault}
-use Rattle.server_core.specs.declared.faults.DeskFault.TheVariants.{UnknownGateway}
-use Rattle.server_core.specs.Register.{Register}
-use Rattle.server_core.specs.Hearing.{Decision, Refuse, Join, Open, copy_of, copy_fault, decide, decide_place, decide_copy, decide_frame, register_after}
-use Rattle.server_core.specs.Hearing as hearing
+use Rattle.server_desk.specs.declared.faults.DeskFault.{DeskFault}
+use Rattle.server_desk.specs.declared.faults.DeskFault.TheVariants.{UnknownGateway}
+use Rattle.server_desk.specs.Register.{Register}
+use Rattle.server_desk.specs.Hearing.{Decision, Refuse, Join, Open, copy_of, copy_fault, decide, decide_place, decide_copy, decide_frame, register_after}
+use Rattle.server_desk.specs.Hearing as hearing
 use Rattle.uplink_gather.specs.Hearing.{place_of}
-use Rattle.server_core.specs.Answers.{Known, NotGiven, is_given}
-use Rattle.server_core.specs.Desk.{known_after}
+use Rattle.server_desk.specs.declared.answers.Known.{Known}
+use Rattle.server_desk.specs.declared.answers.Known.TheVariants.{NotGiven}
+use Rattle.server_desk.specs.Answers.{is_given}
+use Rattle.server_desk.specs.Desk.{known_after}
 use Rattle.server_core.specs.Server.{Seen, with_step, IsIdle, AreHeard, IsReady, is_among, ids_of}
-use Rattle.server_core.proofs.Numbers.{numbered-append_cases, numbered_cases, rewritten-none}
+use Rattle.server_desk.specs.Numbers.{numbered-append_cases, numbered_cases, rewritten-none}
 
 -- it is ready still where its gateways, what was gathered and what is known of answers are the same
 pub ready_same : {A : Type 0} (s t : Seen A) → IsReady s → ids_of t.books ≡ ids_of s.books → t.desk.ids ≡ s.desk.ids → t.desk.reg.gathered ≡ s.desk.reg.gathered

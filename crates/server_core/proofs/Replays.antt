@@ -11,9 +11,10 @@ use Rattle.server_core.specs.declared.event.Event.{Event}
 use Rattle.server_core.specs.declared.event.Event.TheVariants as events
 use Rattle.server_core.specs.declared.entry.Entry.{Entry}
 use Rattle.server_core.specs.declared.entry.Line.TheVariants as says
-use Rattle.server_core.specs.Settings.{SettingLists, AreSettings}
-use Rattle.server_core.specs.Desk.{DeskView, desk_of}
-use Rattle.server_core.specs.World.{World, Gateway, Step, opened_gateway, opening}
+use Rattle.server_desk.specs.Settings.{SettingLists, AreSettings}
+use Rattle.server_desk.specs.Desk.{DeskView, desk_of}
+use Rattle.server_desk.specs.World.{World, Gateway, opened_gateway, opening}
+use Rattle.server_core.specs.Steps.{Step}
 use Rattle.server_core.specs.Schedule.{usual_limits, reached, event_steps, schedule_from, schedule, step_of}
 use Rattle.server_core.specs.Entries.{event_lines, entry_at, entries_from, entries, gateways_after, kept_gateway, gateway_of}
 use Rattle.server_core.specs.Server.{Seen, IsAt, Does, IsReady, IsIdle, AreHeard, IsOpened, with_lines, ids_of}

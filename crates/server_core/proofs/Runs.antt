@@ -5,10 +5,11 @@ use Rattle.std.proofs.lemmas.List.Elements.{All-nil, All-cons, All-weaker, Conta
 use Rattle.std.proofs.lemmas.List.Kept.{AllPairs-cons}
 use Rattle.uplink_gather.specs.declared.limits.Limits.{Limits}
 use Rattle.answer_ticket.specs.Job.{Job}
-use Rattle.server_core.specs.Settings.{SettingLists, AreSettings}
-use Rattle.server_core.specs.World.{World, Step, Queue, Hear, Pass, Take, Settle, Try, Cancel, Tick, Reply, Given, Run, step, run_from, run, opening}
+use Rattle.server_desk.specs.Settings.{SettingLists, AreSettings}
+use Rattle.server_desk.specs.World.{World, opening}
+use Rattle.server_core.specs.Steps.{Step, Queue, Hear, Pass, Take, Settle, Try, Cancel, Tick, Reply, Given, Run, step, run_from, run}
 use Rattle.server_core.specs.Promise.{HaveOwnCounters, with_given, jobs_given, IsSafe, EveryInterleavingIsSafe}
-use Rattle.server_core.proofs.Places.{get_contains}
+use Rattle.server_desk.specs.Places.{get_contains}
 use Rattle.server_core.proofs.Holds.{Holds, IsGivenAt, Follows, IsGoodStep, IsNew, IsUsed, UsesUp, given_after, Holds-weaker}
 use Rattle.server_core.proofs.Opened.{opened}
 use Rattle.server_core.proofs.QueueStep.{queue_good}

@@ -7,14 +7,15 @@ use Rattle.uplink_gather.specs.Gatherings.{numbered}
 use Rattle.rx_windows.specs.declared.plan.Plan.{Plan}
 use Rattle.rx_windows.specs.Windows.{rx1_of, rx2_of}
 use Rattle.answer_ticket.specs.Job.{Job, candidates}
-use Rattle.server_core.specs.declared.setting.DeviceSetting.{DeviceSetting}
-use Rattle.server_core.specs.Settings.{SettingLists, AreSettings}
-use Rattle.server_core.specs.Register.{Device}
-use Rattle.server_core.specs.Answers.{Sent}
-use Rattle.server_core.specs.Taking.{plan_for}
-use Rattle.server_core.specs.World.{Gateway, World, Run, sent_for}
+use Rattle.server_desk.specs.declared.setting.DeviceSetting.{DeviceSetting}
+use Rattle.server_desk.specs.Settings.{SettingLists, AreSettings}
+use Rattle.server_desk.specs.Register.{Device}
+use Rattle.server_desk.specs.declared.answers.Sent.{Sent}
+use Rattle.server_desk.specs.Taking.{plan_for}
+use Rattle.server_desk.specs.World.{Gateway, World}
+use Rattle.server_core.specs.Steps.{Run, sent_for}
 use Rattle.server_core.specs.Promise.{IsMember, IsOwnWindow, jobs_given}
-use Rattle.server_core.proofs.Places.{some_inj, from_map, get_contains}
+use Rattle.server_desk.specs.Places.{some_inj, from_map, get_contains}
 use Rattle.server_core.proofs.Members.{rises_once}
 use Rattle.server_core.proofs.Holds.{IsKept, Stands, Holds}
 use Rattle.server_core.proofs.Served.{one_gateway}

@@ -5,11 +5,14 @@ use Rattle.uplink_gather.specs.Gatherings.{numbered}
 use Rattle.answer_ticket.specs.declared.outcome.Ending.{Ending}
 use Rattle.answer_ticket.specs.declared.outcome.Ending.TheVariants.{Answered, Unanswered, GivenUp}
 use Rattle.answer_ticket.specs.Job.{Job}
-use Rattle.server_core.specs.Settings.{SettingLists}
-use Rattle.server_core.specs.Register.{Device, Asked, Register}
-use Rattle.server_core.specs.Answers.{Answer, Waiting, Open, Booked, Out, Settled, Sent}
-use Rattle.server_core.specs.Settling.{sent_of, has_carried, without_head, head_taken, delivered, after_settling}
-use Rattle.server_core.specs.World.{World, sent_for, settle_as, settle_of, settle}
+use Rattle.server_desk.specs.Settings.{SettingLists}
+use Rattle.server_desk.specs.declared.answers.Asked.{Asked}
+use Rattle.server_desk.specs.Register.{Device, Register}
+use Rattle.server_desk.specs.declared.answers.Sent.{Sent}
+use Rattle.server_desk.specs.Answers.{Answer, Waiting, Open, Booked, Out, Settled}
+use Rattle.server_desk.specs.Settling.{sent_of, has_carried, without_head, head_taken, delivered, after_settling}
+use Rattle.server_desk.specs.World.{World}
+use Rattle.server_core.specs.Steps.{sent_for, settle_as, settle_of, settle}
 use Rattle.server_core.proofs.Holds.{Holds, IsGood, IsGoodStep, unchanged, both_good}
 use Rattle.server_core.proofs.Written.{device_written, answer_written}
 

@@ -11,11 +11,13 @@ use Rattle.answer_ticket.specs.Ticket.{Standing}
 use Rattle.server_core.specs.declared.entry.Entry.{Entry}
 use Rattle.server_core.specs.declared.entry.Line.{Line}
 use Rattle.server_core.specs.declared.trying.Ended.{Ended}
-use Rattle.server_core.specs.Answers.{Answer, Open, Known, is_given}
-use Rattle.server_core.specs.Settling.{is_here, may_settle}
-use Rattle.server_core.specs.Desk.{DeskView, desk_of, desk_settled}
-use Rattle.server_core.specs.World.{World, Step, Try, Settle, step, known, settle_as, settle_of, ending_of}
-use Rattle.server_core.specs.World as replies
+use Rattle.server_desk.specs.declared.answers.Known.{Known}
+use Rattle.server_desk.specs.Answers.{Answer, Open, is_given}
+use Rattle.server_desk.specs.Settling.{is_here, may_settle}
+use Rattle.server_desk.specs.Desk.{DeskView, desk_of, desk_settled}
+use Rattle.server_desk.specs.World.{World, known}
+use Rattle.server_core.specs.Steps.{Step, Try, Settle, step, settle_as, settle_of, ending_of}
+use Rattle.server_core.specs.Steps as replies
 use Rattle.server_core.specs.Schedule.{reached, up_to_first, is_accepted, given_steps, step_of}
 use Rattle.server_core.specs.Entries.{lines_for, step_lines, entry_at, gateway_of}
 use Rattle.server_core.specs.Server.{Seen, IsAt, Goes, ids_of}

@@ -9,15 +9,17 @@ use Rattle.rx_windows.specs.Windows.{candidates_of}
 use Rattle.rx_windows.specs.Laws.{IsWindowOf}
 use Rattle.rx_windows.specs.WindowLaws.{on_gateways_that_heard, IsWindowOf-ranked}
 use Rattle.answer_ticket.specs.Job.{Job}
-use Rattle.server_core.specs.declared.setting.DeviceSetting.{DeviceSetting}
-use Rattle.server_core.specs.declared.faults.TakeFault.{TakeFault}
-use Rattle.server_core.specs.Settings.{SettingLists, AreSettings}
-use Rattle.server_core.specs.Register.{Device, Asked, Register}
-use Rattle.server_core.specs.Answers.{Waiting, Open, known_of, is_not_given}
-use Rattle.server_core.specs.Taking.{head, plan_for, job_of, take_answer, with_counter_given, counter_given, taken_from, after_taking}
-use Rattle.server_core.specs.World.{World, known, take_by, take}
-use Rattle.server_core.proofs.Places.{some_inj, get_set_same, all_get}
-use Rattle.server_core.proofs.Numbers.{numbered-here}
+use Rattle.server_desk.specs.declared.setting.DeviceSetting.{DeviceSetting}
+use Rattle.server_desk.specs.declared.faults.TakeFault.{TakeFault}
+use Rattle.server_desk.specs.Settings.{SettingLists, AreSettings}
+use Rattle.server_desk.specs.declared.answers.Asked.{Asked}
+use Rattle.server_desk.specs.Register.{Device, Register}
+use Rattle.server_desk.specs.Answers.{Waiting, Open, known_of, is_not_given}
+use Rattle.server_desk.specs.Taking.{head, plan_for, job_of, take_answer, with_counter_given, counter_given, taken_from, after_taking}
+use Rattle.server_desk.specs.World.{World, known}
+use Rattle.server_core.specs.Steps.{take_by, take}
+use Rattle.server_desk.specs.Places.{some_inj, get_set_same, all_get}
+use Rattle.server_desk.specs.Numbers.{numbered-here}
 use Rattle.server_core.proofs.Tickets.{IsTicket, ticket, still_waits}
 use Rattle.server_core.proofs.Holds.{IsOfDevice, IsJobFor, Holds, IsGivenAt, IsGood, IsGoodStep, IsNew, IsUsed, Holds-weaker, unchanged, both_good}
 use Rattle.server_core.proofs.Served.{device_setting, one_device}

@@ -6,11 +6,13 @@ use Rattle.gateway_book.specs.Book.{Book}
 use Rattle.gateway_book.specs.Step.{tick_step}
 use Rattle.server_core.specs.declared.event.Step.TheVariants as made
 use Rattle.server_core.specs.declared.entry.Line.TheVariants as says
-use Rattle.server_core.specs.World.{World, Gateway, Tick, After, step, gateway_with, tick_at}
-use Rattle.server_core.specs.World as replies
+use Rattle.server_desk.specs.World.{World, Gateway, gateway_with}
+use Rattle.server_core.specs.Steps.{Tick, After, step, tick_at}
+use Rattle.server_core.specs.Steps as replies
 use Rattle.server_core.specs.Entries.{lines_for, entry_at, gateway_of}
 use Rattle.server_core.specs.Server.{Seen, IsAt, Makes, IsReady, with_step, with_lines, ids_of}
-use Rattle.server_core.proofs.DeskSteps.{map-set_same, desk_calls_are_steps}
+use Rattle.server_desk.specs.Places.{map_set}
+use Rattle.server_core.proofs.DeskSteps.{desk_calls_are_steps}
 use Rattle.server_core.proofs.Going.{one_step}
 use Rattle.server_core.proofs.Ready.{ready_same}
 use Rattle.server_core.proofs.BookFound.{IsBookOf, book_found, no_book, same_book, book_written}
@@ -72,7 +74,7 @@ module _ {A : Type 0} (place : ℕ) (old mid new : Seen A) (gateway now : ℕ) (
     pub ticked_ready : IsReady old → IsReady new
     ticked_ready ready =
         ready_same old new ready
-        (ap (λ (s : Seen A). ids_of s.books) told ∙ map-set_same (λ (x : Book). x.id) mid.books i b.book after b.there (ap (λ (g : Gateway). g.id) ticked_is)
+        (ap (λ (s : Seen A). ids_of s.books) told ∙ map_set (λ (x : Book). x.id) mid.books i b.book after b.there (ap (λ (g : Gateway). g.id) ticked_is)
         ∙ ap (λ (s : Seen A). ids_of s.books) noted)
         (ap (λ (s : Seen A). s.desk.ids) told ∙ ap (λ (s : Seen A). s.desk.ids) noted)
         (ap (λ (s : Seen A). s.desk.reg.gathered) told ∙ ap (λ (s : Seen A). s.desk.reg.gathered) noted)

@@ -2,9 +2,10 @@
 use Rattle.std.specs.Prelude.{ℕ, ◌≡◌, ◌==◌, Option, Some, None, refl}
 use Rattle.gateway_book.specs.Step.{tick_step}
 use Rattle.answer_ticket.specs.Job.{Job}
-use Rattle.server_core.specs.Settings.{SettingLists}
-use Rattle.server_core.specs.World.{Gateway, World, gateway_with, tick_at, tick}
-use Rattle.server_core.proofs.Found.{found_there}
+use Rattle.server_desk.specs.Settings.{SettingLists}
+use Rattle.server_desk.specs.World.{Gateway, World, gateway_with}
+use Rattle.server_core.specs.Steps.{tick_at, tick}
+use Rattle.server_desk.specs.Found.{found_there}
 use Rattle.server_core.proofs.Holds.{IsInOrder, Holds, IsGoodStep, unchanged}
 use Rattle.server_core.proofs.Written.{gateway_written}
 

@@ -3,12 +3,14 @@ use Rattle.std.specs.Prelude.{ℕ, zero, suc, ◌≡◌, Bool, true, false, if�
 use Rattle.std.proofs.Common.{ap, ◌∙◌}
 use Rattle.uplink_gather.specs.Gatherings.{numbered, is_closed_at}
 use Rattle.answer_ticket.specs.Job.{Job}
-use Rattle.server_core.specs.declared.faults.TakeFault.{TakeFault}
-use Rattle.server_core.specs.declared.faults.TakeFault.TheVariants.{NotReady, Taken}
-use Rattle.server_core.specs.Register.{Device, Asked, Register}
-use Rattle.server_core.specs.Answers.{Answer, Waiting, Open, Booked, Out, Settled, Known, known_of, is_not_given}
-use Rattle.server_core.specs.Taking.{job_of, take_fault, given_or, take_by, take_known, take_answer}
-use Rattle.server_core.proofs.Places.{from_map}
+use Rattle.server_desk.specs.declared.faults.TakeFault.{TakeFault}
+use Rattle.server_desk.specs.declared.faults.TakeFault.TheVariants.{NotReady, Taken}
+use Rattle.server_desk.specs.declared.answers.Asked.{Asked}
+use Rattle.server_desk.specs.Register.{Device, Register}
+use Rattle.server_desk.specs.declared.answers.Known.{Known}
+use Rattle.server_desk.specs.Answers.{Answer, Waiting, Open, Booked, Out, Settled, known_of, is_not_given}
+use Rattle.server_desk.specs.Taking.{job_of, take_fault, given_or, take_by, take_known, take_answer}
+use Rattle.server_desk.specs.Places.{from_map}
 
 -- no ticket was given for it before, and the job is made of what is known of it and of its device
 pub record IsTicket (reg : Register) (known : List Known) (n : ℕ) (job : Job) : Type 0 where

@@ -7,10 +7,11 @@ use Rattle.answer_ticket.specs.Ticket.{Standing, candidate_of}
 use Rattle.answer_ticket.specs.Tried.{next_of}
 use Rattle.server_core.specs.declared.entry.Line.{Line}
 use Rattle.server_core.specs.declared.trying.Ended.{Ended}
-use Rattle.server_core.specs.Settling.{is_here}
-use Rattle.server_core.specs.Desk.{told}
-use Rattle.server_core.specs.World.{World, Step, Try, Settle, step}
-use Rattle.server_core.specs.World as replies
+use Rattle.server_desk.specs.Settling.{is_here}
+use Rattle.server_core.specs.DeskCalls.{told}
+use Rattle.server_desk.specs.World.{World}
+use Rattle.server_core.specs.Steps.{Step, Try, Settle, step}
+use Rattle.server_core.specs.Steps as replies
 use Rattle.server_core.specs.Schedule.{reached, step_of}
 use Rattle.server_core.specs.Entries.{lines_for, step_lines}
 use Rattle.server_core.specs.Server.{Seen, AreHere, ids_of}

@@ -9,11 +9,12 @@ use Rattle.gateway_book.specs.Step.{State, book_step}
 use Rattle.uplink_gather.specs.Gatherings.{numbered}
 use Rattle.rx_windows.specs.declared.candidate.Candidate.{Candidate}
 use Rattle.answer_ticket.specs.Job.{Job, candidate_at, ask_for}
-use Rattle.server_core.specs.Settings.{SettingLists}
-use Rattle.server_core.specs.Answers.{Answer, Waiting, Open, Booked, Out, Settled}
-use Rattle.server_core.specs.World.{Gateway, World, gateway_with, terms, sent_by, refused, tried_by, try_on, try_candidate, try_of, try}
-use Rattle.server_core.proofs.Numbers.{numbered-here}
-use Rattle.server_core.proofs.Found.{found_there}
+use Rattle.server_desk.specs.Settings.{SettingLists}
+use Rattle.server_desk.specs.Answers.{Answer, Waiting, Open, Booked, Out, Settled}
+use Rattle.server_desk.specs.World.{Gateway, World, gateway_with}
+use Rattle.server_core.specs.Steps.{terms, sent_by, refused, tried_by, try_on, try_candidate, try_of, try}
+use Rattle.server_desk.specs.Numbers.{numbered-here}
+use Rattle.server_desk.specs.Found.{found_there}
 use Rattle.server_core.proofs.Members.{IsIn, place_member}
 use Rattle.server_core.proofs.Holds.{IsJobFor, Stands, AllStand, Holds, IsGood, IsGoodStep, unchanged, both_good}
 use Rattle.server_core.proofs.Served.{equal_where_tested}

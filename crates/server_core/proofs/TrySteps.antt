@@ -23,19 +23,20 @@ use Rattle.server_core.specs.declared.event.Step.TheVariants as made
 use Rattle.server_core.specs.declared.entry.Line.{Line}
 use Rattle.server_core.specs.declared.entry.Line.TheVariants as says
 use Rattle.server_core.specs.declared.trying.Ended.{Ended}
-use Rattle.server_core.specs.Answers.{Answer, Open, Booked}
-use Rattle.server_core.specs.Register.{next_place}
-use Rattle.server_core.specs.Settling.{is_here}
-use Rattle.server_core.specs.Desk.{told}
-use Rattle.server_core.specs.World.{World, Gateway, Step, Try, Settle, After, step, gateway_with, ending_of, sent_by, refused}
-use Rattle.server_core.specs.World as replies
+use Rattle.server_desk.specs.Answers.{Answer, Open, Booked}
+use Rattle.server_desk.specs.Register.{next_place}
+use Rattle.server_desk.specs.Settling.{is_here}
+use Rattle.server_core.specs.DeskCalls.{told}
+use Rattle.server_desk.specs.World.{World, Gateway, gateway_with}
+use Rattle.server_core.specs.Steps.{Step, Try, Settle, After, step, ending_of, sent_by, refused}
+use Rattle.server_core.specs.Steps as replies
 use Rattle.server_core.specs.Schedule.{reached, up_to_first, is_accepted, step_of}
 use Rattle.server_core.specs.Entries.{sent_as, sent_lines, lines_for, step_lines, gateway_of}
 use Rattle.server_core.specs.Server.{Seen, AreHere, with_step, is_among, ids_of}
 use Rattle.server_core.specs.Turns.{IsOut, EndsTries, GoesOn, IsSame, AreTries, IsNext, tries_from, end_lines}
-use Rattle.server_core.proofs.Places.{some_inj}
-use Rattle.server_core.proofs.Numbers.{numbered-here}
-use Rattle.server_core.proofs.DeskSteps.{map-set_same}
+use Rattle.server_desk.specs.Places.{some_inj}
+use Rattle.server_desk.specs.Numbers.{numbered-here}
+use Rattle.server_desk.specs.Places.{map_set}
 use Rattle.server_core.proofs.Reached.{reached_one, lines_one}
 use Rattle.server_core.proofs.Served.{equal_where_tested}
 use Rattle.server_core.proofs.BookFound.{IsBookOf, book_found, same_book, book_written, no_book}
@@ -56,7 +57,7 @@ module _ {A : Type 0} (t : Standing) (old mid : Seen A) (gateway i : ℕ) (book 
   same_by e =
       record {
         desk = ap (λ (s : Seen A). s.desk) noted;
-        ids = map-set_same (λ (x : Book). x.id) mid.books i kept.book after kept.there (e ∙ ap (λ (x : Book). x.id) same_kept) ∙ ap (λ (s : Seen A). ids_of s.books) noted;
+        ids = map_set (λ (x : Book). x.id) mid.books i kept.book after kept.there (e ∙ ap (λ (x : Book). x.id) same_kept) ∙ ap (λ (s : Seen A). ids_of s.books) noted;
         outcomes = ap (λ (s : Seen A). s.outcomes) noted;
       }
 
@@ -75,7 +76,7 @@ module _ {A : Type 0} (t : Standing) (old mid : Seen A) (gateway i : ℕ) (book 
     -- the book is as it was
     same_gateways : after ≡ book → map gateway_of new.books ≡ w.gateways
     same_gateways e =
-        map-set_same gateway_of mid.books i kept.book after kept.there (ap gateway_of (e ∙ same_kept)) ∙ mid_gateways
+        map_set gateway_of mid.books i kept.book after kept.there (ap gateway_of (e ∙ same_kept)) ∙ mid_gateways
 
   module _ (c : Candidate) (at : candidate_of t ≡ Some c) (own : c.gateway ≡ gateway) where
     -- the candidate by its receipt

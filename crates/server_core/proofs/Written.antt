@@ -4,13 +4,15 @@ use Rattle.std.proofs.Common.{inl, inr, sym, ap, ◌∙◌, subst, arith}
 use Rattle.resv_list.specs.declared.reservation.Reservation.{Reservation}
 use Rattle.uplink_gather.specs.Gatherings.{numbered, rewritten}
 use Rattle.answer_ticket.specs.Job.{Job}
-use Rattle.server_core.specs.Settings.{SettingLists}
-use Rattle.server_core.specs.Register.{Device}
-use Rattle.server_core.specs.Answers.{Answer, Open, Sent, known_of, is_not_given}
-use Rattle.server_core.specs.World.{Gateway, World, sent_for}
+use Rattle.server_desk.specs.Settings.{SettingLists}
+use Rattle.server_desk.specs.Register.{Device}
+use Rattle.server_desk.specs.declared.answers.Sent.{Sent}
+use Rattle.server_desk.specs.Answers.{Answer, Open, known_of, is_not_given}
+use Rattle.server_desk.specs.World.{Gateway, World}
+use Rattle.server_core.specs.Steps.{sent_for}
 use Rattle.server_core.specs.Promise.{setting_of}
-use Rattle.server_core.proofs.Places.{get_set_cases, get_set_after, map_set}
-use Rattle.server_core.proofs.Numbers.{length-rewritten, numbered_after, numbered_cases}
+use Rattle.server_desk.specs.Places.{get_set_cases, get_set_after, map_set}
+use Rattle.server_desk.specs.Numbers.{length-rewritten, numbered_after, numbered_cases}
 use Rattle.server_core.proofs.Holds.{IsJobFor, IsKept, Stands, AllStand, IsInOrder, Holds, IsGivenAt, IsLater, IsGood, Follows-refl}
 
 module _ (settings : SettingLists) (T : Job → Type 0) (w : World) (h : Holds settings T w) where

@@ -5,16 +5,17 @@ use Rattle.uplink_gather.specs.Gatherings.{numbered}
 use Rattle.rx_windows.specs.declared.candidate.Candidate.{Candidate}
 use Rattle.answer_ticket.specs.declared.outcome.Ending.TheVariants as ends
 use Rattle.answer_ticket.specs.Job.{Job, candidate_at, frame_for}
-use Rattle.server_core.specs.declared.faults.TakeFault.{TakeFault}
-use Rattle.server_core.specs.declared.faults.TakeFault.TheVariants as takes
+use Rattle.server_desk.specs.declared.faults.TakeFault.{TakeFault}
+use Rattle.server_desk.specs.declared.faults.TakeFault.TheVariants as takes
 use Rattle.server_core.specs.declared.event.Event.{Event}
 use Rattle.server_core.specs.declared.event.Event.TheVariants as events
 use Rattle.server_core.specs.declared.entry.Entry.{Entry}
 use Rattle.server_core.specs.declared.entry.Line.{Line}
 use Rattle.server_core.specs.declared.entry.Line.TheVariants as says
-use Rattle.server_core.specs.Settings.{SettingLists}
-use Rattle.server_core.specs.Answers.{Answer, Open}
-use Rattle.server_core.specs.World.{World, Gateway, Step, Queue, Hear, Take, Settle, Try, Cancel, Tick, Reply, Queued, Heard, Given, Ended, Tried, Cancelled, Ticked, step, run, opening}
+use Rattle.server_desk.specs.Settings.{SettingLists}
+use Rattle.server_desk.specs.Answers.{Answer, Open}
+use Rattle.server_desk.specs.World.{World, Gateway, opening}
+use Rattle.server_core.specs.Steps.{Step, Queue, Hear, Take, Settle, Try, Cancel, Tick, Reply, Queued, Heard, Given, Ended, Tried, Cancelled, Ticked, step, run}
 use Rattle.server_core.specs.Schedule.{usual_limits, reached, event_steps, schedule}
 
 -- The lines that answer events, by the steps that one thread makes of them and the replies to these (docs/FORMATS.md,

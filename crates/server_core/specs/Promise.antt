@@ -9,11 +9,12 @@ use Rattle.uplink_gather.specs.Gatherings.{Gathering, numbered}
 use Rattle.rx_windows.specs.declared.candidate.Candidate.{Candidate}
 use Rattle.rx_windows.specs.Windows.{rx1_of, rx2_of}
 use Rattle.answer_ticket.specs.Job.{Job, candidates}
-use Rattle.server_core.specs.declared.setting.GatewaySetting.{GatewaySetting}
-use Rattle.server_core.specs.Settings.{SettingLists, AreSettings}
-use Rattle.server_core.specs.Register.{Device}
-use Rattle.server_core.specs.Taking.{plan_for}
-use Rattle.server_core.specs.World.{Gateway, World, Step, Reply, Given, Run, run}
+use Rattle.server_desk.specs.declared.setting.GatewaySetting.{GatewaySetting}
+use Rattle.server_desk.specs.Settings.{SettingLists, AreSettings}
+use Rattle.server_desk.specs.Register.{Device}
+use Rattle.server_desk.specs.Taking.{plan_for}
+use Rattle.server_desk.specs.World.{Gateway, World}
+use Rattle.server_core.specs.Steps.{Step, Reply, Given, Run, run}
 
 -- What holds after every list of steps: over every interleaving each gathered uplink holds at most one reservation, in its
 -- own RX1 or RX2 on a gateway that heard it, every gateway's list is lawful, and no downlink counter is given twice.

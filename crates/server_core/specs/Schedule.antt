@@ -9,8 +9,9 @@ use Rattle.server_core.specs.declared.event.Event.{Event}
 use Rattle.server_core.specs.declared.event.Event.TheVariants as events
 use Rattle.server_core.specs.declared.event.Step.{Step as Made}
 use Rattle.server_core.specs.declared.event.Step.TheVariants as made
-use Rattle.server_core.specs.Settings.{SettingLists}
-use Rattle.server_core.specs.World.{World, Step, Queue, Hear, Pass, Take, Settle, Try, Cancel, Tick, Reply, Given, Gateway, gateway_with, terms, step, run_from, opening}
+use Rattle.server_desk.specs.Settings.{SettingLists}
+use Rattle.server_desk.specs.World.{World, Gateway, gateway_with, opening}
+use Rattle.server_core.specs.Steps.{Step, Queue, Hear, Pass, Take, Settle, Try, Cancel, Tick, Reply, Given, terms, step, run_from}
 
 -- The steps that one thread makes of events, after this project's profile: all gatherings that are due are closed one by
 -- one, the least number first, and each is answered before the next is closed.

@@ -12,14 +12,16 @@ use Rattle.server_core.specs.declared.event.Step.{Step as Made}
 use Rattle.server_core.specs.declared.entry.Entry.{Entry}
 use Rattle.server_core.specs.declared.entry.Line.{Line}
 use Rattle.server_core.specs.declared.entry.Line.TheVariants as says
-use Rattle.server_core.specs.declared.heard.DeskHeard.{DeskHeard}
-use Rattle.server_core.specs.declared.faults.QueueFault.{QueueFault}
-use Rattle.server_core.specs.declared.faults.DeskFault.{DeskFault}
-use Rattle.server_core.specs.Settings.{SettingLists, AreSettings}
-use Rattle.server_core.specs.Answers.{Known, is_given}
-use Rattle.server_core.specs.Desk.{DeskView, desk_of}
-use Rattle.server_core.specs.World.{World, Step, Cancel, step, opening}
-use Rattle.server_core.specs.World as replies
+use Rattle.server_desk.specs.declared.heard.DeskHeard.{DeskHeard}
+use Rattle.server_desk.specs.declared.faults.QueueFault.{QueueFault}
+use Rattle.server_desk.specs.declared.faults.DeskFault.{DeskFault}
+use Rattle.server_desk.specs.Settings.{SettingLists, AreSettings}
+use Rattle.server_desk.specs.declared.answers.Known.{Known}
+use Rattle.server_desk.specs.Answers.{is_given}
+use Rattle.server_desk.specs.Desk.{DeskView, desk_of}
+use Rattle.server_desk.specs.World.{World, opening}
+use Rattle.server_core.specs.Steps.{Step, Cancel, step}
+use Rattle.server_core.specs.Steps as replies
 use Rattle.server_core.specs.Schedule.{usual_limits, reached, due_numbers, pass_steps, event_steps, step_of}
 use Rattle.server_core.specs.Entries.{step_lines, event_lines, entry_at, gateway_of}
 

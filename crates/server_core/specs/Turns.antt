@@ -11,11 +11,15 @@ use Rattle.server_core.specs.declared.trying.Turn.{Turn}
 use Rattle.server_core.specs.declared.trying.Turn.TheVariants.{Over, On}
 use Rattle.server_core.specs.declared.entry.Line.{Line}
 use Rattle.server_core.specs.declared.entry.Line.TheVariants as says
-use Rattle.server_core.specs.Answers.{Known, Given, Open}
-use Rattle.server_core.specs.Settling.{is_here}
-use Rattle.server_core.specs.Desk.{told, desk_settled}
-use Rattle.server_core.specs.World.{World, Step, Settle, Try, step}
-use Rattle.server_core.specs.World as replies
+use Rattle.server_desk.specs.declared.answers.Known.{Known}
+use Rattle.server_desk.specs.declared.answers.Known.TheVariants.{Given}
+use Rattle.server_desk.specs.Answers.{Open}
+use Rattle.server_desk.specs.Settling.{is_here}
+use Rattle.server_desk.specs.Desk.{desk_settled}
+use Rattle.server_core.specs.DeskCalls.{told}
+use Rattle.server_desk.specs.World.{World}
+use Rattle.server_core.specs.Steps.{Step, Settle, Try, step}
+use Rattle.server_core.specs.Steps as replies
 use Rattle.server_core.specs.Schedule.{reached, up_to_first, is_accepted, given_steps, step_of}
 use Rattle.server_core.specs.Entries.{lines_for, step_lines, entry_at, gateway_of}
 use Rattle.server_core.specs.Server.{Seen, IsAt, Goes, ids_of}

@@ -1,7 +1,7 @@
 // An uplink is answered, once.
 
 ghost use Rattle.std.specs.Prelude.{◌≡◌, OnOk, IsTrue};
-ghost use Rattle.server_core.specs.Settling.{may_settle};
+ghost use Rattle.server_desk.specs.Settling.{may_settle};
 ghost use Rattle.server_core.specs.Schedule.{answer_steps};
 ghost use Rattle.server_core.specs.Server.{seen, with_lines, Makes, AreHere, IsReady, ids_of};
 ghost use Rattle.server_core.specs.Turns.{end_lines, IsSettled, IsGivenTo, IsAnswered};

@@ -2,8 +2,8 @@
 
 ghost use Rattle.std.specs.Prelude.{◌≡◌, map, All, IfOk};
 ghost use Rattle.std.specs.Option.{option_map};
-ghost use Rattle.server_core.specs.Settings.{IsGatewayInRange};
-ghost use Rattle.server_core.specs.World.{opened_gateway, gateway_with};
+ghost use Rattle.server_desk.specs.Settings.{IsGatewayInRange};
+ghost use Rattle.server_desk.specs.World.{opened_gateway, gateway_with};
 ghost use Rattle.server_core.specs.Entries.{gateway_of};
 
 use crate::GatewaySetting;

@@ -1,7 +1,7 @@
 // The events that are one step each.
 
 ghost use Rattle.std.specs.Prelude.{◌≡◌, ◌∷◌, [], OnOk};
-ghost use Rattle.server_core.specs.World.{Queue, Hear, Tick, Cancel};
+ghost use Rattle.server_core.specs.Steps.{Queue, Hear, Tick, Cancel};
 ghost use Rattle.server_core.specs.Server.{seen, Makes, IsReady, IsCancelled};
 
 use crate::books::place_of;

@@ -1,6 +1,6 @@
 // What the definitions of the whole system mean together, as laws: a function's contract is the statement.
 
-ghost use Rattle.server_core.specs.Desk.{DeskCallsAreSteps};
+ghost use Rattle.server_core.specs.DeskCalls.{DeskCallsAreSteps};
 ghost use Rattle.server_core.specs.Promise.{EveryInterleavingIsSafe};
 
 /// What holds over every interleaving. A step is what happens in one holding of one lock: a payload is queued, a copy

@@ -2,8 +2,8 @@
 use Rattle.std.specs.Prelude.{ℕ, ◌≡◌, Bool, true, false, if◌then◌else◌, slice_get, Option, Some, None, Ok, Err}
 use Rattle.uplink_gather.specs.Gatherings.{numbered, is_closed_at}
 use Rattle.answer_ticket.specs.Job.{Job}
-use Rattle.server_core.specs.declared.faults.TakeFault.{TakeFault}
-use Rattle.server_core.specs.declared.faults.TakeFault.TheVariants.{NotReady, Taken}
+use Rattle.server_desk.specs.declared.faults.TakeFault.{TakeFault}
+use Rattle.server_desk.specs.declared.faults.TakeFault.TheVariants.{NotReady, Taken}
 use Rattle.server_core.specs.Answers.{is_not_given}
 use Rattle.server_core.specs.Desk.{DeskView}
 use Rattle.server_core.specs.Register.{Device}

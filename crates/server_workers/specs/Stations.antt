@@ -9,15 +9,15 @@ use Rattle.rx_windows.specs.declared.candidate.Candidate.{Candidate}
 use Rattle.answer_ticket.specs.Job.{Job, Payload}
 use Rattle.answer_ticket.specs.Ticket.{Standing, candidate_of}
 use Rattle.answer_ticket.specs.Tried.{TriedIs}
-use Rattle.server_core.specs.declared.setting.GatewaySetting.{GatewaySetting}
-use Rattle.server_core.specs.declared.heard.Heard1.{Heard1}
-use Rattle.server_core.specs.declared.heard.DeskHeard.{DeskHeard}
-use Rattle.server_core.specs.declared.faults.QueueFault.{QueueFault}
-use Rattle.server_core.specs.declared.faults.QueueFault.TheVariants as queueing
-use Rattle.server_core.specs.declared.faults.DeskFault.{DeskFault}
-use Rattle.server_core.specs.declared.faults.DeskFault.TheVariants as hearing
-use Rattle.server_core.specs.declared.faults.TakeFault.{TakeFault}
-use Rattle.server_core.specs.declared.faults.TakeFault.TheVariants as taking
+use Rattle.server_desk.specs.declared.setting.GatewaySetting.{GatewaySetting}
+use Rattle.server_desk.specs.declared.heard.Heard1.{Heard1}
+use Rattle.server_desk.specs.declared.heard.DeskHeard.{DeskHeard}
+use Rattle.server_desk.specs.declared.faults.QueueFault.{QueueFault}
+use Rattle.server_desk.specs.declared.faults.QueueFault.TheVariants as queueing
+use Rattle.server_desk.specs.declared.faults.DeskFault.{DeskFault}
+use Rattle.server_desk.specs.declared.faults.DeskFault.TheVariants as hearing
+use Rattle.server_desk.specs.declared.faults.TakeFault.{TakeFault}
+use Rattle.server_desk.specs.declared.faults.TakeFault.TheVariants as taking
 use Rattle.server_core.specs.Desk.{DeskView}
 use Rattle.server_core.specs.Queueing.{queue_answer}
 use Rattle.server_core.specs.Hearing.{decide, answer_to}

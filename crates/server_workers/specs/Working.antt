@@ -1,8 +1,8 @@
 use Rattle.std.specs.Prelude.{ℕ, ◌≡◌, ◌≤◌, Bool, true, false, if◌then◌else◌, List, [], ◌∷◌, ◌++◌, Option, Some, None}
 use Rattle.answer_ticket.specs.declared.outcome.Outcome.{Outcome}
 use Rattle.answer_ticket.specs.declared.tried.Receipt.{Receipt}
-use Rattle.server_core.specs.declared.faults.TakeFault.{TakeFault}
-use Rattle.server_core.specs.declared.faults.TakeFault.TheVariants as taking
+use Rattle.server_desk.specs.declared.faults.TakeFault.{TakeFault}
+use Rattle.server_desk.specs.declared.faults.TakeFault.TheVariants as taking
 use Rattle.server_workers.specs.declared.turn.Turn.{Turn}
 use Rattle.server_workers.specs.declared.turn.Turn.TheVariants.{NotTaken, Settled, Stray}
 use Rattle.server_workers.specs.declared.worked.Worked.{Worked}

@@ -1,7 +1,7 @@
 use Rattle.std.specs.Prelude.{ℕ, List, codes}
 use Rattle.settings_text.specs.declared.settings_fault.ReadFault.{ReadFault}
 use Rattle.settings_text.specs.declared.settings_fault.ReadFault.TheVariants.{NotToml, Missing, Kind, Checked, NoMemory}
-use Rattle.server_core.specs.SettingsFault as refused
+use Rattle.server_desk.specs.SettingsFault as refused
 
 -- the name that a program prints: for settings that were refused that of their own fault
 abbrev pub name_of : ReadFault → List ℕ

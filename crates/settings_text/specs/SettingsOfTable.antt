@@ -2,10 +2,10 @@ use Rattle.std.specs.Prelude.{ℕ, List, [], ◌∷◌, codes, Option, Some, Non
 use Rattle.std.specs.Option.{ok_or}
 use Rattle.toml.specs.Data.{Data, array, table, Items, no_items, item, Members, get_member}
 use Rattle.toml.specs.Parse.{parse_document}
-use Rattle.server_core.specs.declared.setting.GatewaySetting.{GatewaySetting}
-use Rattle.server_core.specs.declared.setting.DeviceSetting.{DeviceSetting}
-use Rattle.server_core.specs.declared.settings_fault.SettingsFault.{SettingsFault}
-use Rattle.server_core.specs.Settings.{SettingLists, settings_fault}
+use Rattle.server_desk.specs.declared.setting.GatewaySetting.{GatewaySetting}
+use Rattle.server_desk.specs.declared.setting.DeviceSetting.{DeviceSetting}
+use Rattle.server_desk.specs.declared.settings_fault.SettingsFault.{SettingsFault}
+use Rattle.server_desk.specs.Settings.{SettingLists, settings_fault}
 use Rattle.settings_text.specs.declared.settings_fault.ReadFault.{ReadFault}
 use Rattle.settings_text.specs.declared.settings_fault.ReadFault.TheVariants.{NotToml, Kind, Checked}
 use Rattle.settings_text.specs.SettingsFields.{said_or, id_of, cap_of, addr_of, nwk_of, app_of, delay_of, offset_of, rx2_freq_of, rx2_rate_of, up_of, down_of, ◌>>=◌}

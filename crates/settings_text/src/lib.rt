@@ -5,6 +5,6 @@ mod settings_fault;
 mod settings_fields;
 mod settings_reading;
 
-pub use server_core::{DataRate, DeviceSetting, GatewaySetting, Settings, SettingsFault};
+pub use server_desk::{DataRate, DeviceSetting, GatewaySetting, Settings, SettingsFault};
 pub use settings_fault::ReadFault;
 pub use settings_reading::read_settings;

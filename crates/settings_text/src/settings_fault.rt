@@ -1,7 +1,7 @@
 // Why a text gives no settings.
 ghost use Rattle.std.specs.Prelude.{◌≡◌};
 
-use server_core::SettingsFault;
+use server_desk::SettingsFault;
 use thiserror::Error;
 
 /// Why a text gives no settings.

@@ -8,7 +8,7 @@ ghost use Rattle.settings_text.specs.SettingsFields as fields;
 
 use crate::ReadFault;
 use hex::FromHex;
-use server_core::DataRate;
+use server_desk::DataRate;
 use text_words::numbered_rate;
 use toml::{Table, Value};
 

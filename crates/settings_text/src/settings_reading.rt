@@ -11,7 +11,7 @@ use crate::settings_fields::{
     addr_of, app_of, cap_of, delay_of, down_of, id_of, nwk_of, offset_of, rx2_freq_of, rx2_rate_of,
     up_of, value_at,
 };
-use server_core::{DeviceSetting, GatewaySetting, Settings};
+use server_desk::{DeviceSetting, GatewaySetting, Settings};
 use std::alloc::Global;
 use toml::{Table, Value};
 

@@ -1,6 +1,6 @@
 // Settings, desks of them, and a desk's calls.
 
-use server_core::{
+use server_desk::{
     Desk, DeskFault, DeskHeard, DeviceSetting, GatewaySetting, Heard1, Limits, QueueFault, Settings,
 };
 use std::alloc::Global;

@@ -1,6 +1,6 @@
 // Devices as they are set.
 
-use server_core::{DataRate, DeviceSetting};
+use server_desk::{DataRate, DeviceSetting};
 
 /// The key of the network session.
 pub const NWK: [u8; 16] = [

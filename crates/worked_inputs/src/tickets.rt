@@ -3,7 +3,7 @@
 use crate::{WorkedBook, WorkedDesk};
 use answer_ticket::{Outcome, Receipt, Stub, Ticket, Tried};
 use gateway_book::Refusal;
-use server_core::TakeFault;
+use server_desk::TakeFault;
 use std::alloc::{Allocator, Global};
 
 /// The ticket for the uplink with this number.

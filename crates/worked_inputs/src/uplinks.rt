@@ -2,7 +2,7 @@
 
 use crate::{APP, NWK};
 use lora_frame::{Key, Keys, Up, uplink_bytes};
-use server_core::Heard1;
+use server_desk::Heard1;
 use std::alloc::Global;
 use std::test::Fail;
 

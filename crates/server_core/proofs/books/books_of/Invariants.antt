@@ -1,5 +1,5 @@
 use Rattle.std.proofs.Common.{◌≡◌, map, take}
-use Rattle.server_core.specs.World.{opened_gateway}
+use Rattle.server_desk.specs.World.{opened_gateway}
 use Rattle.server_core.specs.Entries.{gateway_of}
 use Rattle.server_core.proofs.books.books_of.Given as goal
 

@@ -1,6 +1,6 @@
 use Rattle.std.proofs.Common.{◌≡◌, ◌+◌, map, drop}
 use Rattle.std.specs.Option.{option_map}
-use Rattle.server_core.specs.World.{gateway_with}
+use Rattle.server_desk.specs.World.{gateway_with}
 use Rattle.server_core.specs.Entries.{gateway_of}
 use Rattle.server_core.proofs.books.place_of.Given as goal
 

@@ -1,6 +1,6 @@
 use Rattle.std.proofs.Common.{ap, ◌∙◌, ◌≡◌, subst, sym, All, Some}
 use Rattle.std.specs.List.{insert}
-use Rattle.server_core.specs.declared.setting.GatewaySetting.{GatewaySetting}
+use Rattle.server_desk.specs.declared.setting.GatewaySetting.{GatewaySetting}
 use Rattle.server_core.specs.Settings.{IsGatewayInRange}
 use Rattle.server_workers.specs.Stations.{put_in_order}
 use Rattle.server_workers.proofs.Ordered.{placed_none, placed_more}

@@ -1,5 +1,5 @@
 use Rattle.std.proofs.Common.{◌≡◌, All, map}
-use Rattle.server_core.specs.declared.setting.GatewaySetting.{GatewaySetting}
+use Rattle.server_desk.specs.declared.setting.GatewaySetting.{GatewaySetting}
 use Rattle.server_core.specs.Settings.{IsGatewayInRange}
 use Rattle.server_workers.specs.Stations.{ids_of}
 use Rattle.server_workers.proofs.Ordered.{put_all}

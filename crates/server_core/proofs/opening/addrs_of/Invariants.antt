@@ -1,5 +1,0 @@
-use Rattle.std.proofs.Common.{◌≡◌, map, take}
-use Rattle.server_core.proofs.opening.addrs_of.Given as goal
-
-abbrev pub invariant-loop-device : goal.invariant-loop-device
-invariant-loop-device g l = l.addrs.keys ≡ map (λ d. d.addr) (take l.device-index l.devices)

@@ -1,8 +1,0 @@
-use Rattle.std.proofs.Common.{◌≡◌, false, map, take, All}
-use Rattle.server_core.specs.Register.{opened_device}
-use Rattle.server_core.specs.Kept.{shown}
-use Rattle.server_core.proofs.opening.devices_of.Given as goal
-
-abbrev pub invariant-loop-device : goal.invariant-loop-device
-invariant-loop-device g l =
-    (map shown l.kepts.items ≡ map opened_device (take l.device-index l.devices)) × All (λ k. k.out ≡ false) l.kepts.items

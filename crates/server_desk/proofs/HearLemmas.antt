@@ -1,0 +1,394 @@
+-- A copy of an uplink, as the desk hears it.
+use Rattle.std.specs.Prelude.{ℕ, ◌≡◌, ◌+◌, ◌^◌, ◌<◌, ◌≤◌, nat_lt, nat_le, ◌==◌, Bool, true, false, not, ◌||◌, if◌then◌else◌, ⊤, is_some, List, [], ◌∷◌, ◌++◌, map, length, All, slice_get, slice_set, get_or, Option, Some, None, Result, Ok, Err, IfOk, OnErr, MatchResult, IsOkUnless, refl}
+use Rattle.std.specs.Option.{option_map}
+use Rattle.std.proofs.Common.{sym, ap, ◌∙◌, subst, arith, length-append}
+use Rattle.std.specs.List.{list_any}
+use Rattle.std.proofs.lemmas.Bool.Decides.{nat_tests}
+use Rattle.radio_bands.specs.Band.{band_of}
+use Rattle.rx_windows.specs.Windows.{rate_numbered}
+use Rattle.lora_frame.specs.declared.reading.Uplink.{Uplink}
+use Rattle.lora_frame.specs.declared.reading.FrameFault.{FrameFault}
+use Rattle.lora_frame.specs.Reading.{addr_of, uplink_of, has_mic}
+use Rattle.lora_frame.specs.Counter.{inferred_counter}
+use Rattle.uplink_gather.specs.declared.heard.HeardCopy.{HeardCopy}
+use Rattle.uplink_gather.specs.declared.answers.Heard.{Heard}
+use Rattle.uplink_gather.specs.declared.answers.Heard.TheVariants as gathers
+use Rattle.uplink_gather.specs.declared.fault.HearFault.{HearFault}
+use Rattle.uplink_gather.specs.declared.fault.HearFault.TheVariants as gathering
+use Rattle.uplink_gather.specs.declared.answers.Place.{Place}
+use Rattle.uplink_gather.specs.declared.answers.Place.TheVariants.{Joins, Opens}
+use Rattle.uplink_gather.specs.Gatherings.{Gatherings}
+use Rattle.uplink_gather.specs.Hearing.{place_of, is_crowded, answer_at, hear_answer, after_hearing, with_copy, hear_step}
+use Rattle.server_desk.specs.declared.device.Kept.{Kept}
+use Rattle.server_desk.specs.declared.answers.Known.{Known}
+use Rattle.server_desk.specs.declared.answers.Known.TheVariants.{NotGiven}
+use Rattle.server_desk.specs.declared.verdict.NewUplink.{NewUplink}
+use Rattle.server_desk.specs.declared.verdict.Verdict.TheVariants as says
+use Rattle.server_desk.specs.declared.heard.Heard1.{Heard1}
+use Rattle.server_desk.specs.declared.heard.DeskHeard.{DeskHeard}
+use Rattle.server_desk.specs.declared.heard.DeskHeard.TheVariants.{Opened}
+use Rattle.server_desk.specs.declared.faults.DeskFault.{DeskFault}
+use Rattle.server_desk.specs.declared.faults.DeskFault.TheVariants.{Frame, UnknownGateway, NoRate, NoBand, Moment, BadMic, Crowded, NoMemory}
+use Rattle.server_desk.specs.Register.{Device, Asked, Register, device_with}
+use Rattle.server_desk.specs.Hearing.{last_moment, Decision, Refuse, Join, Open, Opening, copy_fault, copy_of, named_fault, decide_room, decide_mic, decide_device, decide_place, decide_copy, decide_frame, decide, is_last, answer_to, asked_by}
+use Rattle.server_desk.specs.Kept.{shown, outs, IsServable, IsGathered, AreOut, IsDesk, verdict_of, desk_answer}
+use Rattle.server_desk.specs.Desk.{DeskView, desk_hear, known_after}
+use Rattle.server_desk.specs.Hearing as hearing
+use Rattle.std.proofs.lemmas.List.{length-map}
+use Rattle.std.proofs.lemmas.List.Elements.{All-push}
+use Rattle.server_desk.specs.Places.{some_inj, length-set}
+use Rattle.server_desk.specs.Numbers.{length-rewritten}
+use Rattle.server_desk.specs.Found.{found_there}
+use Rattle.server_desk.specs.Decided.{IsDecided, decided, read_same}
+use Rattle.server_desk.specs.Numbers.{map-set}
+use Rattle.server_desk.proofs.OutLemmas.{count_push}
+use Rattle.server_desk.proofs.CopyLemmas.{all_heard}
+use Rattle.server_desk.proofs.DeskLemmas.{seen, found_within, kept_at, queued_holds}
+
+-- the desk's answer follows from that of the gatherings
+memory : (repeat : Bool) (r : Result Heard HearFault) → IsOkUnless r gathering.NoMemory → IsOkUnless (desk_answer repeat r) NoMemory
+memory repeat (Ok (gathers.Opened n)) h = tt
+memory repeat (Ok (gathers.Joined n copies)) h = tt
+memory repeat (Err fault) h = ap named_fault h
+
+answered_by : (repeat : Bool) (a r : Result Heard HearFault) → MatchResult a (λ _. IsOkUnless r gathering.NoMemory) (λ fault. r ≡ Err fault)
+    → MatchResult (desk_answer repeat a) (λ _. IsOkUnless (desk_answer repeat r) NoMemory) (λ fault. desk_answer repeat r ≡ Err fault)
+answered_by repeat (Ok (gathers.Opened n)) r h = memory repeat r h
+answered_by repeat (Ok (gathers.Joined n copies)) r h = memory repeat r h
+answered_by repeat (Err fault) r h = ap (desk_answer repeat) h
+
+told_by : (repeat : Bool) (a r : Result Heard HearFault) → IfOk r (λ heard. a ≡ Ok heard) → IfOk (desk_answer repeat r) (λ told. desk_answer repeat a ≡ Ok told)
+told_by repeat a (Ok (gathers.Opened n)) h = ap (desk_answer repeat) h
+told_by repeat a (Ok (gathers.Joined n copies)) h = ap (desk_answer repeat) h
+told_by repeat a (Err fault) h = tt
+
+module _ (answer x : Result DeskHeard DeskFault) (repeat : Bool) (a r : Result Heard HearFault) (e : answer ≡ desk_answer repeat a) (q : x ≡ desk_answer repeat r) where
+  pub answered : MatchResult a (λ _. IsOkUnless r gathering.NoMemory) (λ fault. r ≡ Err fault)
+      → MatchResult answer (λ _. IsOkUnless x NoMemory) (λ fault. x ≡ Err fault)
+  answered h =
+      let P : Result DeskHeard DeskFault → Type 0 = λ y. MatchResult y (λ _. IsOkUnless x NoMemory) (λ fault. x ≡ Err fault) in
+      let Q : Result DeskHeard DeskFault → Type 0 = λ y. MatchResult (desk_answer repeat a) (λ _. IsOkUnless y NoMemory) (λ fault. y ≡ Err fault) in
+      subst P (sym e) (subst Q (sym q) (answered_by repeat a r h))
+
+  pub told : IfOk r (λ heard. a ≡ Ok heard) → IfOk x (λ told. answer ≡ Ok told)
+  told h =
+      let P : Result DeskHeard DeskFault → Type 0 = λ y. IfOk x (λ told. y ≡ Ok told) in
+      let Q : Result DeskHeard DeskFault → Type 0 = λ y. IfOk y (λ told. desk_answer repeat a ≡ Ok told) in
+      subst P (sym e) (subst Q (sym q) (told_by repeat a r h))
+
+-- where the desk's answer is a fault, the gathering's was one
+pub was_fault : (P : Type 0) (repeat : Bool) (r : Result Heard HearFault) (fault : DeskFault) → desk_answer repeat r ≡ Err fault → OnErr r P → P
+was_fault P repeat (Ok (gathers.Opened n)) fault e h = absurd (cc)
+was_fault P repeat (Ok (gathers.Joined n copies)) fault e h = absurd (cc)
+was_fault P repeat (Err f) fault e h = h
+
+-- which decision a verdict tells
+is_join : (bytes : List ℕ) (d : Decision) → verdict_of bytes d ≡ says.Join → (n : ℕ) × (d ≡ Join n)
+is_join bytes (Refuse fault) e = absurd (cc)
+is_join bytes (Join n) e = (n, refl)
+is_join bytes (Open o) e = absurd (cc)
+
+-- where gatherings aren't crowded, fewer were opened than may be
+room_left : (g : Gatherings) (full ever : Bool) → (full || ever) ≡ false → nat_le g.limits.max_ever (length g.list) ≡ ever → length g.list < g.limits.max_ever
+room_left g true ever e q = absurd (cc)
+room_left g false true e q = absurd (cc)
+room_left g false false e q = grind (arith, nat_tests, q)
+
+record IsNew (bytes : List ℕ) (d : Decision) (new : NewUplink) : Type 0 where
+  pub opening : Opening
+  pub decided_so : d ≡ Open opening
+  pub is : record { counter = opening.counter; repeat = is_last opening.device opening.counter; asked = asked_by opening bytes } ≡ new
+
+open_same : (u v : NewUplink) → says.Open u ≡ says.Open v → u ≡ v
+open_same u v e = cc
+
+is_open : (bytes : List ℕ) (d : Decision) (new : NewUplink) → verdict_of bytes d ≡ says.Open new → IsNew bytes d new
+is_open bytes (Refuse fault) new e = absurd (cc)
+is_open bytes (Join n) new e = absurd (cc)
+is_open bytes (Open o) new e = record { opening = o; decided_so = refl; is = open_same _ new e }
+
+-- a copy that isn't refused was heard by the last moment
+abbrev IsTimely : Heard1 → Decision → Type 0
+IsTimely heard (Refuse fault) = ⊤
+IsTimely heard (Join n) = heard.at ≤ 2 ^ 60
+IsTimely heard (Open o) = heard.at ≤ 2 ^ 60
+
+in_time : (a b c late after : Bool) → (if a then Some UnknownGateway else if b then Some NoRate else if c then Some NoBand else if late || after then Some Moment else None) ≡ None → late ≡ false
+in_time true b c late after e = absurd (cc)
+in_time false true c late after e = absurd (cc)
+in_time false false true late after e = absurd (cc)
+in_time false false false true after e = absurd (cc)
+in_time false false false false after e = refl
+
+module _ (ids : List ℕ) (reg : Register) (bytes : List ℕ) (heard : Heard1) (arrived : ℕ) where
+  timely_by : (d : Decision) → heard.at ≤ 2 ^ 60 → IsTimely heard d
+  timely_by (Refuse fault) h = tt
+  timely_by (Join n) h = h
+  timely_by (Open o) h = h
+
+  copy_timely : (uplink : Uplink) (o : Option DeskFault) → copy_fault ids heard arrived ≡ o → IsTimely heard (decide_copy reg bytes heard arrived uplink o)
+  copy_timely uplink (Some fault) e = tt
+  copy_timely uplink None e =
+      let early = in_time (not (list_any (λ id. id == heard.gateway) ids)) (nat_lt 6 heard.rate) (not (is_some (band_of heard.freq_hz (rate_numbered heard.rate)))) (nat_lt last_moment heard.at) (nat_lt last_moment arrived) e in
+      timely_by (decide_copy reg bytes heard arrived uplink None) (grind (arith, nat_tests, early))
+
+  frame_timely : (r : Result Uplink FrameFault) → IsTimely heard (decide_frame ids reg bytes heard arrived r)
+  frame_timely (Err fault) = tt
+  frame_timely (Ok uplink) = copy_timely uplink (copy_fault ids heard arrived) refl
+
+  timely : IsTimely heard (decide ids reg bytes heard arrived)
+  unfolding decide
+  timely = frame_timely (uplink_of bytes)
+
+abbrev decision : DeskView → List ℕ → Heard1 → ℕ → Decision
+decision d bytes heard arrived = decide d.ids d.reg bytes heard arrived
+
+module _ (d : DeskView) (bytes : List ℕ) (heard : Heard1) (arrived : ℕ) (gathered : Gatherings) (s : gathered ≡ d.reg.gathered) (copy : HeardCopy) (e : copy ≡ copy_of heard) where
+  -- the gathering's own answer, by where the copy goes
+  answer_at_place : (p : Result Place HearFault) → place_of d.reg.gathered bytes heard.gateway arrived ≡ p → hear_answer gathered bytes copy.gateway arrived ≡ answer_at d.reg.gathered p
+  answer_at_place p q =
+      ap (λ (g : Gatherings). hear_answer g bytes copy.gateway arrived) s
+      ∙ ap (λ (c : HeardCopy). hear_answer d.reg.gathered bytes c.gateway arrived) e
+      ∙ ap (answer_at d.reg.gathered) q
+
+  joined_place : verdict_of bytes (decision d bytes heard arrived) ≡ says.Join → (n : ℕ) × ((decision d bytes heard arrived ≡ Join n) × (place_of d.reg.gathered bytes heard.gateway arrived ≡ Ok (Joins n)))
+  joined_place v =
+      let j = is_join bytes (decision d bytes heard arrived) v in
+      (j.0, (j.1, subst (IsDecided d.reg bytes heard.gateway arrived) j.1 (decided d.ids d.reg bytes heard arrived)))
+
+  -- the answer to a copy that joins
+  pub join_answer : verdict_of bytes (decision d bytes heard arrived) ≡ says.Join → answer_to (decision d bytes heard arrived) d.reg ≡ desk_answer false (hear_answer gathered bytes copy.gateway arrived)
+  join_answer v =
+      let j = joined_place v in
+      ap (λ (x : Decision). answer_to x d.reg) j.1.0 ∙ sym (ap (desk_answer false) (answer_at_place (Ok (Joins j.0)) j.1.1))
+
+  -- no gathering more, then
+  joined_length : (n m : ℕ) (r : Result Heard HearFault) → hear_answer gathered bytes copy.gateway arrived ≡ Ok (gathers.Joined n m) → IfOk r (λ h. hear_answer gathered bytes copy.gateway arrived ≡ Ok h)
+      → length (after_hearing r gathered bytes copy arrived).list ≡ length gathered.list
+  joined_length n m (Ok (gathers.Opened k)) a h = absurd (cc)
+  joined_length n m (Ok (gathers.Joined k copies)) a h = length-rewritten (with_copy copy) k gathered.list
+  joined_length n m (Err fault) a h = refl
+
+  pub join_length : verdict_of bytes (decision d bytes heard arrived) ≡ says.Join → (r : Result Heard HearFault) → IfOk r (λ h. hear_answer gathered bytes copy.gateway arrived ≡ Ok h)
+      → length (after_hearing r gathered bytes copy arrived).list ≡ length gathered.list
+  join_length v r h =
+      let j = joined_place v in
+      joined_length j.0 _ r (answer_at_place (Ok (Joins j.0)) j.1.1) h
+
+  heard_gathered : (r : Result Heard HearFault) (g : Gatherings) → g ≡ after_hearing r gathered bytes copy arrived → IfOk r (λ h. hear_answer gathered bytes copy.gateway arrived ≡ Ok h)
+      → heard.at ≤ 2 ^ 60 → All IsGathered gathered.list → All IsGathered g.list
+  heard_gathered r g q h t all =
+      let P : Gatherings → Type 0 = λ x. All IsGathered x.list in
+      let at : copy.at ≡ heard.at = ap (λ (c : HeardCopy). c.at) e in
+      subst P (sym q) (all_heard gathered bytes copy arrived r h (omega (arith, at, t)) all)
+
+  -- the copies stay in their ranges where one joins
+  pub join_gathered : verdict_of bytes (decision d bytes heard arrived) ≡ says.Join → (r : Result Heard HearFault) (g : Gatherings) → g ≡ after_hearing r gathered bytes copy arrived
+      → IfOk r (λ h. hear_answer gathered bytes copy.gateway arrived ≡ Ok h) → All IsGathered gathered.list → All IsGathered g.list
+  join_gathered v r g q h all =
+      let j = is_join bytes (decision d bytes heard arrived) v in
+      heard_gathered r g q h (subst (IsTimely heard) j.1 (timely d.ids d.reg bytes heard arrived)) all
+
+  module _ (new : NewUplink) (v : verdict_of bytes (decision d bytes heard arrived) ≡ says.Open new) where
+    new_is : IsNew bytes (decision d bytes heard arrived) new
+    new_is = is_open bytes (decision d bytes heard arrived) new v
+
+    opens : IsDecided d.reg bytes heard.gateway arrived (Open new_is.opening)
+    opens = subst (IsDecided d.reg bytes heard.gateway arrived) new_is.decided_so (decided d.ids d.reg bytes heard arrived)
+
+    room : (b : Bool) → is_crowded d.reg.gathered ≡ b → b ≡ false → answer_at d.reg.gathered (Ok Opens) ≡ Ok (gathers.Opened (length d.reg.gathered.list + 1))
+    room b q f = ap (λ (t : Bool). if t then Err gathering.Crowded else Ok (gathers.Opened (length d.reg.gathered.list + 1))) (q ∙ f)
+
+    opened_answer : hear_answer gathered bytes copy.gateway arrived ≡ Ok (gathers.Opened (length d.reg.gathered.list + 1))
+    opened_answer = answer_at_place (Ok Opens) opens.0 ∙ room _ refl opens.1
+
+    -- the copies stay in their ranges where one opens a gathering
+    pub open_copies : (r : Result Heard HearFault) (g : Gatherings) → g ≡ after_hearing r gathered bytes copy arrived
+        → IfOk r (λ h. hear_answer gathered bytes copy.gateway arrived ≡ Ok h) → All IsGathered gathered.list → All IsGathered g.list
+    open_copies r g q h all =
+        heard_gathered r g q h (subst (IsTimely heard) new_is.decided_so (timely d.ids d.reg bytes heard arrived)) all
+
+    -- the answer to a copy that opens a gathering
+    pub open_answer : answer_to (decision d bytes heard arrived) d.reg ≡ desk_answer new.repeat (hear_answer gathered bytes copy.gateway arrived)
+    open_answer =
+        ap (λ (x : Decision). answer_to x d.reg) new_is.decided_so
+        ∙ ap (λ (u : NewUplink). Ok (Opened (length d.reg.gathered.list + 1) u.repeat)) new_is.is
+        ∙ sym (ap (desk_answer new.repeat) opened_answer)
+
+    -- one gathering more, then
+    pub open_length : (r : Result Heard HearFault) (x : DeskHeard) → desk_answer new.repeat r ≡ Ok x → IfOk r (λ h. hear_answer gathered bytes copy.gateway arrived ≡ Ok h)
+        → length (after_hearing r gathered bytes copy arrived).list ≡ length gathered.list + 1
+    open_length (Ok (gathers.Opened k)) x q h = length-append gathered.list _
+    open_length (Ok (gathers.Joined k copies)) x q h = absurd (cc (opened_answer, h))
+    open_length (Err fault) x q h = absurd (cc)
+
+    -- the device stands among the others
+    pub open_within : {A : Type 0} (kepts : List (Kept A)) → map shown kepts ≡ d.reg.devices → new.asked.device < length kepts
+    open_within kepts k =
+        let place : new_is.opening.place ≡ new.asked.device = ap (λ (u : NewUplink). u.asked.device) new_is.is in
+        let within : new_is.opening.place < length kepts = found_within d.reg.devices kepts (addr_of bytes) new_is.opening.place k (sym (ap (option_map (λ (p : ℕ × Device). p.0)) opens.2)) in
+        subst (λ (i : ℕ). i < length kepts) place within
+
+    -- and there is room for it
+    pub open_room : length gathered.list < gathered.limits.max_ever
+    open_room = subst (λ (g : Gatherings). length g.list < g.limits.max_ever) (sym s) (room_left d.reg.gathered _ (nat_le d.reg.gathered.limits.max_ever (length d.reg.gathered.list)) opens.1 refl)
+
+    -- what becomes of the gatherings
+    pub open_gathered : (r : Result Heard HearFault) (x : DeskHeard) → desk_answer new.repeat r ≡ Ok x → IfOk r (λ h. hear_answer gathered bytes copy.gateway arrived ≡ Ok h)
+        → after_hearing r gathered bytes copy arrived ≡ hear_step d.reg.gathered bytes (copy_of heard) arrived
+    open_gathered (Ok h) x q t =
+        ap (λ (a : Result Heard HearFault). after_hearing a gathered bytes copy arrived) (sym t)
+        ∙ ap (λ (g : Gatherings). hear_step g bytes copy arrived) s
+        ∙ ap (λ (c : HeardCopy). hear_step d.reg.gathered bytes c arrived) e
+    open_gathered (Err fault) x q t = absurd (cc)
+
+-- the desk's fields hold where a copy joined
+pub join_holds : (keys : List ℕ) (flags : List Bool) (reg : Register) (known : List Known) (g : Gatherings) → IsDesk keys flags reg known → length g.list ≡ length reg.gathered.list
+    → (All IsGathered reg.gathered.list → All IsGathered g.list) → IsDesk keys flags (record reg { gathered = g }) known
+join_holds keys flags reg known g i l all =
+    record {
+      addrs = i.addrs;
+      asked = i.asked ∙ sym l;
+      told = i.told ∙ sym l;
+      placed = i.placed;
+      servable = i.servable;
+      gathered = all i.gathered;
+      engaged = i.engaged;
+    }
+
+-- and where a copy opened a gathering
+pub open_holds : {A : Type 0} (keys : List ℕ) (kepts : List (Kept A)) (gathered g : Gatherings) (asked after : List Asked) (known more : List Known) (a : Asked) (k new : Kept A)
+    → IsDesk keys (outs kepts) (record { devices = map shown kepts; gathered = gathered; asked = asked }) known
+    → a.device < length kepts → k ≡ get_or kepts a.device k → new.setting ≡ k.setting → (IsServable (shown k) → IsServable (shown new)) → new.out ≡ k.out
+    → length g.list ≡ length gathered.list + 1 → (All IsGathered gathered.list → All IsGathered g.list) → after ≡ asked ++ a ∷ [] → more ≡ known ++ NotGiven ∷ []
+    → IsDesk keys (outs (slice_set kepts a.device new)) (record { devices = map shown (slice_set kepts a.device new); gathered = g; asked = after }) more
+open_holds keys kepts gathered g asked after known more a k new i h at s servable o l all e f =
+    let j = queued_holds keys kepts gathered asked known i a.device k new h at s servable o in
+    let flags : List Bool = outs (slice_set kepts a.device new) in
+    let out : AreOut flags (asked ++ a ∷ []) (known ++ NotGiven ∷ []) = λ p b q. count_push p asked known a (i.asked ∙ sym i.told) ∙ j.engaged p b q in
+    let P : Asked → Type 0 = λ x. x.device < length (map shown (slice_set kepts a.device new)) in
+    let here : P a = omega (arith, h, length-map (slice_set kepts a.device new) shown, length-set kepts a.device new) in
+    record {
+      addrs = j.addrs;
+      asked = omega (arith, ap length e, length-append asked (a ∷ []), i.asked, l);
+      told = omega (arith, ap length f, length-append known (NotGiven ∷ []), i.told, l);
+      placed = subst (All P) (sym e) (All-push P asked a j.placed here);
+      servable = j.servable;
+      gathered = all i.gathered;
+      engaged = subst (λ x. AreOut flags x more) (sym e) (subst (λ x. AreOut flags (asked ++ a ∷ []) x) (sym f) out);
+    }
+
+abbrev pub desk_with : List ℕ → List Device → Gatherings → List Asked → List Known → DeskView
+desk_with ids devices gathered asked known =
+    record { ids = ids; reg = record { devices = devices; gathered = gathered; asked = asked }; known = known }
+
+-- the desk's part of the world, by its parts
+pub same_desk : (i i' : List ℕ) (l l' : List Device) (g g' : Gatherings) (a a' : List Asked) (k k' : List Known) → i ≡ i' → l ≡ l' → g ≡ g' → a ≡ a' → k ≡ k'
+    → desk_with i l g a k ≡ desk_with i' l' g' a' k'
+same_desk i i' l l' g g' a a' k k' e f h m n =
+    ap (λ (x : List ℕ). desk_with x l g a k) e
+    ∙ ap (λ (x : List Device). desk_with i' x g a k) f
+    ∙ ap (λ (x : Gatherings). desk_with i' l' x a k) h
+    ∙ ap (λ (x : List Asked). desk_with i' l' g' x k) m
+    ∙ ap (λ (x : List Known). desk_with i' l' g' a' x) n
+
+module _ {A : Type 0} (d : DeskView) (bytes : List ℕ) (heard : Heard1) (arrived : ℕ) (new : NewUplink) (v : verdict_of bytes (decision d bytes heard arrived) ≡ says.Open new)
+    (ids : List ℕ) (kepts : List (Kept A)) (gathered : Gatherings) (asked : List Asked) (known : List Known) (w : seen ids kepts gathered asked known ≡ d) where
+  found_new : IsNew bytes (decision d bytes heard arrived) new
+  found_new = is_open bytes (decision d bytes heard arrived) new v
+
+  -- the device, as it is kept
+  its_device : (k : Kept A) → new.asked.device < length kepts → k ≡ get_or kepts new.asked.device k
+      → (n : IsNew bytes (decision d bytes heard arrived) new) → n.opening.device ≡ shown k
+  its_device k h at n =
+      let opens : IsDecided d.reg bytes heard.gateway arrived (Open n.opening) = subst (IsDecided d.reg bytes heard.gateway arrived) n.decided_so (decided d.ids d.reg bytes heard arrived) in
+      let place : n.opening.place ≡ new.asked.device = ap (λ (u : NewUplink). u.asked.device) n.is in
+      let there : slice_get d.reg.devices n.opening.place ≡ Some n.opening.device = (found_there (λ (x : Device). x.setting.addr == addr_of bytes) d.reg.devices (n.opening.place, n.opening.device) opens.2).0 in
+      let here : slice_get d.reg.devices new.asked.device ≡ Some (shown k) = ap (λ (x : DeskView). slice_get x.reg.devices new.asked.device) (sym w) ∙ kept_at kepts new.asked.device k h at in
+      some_inj (sym there ∙ ap (slice_get d.reg.devices) place ∙ here)
+
+  -- what the desk knows then
+  pub open_step : (k kn : Kept A) (g : Gatherings) (after : List Asked) (more : List Known) → new.asked.device < length kepts → k ≡ get_or kepts new.asked.device k
+      → shown kn ≡ record (shown k) { up = Some new.counter } → g ≡ hear_step d.reg.gathered bytes (copy_of heard) arrived
+      → after ≡ asked ++ new.asked ∷ [] → more ≡ known ++ NotGiven ∷ []
+      → seen ids (slice_set kepts new.asked.device kn) g after more ≡ desk_hear d bytes heard arrived
+  open_step k kn g after more h at q s e f =
+      let n = found_new in
+      let o : Opening = n.opening in
+      let device : o.device ≡ shown k = its_device k h at n in
+      let counter : new.counter ≡ o.counter = ap (λ (u : NewUplink). u.counter) (sym n.is) in
+      let place : new.asked.device ≡ o.place = ap (λ (u : NewUplink). u.asked.device) (sym n.is) in
+      let devices : map shown (slice_set kepts new.asked.device kn) ≡ slice_set d.reg.devices o.place (record (o.device) { up = Some o.counter }) =
+      map-set shown kepts new.asked.device kn
+      ∙ ap (λ (x : DeskView). slice_set x.reg.devices new.asked.device (shown kn)) w
+      ∙ ap (λ (x : ℕ). slice_set d.reg.devices x (shown kn)) place
+      ∙ ap (slice_set d.reg.devices o.place) (q ∙ ap (λ (x : Device). record x { up = Some new.counter }) (sym device) ∙ ap (λ (x : ℕ). record (o.device) { up = Some x }) counter) in
+      same_desk _ _ _ _ _ _ _ _ _ _ (ap (λ (x : DeskView). x.ids) w) devices s
+      (e ∙ ap (λ (x : DeskView). x.reg.asked ++ new.asked ∷ []) w ∙ ap (λ (u : NewUplink). d.reg.asked ++ u.asked ∷ []) (sym n.is))
+      (f ∙ ap (λ (x : DeskView). x.known ++ NotGiven ∷ []) w)
+      ∙ sym (ap (λ (x : Decision). record d { reg = hearing.after_hearing x d.reg bytes (copy_of heard) arrived; known = known_after x d.known }) n.decided_so)
+
+  -- nothing changed
+  pub open_refused : (g : Gatherings) (after : List Asked) (more : List Known) → g ≡ gathered → after ≡ asked → more ≡ known → seen ids kepts g after more ≡ d
+  open_refused g after more s e f = same_desk _ _ _ _ _ _ _ _ _ _ refl refl s e f ∙ w
+
+-- what is to be done with an uplink that would open a gathering, by its device, its counter, its MIC and the room
+module _ (bytes : List ℕ) (uplink : Uplink) (crowded : Bool) (devices : List Device) (place : ℕ) (device : Device) (f : device_with uplink.addr devices ≡ Some (place, device)) where
+  by_counter : (m : Option ℕ) → m ≡ inferred_counter device.up uplink.low
+      → verdict_of bytes (decide_mic crowded bytes (place, device) m) ≡ verdict_of bytes (decide_device crowded bytes uplink (device_with uplink.addr devices))
+  by_counter m e =
+      ap (λ (x : Option ℕ). verdict_of bytes (decide_mic crowded bytes (place, device) x)) e
+      ∙ sym (ap (λ (o : Option (ℕ × Device)). verdict_of bytes (decide_device crowded bytes uplink o)) f)
+
+  pub no_counter : None ≡ inferred_counter device.up uplink.low → says.Refuse BadMic ≡ verdict_of bytes (decide_device crowded bytes uplink (device_with uplink.addr devices))
+  no_counter e = by_counter None e
+
+  module _ (counter : ℕ) (e : Some counter ≡ inferred_counter device.up uplink.low) where
+    by_mic : (t : Bool) → t ≡ has_mic bytes device.setting.nwk counter
+        → verdict_of bytes (if t then decide_room crowded (record { place = place; device = device; counter = counter }) else Refuse BadMic)
+        ≡ verdict_of bytes (decide_device crowded bytes uplink (device_with uplink.addr devices))
+    by_mic t m =
+        ap (λ (x : Bool). verdict_of bytes (if x then decide_room crowded (record { place = place; device = device; counter = counter }) else Refuse BadMic)) m
+        ∙ by_counter (Some counter) e
+
+    pub wrong_mic : false ≡ has_mic bytes device.setting.nwk counter → says.Refuse BadMic ≡ verdict_of bytes (decide_device crowded bytes uplink (device_with uplink.addr devices))
+    wrong_mic m = by_mic false m
+
+    by_room : (t : Bool) → true ≡ has_mic bytes device.setting.nwk counter → t ≡ crowded
+        → verdict_of bytes (decide_room t (record { place = place; device = device; counter = counter })) ≡ verdict_of bytes (decide_device crowded bytes uplink (device_with uplink.addr devices))
+    by_room t m r = ap (λ (x : Bool). verdict_of bytes (decide_room x (record { place = place; device = device; counter = counter }))) r ∙ by_mic true m
+
+    pub no_room : true ≡ has_mic bytes device.setting.nwk counter → true ≡ crowded → says.Refuse Crowded ≡ verdict_of bytes (decide_device crowded bytes uplink (device_with uplink.addr devices))
+    no_room m r = by_room true m r
+
+    pub is_new : true ≡ has_mic bytes device.setting.nwk counter → false ≡ crowded → uplink_of bytes ≡ Ok uplink → (repeat : Bool) → repeat ≡ is_last device counter
+        → says.Open (record { counter = counter; repeat = repeat; asked = record { device = place; confirmed = uplink.confirmed; adr_ack_req = uplink.adr_ack_req } })
+        ≡ verdict_of bytes (decide_device crowded bytes uplink (device_with uplink.addr devices))
+    is_new m r u repeat q =
+        ap (λ (x : Bool). says.Open (record { counter = counter; repeat = x; asked = record { device = place; confirmed = uplink.confirmed; adr_ack_req = uplink.adr_ack_req } })) q
+        ∙ ap (λ (x : Uplink). says.Open (record { counter = counter; repeat = is_last device counter; asked = record { device = place; confirmed = x.confirmed; adr_ack_req = x.adr_ack_req } })) (sym (read_same bytes uplink u))
+        ∙ by_room false m r
+
+-- what is to be done with a copy, by its frame, its own numbers, and where it goes
+module _ (d : DeskView) (bytes : List ℕ) (heard : Heard1) (arrived : ℕ) where
+  pub no_frame : (fault : FrameFault) → Err fault ≡ uplink_of bytes → says.Refuse (Frame fault) ≡ verdict_of bytes (decide d.ids d.reg bytes heard arrived)
+  unfolding decide
+  no_frame fault e = ap (λ (r : Result Uplink FrameFault). verdict_of bytes (decide_frame d.ids d.reg bytes heard arrived r)) e
+
+  by_copy : (uplink : Uplink) (ids : List ℕ) (o : Option DeskFault) → Ok uplink ≡ uplink_of bytes → ids ≡ d.ids → o ≡ copy_fault ids heard arrived
+      → verdict_of bytes (decide_copy d.reg bytes heard arrived uplink o) ≡ verdict_of bytes (decide d.ids d.reg bytes heard arrived)
+  unfolding decide
+  by_copy uplink ids o e i q =
+      ap (λ (x : Option DeskFault). verdict_of bytes (decide_copy d.reg bytes heard arrived uplink x)) (q ∙ ap (λ (l : List ℕ). copy_fault l heard arrived) i)
+      ∙ ap (λ (r : Result Uplink FrameFault). verdict_of bytes (decide_frame d.ids d.reg bytes heard arrived r)) e
+
+  pub wrong_copy : (uplink : Uplink) (ids : List ℕ) (fault : DeskFault) → Ok uplink ≡ uplink_of bytes → ids ≡ d.ids → Some fault ≡ copy_fault ids heard arrived
+      → says.Refuse fault ≡ verdict_of bytes (decide d.ids d.reg bytes heard arrived)
+  wrong_copy uplink ids fault e i q = by_copy uplink ids (Some fault) e i q
+
+  pub by_place : (uplink : Uplink) (ids : List ℕ) (gathered : Gatherings) (p : Result Place HearFault) → Ok uplink ≡ uplink_of bytes → ids ≡ d.ids → None ≡ copy_fault ids heard arrived
+      → gathered ≡ d.reg.gathered → p ≡ place_of gathered bytes heard.gateway arrived
+      → verdict_of bytes (decide_place d.reg bytes uplink p) ≡ verdict_of bytes (decide d.ids d.reg bytes heard arrived)
+  by_place uplink ids gathered p e i q s r =
+      ap (λ (x : Result Place HearFault). verdict_of bytes (decide_place d.reg bytes uplink x)) (r ∙ ap (λ (x : Gatherings). place_of x bytes heard.gateway arrived) s)
+      ∙ by_copy uplink ids None e i q

@@ -1,0 +1,106 @@
+-- A desk before anything was heard.
+use Rattle.std.specs.Prelude.{ℕ, suc, ◌≡◌, ◌≢◌, ◌+◌, ◌<◌, ◌==◌, nat_eq, Bool, false, ◌||◌, if◌then◌else◌, List, [], ◌∷◌, ◌++◌, map, length, take, get_or, All, AllPairs, refl}
+use Rattle.std.specs.List.{list_any}
+use Rattle.std.proofs.Common.{sym, ap, ◌∙◌, subst, arith}
+use Rattle.std.proofs.Math.Seq.{take-suc}
+use Rattle.std.proofs.lemmas.List.{map-append, take_more}
+use Rattle.std.proofs.lemmas.List.Elements.{All-nil, All-push, All-map, All-weaker}
+use Rattle.uplink_gather.specs.declared.limits.Limits.{Limits}
+use Rattle.uplink_gather.specs.Gatherings.{Gatherings}
+use Rattle.server_desk.specs.declared.setting.GatewaySetting.{GatewaySetting}
+use Rattle.server_desk.specs.declared.setting.DeviceSetting.{DeviceSetting}
+use Rattle.server_desk.specs.declared.device.Kept.{Kept}
+use Rattle.server_desk.specs.declared.answers.Known.{Known}
+use Rattle.server_desk.specs.Settings.{SettingLists, IsDeviceInRange, AreSettings}
+use Rattle.server_desk.specs.Register.{Asked, Device, opened_device}
+use Rattle.server_desk.specs.World.{opened_gateway, opening}
+use Rattle.server_desk.specs.Kept.{shown, outs, IsSendable, IsServable, IsGathered, count_out, AreOut, IsDesk}
+use Rattle.server_desk.specs.Desk.{desk_of}
+use Rattle.server_desk.specs.Places.{from_map, all_get}
+use Rattle.server_desk.proofs.SettingsLemmas.{IsNew-from_AllPairs}
+use Rattle.server_desk.proofs.AddrLemmas.{flipped}
+use Rattle.server_desk.proofs.HearLemmas.{same_desk}
+use Rattle.server_desk.proofs.DeskLemmas.{seen}
+
+abbrev addr_of : DeviceSetting → ℕ
+addr_of d = d.addr
+
+any_addr : (v : ℕ) (xs : List DeviceSetting) → list_any (nat_eq v) (map addr_of xs) ≡ list_any (λ e. e.addr == v) xs
+any_addr v [] = refl
+any_addr v (x ∷ xs) =
+    ap (λ (t : Bool). t || list_any (nat_eq v) (map addr_of xs)) (flipped v x.addr (nat_eq x.addr v) refl)
+    ∙ ap (λ (t : Bool). (x.addr == v) || t) (any_addr v xs)
+
+-- an address that is put behind those of the devices before it is new
+pub addr_added : (devices : List DeviceSetting) (i : ℕ) (d : DeviceSetting) (keys after : List ℕ) → AllPairs (λ x y. x.addr ≢ y.addr) devices → i < length devices
+    → keys ≡ map addr_of (take i devices)
+    → after ≡ (if list_any (nat_eq (get_or devices i d).addr) keys then keys else keys ++ (get_or devices i d).addr ∷ [])
+    → after ≡ map addr_of (take (i + 1) devices)
+addr_added devices i d keys after differ h e a =
+    let v : ℕ = (get_or devices i d).addr in
+    let new : list_any (nat_eq v) (map addr_of (take i devices)) ≡ false = any_addr v (take i devices) ∙ IsNew-from_AllPairs addr_of devices differ i d h in
+    let next : suc i ≡ i + 1 = omega arith in
+    a
+    ∙ ap (λ (ks : List ℕ). if list_any (nat_eq v) ks then ks else ks ++ v ∷ []) e
+    ∙ ap (λ (t : Bool). if t then map addr_of (take i devices) else map addr_of (take i devices) ++ v ∷ []) new
+    ∙ sym (map-append addr_of (take i devices) (get_or devices i d ∷ []))
+    ∙ sym (ap (map addr_of) (take-suc devices i d h))
+    ∙ ap (λ (n : ℕ). map addr_of (take n devices)) next
+
+opened_ids : (gateways : List GatewaySetting) → map (λ g. g.id) gateways ≡ map (λ g. g.id) (map opened_gateway gateways)
+opened_ids [] = refl
+opened_ids (g ∷ gateways) = ap (λ (l : List ℕ). g.id ∷ l) (opened_ids gateways)
+
+opened_addrs : (devices : List DeviceSetting) → map addr_of devices ≡ map (λ d. d.setting.addr) (map opened_device devices)
+opened_addrs [] = refl
+opened_addrs (d ∷ devices) = ap (λ (l : List ℕ). d.addr ∷ l) (opened_addrs devices)
+
+opened_servable : (d : DeviceSetting) → IsDeviceInRange d → IsServable (opened_device d)
+opened_servable d i = record { setting = i; queue = All-nil IsSendable; down = i.down.1 }
+
+-- one device more is kept
+pub opened_more : {A : Type 0} (devices : List DeviceSetting) (i : ℕ) (d : DeviceSetting) (kepts more : List (Kept A)) (new : Kept A) → i < length devices
+    → (map shown kepts ≡ map opened_device (take i devices)) × All (λ k. k.out ≡ false) kepts → shown new ≡ opened_device (get_or devices i d) → new.out ≡ false → more ≡ kepts ++ new ∷ []
+    → (map shown more ≡ map opened_device (take (i + 1) devices)) × All (λ k. k.out ≡ false) more
+opened_more devices i d kepts more new h both s o e = (
+  ap (map shown) e
+      ∙ map-append shown kepts (new ∷ [])
+      ∙ ap (λ (l : List Device). l ++ shown new ∷ []) both.0
+      ∙ ap (λ (x : Device). map opened_device (take i devices) ++ x ∷ []) s
+      ∙ sym (ap (map opened_device) (take_more devices i d h) ∙ map-append opened_device (take i devices) (get_or devices i d ∷ [])),
+  subst (All (λ k. k.out ≡ false)) (sym e) (All-push (λ k. k.out ≡ false) kepts new both.1 o),
+)
+
+module _ {A : Type 0} (settings : SettingLists) (limits : Limits) (kepts : List (Kept A)) (devices : List DeviceSetting) (gathered : Gatherings) (asked : List Asked) (known : List Known)
+    (d : map shown kepts ≡ map opened_device devices) (s : devices ≡ settings.devices) (g : gathered ≡ record { list = []; limits = limits }) (a : asked ≡ []) (k : known ≡ []) where
+  no_out : All (λ (x : Kept A). x.out ≡ false) kepts → AreOut (outs kepts) asked known
+  no_out n place out e =
+      let x = from_map (λ (x : Kept A). x.out) kepts place out e in
+      let none : out ≡ false = sym x.2 ∙ all_get (λ (y : Kept A). y.out ≡ false) kepts place x.0 n x.1 in
+      ap (λ (l : List Asked). count_out place l known) a ∙ sym (ap (λ (t : Bool). if t then 1 else 0) none)
+
+  -- what is true of a desk's fields holds
+  pub opened_holds : (keys : List ℕ) (others : List DeviceSetting) → keys ≡ map addr_of others → others ≡ settings.devices
+      → AreSettings settings.gateways settings.devices → All (λ (x : Kept A). x.out ≡ false) kepts
+      → IsDesk keys (outs kepts) (record { devices = map shown kepts; gathered = gathered; asked = asked }) known
+  opened_holds keys others e q are n =
+      let P : Asked → Type 0 = λ x. x.device < length (map shown kepts) in
+      let Q : Gatherings → Type 0 = λ x. All IsGathered x.list in
+      record {
+        addrs = e ∙ ap (map addr_of) (q ∙ sym s) ∙ opened_addrs devices ∙ sym (ap (map (λ (x : Device). x.setting.addr)) d);
+        asked = ap length a ∙ sym (ap (λ (x : Gatherings). length x.list) g);
+        told = ap length k ∙ sym (ap (λ (x : Gatherings). length x.list) g);
+        placed = subst (All P) (sym a) (λ i x h. absurd (omega arith));
+        servable = subst (All IsServable) (sym (d ∙ ap (map opened_device) s)) (All-map IsServable opened_device settings.devices (All-weaker IsDeviceInRange _ opened_servable settings.devices are.devices_in_range));
+        gathered = subst Q (sym g) (All-nil IsGathered);
+        engaged = no_out n;
+      }
+
+  -- it is the desk's part of the whole system before the first step
+  pub opened_desk : (ids : List ℕ) (gateways : List GatewaySetting) → ids ≡ map (λ g. g.id) gateways → gateways ≡ settings.gateways
+      → seen ids kepts gathered asked known ≡ desk_of (opening settings limits)
+  opened_desk ids gateways e q =
+      same_desk _ _ _ _ _ _ _ _ _ _
+      (e ∙ ap (map (λ (x : GatewaySetting). x.id)) q ∙ opened_ids settings.gateways)
+      (d ∙ ap (map opened_device) s)
+      g a k

@@ -1,0 +1,14 @@
+use Rattle.std.specs.Prelude.{nat_eq, position}
+use Rattle.std.specs.Option.{option_map}
+use Rattle.std.proofs.Common.{ap, ◌∙◌}
+use Rattle.server_desk.specs.Register.{device_with}
+use Rattle.server_desk.specs.Desk.{DeskView}
+use Rattle.server_desk.proofs.AddrLemmas.{place_found}
+use Rattle.server_desk.proofs.desk.Desk.place_of.Goals as goal
+
+pub returns : goal.returns
+returns g c =
+    c.get_index_of.ensures.index
+    ∙ ap (position (nat_eq c.args.addr)) c.self.invariant.0.addrs
+    ∙ place_found c.args.addr _
+    ∙ ap (λ (v : DeskView). option_map (λ found. found.0) (device_with c.args.addr v.reg.devices)) c.self.view_is

@@ -1,0 +1,7 @@
+use Rattle.std.proofs.Common.{◌≡◌, [], take, drop}
+use Rattle.server_desk.specs.Settings.{first_fault}
+use Rattle.server_desk.proofs.settings.first_fault.Given as goal
+
+abbrev pub invariant-loop-place : goal.invariant-loop-place
+invariant-loop-place g l =
+    first_fault g.S.Setting.fault_of (take l.place l.settings) (drop l.place l.settings) ≡ first_fault g.S.Setting.fault_of [] l.settings

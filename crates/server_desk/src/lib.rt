@@ -1,0 +1,28 @@
+//! What a server knows beside the books of its gateways: its settings, and the desk, which knows devices, the uplinks that
+//! were heard, and how far each answer is.
+#![tactic(auto)]
+
+mod airtimes;
+mod answers;
+mod desk;
+mod device;
+mod faults;
+mod heard;
+mod hearing;
+mod opening;
+mod setting;
+mod settings;
+mod settings_fault;
+mod settling;
+mod taking;
+mod verdict;
+
+pub use answers::{Asked, Known, Sent};
+pub use desk::{Desk, NoMemory};
+pub use faults::{DeskFault, QueueFault, TakeFault};
+pub use heard::{DeskHeard, Heard1};
+pub use radio_airtime::DataRate;
+pub use setting::{DeviceSetting, GatewaySetting};
+pub use settings::{MAX_DEVICES, MAX_GATEWAYS, Settings};
+pub use settings_fault::SettingsFault;
+pub use uplink_gather::Limits;
