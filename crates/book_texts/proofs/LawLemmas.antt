@@ -12,7 +12,7 @@ use Rattle.book_texts.specs.declared.command.Said.TheVariants.{Nothing, Malforme
 use Rattle.book_texts.specs.Said.{said, order_or_malformed, command_of}
 use Rattle.book_texts.specs.Reply.{reply_line}
 use Rattle.text_words.specs.Words.{is_refusal}
-use Rattle.book_texts.specs.Turn.{terms_at, booking_reply, reply_to, answer_to, state_after_line}
+use Rattle.book_texts.specs.Answering.{terms_at, booking_reply, reply_to, answer_to, state_after_line}
 use Rattle.book_texts.specs.Output.{is_starved, reached, answers}
 use Rattle.book_texts.proofs.RunLemmas.{answers-append}
 

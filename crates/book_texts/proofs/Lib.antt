@@ -1,5 +1,5 @@
 pub mod LineLemmas
-pub mod TurnLemmas
+pub mod AnsweringLemmas
 pub mod RunLemmas
 pub mod SoFar
 pub mod ReportLemmas

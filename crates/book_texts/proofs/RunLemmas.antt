@@ -12,7 +12,7 @@ use Rattle.gateway_book.specs.Book.{Book, state_of}
 use Rattle.gateway_book.specs.Step.{State}
 use Rattle.book_texts.specs.Said.{said}
 use Rattle.text_words.specs.Words.{is_refusal, has_refusal}
-use Rattle.book_texts.specs.Turn.{answer_to, state_after_line}
+use Rattle.book_texts.specs.Answering.{answer_to, state_after_line}
 use Rattle.book_texts.specs.Output.{is_starved, reached, answers}
 use Rattle.book_texts.specs.Progress.{IsLineAnswered, AreAnswered}
 

@@ -6,7 +6,7 @@ use Rattle.gateway_book.specs.Step.{State}
 use Rattle.book_texts.specs.declared.command.Command.TheVariants.{Book}
 use Rattle.book_texts.specs.Reply.{reply_line}
 use Rattle.text_words.specs.Words.{is_refusal}
-use Rattle.book_texts.specs.Turn.{terms_at, reply_to}
+use Rattle.book_texts.specs.Answering.{terms_at, reply_to}
 use Rattle.book_texts.specs.Output.{answers}
 
 -- Laws on the output.

@@ -1,7 +1,7 @@
 pub mod Said
 pub mod Reply
 pub mod Report
-pub mod Turn
+pub mod Answering
 pub mod Output
 pub mod Toa
 pub mod Progress

@@ -6,7 +6,7 @@ use Rattle.gateway_book.specs.Step.{State}
 use Rattle.gateway_book.specs.declared.totals.Totals.{Totals}
 use Rattle.book_texts.specs.Said.{said}
 use Rattle.book_texts.specs.Report.{report_of}
-use Rattle.book_texts.specs.Turn.{answer_to, state_after_line}
+use Rattle.book_texts.specs.Answering.{answer_to, state_after_line}
 
 -- The output of `airbook book` as a list of lines: a function of the lines of the input, of the cap, and of the
 -- numbers of those lines at which a booking found no memory.

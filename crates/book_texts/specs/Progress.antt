@@ -10,7 +10,7 @@ use Rattle.book_texts.specs.declared.command.Command.{Command}
 use Rattle.book_texts.specs.declared.reply.Reply.{Reply}
 use Rattle.book_texts.specs.Said.{said}
 use Rattle.book_texts.specs.Reply.{reply_line}
-use Rattle.book_texts.specs.Turn.{reply_to, state_after, answer_to, state_after_line}
+use Rattle.book_texts.specs.Answering.{reply_to, state_after, answer_to, state_after_line}
 use Rattle.book_texts.specs.Output.{reached, answers}
 use Rattle.text_words.specs.Words.{has_refusal}
 

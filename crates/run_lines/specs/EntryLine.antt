@@ -14,13 +14,13 @@ use Rattle.run_lines.specs.EntryName.{queue_name, hear_name, take_name}
 -- The lines that answer events (docs/FORMATS.md, "airbook run").
 
 -- an address: 8 hexadecimal digits, the most significant first
-abbrev pub addr_word : ℕ → List ℕ
-addr_word addr = encode_lower (to_be_bytes w32 addr)
+abbrev pub addr_digits : ℕ → List ℕ
+addr_digits addr = encode_lower (to_be_bytes w32 addr)
 
 -- bytes: two hexadecimal digits for each, or a dash for none
-abbrev pub hex_word : List ℕ → List ℕ
-hex_word [] = codes "-"
-hex_word (byte ∷ more) = encode_lower (byte ∷ more)
+abbrev pub hex_digits : List ℕ → List ℕ
+hex_digits [] = codes "-"
+hex_digits (byte ∷ more) = encode_lower (byte ∷ more)
 
 -- where a copy of an uplink went
 abbrev pub heard_words : DeskHeard → List (List ℕ)
@@ -35,14 +35,14 @@ candidate_words c =
 
 -- the words of a line
 abbrev pub line_words : {A : Type 0} → Line A → List (List ℕ)
-line_words (Queued addr count) = codes "queued" ∷ addr_word addr ∷ decimal count ∷ []
+line_words (Queued addr count) = codes "queued" ∷ addr_digits addr ∷ decimal count ∷ []
 line_words (NotQueued fault) = codes "no" ∷ codes "queue" ∷ queue_name fault ∷ []
 line_words (Heard heard) = heard_words heard
 line_words (NotHeard fault) = codes "no" ∷ codes "hear" ∷ hear_name fault ∷ []
 line_words (Silent number) = codes "silent" ∷ decimal number ∷ []
 line_words (NotTaken number fault) = codes "no" ∷ decimal number ∷ take_name fault ∷ []
 line_words (Send number candidate) = codes "send" ∷ decimal number ∷ candidate_words candidate
-line_words (Frame number bytes) = codes "frame" ∷ decimal number ∷ hex_word bytes ∷ []
+line_words (Frame number bytes) = codes "frame" ∷ decimal number ∷ hex_digits bytes ∷ []
 line_words (Unanswered number refusal) = codes "unanswered" ∷ decimal number ∷ refusal_name refusal ∷ []
 line_words (Stray number) = codes "no" ∷ decimal number ∷ codes "Stray" ∷ []
 line_words (Cancelled number airtime) = codes "cancelled" ∷ decimal number ∷ decimal airtime ∷ []

@@ -5,7 +5,7 @@ ghost use Rattle.rx_windows.specs.Window.{window_text};
 ghost use Rattle.text_lines.specs.Calls.{CountsFailure};
 ghost use Rattle.text_lines.specs.Writing.{WritesAllBut, WritesFront};
 ghost use Rattle.text_words.specs.Words.{spaced, is_refusal};
-ghost use Rattle.run_lines.specs.EntryLine.{addr_word, hex_word, heard_words, candidate_words, line_text, text_but_frame};
+ghost use Rattle.run_lines.specs.EntryLine.{addr_digits, hex_digits, heard_words, candidate_words, line_text, text_but_frame};
 
 use crate::entry_name::{hear_name, queue_name, take_name};
 use hex::encode_to_slice;
@@ -183,7 +183,7 @@ fn window_name(window: Window) -> &'static [u8]
 /// Makes the empty `text` how many payloads wait for the device with an address.
 fn add_queued(text: &mut TextLine, addr: u32, count: usize)
     requires { text.old ≡ [] }
-    ensures text { text.new ≡ spaced (codes "queued" ∷ addr_word addr ∷ decimal count ∷ []) }
+    ensures text { text.new ≡ spaced (codes "queued" ∷ addr_digits addr ∷ decimal count ∷ []) }
     ensures len { length text.new ≤ 60 }
 {
     let mut digits = [0; 8];
@@ -200,8 +200,8 @@ fn put_frame<W: ByteOut>(
     output: &mut WriteBehind,
     writer: &mut W,
 ) -> Result<(), CallFailed>
-    ensures ok { OnOk result (WritesAllBut (W.taken writer.old) (W.taken writer.new) (output.old ++ (spaced (codes "frame" ∷ decimal number ∷ hex_word bytes.now ∷ []) ++ (10 ∷ []))) output.new) }
-    ensures err { OnErr result (WritesFront (W.taken writer.old) (W.taken writer.new) (output.old ++ (spaced (codes "frame" ∷ decimal number ∷ hex_word bytes.now ∷ []) ++ (10 ∷ [])))) }
+    ensures ok { OnOk result (WritesAllBut (W.taken writer.old) (W.taken writer.new) (output.old ++ (spaced (codes "frame" ∷ decimal number ∷ hex_digits bytes.now ∷ []) ++ (10 ∷ []))) output.new) }
+    ensures err { OnErr result (WritesFront (W.taken writer.old) (W.taken writer.new) (output.old ++ (spaced (codes "frame" ∷ decimal number ∷ hex_digits bytes.now ∷ []) ++ (10 ∷ [])))) }
     ensures failed { CountsFailure (W.failed_calls writer.old) (W.failed_calls writer.new) result }
 {
     match put_frame_number(number, output, writer) {
@@ -236,8 +236,8 @@ fn put_hex<W: ByteOut>(
     output: &mut WriteBehind,
     writer: &mut W,
 ) -> Result<(), CallFailed>
-    ensures ok { OnOk result (WritesAllBut (W.taken writer.old) (W.taken writer.new) (output.old ++ hex_word bytes.now) output.new) }
-    ensures err { OnErr result (WritesFront (W.taken writer.old) (W.taken writer.new) (output.old ++ hex_word bytes.now)) }
+    ensures ok { OnOk result (WritesAllBut (W.taken writer.old) (W.taken writer.new) (output.old ++ hex_digits bytes.now) output.new) }
+    ensures err { OnErr result (WritesFront (W.taken writer.old) (W.taken writer.new) (output.old ++ hex_digits bytes.now)) }
     ensures failed { CountsFailure (W.failed_calls writer.old) (W.failed_calls writer.new) result }
 {
     match bytes {

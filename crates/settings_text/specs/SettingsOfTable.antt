@@ -14,15 +14,15 @@ use Rattle.settings_text.specs.SettingsFields.{said_or, id_of, cap_of, addr_of, 
 -- of these definitions is named.
 
 -- a gateway's table
-abbrev pub gateway_of : Members → Result GatewaySetting ReadFault
-gateway_of gateway = do
+abbrev pub gateway_setting : Members → Result GatewaySetting ReadFault
+gateway_setting gateway = do
   id ← id_of gateway
   most ← cap_of gateway
   Ok (record { id = id; cap = most })
 
 -- a device's table
-abbrev pub device_of : Members → Result DeviceSetting ReadFault
-device_of device = do
+abbrev pub device_setting : Members → Result DeviceSetting ReadFault
+device_setting device = do
   addr ← addr_of device
   nwk ← nwk_of device
   app ← app_of device
@@ -59,8 +59,8 @@ list_at said key members = said_or [] (list_in said) (get_member key members)
 -- the gateways and devices of a document
 abbrev pub lists_of : Members → Result SettingLists ReadFault
 lists_of document = do
-  gateways ← list_at gateway_of (codes "gateway") document
-  devices ← list_at device_of (codes "device") document
+  gateways ← list_at gateway_setting (codes "gateway") document
+  devices ← list_at device_setting (codes "device") document
   Ok (record { gateways = gateways; devices = devices })
 
 -- the lists, or why they are refused

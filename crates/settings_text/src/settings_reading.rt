@@ -4,7 +4,7 @@ ghost use Rattle.toml.specs.Data.{Members};
 ghost use Rattle.toml.specs.Parse.{parse_document};
 ghost use Rattle.toml.specs.View.{view, table_view, items_view};
 ghost use Rattle.settings_text.specs.declared.settings_fault.ReadFault.{ReadFault};
-ghost use Rattle.settings_text.specs.SettingsOfTable.{gateway_of, device_of, setting_in, each_in, list_at, settings_of};
+ghost use Rattle.settings_text.specs.SettingsOfTable.{gateway_setting, device_setting, setting_in, each_in, list_at, settings_of};
 
 use crate::ReadFault;
 use crate::settings_fields::{
@@ -25,7 +25,7 @@ trait FromTable: Copy {
 }
 
 impl FromTable for GatewaySetting {
-    ghost of = { gateway_of };
+    ghost of = { gateway_setting };
 
     fn from_table(table: &Table) -> Result<Self, ReadFault> {
         Ok(GatewaySetting {
@@ -36,7 +36,7 @@ impl FromTable for GatewaySetting {
 }
 
 impl FromTable for DeviceSetting {
-    ghost of = { device_of };
+    ghost of = { device_setting };
 
     fn from_table(table: &Table) -> Result<Self, ReadFault> {
         Ok(DeviceSetting {

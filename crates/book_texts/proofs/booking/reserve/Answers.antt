@@ -1,4 +1,4 @@
-use Rattle.book_texts.proofs.TurnLemmas.{carried_out-refused}
+use Rattle.book_texts.proofs.AnsweringLemmas.{carried_out-refused}
 use Rattle.book_texts.proofs.booking.reserve.Goals as goal
 
 pub returns-in-Err : goal.returns-in-Err

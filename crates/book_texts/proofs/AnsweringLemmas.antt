@@ -17,7 +17,7 @@ use Rattle.book_texts.specs.declared.reply.Reply.TheVariants.{Refused, Bad}
 use Rattle.book_texts.specs.Said.{said}
 use Rattle.book_texts.specs.Reply.{reply_line}
 use Rattle.text_words.specs.Words.{is_refusal, has_refusal}
-use Rattle.book_texts.specs.Turn.{booking_reply, answer_to, state_after_line}
+use Rattle.book_texts.specs.Answering.{booking_reply, answer_to, state_after_line}
 use Rattle.book_texts.specs.Progress.{IsCarriedOut, reply_lines, IsReplied, IsLineAnswered}
 
 refused_by : (old : Book) (ask : Ask) (refusal : Refusal) (o : Option Refusal) → refusal_of (terms_of old) old.list ask ≡ o → MatchOption o (IsOkUnless {T = Reservation} (Err refusal) NoMemory) (λ e. ◌≡◌ {A = Result Reservation Refusal} (Err refusal) (Err e)) → IsCarriedOut old old (Booking ask) (Refused ask.number refusal)
