@@ -31,7 +31,7 @@ use Rattle.server_desk.specs.Places.{all_get}
 use Rattle.server_desk.specs.Numbers.{numbered-here, numbered_cases, rewritten-found}
 use Rattle.server_core.proofs.Tickets.{IsTicket, ticket, still_waits}
 use Rattle.server_core.proofs.DeskSteps.{desk_calls_are_steps}
-use Rattle.server_core.proofs.Reached.{reached_one}
+use Rattle.server_core.proofs.Going.{reached_one}
 use Rattle.server_core.proofs.Going.{one_step, goes_on_lines}
 
 -- the desk's part after a ticket was taken and settled

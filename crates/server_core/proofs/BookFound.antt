@@ -9,7 +9,7 @@ use Rattle.server_desk.specs.World.{Gateway, gateway_with}
 use Rattle.server_core.specs.Entries.{gateway_of}
 use Rattle.server_desk.specs.Places.{some_inj, from_map}
 use Rattle.server_desk.specs.Found.{found_there}
-use Rattle.server_desk.specs.Numbers.{map-set}
+use Rattle.std.proofs.lemmas.List.{map-set}
 
 -- the book of a gateway, which was found by its number
 pub record IsBookOf (gateway at : ℕ) (books : List Book) : Type 0 where

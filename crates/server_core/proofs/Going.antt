@@ -1,29 +1,56 @@
--- What a server on one thread does, one thing after another.
-use Rattle.std.specs.Prelude.{ℕ, ◌≡◌, List, [], ◌∷◌, ◌++◌, map, Result, Ok, Err, IfOk, OnOk, MatchResult, IsOkUnless}
-use Rattle.std.proofs.Common.{ap, sym, ◌∙◌, subst, append_assoc}
+-- Steps one after another and the lines for them, and what a server on one thread does.
+use Rattle.std.specs.Prelude.{◌≡◌, List, [], ◌∷◌, ◌++◌, refl, ℕ, map, Result, Ok, Err, OnOk}
+use Rattle.std.proofs.Common.{ap, sym, ◌∙◌, append_assoc, append-nil, subst}
+use Rattle.server_core.specs.declared.entry.Line.{Line}
+use Rattle.server_desk.specs.World.{World}
+use Rattle.server_core.specs.Steps.{Step, step, run_from}
+use Rattle.server_core.specs.Schedule.{reached, step_of}
+use Rattle.server_core.specs.Entries.{lines_for, step_lines, entry_at}
 use Rattle.std.proofs.lemmas.List.{map-append}
 use Rattle.server_core.specs.declared.event.Step.{Step as Made}
 use Rattle.server_core.specs.declared.entry.Entry.{Entry}
-use Rattle.server_core.specs.declared.entry.Line.{Line}
-use Rattle.server_desk.specs.Desk.{DeskView, desk_of}
-use Rattle.server_desk.specs.World.{World}
-use Rattle.server_core.specs.Steps.{Step, step}
-use Rattle.server_core.specs.Schedule.{reached, step_of}
-use Rattle.server_core.specs.Entries.{lines_for, step_lines, entry_at, gateway_of}
-use Rattle.server_core.specs.Server.{Seen, IsAt, Goes, with_step, with_lines}
-use Rattle.server_core.proofs.Reached.{reached_one, reached_append, lines_one, lines_append}
+use Rattle.server_core.specs.Server.{Seen, IsAt, Goes}
+
+-- Steps one after another, and the lines for them.
+
+pub reached_none : (w : World) → reached w [] ≡ w
+unfolding run_from
+reached_none w = refl
+
+pub reached_next : (w : World) (s : Step) (ss : List Step) → reached w (s ∷ ss) ≡ reached (step w s).0 ss
+unfolding run_from
+reached_next w s ss = refl
+
+pub reached_one : (w : World) (s : Step) → reached w (s ∷ []) ≡ (step w s).0
+unfolding run_from
+reached_one w s = refl
+
+pub reached_append : (w : World) (ss ts : List Step) → reached w (ss ++ ts) ≡ reached (reached w ss) ts
+unfolding run_from
+reached_append w [] ts = refl
+reached_append w (s ∷ ss) ts = reached_append (step w s).0 ss ts
+
+pub lines_one : {A : Type 0} (w : World) (s : Step) → step_lines {A = A} w (s ∷ []) ≡ lines_for w s (step w s).1
+unfolding step_lines
+lines_one w s = append-nil (lines_for w s (step w s).1)
+
+pub lines_next : {A : Type 0} (w : World) (s : Step) (ss : List Step) → step_lines {A = A} w (s ∷ ss) ≡ lines_for w s (step w s).1 ++ step_lines (step w s).0 ss
+unfolding step_lines
+lines_next w s ss = refl
+
+pub lines_append : {A : Type 0} (w : World) (ss ts : List Step) → step_lines {A = A} w (ss ++ ts) ≡ step_lines w ss ++ step_lines (reached w ss) ts
+unfolding run_from step_lines
+lines_append w [] ts = refl
+lines_append {A} w (s ∷ ss) ts =
+    ap (λ (l : List (Line A)). lines_for w s (step w s).1 ++ l) (lines_append (step w s).0 ss ts)
+    ∙ sym (append_assoc (lines_for w s (step w s).1) (step_lines (step w s).0 ss) (step_lines (reached (step w s).0 ss) ts))
+
+-- What a server on one thread does, one thing after another.
 
 -- what is promised of success, from another promise of it
 pub on_ok : {X E : Type 0} {P Q : Type 0} (r : Result X E) → (P → Q) → OnOk r P → OnOk r Q
 on_ok (Ok x) f p = f p
 on_ok (Err e) f p = tt
-
--- a call that found memory gave the answer
-pub answer_is : {X E : Type 0} (q r : Result X E) (none : E) → MatchResult q (λ _. IsOkUnless r none) (λ fault. r ≡ Err fault) → IfOk r (λ x. q ≡ Ok x)
-    → (r ≡ Err none → ⊥) → q ≡ r
-answer_is (Err fault) r none m t n = sym m
-answer_is (Ok x) (Ok y) none m t n = t
-answer_is (Ok x) (Err fault) none m t n = absurd (n (ap Err m))
 
 -- some steps, and then some more
 pub goes_on : {A : Type 0} (w : World) (ss ts : List Step) (ls ms : List (Entry A)) (old mid new : Seen A) → Goes w ss ls old mid → Goes (reached w ss) ts ms mid new
@@ -55,18 +82,3 @@ one_step {A} place w s made lines old new f at t o l =
       steps = ap (map step_of) t ∙ map-append step_of old.steps (made ∷ []) ∙ ap (λ (x : Step). map step_of old.steps ++ x ∷ []) f;
       outcomes = o ∙ ap (λ (ls : List (Line A)). old.outcomes ++ map (entry_at place) ls) (sym (lines_one w s ∙ l));
     }
-
--- a step of the desk
-pub desk_step : {A : Type 0} (place : ℕ) (w : World) (s : Step) (made : Made A) (lines : List (Line A)) (old mid new : Seen A) (d : DeskView)
-    → step_of made ≡ s → IsAt w old → mid ≡ with_step made old → d ≡ desk_of (step w s).0 → w.gateways ≡ (step w s).0.gateways
-    → new ≡ with_lines place lines (record mid { desk = d }) → lines_for w s (step w s).1 ≡ lines
-    → Goes w (s ∷ []) (map (entry_at place) (step_lines w (s ∷ []))) old new
-desk_step {A} place w s made lines old mid new d f at m e g n l =
-    one_step place w s made lines old new f
-    (record {
-      desk = ap (λ (x : Seen A). x.desk) n ∙ e;
-      gateways = ap (λ (x : Seen A). map gateway_of x.books) n ∙ ap (λ (x : Seen A). map gateway_of x.books) m ∙ at.gateways ∙ g;
-    })
-    (ap (λ (x : Seen A). x.steps) n ∙ ap (λ (x : Seen A). x.steps) m)
-    (ap (λ (x : Seen A). x.outcomes) n ∙ ap (λ (x : Seen A). x.outcomes ++ map (entry_at place) lines) m)
-    l

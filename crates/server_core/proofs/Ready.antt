@@ -10,20 +10,18 @@ use Rattle.uplink_gather.specs.declared.fault.HearFault.{HearFault}
 use Rattle.uplink_gather.specs.declared.answers.Heard.{Heard}
 use Rattle.uplink_gather.specs.declared.answers.Heard.TheVariants.{Opened, Joined}
 use Rattle.uplink_gather.specs.Gatherings.{Gathering, Gatherings, numbered, rewritten, is_open_at, close_step}
-use Rattle.uplink_gather.specs.Hearing.{opening, with_copy, after_hearing, hear_answer}
+use Rattle.uplink_gather.specs.Hearing.{opening, with_copy, after_hearing, hear_answer, place_of}
 use Rattle.server_desk.specs.declared.heard.Heard1.{Heard1}
-use Rattle.server_core.specs.declared.event.Step.{Step as Made}
 use Rattle.server_desk.specs.declared.faults.DeskFault.{DeskFault}
 use Rattle.server_desk.specs.declared.faults.DeskFault.TheVariants.{UnknownGateway}
 use Rattle.server_desk.specs.Register.{Register}
 use Rattle.server_desk.specs.Hearing.{Decision, Refuse, Join, Open, copy_of, copy_fault, decide, decide_place, decide_copy, decide_frame, register_after}
 use Rattle.server_desk.specs.Hearing as hearing
-use Rattle.uplink_gather.specs.Hearing.{place_of}
 use Rattle.server_desk.specs.declared.answers.Known.{Known}
 use Rattle.server_desk.specs.declared.answers.Known.TheVariants.{NotGiven}
 use Rattle.server_desk.specs.Answers.{is_given}
 use Rattle.server_desk.specs.Desk.{known_after}
-use Rattle.server_core.specs.Server.{Seen, with_step, IsIdle, AreHeard, IsReady, is_among, ids_of}
+use Rattle.server_core.specs.Server.{Seen, IsIdle, AreHeard, IsReady, is_among, ids_of}
 use Rattle.server_desk.specs.Numbers.{numbered-append_cases, numbered_cases, rewritten-none}
 
 -- it is ready still where its gateways, what was gathered and what is known of answers are the same
@@ -35,10 +33,6 @@ ready_same s t r b i g k =
       heard = subst (λ (x : Gatherings). AreHeard t.desk.ids x.list) (sym g) (subst (λ (l : List ℕ). AreHeard l s.desk.reg.gathered.list) (sym i) r.heard);
       idle = subst IsIdle (sym k) r.idle;
     }
-
-pub ready_noted : {A : Type 0} (made : Made A) (s t : Seen A) → t ≡ with_step made s → IsReady s → IsReady t
-ready_noted {A} made s t e r =
-    ready_same s t r (ap (λ (x : Seen A). ids_of x.books) e) (ap (λ (x : Seen A). x.desk.ids) e) (ap (λ (x : Seen A). x.desk.reg.gathered) e) (ap (λ (x : Seen A). x.desk.known) e)
 
 -- no ticket is out of an uplink that opens a gathering
 idle_append : (known : List Known) → IsIdle known → IsIdle (known ++ NotGiven ∷ [])

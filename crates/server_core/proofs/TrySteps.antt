@@ -34,10 +34,9 @@ use Rattle.server_core.specs.Schedule.{reached, up_to_first, is_accepted, step_o
 use Rattle.server_core.specs.Entries.{sent_as, sent_lines, lines_for, step_lines, gateway_of}
 use Rattle.server_core.specs.Server.{Seen, AreHere, with_step, is_among, ids_of}
 use Rattle.server_core.specs.Turns.{IsOut, EndsTries, GoesOn, IsSame, AreTries, IsNext, tries_from, end_lines}
-use Rattle.server_desk.specs.Places.{some_inj}
+use Rattle.server_desk.specs.Places.{some_inj, map_set}
 use Rattle.server_desk.specs.Numbers.{numbered-here}
-use Rattle.server_desk.specs.Places.{map_set}
-use Rattle.server_core.proofs.Reached.{reached_one, lines_one}
+use Rattle.server_core.proofs.Going.{reached_one, lines_one}
 use Rattle.server_core.proofs.Served.{equal_where_tested}
 use Rattle.server_core.proofs.BookFound.{IsBookOf, book_found, same_book, book_written, no_book}
 use Rattle.server_core.proofs.Accepted.{drop_past, try_is, accepted_tries, refused_tries}

@@ -11,18 +11,21 @@ use gateway_book::GatewayBook;
 use resv_list::VecRoster;
 use std::alloc::{AllocError, Allocator};
 
+/// The book that a server keeps of a gateway.
+pub type Book<A> = GatewayBook<VecRoster<A>>;
+
 /// An empty book for each gateway, in their order.
 pub(crate) fn books_of<A: Allocator + Copy>(
     alloc: A,
     gateways: &[GatewaySetting],
-) -> Result<Vec<GatewayBook<VecRoster<A>>, A>, AllocError>
+) -> Result<Vec<Book<A>, A>, AllocError>
     requires { All IsGatewayInRange gateways.now }
     ensures { IfOk result (λ books. map gateway_of books.items ≡ map opened_gateway gateways.now) }
 {
     let mut books = Vec::with_capacity(alloc, gateways.len())?;
     for gateway in gateways {
         // The cap of a setting is in range.
-        let Ok(book) = GatewayBook::new(VecRoster::new(alloc), gateway.id, gateway.cap) else {
+        let Ok(book) = Book::new(VecRoster::new(alloc), gateway.id, gateway.cap) else {
             unreachable!()
         };
         books.push(book)?;
@@ -31,10 +34,7 @@ pub(crate) fn books_of<A: Allocator + Copy>(
 }
 
 /// The place of the gateway with this number.
-pub(crate) fn place_of<A: Allocator>(
-    books: &[GatewayBook<VecRoster<A>>],
-    gateway: u16,
-) -> Option<usize>
+pub(crate) fn place_of<A: Allocator>(books: &[Book<A>], gateway: u16) -> Option<usize>
     ensures { result ≡ option_map (λ found. found.0) (gateway_with gateway (map gateway_of books.now)) }
 {
     for (place, book) in books.iter().enumerate() {

@@ -1,8 +1,6 @@
 // What one thread did with events.
 
-use crate::{Entry, Step};
-use gateway_book::GatewayBook;
-use resv_list::VecRoster;
+use crate::{Book, Entry, Step};
 use std::alloc::Allocator;
 
 /// What one thread did with a list of events, from a server that has heard nothing.
@@ -13,5 +11,5 @@ pub struct Replay<A: Allocator> {
     /// The lines that answer them, with the places of their events.
     pub outcomes: Vec<Entry<A>, A>,
     /// The gateways' books as they are after the last step, in the order of the settings.
-    pub books: Vec<GatewayBook<VecRoster<A>>, A>,
+    pub books: Vec<Book<A>, A>,
 }

@@ -3,10 +3,8 @@
 ghost use Rattle.std.specs.Prelude.{◌≡◌, ◌∷◌, [], IfOk, OnOk};
 ghost use Rattle.server_core.specs.Server.{seen, with_step, with_lines, IsOpened};
 
-use crate::books::books_of;
+use crate::books::{Book, books_of};
 use crate::{Desk, Entry, Limits, Line, NoMemory, Settings, Step};
-use gateway_book::GatewayBook;
-use resv_list::VecRoster;
 use std::alloc::Allocator;
 use std::hash::BuildHasher;
 
@@ -23,7 +21,7 @@ pub const USUAL_LIMITS: Limits = Limits {
 #[derive(Drop)]
 pub(crate) struct Server<S: BuildHasher, A: Allocator> {
     pub(crate) desk: Desk<S, A>,
-    pub(crate) books: Vec<GatewayBook<VecRoster<A>>, A>,
+    pub(crate) books: Vec<Book<A>, A>,
     pub(crate) steps: Vec<Step<A>, A>,
     pub(crate) outcomes: Vec<Entry<A>, A>,
 }

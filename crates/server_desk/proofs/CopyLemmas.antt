@@ -1,5 +1,5 @@
 -- The copies of gathered uplinks stay in their ranges, and each of another gateway.
-use Rattle.std.specs.Prelude.{ℕ, zero, suc, ◌≡◌, ◌≢◌, ◌-◌, ◌<◌, ◌==◌, nat_le, Bool, true, false, if◌then◌else◌, List, [], ◌∷◌, ◌++◌, length, All, get_or, slice_get, Option, Some, None, Result, Ok, Err, IfOk, refl}
+use Rattle.std.specs.Prelude.{ℕ, ◌≡◌, ◌≢◌, ◌-◌, ◌<◌, ◌==◌, nat_le, Bool, true, false, if◌then◌else◌, List, [], ◌∷◌, ◌++◌, length, All, get_or, Option, Some, None, Result, Ok, Err, IfOk, refl}
 use Rattle.std.proofs.Common.{sym, ap, ◌∙◌, subst, arith, eq-eqb, true≢false, length-append}
 use Rattle.std.proofs.lemmas.List.Elements.{All-set, All-push, All-nil, All-cons}
 use Rattle.std.proofs.lemmas.List.Quantifiers.{all_pairs_push}
@@ -16,12 +16,7 @@ use Rattle.uplink_gather.specs.HearingLaws.{joins_at, answer_joined}
 use Rattle.rx_windows.specs.Windows.{IsHeard}
 use Rattle.server_desk.specs.Kept.{IsGathered}
 use Rattle.server_desk.specs.Places.{some_inj, all_get}
-use Rattle.server_desk.specs.Numbers.{rewritten-found, rewritten-none}
-
--- what has a number stands at the place before it
-pub at_number : {X : Type 0} (n : ℕ) (xs : List X) (x : X) → numbered n xs ≡ Some x → slice_get xs (n - 1) ≡ Some x
-at_number zero xs x e = absurd (cc)
-at_number (suc i) xs x e = ap (slice_get xs) (omega arith) ∙ e
+use Rattle.server_desk.specs.Numbers.{at_number, rewritten-found, rewritten-none}
 
 -- what is true of all is true where one is written anew that keeps it
 all_rewritten_by : {X : Type 0} (P : X → Type 0) (f : X → X) (n : ℕ) (xs : List X) (o : Option X) → numbered n xs ≡ o → ((x : X) → numbered n xs ≡ Some x → P x → P (f x)) → All P xs

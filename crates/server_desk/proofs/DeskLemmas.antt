@@ -4,7 +4,7 @@ use Rattle.std.specs.Option.{option_map}
 use Rattle.std.proofs.Common.{sym, ap, ◌∙◌, subst, arith}
 use Rattle.std.proofs.lemmas.Option.{slice_get-map, slice_get_within}
 use Rattle.std.proofs.lemmas.Bool.Decides.{nat_tests}
-use Rattle.std.proofs.lemmas.List.{length-map}
+use Rattle.std.proofs.lemmas.List.{length-map, length-set, map-set}
 use Rattle.std.proofs.lemmas.List.Elements.{All-set, All-push}
 use Rattle.answer_ticket.specs.Job.{Payload}
 use Rattle.server_desk.specs.declared.device.Kept.{Kept}
@@ -16,10 +16,8 @@ use Rattle.uplink_gather.specs.Gatherings.{Gatherings}
 use Rattle.server_desk.specs.Queueing.{queue_limit, queue_answer, queue_answer_for, queue_fault, queued_or, queue_step, after_queueing, with_payload}
 use Rattle.server_desk.specs.Kept.{shown, outs, IsSendable, IsServable, AreOut, IsDesk}
 use Rattle.server_desk.specs.Desk.{DeskView, desk_queue}
-use Rattle.server_desk.specs.Places.{some_inj, length-set, all_get}
+use Rattle.server_desk.specs.Places.{some_inj, all_get, map_set}
 use Rattle.server_desk.specs.Found.{found_there}
-use Rattle.server_desk.specs.Numbers.{map-set}
-use Rattle.server_desk.specs.Places.{map_set}
 
 pub get_within : {X : Type 0} (xs : List X) (i : ℕ) (d : X) → i < length xs → slice_get xs i ≡ Some (get_or xs i d)
 get_within [] i d h = absurd (omega arith)

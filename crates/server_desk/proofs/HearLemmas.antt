@@ -1,15 +1,8 @@
 -- A copy of an uplink, as the desk hears it.
-use Rattle.std.specs.Prelude.{ℕ, ◌≡◌, ◌+◌, ◌^◌, ◌<◌, ◌≤◌, nat_lt, nat_le, ◌==◌, Bool, true, false, not, ◌||◌, if◌then◌else◌, ⊤, is_some, List, [], ◌∷◌, ◌++◌, map, length, All, slice_get, slice_set, get_or, Option, Some, None, Result, Ok, Err, IfOk, OnErr, MatchResult, IsOkUnless, refl}
+use Rattle.std.specs.Prelude.{ℕ, ◌≡◌, ◌+◌, ◌^◌, ◌<◌, ◌≤◌, nat_le, ◌==◌, Bool, false, if◌then◌else◌, List, [], ◌∷◌, ◌++◌, map, length, All, slice_get, slice_set, get_or, Some, Result, Ok, Err, IfOk, OnErr, MatchResult, IsOkUnless, refl}
 use Rattle.std.specs.Option.{option_map}
 use Rattle.std.proofs.Common.{sym, ap, ◌∙◌, subst, arith, length-append}
-use Rattle.std.specs.List.{list_any}
-use Rattle.std.proofs.lemmas.Bool.Decides.{nat_tests}
-use Rattle.radio_bands.specs.Band.{band_of}
-use Rattle.rx_windows.specs.Windows.{rate_numbered}
-use Rattle.lora_frame.specs.declared.reading.Uplink.{Uplink}
-use Rattle.lora_frame.specs.declared.reading.FrameFault.{FrameFault}
-use Rattle.lora_frame.specs.Reading.{addr_of, uplink_of, has_mic}
-use Rattle.lora_frame.specs.Counter.{inferred_counter}
+use Rattle.lora_frame.specs.Reading.{addr_of}
 use Rattle.uplink_gather.specs.declared.heard.HeardCopy.{HeardCopy}
 use Rattle.uplink_gather.specs.declared.answers.Heard.{Heard}
 use Rattle.uplink_gather.specs.declared.answers.Heard.TheVariants as gathers
@@ -28,22 +21,22 @@ use Rattle.server_desk.specs.declared.heard.Heard1.{Heard1}
 use Rattle.server_desk.specs.declared.heard.DeskHeard.{DeskHeard}
 use Rattle.server_desk.specs.declared.heard.DeskHeard.TheVariants.{Opened}
 use Rattle.server_desk.specs.declared.faults.DeskFault.{DeskFault}
-use Rattle.server_desk.specs.declared.faults.DeskFault.TheVariants.{Frame, UnknownGateway, NoRate, NoBand, Moment, BadMic, Crowded, NoMemory}
-use Rattle.server_desk.specs.Register.{Device, Asked, Register, device_with}
-use Rattle.server_desk.specs.Hearing.{last_moment, Decision, Refuse, Join, Open, Opening, copy_fault, copy_of, named_fault, decide_room, decide_mic, decide_device, decide_place, decide_copy, decide_frame, decide, is_last, answer_to, asked_by}
+use Rattle.server_desk.specs.declared.faults.DeskFault.TheVariants.{Crowded, NoMemory}
+use Rattle.server_desk.specs.Register.{Device, Asked, Register}
+use Rattle.server_desk.specs.Hearing.{Decision, Join, Open, Opening, copy_of, named_fault, answer_to}
 use Rattle.server_desk.specs.Kept.{shown, outs, IsServable, IsGathered, AreOut, IsDesk, verdict_of, desk_answer}
 use Rattle.server_desk.specs.Desk.{DeskView, desk_hear, known_after}
 use Rattle.server_desk.specs.Hearing as hearing
-use Rattle.std.proofs.lemmas.List.{length-map}
+use Rattle.std.proofs.lemmas.List.{length-map, length-set, map-set}
 use Rattle.std.proofs.lemmas.List.Elements.{All-push}
-use Rattle.server_desk.specs.Places.{some_inj, length-set}
+use Rattle.server_desk.specs.Places.{some_inj}
 use Rattle.server_desk.specs.Numbers.{length-rewritten}
 use Rattle.server_desk.specs.Found.{found_there}
-use Rattle.server_desk.specs.Decided.{IsDecided, decided, read_same}
-use Rattle.server_desk.specs.Numbers.{map-set}
+use Rattle.server_desk.specs.Decided.{IsDecided, decided}
 use Rattle.server_desk.proofs.OutLemmas.{count_push}
 use Rattle.server_desk.proofs.CopyLemmas.{all_heard}
 use Rattle.server_desk.proofs.DeskLemmas.{seen, found_within, kept_at, queued_holds}
+use Rattle.server_desk.proofs.DecisionLemmas.{IsNew, IsTimely, decision, is_join, is_open, room_left, timely}
 
 -- the desk's answer follows from that of the gatherings
 memory : (repeat : Bool) (r : Result Heard HearFault) → IsOkUnless r gathering.NoMemory → IsOkUnless (desk_answer repeat r) NoMemory
@@ -81,67 +74,6 @@ pub was_fault : (P : Type 0) (repeat : Bool) (r : Result Heard HearFault) (fault
 was_fault P repeat (Ok (gathers.Opened n)) fault e h = absurd (cc)
 was_fault P repeat (Ok (gathers.Joined n copies)) fault e h = absurd (cc)
 was_fault P repeat (Err f) fault e h = h
-
--- which decision a verdict tells
-is_join : (bytes : List ℕ) (d : Decision) → verdict_of bytes d ≡ says.Join → (n : ℕ) × (d ≡ Join n)
-is_join bytes (Refuse fault) e = absurd (cc)
-is_join bytes (Join n) e = (n, refl)
-is_join bytes (Open o) e = absurd (cc)
-
--- where gatherings aren't crowded, fewer were opened than may be
-room_left : (g : Gatherings) (full ever : Bool) → (full || ever) ≡ false → nat_le g.limits.max_ever (length g.list) ≡ ever → length g.list < g.limits.max_ever
-room_left g true ever e q = absurd (cc)
-room_left g false true e q = absurd (cc)
-room_left g false false e q = grind (arith, nat_tests, q)
-
-record IsNew (bytes : List ℕ) (d : Decision) (new : NewUplink) : Type 0 where
-  pub opening : Opening
-  pub decided_so : d ≡ Open opening
-  pub is : record { counter = opening.counter; repeat = is_last opening.device opening.counter; asked = asked_by opening bytes } ≡ new
-
-open_same : (u v : NewUplink) → says.Open u ≡ says.Open v → u ≡ v
-open_same u v e = cc
-
-is_open : (bytes : List ℕ) (d : Decision) (new : NewUplink) → verdict_of bytes d ≡ says.Open new → IsNew bytes d new
-is_open bytes (Refuse fault) new e = absurd (cc)
-is_open bytes (Join n) new e = absurd (cc)
-is_open bytes (Open o) new e = record { opening = o; decided_so = refl; is = open_same _ new e }
-
--- a copy that isn't refused was heard by the last moment
-abbrev IsTimely : Heard1 → Decision → Type 0
-IsTimely heard (Refuse fault) = ⊤
-IsTimely heard (Join n) = heard.at ≤ 2 ^ 60
-IsTimely heard (Open o) = heard.at ≤ 2 ^ 60
-
-in_time : (a b c late after : Bool) → (if a then Some UnknownGateway else if b then Some NoRate else if c then Some NoBand else if late || after then Some Moment else None) ≡ None → late ≡ false
-in_time true b c late after e = absurd (cc)
-in_time false true c late after e = absurd (cc)
-in_time false false true late after e = absurd (cc)
-in_time false false false true after e = absurd (cc)
-in_time false false false false after e = refl
-
-module _ (ids : List ℕ) (reg : Register) (bytes : List ℕ) (heard : Heard1) (arrived : ℕ) where
-  timely_by : (d : Decision) → heard.at ≤ 2 ^ 60 → IsTimely heard d
-  timely_by (Refuse fault) h = tt
-  timely_by (Join n) h = h
-  timely_by (Open o) h = h
-
-  copy_timely : (uplink : Uplink) (o : Option DeskFault) → copy_fault ids heard arrived ≡ o → IsTimely heard (decide_copy reg bytes heard arrived uplink o)
-  copy_timely uplink (Some fault) e = tt
-  copy_timely uplink None e =
-      let early = in_time (not (list_any (λ id. id == heard.gateway) ids)) (nat_lt 6 heard.rate) (not (is_some (band_of heard.freq_hz (rate_numbered heard.rate)))) (nat_lt last_moment heard.at) (nat_lt last_moment arrived) e in
-      timely_by (decide_copy reg bytes heard arrived uplink None) (grind (arith, nat_tests, early))
-
-  frame_timely : (r : Result Uplink FrameFault) → IsTimely heard (decide_frame ids reg bytes heard arrived r)
-  frame_timely (Err fault) = tt
-  frame_timely (Ok uplink) = copy_timely uplink (copy_fault ids heard arrived) refl
-
-  timely : IsTimely heard (decide ids reg bytes heard arrived)
-  unfolding decide
-  timely = frame_timely (uplink_of bytes)
-
-abbrev decision : DeskView → List ℕ → Heard1 → ℕ → Decision
-decision d bytes heard arrived = decide d.ids d.reg bytes heard arrived
 
 module _ (d : DeskView) (bytes : List ℕ) (heard : Heard1) (arrived : ℕ) (gathered : Gatherings) (s : gathered ≡ d.reg.gathered) (copy : HeardCopy) (e : copy ≡ copy_of heard) where
   -- the gathering's own answer, by where the copy goes
@@ -331,64 +263,3 @@ module _ {A : Type 0} (d : DeskView) (bytes : List ℕ) (heard : Heard1) (arrive
   -- nothing changed
   pub open_refused : (g : Gatherings) (after : List Asked) (more : List Known) → g ≡ gathered → after ≡ asked → more ≡ known → seen ids kepts g after more ≡ d
   open_refused g after more s e f = same_desk _ _ _ _ _ _ _ _ _ _ refl refl s e f ∙ w
-
--- what is to be done with an uplink that would open a gathering, by its device, its counter, its MIC and the room
-module _ (bytes : List ℕ) (uplink : Uplink) (crowded : Bool) (devices : List Device) (place : ℕ) (device : Device) (f : device_with uplink.addr devices ≡ Some (place, device)) where
-  by_counter : (m : Option ℕ) → m ≡ inferred_counter device.up uplink.low
-      → verdict_of bytes (decide_mic crowded bytes (place, device) m) ≡ verdict_of bytes (decide_device crowded bytes uplink (device_with uplink.addr devices))
-  by_counter m e =
-      ap (λ (x : Option ℕ). verdict_of bytes (decide_mic crowded bytes (place, device) x)) e
-      ∙ sym (ap (λ (o : Option (ℕ × Device)). verdict_of bytes (decide_device crowded bytes uplink o)) f)
-
-  pub no_counter : None ≡ inferred_counter device.up uplink.low → says.Refuse BadMic ≡ verdict_of bytes (decide_device crowded bytes uplink (device_with uplink.addr devices))
-  no_counter e = by_counter None e
-
-  module _ (counter : ℕ) (e : Some counter ≡ inferred_counter device.up uplink.low) where
-    by_mic : (t : Bool) → t ≡ has_mic bytes device.setting.nwk counter
-        → verdict_of bytes (if t then decide_room crowded (record { place = place; device = device; counter = counter }) else Refuse BadMic)
-        ≡ verdict_of bytes (decide_device crowded bytes uplink (device_with uplink.addr devices))
-    by_mic t m =
-        ap (λ (x : Bool). verdict_of bytes (if x then decide_room crowded (record { place = place; device = device; counter = counter }) else Refuse BadMic)) m
-        ∙ by_counter (Some counter) e
-
-    pub wrong_mic : false ≡ has_mic bytes device.setting.nwk counter → says.Refuse BadMic ≡ verdict_of bytes (decide_device crowded bytes uplink (device_with uplink.addr devices))
-    wrong_mic m = by_mic false m
-
-    by_room : (t : Bool) → true ≡ has_mic bytes device.setting.nwk counter → t ≡ crowded
-        → verdict_of bytes (decide_room t (record { place = place; device = device; counter = counter })) ≡ verdict_of bytes (decide_device crowded bytes uplink (device_with uplink.addr devices))
-    by_room t m r = ap (λ (x : Bool). verdict_of bytes (decide_room x (record { place = place; device = device; counter = counter }))) r ∙ by_mic true m
-
-    pub no_room : true ≡ has_mic bytes device.setting.nwk counter → true ≡ crowded → says.Refuse Crowded ≡ verdict_of bytes (decide_device crowded bytes uplink (device_with uplink.addr devices))
-    no_room m r = by_room true m r
-
-    pub is_new : true ≡ has_mic bytes device.setting.nwk counter → false ≡ crowded → uplink_of bytes ≡ Ok uplink → (repeat : Bool) → repeat ≡ is_last device counter
-        → says.Open (record { counter = counter; repeat = repeat; asked = record { device = place; confirmed = uplink.confirmed; adr_ack_req = uplink.adr_ack_req } })
-        ≡ verdict_of bytes (decide_device crowded bytes uplink (device_with uplink.addr devices))
-    is_new m r u repeat q =
-        ap (λ (x : Bool). says.Open (record { counter = counter; repeat = x; asked = record { device = place; confirmed = uplink.confirmed; adr_ack_req = uplink.adr_ack_req } })) q
-        ∙ ap (λ (x : Uplink). says.Open (record { counter = counter; repeat = is_last device counter; asked = record { device = place; confirmed = x.confirmed; adr_ack_req = x.adr_ack_req } })) (sym (read_same bytes uplink u))
-        ∙ by_room false m r
-
--- what is to be done with a copy, by its frame, its own numbers, and where it goes
-module _ (d : DeskView) (bytes : List ℕ) (heard : Heard1) (arrived : ℕ) where
-  pub no_frame : (fault : FrameFault) → Err fault ≡ uplink_of bytes → says.Refuse (Frame fault) ≡ verdict_of bytes (decide d.ids d.reg bytes heard arrived)
-  unfolding decide
-  no_frame fault e = ap (λ (r : Result Uplink FrameFault). verdict_of bytes (decide_frame d.ids d.reg bytes heard arrived r)) e
-
-  by_copy : (uplink : Uplink) (ids : List ℕ) (o : Option DeskFault) → Ok uplink ≡ uplink_of bytes → ids ≡ d.ids → o ≡ copy_fault ids heard arrived
-      → verdict_of bytes (decide_copy d.reg bytes heard arrived uplink o) ≡ verdict_of bytes (decide d.ids d.reg bytes heard arrived)
-  unfolding decide
-  by_copy uplink ids o e i q =
-      ap (λ (x : Option DeskFault). verdict_of bytes (decide_copy d.reg bytes heard arrived uplink x)) (q ∙ ap (λ (l : List ℕ). copy_fault l heard arrived) i)
-      ∙ ap (λ (r : Result Uplink FrameFault). verdict_of bytes (decide_frame d.ids d.reg bytes heard arrived r)) e
-
-  pub wrong_copy : (uplink : Uplink) (ids : List ℕ) (fault : DeskFault) → Ok uplink ≡ uplink_of bytes → ids ≡ d.ids → Some fault ≡ copy_fault ids heard arrived
-      → says.Refuse fault ≡ verdict_of bytes (decide d.ids d.reg bytes heard arrived)
-  wrong_copy uplink ids fault e i q = by_copy uplink ids (Some fault) e i q
-
-  pub by_place : (uplink : Uplink) (ids : List ℕ) (gathered : Gatherings) (p : Result Place HearFault) → Ok uplink ≡ uplink_of bytes → ids ≡ d.ids → None ≡ copy_fault ids heard arrived
-      → gathered ≡ d.reg.gathered → p ≡ place_of gathered bytes heard.gateway arrived
-      → verdict_of bytes (decide_place d.reg bytes uplink p) ≡ verdict_of bytes (decide d.ids d.reg bytes heard arrived)
-  by_place uplink ids gathered p e i q s r =
-      ap (λ (x : Result Place HearFault). verdict_of bytes (decide_place d.reg bytes uplink x)) (r ∙ ap (λ (x : Gatherings). place_of x bytes heard.gateway arrived) s)
-      ∙ by_copy uplink ids None e i q

@@ -3,7 +3,7 @@ use Rattle.std.specs.Prelude.{ℕ, ◌≡◌, ◌-◌, ◌<◌, Bool, true, fals
 use Rattle.std.specs.Option.{option_map_or}
 use Rattle.std.proofs.Common.{sym, ap, ◌∙◌, subst, arith, true≢false}
 use Rattle.std.proofs.lemmas.Option.{get_or_from_slice_get}
-use Rattle.std.proofs.lemmas.List.{length-map, set-get_or}
+use Rattle.std.proofs.lemmas.List.{length-map, set-get_or, length-set, map-set}
 use Rattle.std.proofs.lemmas.List.Elements.{All-drop}
 use Rattle.uplink_gather.specs.Gatherings.{Gatherings, numbered}
 use Rattle.answer_ticket.specs.declared.outcome.Ending.{Ending}
@@ -13,11 +13,9 @@ use Rattle.server_desk.specs.Register.{Device, Asked, Register}
 use Rattle.server_desk.specs.Settling.{sent_of, has_carried, is_here, may_settle, without_head, head_taken, delivered, after_settling}
 use Rattle.server_desk.specs.Kept.{shown, outs, IsSendable, IsServable, AreOut, IsDesk}
 use Rattle.server_desk.specs.Desk.{DeskView, desk_settled}
-use Rattle.server_desk.specs.Places.{all_get, length-set}
-use Rattle.server_desk.specs.Numbers.{rewritten-found}
+use Rattle.server_desk.specs.Places.{all_get}
+use Rattle.server_desk.specs.Numbers.{rewritten-found, at_number}
 use Rattle.server_desk.proofs.OutLemmas.{out_settled}
-use Rattle.server_desk.proofs.CopyLemmas.{at_number}
-use Rattle.server_desk.specs.Numbers.{map-set}
 use Rattle.server_desk.proofs.DeskLemmas.{seen, kept_at, written_holds}
 use Rattle.server_desk.proofs.TakeLemmas.{number_too, out_at_place, with_both, both_written}
 

@@ -4,7 +4,7 @@ use Rattle.std.specs.Option.{option_map, option_map_or, ForSome}
 use Rattle.std.proofs.Common.{sym, ap, ◌∙◌, subst, arith}
 use Rattle.std.proofs.lemmas.Bool.Decides.{nat_tests}
 use Rattle.std.proofs.lemmas.Option.{slice_get-map, slice_get_within}
-use Rattle.std.proofs.lemmas.List.{length-map}
+use Rattle.std.proofs.lemmas.List.{length-map, length-set, map-set}
 use Rattle.std.proofs.lemmas.List.Elements.{All-head}
 use Rattle.uplink_gather.specs.declared.heard.HeardCopy.{HeardCopy}
 use Rattle.uplink_gather.specs.Gatherings.{Gathering, Gatherings, numbered, rewritten, is_closed_at, copies_of}
@@ -21,11 +21,9 @@ use Rattle.server_desk.specs.Register.{Device, Asked, Register}
 use Rattle.server_desk.specs.Taking.{head, is_owed, is_engaged, job_for, job_of, fault_of, given_or, take_by, take_known, take_answer, with_counter_given, counter_given, taken_from, after_taking}
 use Rattle.server_desk.specs.Kept.{shown, outs, IsSendable, IsServable, IsGathered, AreOut, IsDesk, IsReady}
 use Rattle.server_desk.specs.Desk.{DeskView, desk_taken, desk_take}
-use Rattle.server_desk.specs.Places.{some_inj, all_get, length-set}
-use Rattle.server_desk.specs.Numbers.{rewritten-found}
+use Rattle.server_desk.specs.Places.{some_inj, all_get}
+use Rattle.server_desk.specs.Numbers.{rewritten-found, at_number}
 use Rattle.server_desk.proofs.OutLemmas.{engaged_is, out_given}
-use Rattle.server_desk.proofs.CopyLemmas.{at_number}
-use Rattle.server_desk.specs.Numbers.{map-set}
 use Rattle.server_desk.proofs.DeskLemmas.{seen, get_within, kept_at, written_holds}
 
 -- the answer to `take`, by what is found

@@ -1,9 +1,9 @@
-use Rattle.std.specs.Prelude.{ℕ, zero, suc, ◌≡◌, ◌+◌, ◌-◌, Bool, true, false, List, [], ◌∷◌, ◌++◌, slice_get, slice_set, if◌then◌else◌, Option, Some, None, Result, Ok, Err, unwrap_or, refl}
+use Rattle.std.specs.Prelude.{ℕ, zero, suc, ◌≡◌, ◌+◌, ◌-◌, Bool, true, false, List, [], ◌∷◌, ◌++◌, slice_get, slice_set, if◌then◌else◌, Option, Some, None, Result, Ok, Err, refl}
 use Rattle.std.proofs.Common.{ap, ◌∙◌, arith}
 use Rattle.std.specs.Option.{option_map_or}
 use Rattle.uplink_gather.specs.declared.limits.Limits.{Limits}
 use Rattle.uplink_gather.specs.Gatherings.{numbered, rewritten, is_closed_at}
-use Rattle.answer_ticket.specs.Job.{Job, Payload}
+use Rattle.answer_ticket.specs.Job.{Job}
 use Rattle.server_desk.specs.declared.heard.Heard1.{Heard1}
 use Rattle.server_desk.specs.declared.faults.TakeFault.{TakeFault}
 use Rattle.server_desk.specs.declared.faults.TakeFault.TheVariants.{NotReady}
@@ -14,7 +14,9 @@ use Rattle.server_desk.specs.Answers.{Known, NotGiven, Given, Done}
 use Rattle.server_desk.specs.Taking.{take_answer, take_known}
 use Rattle.server_desk.specs.Airtime.{known_airtime, answered_at, total_at}
 use Rattle.server_desk.specs.World.{opening}
-use Rattle.server_desk.specs.Desk.{DeskView, desk_of, desk_queue, desk_hear, desk_pass, desk_take, desk_taken, known_after}
+use Rattle.server_desk.specs.Desk.{DeskView, desk_of, desk_hear, desk_take, desk_taken, known_after}
+use Rattle.server_desk.specs.Places.{some_inj}
+use Rattle.server_desk.specs.Numbers.{at_number}
 
 -- Which calls leave the airtime of all settled answers as it is: all but `settle`.
 
@@ -23,41 +25,32 @@ abbrev pub total_of : DeskView → ℕ
 total_of d = total_at d.ids d.known
 
 -- before anything was heard there is none
-total_none : (ids : List ℕ) → total_at ids [] ≡ 0
-total_none [] = refl
-total_none (id ∷ ids) = omega (arith, total_none ids)
+pub total_nil : (ids : List ℕ) → total_at ids [] ≡ 0
+total_nil [] = refl
+total_nil (id ∷ ids) = omega (arith, total_nil ids)
 
 pub total-opening : (settings : SettingLists) (limits : Limits) → total_of (desk_of (opening settings limits)) ≡ 0
-total-opening settings limits = total_none (desk_of (opening settings limits)).ids
+total-opening settings limits = total_nil (desk_of (opening settings limits)).ids
 
-pub total-queue : (d : DeskView) (addr : ℕ) (payload : Payload) → total_of (desk_queue d addr payload) ≡ total_of d
-total-queue d addr payload = refl
-
-pub total-pass : (d : DeskView) (now : ℕ) → total_of (desk_pass d now) ≡ total_of d
-total-pass d now = refl
-
-same_total : (known more : List Known) → ((id : ℕ) → answered_at id more ≡ answered_at id known) → (ids : List ℕ) → total_at ids more ≡ total_at ids known
-same_total known more e [] = refl
-same_total known more e (id ∷ ids) = omega (arith, e id, same_total known more e ids)
+pub total_same : (known more : List Known) → ((id : ℕ) → answered_at id more ≡ answered_at id known) → (ids : List ℕ) → total_at ids more ≡ total_at ids known
+total_same known more e [] = refl
+total_same known more e (id ∷ ids) = omega (arith, e id, total_same known more e ids)
 
 -- an answer that waits adds nothing
-answered_more : (id : ℕ) (known : List Known) → answered_at id (known ++ NotGiven ∷ []) ≡ answered_at id known
-answered_more id [] = refl
-answered_more id (k ∷ known) = ap (λ n. known_airtime id k + n) (answered_more id known)
+pub answered_push : (id : ℕ) (known : List Known) → answered_at id (known ++ NotGiven ∷ []) ≡ answered_at id known
+answered_push id [] = refl
+answered_push id (k ∷ known) = ap (λ n. known_airtime id k + n) (answered_push id known)
 
 heard_by : (ids : List ℕ) (known : List Known) (decision : Decision) → total_at ids (known_after decision known) ≡ total_at ids known
 heard_by ids known (Refuse fault) = refl
 heard_by ids known (Join n) = refl
-heard_by ids known (Open o) = same_total known (known ++ NotGiven ∷ []) (λ id. answered_more id known) ids
+heard_by ids known (Open o) = total_same known (known ++ NotGiven ∷ []) (λ id. answered_push id known) ids
 
 pub total-hear : (d : DeskView) (bytes : List ℕ) (heard : Heard1) (arrived : ℕ) → total_of (desk_hear d bytes heard arrived) ≡ total_of d
 total-hear d bytes heard arrived = heard_by d.ids d.known (decide d.ids d.reg bytes heard arrived)
 
-some_inj : {X : Type 0} {x y : X} → Some x ≡ Some y → x ≡ y
-some_inj {X} {x} {y} e = ap (λ (o : Option X). unwrap_or o x) e
-
 -- nor does an answer whose ticket is given
-answered_given : (id : ℕ) (known : List Known) (i : ℕ) → slice_get known i ≡ Some NotGiven → answered_at id (slice_set known i Given) ≡ answered_at id known
+pub answered_given : (id : ℕ) (known : List Known) (i : ℕ) → slice_get known i ≡ Some NotGiven → answered_at id (slice_set known i Given) ≡ answered_at id known
 answered_given id [] i e = absurd (cc)
 answered_given id (k ∷ known) zero e =
     let nothing : known_airtime id k ≡ 0 = ap (known_airtime id) (some_inj e) in
@@ -82,17 +75,13 @@ waits : (reg : Register) (known : List Known) (n : ℕ) (job : Job) → take_ans
 unfolding take_answer
 waits reg known n job e = waits_closed reg known n job (is_closed_at n reg.gathered.list) e
 
-at_number : (n : ℕ) (known : List Known) (k : Known) → numbered n known ≡ Some k → slice_get known (n - 1) ≡ Some k
-at_number zero known k e = absurd (cc)
-at_number (suc i) known k e = ap (slice_get known) (omega arith) ∙ e
-
 taken_by : (d : DeskView) (n : ℕ) (r : Result Job TakeFault) → take_answer d.reg d.known n ≡ r → total_of (desk_taken r n d) ≡ total_of d
 taken_by d n (Err fault) e = refl
 taken_by d n (Ok job) e =
     let found : numbered n d.known ≡ Some NotGiven = waits d.reg d.known n job e in
     let written : rewritten (λ k. Given) n d.known ≡ slice_set d.known (n - 1) Given = ap (λ o. option_map_or (λ k. slice_set d.known (n - 1) Given) o d.known) found in
     ap (total_at d.ids) written
-    ∙ same_total d.known (slice_set d.known (n - 1) Given) (λ id. answered_given id d.known (n - 1) (at_number n d.known NotGiven found)) d.ids
+    ∙ total_same d.known (slice_set d.known (n - 1) Given) (λ id. answered_given id d.known (n - 1) (at_number n d.known NotGiven found)) d.ids
 
 pub total-take : (d : DeskView) (n : ℕ) → total_of (desk_take d n) ≡ total_of d
 total-take d n = taken_by d n (take_answer d.reg d.known n) refl

@@ -4,9 +4,15 @@ use Rattle.std.specs.Option.{option_map, option_map_or}
 use Rattle.std.proofs.lemmas.Option.{slice_get-map}
 use Rattle.std.proofs.Common.{inl, inr, sym, ap, ◌∙◌, subst, arith}
 use Rattle.uplink_gather.specs.Gatherings.{numbered, rewritten}
-use Rattle.server_desk.specs.Places.{some_inj, map_set, get_set_same, get_set_cases, get_append, get_append_cases, get_next, length-set, get_set_after}
+use Rattle.std.proofs.lemmas.List.{length-set, map-set}
+use Rattle.server_desk.specs.Places.{some_inj, map_set, get_set_same, get_set_cases, get_append, get_append_cases, get_next, get_set_after}
 
 module _ {X : Type 0} where
+  -- what has a number stands one place before it
+  pub at_number : (n : ℕ) (xs : List X) (x : X) → numbered n xs ≡ Some x → slice_get xs (n - 1) ≡ Some x
+  at_number zero xs x e = absurd (cc)
+  at_number (suc i) xs x e = ap (slice_get xs) (omega arith) ∙ e
+
   -- the list in which a member that was found is written anew
   written : (f : X → X) (o : Option X) (n : ℕ) (xs : List X) (x : X) → o ≡ Some x
       → option_map_or (λ y. slice_set xs (n - 1) (f y)) o xs ≡ slice_set xs (n - 1) (f x)
@@ -81,11 +87,6 @@ module _ {X : Type 0} where
       by (inr h) = inr h.1
 
 module _ {X Y : Type 0} (f : X → Y) where
-  pub map-set : (xs : List X) (i : ℕ) (y : X) → map f (slice_set xs i y) ≡ slice_set (map f xs) i (f y)
-  map-set [] i y = refl
-  map-set (x ∷ xs) zero y = refl
-  map-set (x ∷ xs) (suc i) y = ap (λ (l : List Y). f x ∷ l) (map-set xs i y)
-
   pub numbered-map : (n : ℕ) (xs : List X) → numbered n (map f xs) ≡ option_map f (numbered n xs)
   numbered-map zero xs = refl
   numbered-map (suc i) xs = slice_get-map f xs i
@@ -95,7 +96,7 @@ module _ {X Y : Type 0} (f : X → Y) where
   map-rewritten_by g h s n xs None e =
       ap (map f) (rewritten-none g n xs e) ∙ sym (rewritten-none h n (map f xs) (numbered-map n xs ∙ ap (option_map f) e))
   map-rewritten_by g h s n xs (Some x) e =
-      ap (map f) (rewritten-found g n xs x e) ∙ map-set xs (n - 1) (g x) ∙ ap (slice_set (map f xs) (n - 1)) (s x)
+      ap (map f) (rewritten-found g n xs x e) ∙ map-set f xs (n - 1) (g x) ∙ ap (slice_set (map f xs) (n - 1)) (s x)
       ∙ sym (rewritten-found h n (map f xs) (f x) (numbered-map n xs ∙ ap (option_map f) e))
 
   -- a member that is written anew is written anew on the list of what the members look like

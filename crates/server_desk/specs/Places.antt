@@ -14,11 +14,6 @@ module _ {X : Type 0} where
   get_set_same (z ∷ xs) zero x y e = refl
   get_set_same (z ∷ xs) (suc i) x y e = get_set_same xs i x y e
 
-  pub length-set : (xs : List X) (i : ℕ) (y : X) → length (slice_set xs i y) ≡ length xs
-  length-set [] i y = refl
-  length-set (z ∷ xs) zero y = refl
-  length-set (z ∷ xs) (suc i) y = ap suc (length-set xs i y)
-
   -- a list that goes on has the same at its old places, and what follows at the next one
   pub get_append : (xs ys : List X) (i : ℕ) (x : X) → slice_get xs i ≡ Some x → slice_get (xs ++ ys) i ≡ Some x
   get_append [] ys i x e = absurd (cc)

@@ -1,7 +1,7 @@
 use Rattle.std.proofs.Common.{arith, refl}
 use Rattle.server_core.specs.Server.{seen}
 use Rattle.server_core.proofs.BookFound.{book_within}
-use Rattle.server_core.proofs.CancelCall.{nothing_sent, not_here, was_cancelled}
+use Rattle.server_core.proofs.BookCalls.{nothing_sent, not_here, was_cancelled}
 use Rattle.server_core.proofs.server.Server.cancelled.Goals as goal
 
 pub returns-in_default : goal.returns-in_default

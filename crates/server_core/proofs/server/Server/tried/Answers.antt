@@ -1,7 +1,7 @@
 use Rattle.std.proofs.Common.{subst}
 use Rattle.server_core.specs.Server.{seen}
 use Rattle.server_core.specs.Turns.{TurnIs}
-use Rattle.server_core.proofs.Tries.{trying_first, here_still, trying_next, fewer_left, tries_over}
+use Rattle.server_core.proofs.Settled.{trying_first, here_still, trying_next, fewer_left, tries_over}
 use Rattle.server_core.proofs.server.Server.tried.Goals as goal
 
 pub loop-ended-init : goal.loop-ended-init

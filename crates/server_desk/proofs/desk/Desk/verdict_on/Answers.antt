@@ -3,7 +3,7 @@ use Rattle.lora_frame.specs.Reading.{has_mic}
 use Rattle.uplink_gather.specs.Hearing.{is_crowded}
 use Rattle.server_desk.specs.Desk.{DeskView}
 use Rattle.server_desk.proofs.DeskLemmas.{found_within, found_kept, desk_devices}
-use Rattle.server_desk.proofs.HearLemmas.{no_counter, wrong_mic, no_room, is_new}
+use Rattle.server_desk.proofs.DecisionLemmas.{no_counter, wrong_mic, no_room, is_new}
 use Rattle.server_desk.proofs.desk.Desk.verdict_on.Goals as goal
 
 pub index-device-requires : goal.index-device-requires

@@ -1,11 +1,11 @@
--- What was sent for an answer is cancelled, by its gateway's book.
-use Rattle.std.specs.Prelude.{ℕ, ◌≡◌, false, List, [], ◌∷◌, ◌++◌, map, slice_set, get_or, Option, Some, None, Result, Ok, Err, IfOk, OnErr, refl}
+-- Time passes for a gateway, or what was sent for an answer is cancelled, by the gateway's book.
+use Rattle.std.specs.Prelude.{ℕ, ◌≡◌, false, List, [], ◌∷◌, map, slice_set, get_or, Option, Some, None, Result, Ok, Err, IfOk, OnErr, refl, max}
 use Rattle.std.specs.Option.{option_map}
 use Rattle.std.proofs.Common.{ap, sym, ◌∙◌, subst}
 use Rattle.gateway_book.specs.declared.cancel.CancelFault.{CancelFault}
 use Rattle.gateway_book.specs.declared.cancel.CancelFault.TheVariants.{NotHere}
 use Rattle.gateway_book.specs.Book.{Book, state_of, with_cancelled, airtime_answer}
-use Rattle.gateway_book.specs.Step.{cancel_answer, cancel_step}
+use Rattle.gateway_book.specs.Step.{cancel_answer, cancel_step, tick_step}
 use Rattle.uplink_gather.specs.Gatherings.{numbered}
 use Rattle.server_core.specs.declared.event.Step.TheVariants as made
 use Rattle.server_core.specs.declared.entry.Line.{Line}
@@ -14,17 +14,77 @@ use Rattle.server_desk.specs.declared.answers.Known.{Known}
 use Rattle.server_desk.specs.Answers.{Answer, Waiting, Open, Booked, Out, Settled, known_of, is_given}
 use Rattle.server_desk.specs.Desk.{DeskView}
 use Rattle.server_desk.specs.World.{World, Gateway, known, gateway_with}
-use Rattle.server_core.specs.Steps.{Cancel, After, step, sent_for, cancel_at, cancel_sent, cancel_of}
+use Rattle.server_core.specs.Steps.{Cancel, After, step, sent_for, cancel_at, cancel_sent, cancel_of, Tick, tick_at}
 use Rattle.server_core.specs.Steps as replies
-use Rattle.server_core.specs.Entries.{lines_for, entry_at, gateway_of}
-use Rattle.server_core.specs.Server.{Seen, IsAt, Makes, IsReady, IsIdle, IsCancelled, with_step, with_lines, ids_of, cancelled_line}
+use Rattle.server_core.specs.Entries.{lines_for, gateway_of}
+use Rattle.server_core.specs.Server.{Seen, IsAt, IsReady, IsIdle, IsCancelled, with_step, with_lines, ids_of, cancelled_line}
 use Rattle.server_desk.specs.Settling.{kept_by}
 use Rattle.server_desk.specs.Numbers.{numbered-map}
 use Rattle.server_desk.specs.Places.{map_set}
 use Rattle.server_core.proofs.DeskSteps.{desk_calls_are_steps}
-use Rattle.server_core.proofs.Going.{one_step}
 use Rattle.server_core.proofs.Ready.{ready_same}
 use Rattle.server_core.proofs.BookFound.{IsBookOf, book_found, no_book, same_book, gateway_with_state, book_written}
+use Rattle.server_core.specs.declared.entry.Line.TheVariants as says
+use Rattle.server_core.proofs.Calls.{IsDone, done}
+
+-- the world's tick, by the gateway that was found
+tick_is : (w : World) (gateway now : ℕ) (o : Option (ℕ × Gateway)) → gateway_with gateway w.gateways ≡ o → step w (Tick gateway now) ≡ tick_at w now o
+unfolding step
+tick_is w gateway now o e = ap (tick_at w now) e
+
+module _ {A : Type 0} (place : ℕ) (old mid new : Seen A) (gateway now : ℕ) (noted : mid ≡ with_step (made.Tick gateway now) old) (ready : IsReady old) where
+  -- at no gateway
+  pub not_ticked : None ≡ option_map (λ found. found.0) (gateway_with gateway (map gateway_of mid.books)) → new ≡ with_lines place (says.NotTicked ∷ []) mid → IsDone place (Tick gateway now) old new
+  not_ticked f told =
+      done place (Tick gateway now) (made.Tick gateway now) says.NotTicked old mid mid new refl noted
+      (record {
+        steps = refl;
+        outcomes = refl;
+        ready = λ r. r;
+        at = λ w at. subst (λ (v : World). IsAt v mid) (sym (ap (λ (a : After). a.0) (none w at))) at;
+        lines = λ w at. ap (λ (a : After). lines_for w (Tick gateway now) a.1) (none w at);
+      })
+      told ready
+    where
+      none : (w : World) → IsAt w mid → step w (Tick gateway now) ≡ (w, replies.Ticked None)
+      none w at = tick_is w gateway now None (ap (gateway_with gateway) (sym at.gateways) ∙ no_book gateway mid.books f)
+
+  module _ (i : ℕ) (book after : Book) (floor : ℕ) (f : Some i ≡ option_map (λ found. found.0) (gateway_with gateway (map gateway_of mid.books)))
+      (was : book ≡ get_or mid.books i book) (ticked : after ≡ record book { floor = max book.floor now }) (is : floor ≡ after.floor) where
+    abbrev b : IsBookOf gateway i mid.books
+    b = book_found gateway mid.books i f
+
+    abbrev ticked_gateway : Gateway
+    ticked_gateway = record (gateway_of b.book) { state = tick_step (gateway_of b.book).state now }
+
+    ticked_is : gateway_of after ≡ ticked_gateway
+    ticked_is = ap gateway_of ticked ∙ ap (λ (x : Book). record (gateway_of x) { state = tick_step (gateway_of x).state now }) (same_book gateway mid.books i b book was)
+
+    ticked_at : (w : World) → IsAt w mid → step w (Tick gateway now) ≡ tick_at w now (Some (i, gateway_of b.book))
+    ticked_at w at = tick_is w gateway now (Some (i, gateway_of b.book)) (ap (gateway_with gateway) (sym at.gateways) ∙ b.found)
+
+    pub ticked_done : new ≡ with_lines place (says.Floor gateway floor ∷ []) (record mid { books = slice_set mid.books i after }) → IsDone place (Tick gateway now) old new
+    ticked_done told =
+        done place (Tick gateway now) (made.Tick gateway now) (says.Floor gateway floor) old mid (record mid { books = slice_set mid.books i after }) new refl noted
+        (record {
+          steps = refl;
+          outcomes = refl;
+          ready = λ r.
+              record {
+                books = map_set (λ (x : Book). x.id) mid.books i b.book after b.there (ap (λ (g : Gateway). g.id) ticked_is) ∙ r.books;
+                heard = r.heard;
+                idle = r.idle;
+              };
+          at = λ w at.
+              record {
+                desk = at.desk ∙ sym (desk_calls_are_steps.tick w gateway now);
+                gateways = book_written mid.books w.gateways i after ticked_gateway at.gateways ticked_is ∙ sym (ap (λ (a : After). a.0.gateways) (ticked_at w at));
+              };
+          lines = λ w at.
+              ap (λ (a : After). lines_for w (Tick gateway now) a.1) (ticked_at w at)
+              ∙ ap (λ (x : ℕ). says.Floor gateway x ∷ []) (sym (is ∙ ap (λ (g : Gateway). g.state.floor) ticked_is));
+        })
+        told ready
 
 -- where no ticket is out, the desk knows what was sent for an answer
 sent_same : (a : Answer) → is_given (known_of a) ≡ false → sent_for a ≡ kept_by (Some (known_of a))
@@ -122,30 +182,15 @@ cancel_lines : {A : Type 0} (w : World) (n : ℕ) (r : Result ℕ CancelFault) �
 cancel_lines w n (Ok airtime) = refl
 cancel_lines w n (Err fault) = refl
 
-module _ {A : Type 0} (place n : ℕ) (old mid next new : Seen A) (result : Result ℕ CancelFault) (line : Line A) (noted : mid ≡ with_step (made.Cancel n) old)
-    (c : IsCancelled n mid next result) (said : line ≡ cancelled_line n result) (told : new ≡ with_lines place (line ∷ []) next) where
-  at_mid : (w : World) → IsAt w old → IsAt w mid
-  at_mid w at =
-      record {
-        desk = ap (λ (s : Seen A). s.desk) noted ∙ at.desk;
-        gateways = ap (λ (s : Seen A). map gateway_of s.books) noted ∙ at.gateways;
-      }
-
-  pub cancel_made : Makes place (λ w. Cancel n ∷ []) old new
-  cancel_made w at =
-      one_step place w (Cancel n) (made.Cancel n) (line ∷ []) old new refl
-      (record {
-        desk = ap (λ (s : Seen A). s.desk) told ∙ c.desk ∙ (at_mid w at).desk ∙ sym (desk_calls_are_steps.cancel w n);
-        gateways = ap (λ (s : Seen A). map gateway_of s.books) told ∙ c.gateways w (at_mid w at);
-      })
-      (ap (λ (s : Seen A). s.steps) told ∙ c.steps ∙ ap (λ (s : Seen A). s.steps) noted)
-      (ap (λ (s : Seen A). s.outcomes) told ∙ ap (λ (o : List _). o ++ map (entry_at place) (line ∷ [])) (c.outcomes ∙ ap (λ (s : Seen A). s.outcomes) noted))
-      (ap (lines_for w (Cancel n)) (c.reply w (at_mid w at)) ∙ cancel_lines w n result ∙ ap (λ (l : Line A). l ∷ []) (sym said))
-
-  pub cancel_ready : IsReady old → IsReady new
-  cancel_ready ready =
-      ready_same old new ready
-      (ap (λ (s : Seen A). ids_of s.books) told ∙ c.books ∙ ap (λ (s : Seen A). ids_of s.books) noted)
-      (ap (λ (s : Seen A). s.desk.ids) told ∙ ap (λ (d : DeskView). d.ids) c.desk ∙ ap (λ (s : Seen A). s.desk.ids) noted)
-      (ap (λ (s : Seen A). s.desk.reg.gathered) told ∙ ap (λ (d : DeskView). d.reg.gathered) c.desk ∙ ap (λ (s : Seen A). s.desk.reg.gathered) noted)
-      (ap (λ (s : Seen A). s.desk.known) told ∙ ap (λ (d : DeskView). d.known) c.desk ∙ ap (λ (s : Seen A). s.desk.known) noted)
+pub cancel_done : {A : Type 0} (place n : ℕ) (old mid next new : Seen A) (result : Result ℕ CancelFault) (line : Line A) → mid ≡ with_step (made.Cancel n) old → IsCancelled n mid next result
+    → line ≡ cancelled_line n result → IsReady old → new ≡ with_lines place (line ∷ []) next → IsDone place (Cancel n) old new
+cancel_done place n old mid next new result line noted c said ready told =
+    done place (Cancel n) (made.Cancel n) line old mid next new refl noted
+    (record {
+      steps = c.steps;
+      outcomes = c.outcomes;
+      ready = λ r. ready_same mid next r c.books (ap (λ (d : DeskView). d.ids) c.desk) (ap (λ (d : DeskView). d.reg.gathered) c.desk) (ap (λ (d : DeskView). d.known) c.desk);
+      at = λ w at. record { desk = c.desk ∙ at.desk ∙ sym (desk_calls_are_steps.cancel w n); gateways = c.gateways w at };
+      lines = λ w at. ap (lines_for w (Cancel n)) (c.reply w at) ∙ cancel_lines w n result ∙ ap (λ (l : Line _). l ∷ []) (sym said);
+    })
+    told ready

@@ -1,0 +1,250 @@
+-- Time passes for a gateway, a transmission is cancelled, a candidate is tried: what holds of the world holds then.
+use Rattle.std.specs.Prelude.{ℕ, ◌≡◌, ◌==◌, Option, Some, None, refl, nat_le, Bool, true, false, not, if◌then◌else◌, List, find, slice_get, Result, Ok, Err, ◌+◌, ◌⊎◌}
+use Rattle.gateway_book.specs.Step.{tick_step, is_named, found_or, cancel_answer, without_named, after_cancel, State, is_fit-IsFit, book_step}
+use Rattle.answer_ticket.specs.Job.{Job, candidate_at, ask_for}
+use Rattle.server_desk.specs.Settings.{SettingLists}
+use Rattle.server_desk.specs.World.{Gateway, World, gateway_with}
+use Rattle.server_core.specs.Steps.{tick_at, tick, sent_for, cancel_at, cancel_sent, cancel_of, cancel, terms, sent_by, refused, tried_by, try_on, try_candidate, try_of, try}
+use Rattle.server_desk.specs.Found.{found_there}
+use Rattle.server_core.proofs.Holds.{IsInOrder, Holds, IsGoodStep, unchanged, AllStand, IsGood, book_of, IsJobFor, Stands, both_good}
+use Rattle.server_core.proofs.Written.{gateway_written, with_gateway, with_answer, answer_written}
+use Rattle.std.proofs.Common.{sym, subst, arith, inl, inr, ◌∙◌}
+use Rattle.resv_list.specs.declared.reservation.Reservation.{Reservation}
+use Rattle.resv_list.specs.Reservations.{start_of, IsByStart, member_from, without, airtime_us, place}
+use Rattle.resv_list.specs.SortedLaws.{RisesFrom-filter, RisesFrom-place_by}
+use Rattle.gateway_book.specs.declared.cancel.CancelFault.{CancelFault}
+use Rattle.gateway_book.specs.declared.cancel.CancelFault.TheVariants.{Begun}
+use Rattle.gateway_book.specs.CancelLaws.{named_found, named_none}
+use Rattle.gateway_book.specs.BookLaws.{sound_cancelled, may_book, sound_booked, free_where_clear}
+use Rattle.server_desk.specs.declared.answers.Sent.{Sent}
+use Rattle.server_desk.specs.Answers.{Answer, Waiting, Open, Booked, Out, Settled}
+use Rattle.uplink_gather.specs.Gatherings.{numbered}
+use Rattle.server_core.proofs.Members.{filter_member, IsIn, place_member}
+use Rattle.gateway_book.specs.declared.ask.Ask.{Ask}
+use Rattle.gateway_book.specs.Answer.{IsAsked, refusal_of}
+use Rattle.gateway_book.specs.AnswerLaws.{accepted, book_step-accepted}
+use Rattle.gateway_book.specs.declared.refusal.Refusal.{Refusal}
+use Rattle.rx_windows.specs.declared.candidate.Candidate.{Candidate}
+use Rattle.server_desk.specs.Numbers.{numbered-here}
+use Rattle.server_core.proofs.Served.{equal_where_tested}
+
+-- Time passes for a gateway.
+
+abbrev ticked : Gateway → ℕ → Gateway
+ticked g now = record g { state = tick_step g.state now }
+
+-- the list stays
+ticked_in_order : (g : Gateway) (now : ℕ) → IsInOrder g → IsInOrder (ticked g now)
+ticked_in_order g now o =
+    let s = o.sound in
+    record {
+      sound = record {
+        opened = s.opened;
+        capped = s.capped;
+        counted = s.counted;
+        lawful = s.lawful;
+        kept_whole = s.kept_whole;
+        none_retired = s.none_retired;
+        balanced = s.balanced;
+        bounded = s.bounded;
+      };
+      by_start = o.by_start;
+    }
+
+module _ (settings : SettingLists) (T : Job → Type 0) (w : World) (h : Holds settings T w) (id now : ℕ) where
+  ticked_by : (o : Option (ℕ × Gateway)) → gateway_with id w.gateways ≡ o → IsGoodStep settings T w (tick_at w now o)
+  ticked_by None e = record { good = unchanged w h; used = tt }
+  ticked_by (Some found) e =
+      let there = found_there (λ (g : Gateway). g.id == id) w.gateways found e in
+      record {
+        good = gateway_written settings T w h found.0 found.1 (ticked found.1 now) there.0 refl
+            (ticked_in_order found.1 now (h.in_order found.0 found.1 there.0)) (h.stands found.0 found.1 there.0);
+        used = tt;
+      }
+
+  pub tick_good : IsGoodStep settings T w (tick w id now)
+  tick_good = ticked_by (gateway_with id w.gateways) refl
+
+-- A transmission is cancelled.
+
+-- the member that was found is the only one at its start
+module _ (number start : ℕ) (l : List Reservation) (r : Reservation) (o : IsByStart l) (f : find (is_named number start) l ≡ Some r) where
+  named_by : (m : Reservation) (t : Bool) → is_named number start m ≡ t → member_from start l ≡ Some m → without start l ≡ without_named l number start
+  named_by m true e i = sym (named_found number start l m true e o i).1
+  named_by m false e i = absurd (cc (f, (named_found number start l m false e o i).0))
+
+  same_by : (p : Option Reservation) → member_from start l ≡ p → without start l ≡ without_named l number start
+  same_by None e = absurd (cc (f, named_none number start l e))
+  same_by (Some m) e = named_by m (is_named number start m) refl e
+
+  same_without : without start l ≡ without_named l number start
+  same_without = same_by (member_from start l) refl
+
+was_found : (o : Option Reservation) (t : Bool) (r : Reservation) → (if t then Err Begun else found_or o) ≡ Ok r → o ≡ Some r
+was_found None true r e = absurd (cc)
+was_found None false r e = absurd (cc)
+was_found (Some s) true r e = absurd (cc)
+was_found (Some s) false r e = cc
+
+abbrev cancelled : Gateway → Result Reservation CancelFault → ℕ → ℕ → Gateway
+cancelled g r number start = record g { state = after_cancel r g.state number start }
+
+cancelled_in_order : (g : Gateway) (number start : ℕ) (r : Reservation) → IsInOrder g → find (is_named number start) g.state.list ≡ Some r → IsInOrder (cancelled g (Ok r) number start)
+cancelled_in_order g number start r o f =
+    record {
+      sound = sound_cancelled (book_of g) number start r o.sound o.by_start f (same_without number start g.state.list r o.by_start f);
+      by_start = RisesFrom-filter start_of (λ m. not (is_named number start m)) 0 g.state.list o.by_start;
+    }
+
+module _ (settings : SettingLists) (T : Job → Type 0) (w : World) (h : Holds settings T w) (n : ℕ) where
+  module _ (i : ℕ) (g : Gateway) (there : slice_get w.gateways i ≡ Some g) (start : ℕ) where
+    cancelled_stand : (r : Reservation) → AllStand settings T w.reg.gathered.list w.answers (cancelled g (Ok r) n start)
+    cancelled_stand r k s e =
+        let m = filter_member (λ x. not (is_named n start x)) g.state.list k s e in
+        h.stands i g there m.0 s m.1
+
+    cancelled_by : (r : Result Reservation CancelFault) → cancel_answer g.state.floor g.state.list n start ≡ r
+        → IsGood settings T w (with_gateway settings T w h i (cancelled g r n start))
+    cancelled_by (Err fault) e = gateway_written settings T w h i g g there refl (h.in_order i g there) (h.stands i g there)
+    cancelled_by (Ok r) e =
+        let found = was_found (find (is_named n start) g.state.list) (nat_le start g.state.floor) r e in
+        gateway_written settings T w h i g (cancelled g (Ok r) n start) there refl
+        (cancelled_in_order g n start r (h.in_order i g there) found) (cancelled_stand r)
+
+  at_by : (sent : Sent) (o : Option (ℕ × Gateway)) → gateway_with sent.gateway w.gateways ≡ o → IsGoodStep settings T w (cancel_at w n sent o)
+  at_by sent None e = record { good = unchanged w h; used = tt }
+  at_by sent (Some found) e =
+      let there = found_there (λ (g : Gateway). g.id == sent.gateway) w.gateways found e in
+      record { good = cancelled_by found.0 found.1 there.0 sent.start (cancel_answer found.1.state.floor found.1.state.list n sent.start) refl; used = tt }
+
+  found_by : (o : Option Sent) → IsGoodStep settings T w (cancel_sent w n o)
+  found_by None = record { good = unchanged w h; used = tt }
+  found_by (Some sent) = at_by sent (gateway_with sent.gateway w.gateways) refl
+
+  answer_by : (o : Option Answer) → IsGoodStep settings T w (cancel_of w n o)
+  answer_by None = record { good = unchanged w h; used = tt }
+  answer_by (Some answer) = found_by (sent_for answer)
+
+  pub cancel_good : IsGoodStep settings T w (cancel w n)
+  cancel_good = answer_by (numbered n w.answers)
+
+-- A gateway books a transmission for which it was asked.
+
+-- the reservation with the asked fields
+pub record IsBooking (g : Gateway) (ask : Ask) : Type 0 where
+  pub made : Reservation
+  pub asked : IsAsked ask made
+  pub state : book_step g.cap g.state ask ≡ record (g.state) { list = place made g.state.list; booked = g.state.booked + airtime_us made }
+
+module _ (g : Gateway) (ask : Ask) (e : refusal_of (terms g) g.state.list ask ≡ None) where
+  pub booking : IsBooking g ask
+  booking =
+      let r : Reservation =
+      record {
+        number = ask.number;
+        start = ask.start;
+        freq_hz = ask.freq_hz;
+        rate = ask.rate;
+        len = ask.len;
+        fit = is_fit-IsFit ask (accepted (terms g) g.state.list ask e).fit;
+      } in
+      let a : IsAsked ask r = record { number = refl; start = refl; freq_hz = refl; rate = refl; len = refl } in
+      record { made = r; asked = a; state = book_step-accepted g.cap g.state ask r e a }
+
+  pub booked_in_order : IsInOrder g → (b : IsBooking g ask) → IsInOrder (record g { state = book_step g.cap g.state ask })
+  booked_in_order o b =
+      let r = b.made in
+      let can = may_book (book_of g) ask r o.sound b.asked e in
+      let P : State → Type 0 = λ s. IsInOrder (record g { state = s }) in
+      subst P (sym b.state)
+      (record {
+        sound = sound_booked (book_of g) r o.sound o.by_start can.clear can.duty can.ahead can.spare can.total;
+        by_start = RisesFrom-place_by start_of 0 r g.state.list (omega arith) (free_where_clear g.state.list r o.by_start can.clear) o.by_start;
+      })
+
+-- A gateway is asked for the candidate at which an answer stands.
+
+module _ (settings : SettingLists) (T : Job → Type 0) (w : World) (h : Holds settings T w) (n k : ℕ) (job : Job) (at_job : numbered n w.answers ≡ Some (Open k job)) where
+  -- a refused answer goes on to the next candidate of its job
+  next_by : (refusal : Refusal) (o : Option Candidate) → IsGood settings T w (with_answer settings T w h n (refused k job refusal o))
+  next_by refusal None = answer_written settings T w h n (Open k job) (Out refusal) at_job (λ s q. absurd (cc (q))) refl (λ i j q. absurd (cc (q)))
+  next_by refusal (Some c) =
+      answer_written settings T w h n (Open k job) (Open (k + 1) job) at_job (λ s q. absurd (cc (q))) refl
+      (λ i j q. let same : job ≡ j = cc (q) in subst (IsJobFor settings T w.reg.gathered.list n) same (h.jobs n k job at_job))
+
+  module _ (c : Candidate) (at : candidate_at job k ≡ Some c) (i : ℕ) (g : Gateway) (there : slice_get w.gateways i ≡ Some g) (here : g.id ≡ c.gateway) where
+    abbrev new : Answer
+    new = Booked (sent_by job c) c.window c.carries
+
+    abbrev asked : World
+    asked = with_answer settings T w h n new
+
+    first : IsGood settings T w asked
+    first = answer_written settings T w h n (Open k job) new at_job (λ s q. absurd (cc (q))) refl (λ i j q. absurd (cc (q)))
+
+    module _ (b : IsBooking g (ask_for job c)) where
+      made_stands : Stands settings T w.reg.gathered.list asked.answers g.id b.made
+      made_stands =
+          let j = h.jobs n k job at_job in
+          let number : n ≡ b.made.number = sym (b.asked.number ∙ j.number) in
+          record {
+            sent = sent_by job c;
+            kept = record {
+              answer = new;
+              answered = subst (λ m. numbered m asked.answers ≡ Some new) number (numbered-here (λ a. new) n w.answers (Open k job) at_job);
+              kept = refl;
+            };
+            start = sym b.asked.start;
+            gateway = sym here;
+            job = job;
+            own = subst (λ m. IsJobFor settings T w.reg.gathered.list m job) number j;
+            place = k;
+            candidate = c;
+            tried = at;
+            here = sym here;
+            taken = record { start = b.asked.start; freq_hz = b.asked.freq_hz; rate = b.asked.rate; len = b.asked.len };
+          }
+
+      member_by : (r : Reservation) → (r ≡ b.made) ⊎ IsIn g.state.list r → Stands settings T w.reg.gathered.list asked.answers g.id r
+      member_by r (inl e) = subst (Stands settings T w.reg.gathered.list asked.answers g.id) (sym e) made_stands
+      member_by r (inr e) = first.holds.stands i g there e.0 r e.1
+
+      booked_stand : AllStand settings T w.reg.gathered.list asked.answers (record g { state = book_step g.cap g.state (ask_for job c) })
+      booked_stand =
+          let P : State → Type 0 = λ s. AllStand settings T w.reg.gathered.list asked.answers (record g { state = s }) in
+          subst P (sym b.state) (λ m r e. member_by r (place_member start_of b.made g.state.list m r e))
+
+    tried_good : (o : Option Refusal) → refusal_of (terms g) g.state.list (ask_for job c) ≡ o → IsGoodStep settings T w (tried_by w n k job c (i, g) o)
+    tried_good (Some refusal) e = record { good = next_by refusal (candidate_at job (k + 1)); used = tt }
+    tried_good None e =
+        let b = booking g (ask_for job c) e in
+        let v : Gateway = record g { state = book_step g.cap g.state (ask_for job c) } in
+        record {
+          good = both_good first
+              (gateway_written settings T asked first.holds i g v there refl (booked_in_order g (ask_for job c) e (h.in_order i g there) b) (booked_stand b));
+          used = tt;
+        }
+
+  on_by : (c : Candidate) → candidate_at job k ≡ Some c → (o : Option (ℕ × Gateway)) → gateway_with c.gateway w.gateways ≡ o
+      → IsGoodStep settings T w (try_on w n k job c o)
+  on_by c at None e = record { good = unchanged w h; used = tt }
+  on_by c at (Some found) e =
+      let there = found_there (λ (g : Gateway). g.id == c.gateway) w.gateways found e in
+      tried_good c at found.0 found.1 there.0 (equal_where_tested found.1.id c.gateway there.1)
+      (refusal_of (terms found.1) found.1.state.list (ask_for job c)) refl
+
+  candidate_by : (o : Option Candidate) → candidate_at job k ≡ o → IsGoodStep settings T w (try_candidate w n k job o)
+  candidate_by None at = record { good = unchanged w h; used = tt }
+  candidate_by (Some c) at = on_by c at (gateway_with c.gateway w.gateways) refl
+
+module _ (settings : SettingLists) (T : Job → Type 0) (w : World) (h : Holds settings T w) (n : ℕ) where
+  looked_up : (o : Option Answer) → numbered n w.answers ≡ o → IsGoodStep settings T w (try_of w n o)
+  looked_up None e = record { good = unchanged w h; used = tt }
+  looked_up (Some Waiting) e = record { good = unchanged w h; used = tt }
+  looked_up (Some (Open k job)) e = candidate_by settings T w h n k job e (candidate_at job k) refl
+  looked_up (Some (Booked sent window carried)) e = record { good = unchanged w h; used = tt }
+  looked_up (Some (Out refusal)) e = record { good = unchanged w h; used = tt }
+  looked_up (Some (Settled sent)) e = record { good = unchanged w h; used = tt }
+
+  pub try_good : IsGoodStep settings T w (try w n)
+  try_good = looked_up (numbered n w.answers) refl

@@ -1,0 +1,176 @@
+-- A payload is queued, a copy is heard, time passes for the gatherings, an answer is settled: what holds of the world holds then.
+use Rattle.std.specs.Prelude.{ℕ, ◌≡◌, ◌==◌, Option, Some, None, Result, Ok, Err, refl, Bool, true, false, if◌then◌else◌, ◌+◌, List, [], ◌∷◌, ◌++◌, length, Contains, slice_get}
+use Rattle.std.proofs.Common.{arith, sym, ap, ◌∙◌, subst}
+use Rattle.answer_ticket.specs.Job.{Job, Payload}
+use Rattle.server_desk.specs.declared.faults.QueueFault.{QueueFault}
+use Rattle.server_desk.specs.Settings.{SettingLists}
+use Rattle.server_desk.specs.Register.{Device, device_with, Register}
+use Rattle.server_desk.specs.Queueing.{queue_answer, with_payload, after_queueing}
+use Rattle.server_desk.specs.World.{World, ids}
+use Rattle.server_core.specs.Steps.{queue, pass, hear_by, hear, sent_for, settle_as, settle_of, settle}
+use Rattle.server_desk.specs.Found.{found_there}
+use Rattle.server_core.proofs.Holds.{Holds, IsGood, IsGoodStep, unchanged, IsOfDevice, both_good}
+use Rattle.server_core.proofs.Written.{device_written, with_device, answer_written}
+use Rattle.uplink_gather.specs.Gatherings.{Gathering, rewritten, is_open_at, Gatherings, numbered}
+use Rattle.server_desk.specs.Passing.{pass_answer, closing}
+use Rattle.server_desk.specs.Numbers.{length-rewritten, numbered_next}
+use Rattle.server_core.proofs.Gathered.{Grow-rewritten, gathered_grown, uplink_gathered}
+use Rattle.std.proofs.lemmas.List.Elements.{Contains-append_left}
+use Rattle.lora_frame.specs.Reading.{addr_of}
+use Rattle.uplink_gather.specs.declared.heard.HeardCopy.{HeardCopy}
+use Rattle.uplink_gather.specs.declared.fault.HearFault.{HearFault}
+use Rattle.uplink_gather.specs.declared.fault.HearFault.TheVariants.{Crowded}
+use Rattle.uplink_gather.specs.declared.answers.Place.{Place}
+use Rattle.uplink_gather.specs.declared.answers.Place.TheVariants.{Joins, Opens}
+use Rattle.uplink_gather.specs.declared.answers.Heard.TheVariants.{Opened}
+use Rattle.uplink_gather.specs.Hearing.{place_of, is_crowded, answer_at, with_copy, hear_step}
+use Rattle.uplink_gather.specs.Hearing as gathers
+use Rattle.server_desk.specs.declared.heard.Heard1.{Heard1}
+use Rattle.server_desk.specs.Hearing.{Decision, Refuse, Join, Opening, copy_of, asked_by, decide}
+use Rattle.server_desk.specs.Hearing as hearing
+use Rattle.server_desk.specs.Answers.{Waiting, Answer, Open, Booked, Out, Settled}
+use Rattle.server_desk.specs.Decided.{IsDecided, decided}
+use Rattle.server_core.proofs.Served.{equal_where_tested, device_setting}
+use Rattle.answer_ticket.specs.declared.outcome.Ending.{Ending}
+use Rattle.answer_ticket.specs.declared.outcome.Ending.TheVariants.{Answered, Unanswered, GivenUp}
+use Rattle.server_desk.specs.declared.answers.Asked.{Asked}
+use Rattle.server_desk.specs.declared.answers.Sent.{Sent}
+use Rattle.server_desk.specs.Settling.{sent_of, has_carried, without_head, head_taken, delivered, after_settling}
+
+-- A payload is queued.
+
+module _ (settings : SettingLists) (T : Job → Type 0) (w : World) (h : Holds settings T w) (addr : ℕ) (payload : Payload) where
+  queued_by : (r : Result ℕ QueueFault) (o : Option (ℕ × Device)) → device_with addr w.reg.devices ≡ o
+      → IsGood settings T w (record w { reg = after_queueing r o payload w.reg })
+  queued_by (Err fault) o e = unchanged w h
+  queued_by (Ok count) None e = unchanged w h
+  queued_by (Ok count) (Some found) e =
+      let there = found_there (λ (d : Device). d.setting.addr == addr) w.reg.devices found e in
+      device_written settings T w h found.0 found.1 (with_payload payload found.1) there.0 refl (omega arith)
+
+  pub queue_good : IsGoodStep settings T w (queue w addr payload)
+  queue_good = record { good = queued_by (queue_answer w.reg addr payload) (device_with addr w.reg.devices) refl; used = tt }
+
+-- Time passes for the gatherings.
+
+module _ (settings : SettingLists) (T : Job → Type 0) (w : World) (h : Holds settings T w) where
+  abbrev closed : Gathering → Gathering
+  closed g = record g { closed = true }
+
+  closed_by : (n : ℕ) (t : Bool)
+      → IsGood settings T w
+      (record w { reg = record (w.reg) { gathered = if t then record (w.reg.gathered) { list = rewritten closed n w.reg.gathered.list } else w.reg.gathered } })
+  closed_by n true =
+      gathered_grown settings T w h (rewritten closed n w.reg.gathered.list) (sym (length-rewritten closed n w.reg.gathered.list))
+      (Grow-rewritten closed (λ g. (refl, λ c k. k)) n w.reg.gathered.list)
+  closed_by n false = unchanged w h
+
+  passed_by : (o : Option ℕ) → IsGood settings T w (record w { reg = closing o w.reg })
+  passed_by None = unchanged w h
+  passed_by (Some n) = closed_by n (is_open_at n w.reg.gathered.list)
+
+  pub pass_good : (now : ℕ) → IsGoodStep settings T w (pass w now)
+  pass_good now = record { good = passed_by (pass_answer w.reg now); used = tt }
+
+-- A copy of an uplink is heard.
+
+-- what the gatherings are then
+joined : (s : Gatherings) (bytes : List ℕ) (copy : HeardCopy) (arrived n : ℕ) → place_of s bytes copy.gateway arrived ≡ Ok (Joins n)
+    → record s { list = rewritten (with_copy copy) n s.list } ≡ hear_step s bytes copy arrived
+joined s bytes copy arrived n p = sym (ap (λ (r : Result Place HearFault). gathers.after_hearing (answer_at s r) s bytes copy arrived) p)
+
+opened : (s : Gatherings) (bytes : List ℕ) (copy : HeardCopy) (arrived : ℕ) → place_of s bytes copy.gateway arrived ≡ Ok Opens → is_crowded s ≡ false
+    → record s { list = s.list ++ gathers.opening bytes copy arrived ∷ [] } ≡ hear_step s bytes copy arrived
+opened s bytes copy arrived p c =
+    sym
+    (ap (λ (r : Result Place HearFault). gathers.after_hearing (answer_at s r) s bytes copy arrived) p
+    ∙ ap (λ (t : Bool). gathers.after_hearing (if t then Err Crowded else Ok (Opened (length s.list + 1))) s bytes copy arrived) c)
+
+-- a gathering with one copy more
+more_copies : (copy : HeardCopy) (g : Gathering) (c : HeardCopy) → Contains g.copies c → Contains (g.copies ++ copy ∷ []) c
+more_copies copy g c k = Contains-append_left g.copies (copy ∷ []) c k
+
+module _ (settings : SettingLists) (T : Job → Type 0) (w : World) (h : Holds settings T w) (bytes : List ℕ) (heard : Heard1) (arrived : ℕ) where
+  joined_good : (n : ℕ) → place_of w.reg.gathered bytes heard.gateway arrived ≡ Ok (Joins n) → IsGood settings T w (hear_by w bytes heard arrived (Join n)).0
+  joined_good n p =
+      let copy = copy_of heard in
+      let l = rewritten (with_copy copy) n w.reg.gathered.list in
+      let P : Gatherings → Type 0 = λ s. IsGood settings T w (record w { reg = record (w.reg) { gathered = s } }) in
+      subst P (joined w.reg.gathered bytes copy arrived n p)
+      (gathered_grown settings T w h l (sym (length-rewritten (with_copy copy) n w.reg.gathered.list))
+      (Grow-rewritten (with_copy copy) (λ g. (refl, more_copies copy g)) n w.reg.gathered.list))
+
+  opened_good : (o : Opening) → IsDecided w.reg bytes heard.gateway arrived (hearing.Open o) → IsGood settings T w (hear_by w bytes heard arrived (hearing.Open o)).0
+  opened_good o d =
+      let copy = copy_of heard in
+      let g : Gathering = gathers.opening bytes copy arrived in
+      let device : Device = record (o.device) { up = Some o.counter } in
+      let there = found_there (λ (x : Device). x.setting.addr == addr_of bytes) w.reg.devices (o.place, o.device) d.2 in
+      let v = with_device settings T w h o.place device in
+      let first : IsGood settings T w v = device_written settings T w h o.place o.device device there.0 refl (omega arith) in
+      let own : IsOfDevice settings (w.reg.gathered.list ++ g ∷ []) (length w.reg.gathered.list + 1) o.place =
+      record {
+        gathering = g;
+        gathered = numbered_next w.reg.gathered.list g;
+        setting = o.device.setting;
+        served = device_setting settings T w h o.place o.device there.0;
+        its_own = equal_where_tested o.device.setting.addr (addr_of bytes) there.1;
+      } in
+      let P : Gatherings → Type 0 = λ s.
+      IsGood settings T w
+      (record w {
+        reg = record { devices = v.reg.devices; gathered = s; asked = w.reg.asked ++ asked_by o bytes ∷ [] };
+        answers = w.answers ++ Waiting ∷ [];
+      }) in
+      subst P (opened w.reg.gathered bytes copy arrived d.0 d.1) (both_good first (uplink_gathered settings T v first.holds g (asked_by o bytes) own))
+
+  heard_good : (d : Decision) → IsDecided w.reg bytes heard.gateway arrived d → IsGood settings T w (hear_by w bytes heard arrived d).0
+  heard_good (Refuse fault) d = unchanged w h
+  heard_good (Join n) d = joined_good n d
+  heard_good (hearing.Open o) d = opened_good o d
+
+  pub hear_good : IsGoodStep settings T w (hear w bytes heard arrived)
+  hear_good = record { good = heard_good (decide (ids w) w.reg bytes heard arrived) (decided (ids w) w.reg bytes heard arrived); used = tt }
+
+-- An answer is settled.
+
+module _ (settings : SettingLists) (T : Job → Type 0) (w : World) (h : Holds settings T w) (n : ℕ) where
+  abbrev with_reg : Register → World
+  with_reg reg = record w { reg = reg }
+
+  -- the device's queue may lose its head
+  head_by : (place : ℕ) (o : Option Device) → slice_get w.reg.devices place ≡ o
+      → IsGood settings T w (with_reg (record (w.reg) { devices = head_taken place o w.reg.devices }))
+  head_by place None e = unchanged w h
+  head_by place (Some device) e = device_written settings T w h place device (without_head device) e refl (omega arith)
+
+  delivered_by : (o : Option Asked) → IsGood settings T w (with_reg (delivered o w.reg))
+  delivered_by None = unchanged w h
+  delivered_by (Some asked) = head_by asked.device (slice_get w.reg.devices asked.device) refl
+
+  carried_by : (t : Bool) → IsGood settings T w (with_reg (if t then delivered (numbered n w.reg.asked) w.reg else w.reg))
+  carried_by true = delivered_by (numbered n w.reg.asked)
+  carried_by false = unchanged w h
+
+  settled_by : (answer : Answer) (ending : Ending) → numbered n w.answers ≡ Some answer
+      → ((s : Sent) → sent_for answer ≡ Some s → sent_of ending ≡ Some s) → IsGoodStep settings T w (settle_as w n (Some ending))
+  settled_by answer ending e s =
+      let v = with_reg (after_settling ending n w.reg) in
+      let first : IsGood settings T w v = carried_by (has_carried ending) in
+      let new : Answer = Settled (sent_of ending) in
+      record { good = both_good first (answer_written settings T v first.holds n answer new e s refl (λ k job q. absurd (cc (q)))); used = tt }
+
+  ended_by : (answer : Answer) → numbered n w.answers ≡ Some answer → IsGoodStep settings T w (settle_of w n (Some answer))
+  ended_by Waiting e = record { good = unchanged w h; used = tt }
+  ended_by (Open k job) e = settled_by (Open k job) GivenUp e (λ s q. absurd (cc (q)))
+  ended_by (Booked sent window carried) e =
+      settled_by (Booked sent window carried) (Answered sent.gateway window sent.start sent.airtime carried) e (λ s q. q)
+  ended_by (Out refusal) e = settled_by (Out refusal) (Unanswered refusal) e (λ s q. absurd (cc (q)))
+  ended_by (Settled sent) e = record { good = unchanged w h; used = tt }
+
+  looked_up : (o : Option Answer) → numbered n w.answers ≡ o → IsGoodStep settings T w (settle_of w n o)
+  looked_up None e = record { good = unchanged w h; used = tt }
+  looked_up (Some answer) e = ended_by answer e
+
+  pub settle_good : IsGoodStep settings T w (settle w n)
+  settle_good = looked_up (numbered n w.answers) refl

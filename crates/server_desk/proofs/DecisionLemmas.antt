@@ -1,0 +1,147 @@
+-- What is to be done with a copy of an uplink, as the desk finds it.
+use Rattle.std.specs.Prelude.{ℕ, ◌≡◌, ◌^◌, ◌<◌, ◌≤◌, nat_lt, nat_le, ◌==◌, Bool, true, false, not, ◌||◌, if◌then◌else◌, ⊤, is_some, List, length, Option, Some, None, Result, Ok, Err, refl}
+use Rattle.std.proofs.Common.{sym, ap, ◌∙◌, arith}
+use Rattle.std.specs.List.{list_any}
+use Rattle.std.proofs.lemmas.Bool.Decides.{nat_tests}
+use Rattle.radio_bands.specs.Band.{band_of}
+use Rattle.rx_windows.specs.Windows.{rate_numbered}
+use Rattle.lora_frame.specs.declared.reading.Uplink.{Uplink}
+use Rattle.lora_frame.specs.declared.reading.FrameFault.{FrameFault}
+use Rattle.lora_frame.specs.Reading.{uplink_of, has_mic}
+use Rattle.lora_frame.specs.Counter.{inferred_counter}
+use Rattle.uplink_gather.specs.declared.fault.HearFault.{HearFault}
+use Rattle.uplink_gather.specs.declared.answers.Place.{Place}
+use Rattle.uplink_gather.specs.Gatherings.{Gatherings}
+use Rattle.uplink_gather.specs.Hearing.{place_of}
+use Rattle.server_desk.specs.declared.verdict.NewUplink.{NewUplink}
+use Rattle.server_desk.specs.declared.verdict.Verdict.TheVariants as says
+use Rattle.server_desk.specs.declared.heard.Heard1.{Heard1}
+use Rattle.server_desk.specs.declared.faults.DeskFault.{DeskFault}
+use Rattle.server_desk.specs.declared.faults.DeskFault.TheVariants.{Frame, UnknownGateway, NoRate, NoBand, Moment, BadMic, Crowded}
+use Rattle.server_desk.specs.Register.{Device, Register, device_with}
+use Rattle.server_desk.specs.Hearing.{last_moment, Decision, Refuse, Join, Open, Opening, copy_fault, decide_room, decide_mic, decide_device, decide_place, decide_copy, decide_frame, decide, is_last, asked_by}
+use Rattle.server_desk.specs.Kept.{verdict_of}
+use Rattle.server_desk.specs.Desk.{DeskView}
+use Rattle.server_desk.specs.Decided.{read_same}
+
+-- which decision a verdict tells
+pub is_join : (bytes : List ℕ) (d : Decision) → verdict_of bytes d ≡ says.Join → (n : ℕ) × (d ≡ Join n)
+is_join bytes (Refuse fault) e = absurd (cc)
+is_join bytes (Join n) e = (n, refl)
+is_join bytes (Open o) e = absurd (cc)
+
+-- where gatherings aren't crowded, fewer were opened than may be
+pub room_left : (g : Gatherings) (full ever : Bool) → (full || ever) ≡ false → nat_le g.limits.max_ever (length g.list) ≡ ever → length g.list < g.limits.max_ever
+room_left g true ever e q = absurd (cc)
+room_left g false true e q = absurd (cc)
+room_left g false false e q = grind (arith, nat_tests, q)
+
+pub record IsNew (bytes : List ℕ) (d : Decision) (new : NewUplink) : Type 0 where
+  pub opening : Opening
+  pub decided_so : d ≡ Open opening
+  pub is : record { counter = opening.counter; repeat = is_last opening.device opening.counter; asked = asked_by opening bytes } ≡ new
+
+open_same : (u v : NewUplink) → says.Open u ≡ says.Open v → u ≡ v
+open_same u v e = cc
+
+pub is_open : (bytes : List ℕ) (d : Decision) (new : NewUplink) → verdict_of bytes d ≡ says.Open new → IsNew bytes d new
+is_open bytes (Refuse fault) new e = absurd (cc)
+is_open bytes (Join n) new e = absurd (cc)
+is_open bytes (Open o) new e = record { opening = o; decided_so = refl; is = open_same _ new e }
+
+-- a copy that isn't refused was heard by the last moment
+abbrev pub IsTimely : Heard1 → Decision → Type 0
+IsTimely heard (Refuse fault) = ⊤
+IsTimely heard (Join n) = heard.at ≤ 2 ^ 60
+IsTimely heard (Open o) = heard.at ≤ 2 ^ 60
+
+in_time : (a b c late after : Bool) → (if a then Some UnknownGateway else if b then Some NoRate else if c then Some NoBand else if late || after then Some Moment else None) ≡ None → late ≡ false
+in_time true b c late after e = absurd (cc)
+in_time false true c late after e = absurd (cc)
+in_time false false true late after e = absurd (cc)
+in_time false false false true after e = absurd (cc)
+in_time false false false false after e = refl
+
+module _ (ids : List ℕ) (reg : Register) (bytes : List ℕ) (heard : Heard1) (arrived : ℕ) where
+  timely_by : (d : Decision) → heard.at ≤ 2 ^ 60 → IsTimely heard d
+  timely_by (Refuse fault) h = tt
+  timely_by (Join n) h = h
+  timely_by (Open o) h = h
+
+  copy_timely : (uplink : Uplink) (o : Option DeskFault) → copy_fault ids heard arrived ≡ o → IsTimely heard (decide_copy reg bytes heard arrived uplink o)
+  copy_timely uplink (Some fault) e = tt
+  copy_timely uplink None e =
+      let early = in_time (not (list_any (λ id. id == heard.gateway) ids)) (nat_lt 6 heard.rate) (not (is_some (band_of heard.freq_hz (rate_numbered heard.rate)))) (nat_lt last_moment heard.at) (nat_lt last_moment arrived) e in
+      timely_by (decide_copy reg bytes heard arrived uplink None) (grind (arith, nat_tests, early))
+
+  frame_timely : (r : Result Uplink FrameFault) → IsTimely heard (decide_frame ids reg bytes heard arrived r)
+  frame_timely (Err fault) = tt
+  frame_timely (Ok uplink) = copy_timely uplink (copy_fault ids heard arrived) refl
+
+  pub timely : IsTimely heard (decide ids reg bytes heard arrived)
+  unfolding decide
+  timely = frame_timely (uplink_of bytes)
+
+abbrev pub decision : DeskView → List ℕ → Heard1 → ℕ → Decision
+decision d bytes heard arrived = decide d.ids d.reg bytes heard arrived
+
+-- what is to be done with an uplink that would open a gathering, by its device, its counter, its MIC and the room
+module _ (bytes : List ℕ) (uplink : Uplink) (crowded : Bool) (devices : List Device) (place : ℕ) (device : Device) (f : device_with uplink.addr devices ≡ Some (place, device)) where
+  by_counter : (m : Option ℕ) → m ≡ inferred_counter device.up uplink.low
+      → verdict_of bytes (decide_mic crowded bytes (place, device) m) ≡ verdict_of bytes (decide_device crowded bytes uplink (device_with uplink.addr devices))
+  by_counter m e =
+      ap (λ (x : Option ℕ). verdict_of bytes (decide_mic crowded bytes (place, device) x)) e
+      ∙ sym (ap (λ (o : Option (ℕ × Device)). verdict_of bytes (decide_device crowded bytes uplink o)) f)
+
+  pub no_counter : None ≡ inferred_counter device.up uplink.low → says.Refuse BadMic ≡ verdict_of bytes (decide_device crowded bytes uplink (device_with uplink.addr devices))
+  no_counter e = by_counter None e
+
+  module _ (counter : ℕ) (e : Some counter ≡ inferred_counter device.up uplink.low) where
+    by_mic : (t : Bool) → t ≡ has_mic bytes device.setting.nwk counter
+        → verdict_of bytes (if t then decide_room crowded (record { place = place; device = device; counter = counter }) else Refuse BadMic)
+        ≡ verdict_of bytes (decide_device crowded bytes uplink (device_with uplink.addr devices))
+    by_mic t m =
+        ap (λ (x : Bool). verdict_of bytes (if x then decide_room crowded (record { place = place; device = device; counter = counter }) else Refuse BadMic)) m
+        ∙ by_counter (Some counter) e
+
+    pub wrong_mic : false ≡ has_mic bytes device.setting.nwk counter → says.Refuse BadMic ≡ verdict_of bytes (decide_device crowded bytes uplink (device_with uplink.addr devices))
+    wrong_mic m = by_mic false m
+
+    by_room : (t : Bool) → true ≡ has_mic bytes device.setting.nwk counter → t ≡ crowded
+        → verdict_of bytes (decide_room t (record { place = place; device = device; counter = counter })) ≡ verdict_of bytes (decide_device crowded bytes uplink (device_with uplink.addr devices))
+    by_room t m r = ap (λ (x : Bool). verdict_of bytes (decide_room x (record { place = place; device = device; counter = counter }))) r ∙ by_mic true m
+
+    pub no_room : true ≡ has_mic bytes device.setting.nwk counter → true ≡ crowded → says.Refuse Crowded ≡ verdict_of bytes (decide_device crowded bytes uplink (device_with uplink.addr devices))
+    no_room m r = by_room true m r
+
+    pub is_new : true ≡ has_mic bytes device.setting.nwk counter → false ≡ crowded → uplink_of bytes ≡ Ok uplink → (repeat : Bool) → repeat ≡ is_last device counter
+        → says.Open (record { counter = counter; repeat = repeat; asked = record { device = place; confirmed = uplink.confirmed; adr_ack_req = uplink.adr_ack_req } })
+        ≡ verdict_of bytes (decide_device crowded bytes uplink (device_with uplink.addr devices))
+    is_new m r u repeat q =
+        ap (λ (x : Bool). says.Open (record { counter = counter; repeat = x; asked = record { device = place; confirmed = uplink.confirmed; adr_ack_req = uplink.adr_ack_req } })) q
+        ∙ ap (λ (x : Uplink). says.Open (record { counter = counter; repeat = is_last device counter; asked = record { device = place; confirmed = x.confirmed; adr_ack_req = x.adr_ack_req } })) (sym (read_same bytes uplink u))
+        ∙ by_room false m r
+
+-- what is to be done with a copy, by its frame, its own numbers, and where it goes
+module _ (d : DeskView) (bytes : List ℕ) (heard : Heard1) (arrived : ℕ) where
+  pub no_frame : (fault : FrameFault) → Err fault ≡ uplink_of bytes → says.Refuse (Frame fault) ≡ verdict_of bytes (decide d.ids d.reg bytes heard arrived)
+  unfolding decide
+  no_frame fault e = ap (λ (r : Result Uplink FrameFault). verdict_of bytes (decide_frame d.ids d.reg bytes heard arrived r)) e
+
+  by_copy : (uplink : Uplink) (ids : List ℕ) (o : Option DeskFault) → Ok uplink ≡ uplink_of bytes → ids ≡ d.ids → o ≡ copy_fault ids heard arrived
+      → verdict_of bytes (decide_copy d.reg bytes heard arrived uplink o) ≡ verdict_of bytes (decide d.ids d.reg bytes heard arrived)
+  unfolding decide
+  by_copy uplink ids o e i q =
+      ap (λ (x : Option DeskFault). verdict_of bytes (decide_copy d.reg bytes heard arrived uplink x)) (q ∙ ap (λ (l : List ℕ). copy_fault l heard arrived) i)
+      ∙ ap (λ (r : Result Uplink FrameFault). verdict_of bytes (decide_frame d.ids d.reg bytes heard arrived r)) e
+
+  pub wrong_copy : (uplink : Uplink) (ids : List ℕ) (fault : DeskFault) → Ok uplink ≡ uplink_of bytes → ids ≡ d.ids → Some fault ≡ copy_fault ids heard arrived
+      → says.Refuse fault ≡ verdict_of bytes (decide d.ids d.reg bytes heard arrived)
+  wrong_copy uplink ids fault e i q = by_copy uplink ids (Some fault) e i q
+
+  pub by_place : (uplink : Uplink) (ids : List ℕ) (gathered : Gatherings) (p : Result Place HearFault) → Ok uplink ≡ uplink_of bytes → ids ≡ d.ids → None ≡ copy_fault ids heard arrived
+      → gathered ≡ d.reg.gathered → p ≡ place_of gathered bytes heard.gateway arrived
+      → verdict_of bytes (decide_place d.reg bytes uplink p) ≡ verdict_of bytes (decide d.ids d.reg bytes heard arrived)
+  by_place uplink ids gathered p e i q s r =
+      ap (λ (x : Result Place HearFault). verdict_of bytes (decide_place d.reg bytes uplink x)) (r ∙ ap (λ (x : Gatherings). place_of x bytes heard.gateway arrived) s)
+      ∙ by_copy uplink ids None e i q
