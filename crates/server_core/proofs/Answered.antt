@@ -1,6 +1,7 @@
 -- An uplink is answered: a ticket is taken, tried and settled.
-use Rattle.std.specs.Prelude.{ℕ, zero, suc, ◌-◌, slice_set, ◌≡◌, ◌≢◌, ◌⊎◌, Bool, true, false, if◌then◌else◌, List, [], ◌∷◌, ◌++◌, map, Contains, IsTrue, Option, Some, None, Result, Ok, Err, MatchResult, IsOkUnless, refl}
+use Rattle.std.specs.Prelude.{ℕ, ◌-◌, slice_set, ◌≡◌, ◌≢◌, ◌⊎◌, Bool, true, false, if◌then◌else◌, List, [], ◌∷◌, ◌++◌, map, Contains, IsTrue, Option, Some, None, Result, Ok, Err, MatchResult, IsOkUnless, refl}
 use Rattle.std.specs.Option.{option_map_or}
+use Rattle.std.proofs.lemmas.List.{set-set}
 use Rattle.std.proofs.Common.{inl, inr, ap, sym, ◌∙◌, subst, arith, append-nil}
 use Rattle.uplink_gather.specs.declared.heard.HeardCopy.{HeardCopy}
 use Rattle.uplink_gather.specs.Gatherings.{Gathering, Gatherings, numbered, rewritten, copies_of}
@@ -31,8 +32,7 @@ use Rattle.server_desk.specs.Places.{all_get}
 use Rattle.server_desk.specs.Numbers.{numbered-here, numbered_cases, rewritten-found}
 use Rattle.server_core.proofs.Tickets.{IsTicket, ticket, still_waits}
 use Rattle.server_core.proofs.DeskSteps.{desk_calls_are_steps}
-use Rattle.server_core.proofs.Going.{reached_one}
-use Rattle.server_core.proofs.Going.{one_step, goes_on_lines}
+use Rattle.server_core.proofs.Going.{reached_one, one_step, goes_on_lines}
 
 -- the desk's part after a ticket was taken and settled
 
@@ -46,16 +46,11 @@ settled_gathered true (Some asked) reg = refl
 settled_gathered false o reg = refl
 
 -- once it is settled, no ticket is out again
-set_twice : (xs : List Known) (i : ℕ) (a b : Known) → slice_set (slice_set xs i a) i b ≡ slice_set xs i b
-set_twice [] i a b = refl
-set_twice (x ∷ xs) zero a b = refl
-set_twice (x ∷ xs) (suc i) a b = ap (λ (l : List Known). x ∷ l) (set_twice xs i a b)
-
 rewritten_twice : (known : List Known) (n : ℕ) (k a b : Known) → numbered n known ≡ Some k → rewritten (λ x. b) n (rewritten (λ x. a) n known) ≡ rewritten (λ x. b) n known
 rewritten_twice known n k a b e =
     rewritten-found (λ x. b) n (rewritten (λ x. a) n known) a (numbered-here (λ x. a) n known k e)
     ∙ ap (λ (l : List Known). slice_set l (n - 1) b) (rewritten-found (λ x. a) n known k e)
-    ∙ set_twice known (n - 1) a b
+    ∙ set-set known (n - 1) a b
     ∙ sym (rewritten-found (λ x. b) n known k e)
 
 idle_settled : (known : List Known) (n : ℕ) (k done : Known) → IsIdle known → numbered n known ≡ Some k → is_given done ≡ false → IsIdle (rewritten (λ x. done) n (rewritten (λ x. Given) n known))

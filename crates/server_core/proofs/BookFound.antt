@@ -50,9 +50,7 @@ module _ (gateway : ℕ) (books : List Book) where
 
 -- a book whose gateway has another state
 pub gateway_with_state : (b c : Book) (s : State) → c.id ≡ b.id → c.cap ≡ b.cap → state_of c ≡ s → gateway_of c ≡ record (gateway_of b) { state = s }
-gateway_with_state b c s i k e =
-    ap (λ (x : ℕ). record { id = x; cap = c.cap; state = state_of c }) i ∙ ap (λ (x : ℕ). record { id = b.id; cap = x; state = state_of c }) k
-    ∙ ap (λ (x : State). record { id = b.id; cap = b.cap; state = x }) e
+gateway_with_state b c s i k e = cc
 
 pub book_written : (books : List Book) (gateways : List Gateway) (at : ℕ) (c : Book) (g : Gateway) → map gateway_of books ≡ gateways → gateway_of c ≡ g
     → map gateway_of (slice_set books at c) ≡ slice_set gateways at g

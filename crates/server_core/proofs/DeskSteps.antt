@@ -11,7 +11,6 @@ use Rattle.rx_windows.specs.declared.candidate.Candidate.{Candidate}
 use Rattle.answer_ticket.specs.declared.outcome.Ending.{Ending}
 use Rattle.answer_ticket.specs.Job.{Job, candidate_at, ask_for}
 use Rattle.server_desk.specs.declared.faults.TakeFault.{TakeFault}
-use Rattle.server_desk.specs.Register.{Register}
 use Rattle.server_desk.specs.Hearing.{Decision, Refuse, Join, decide, register_after}
 use Rattle.server_desk.specs.Hearing as hearing
 use Rattle.server_desk.specs.declared.answers.Sent.{Sent}
@@ -32,10 +31,7 @@ use Rattle.server_desk.specs.Numbers.{numbered-map, map-rewritten, same_rewritte
 
 -- the desk's part, by its parts
 same_known : (w v : World) → w.reg ≡ v.reg → ids w ≡ ids v → known w ≡ known v → desk_of w ≡ desk_of v
-same_known w v r i k =
-    ap (λ (l : List ℕ). record { ids = l; reg = w.reg; known = known w }) i
-    ∙ ap (λ (l : List Known). record { ids = ids v; reg = w.reg; known = l }) k
-    ∙ ap (λ (x : Register). record { ids = ids v; reg = x; known = known v }) r
+same_known w v r i k = cc
 
 hear_known : (d : Decision) (answers : List Answer) → map known_of (answers_after d answers) ≡ known_after d (map known_of answers)
 hear_known (Refuse fault) answers = refl

@@ -18,8 +18,7 @@ use Rattle.server_core.specs.Steps.{Step}
 use Rattle.server_core.specs.Schedule.{usual_limits, reached, event_steps, schedule_from, schedule, step_of}
 use Rattle.server_core.specs.Entries.{event_lines, entry_at, entries_from, entries, gateways_after, kept_gateway, gateway_of}
 use Rattle.server_core.specs.Server.{Seen, IsAt, Does, IsReady, IsIdle, AreHeard, IsOpened, with_lines, ids_of}
-use Rattle.server_core.proofs.Runs.{opened}
-use Rattle.server_core.proofs.Runs.{run_good}
+use Rattle.server_core.proofs.Runs.{opened, run_good}
 use Rattle.server_core.proofs.Going.{reached_none, reached_append}
 
 -- a server that has heard nothing

@@ -3,7 +3,6 @@ use Rattle.std.specs.Prelude.{ℕ, ◌≡◌, ◌==◌, ◌+◌, Bool, true, fal
 use Rattle.std.specs.Option.{option_map, option_and_then, IsSomeAnd}
 use Rattle.std.proofs.Common.{ap, sym, ◌∙◌}
 use Rattle.std.proofs.lemmas.List.{map-append}
-use Rattle.radio_airtime.specs.declared.data_rate.DataRate.{DataRate}
 use Rattle.gateway_book.specs.declared.refusal.Refusal.{Refusal}
 use Rattle.gateway_book.specs.Answer.{IsAsked}
 use Rattle.gateway_book.specs.AnswerLaws.{book_step-accepted}
@@ -21,7 +20,6 @@ use Rattle.answer_ticket.specs.Ended.{answered_as}
 use Rattle.answer_ticket.specs.Tried.{refusal_by, next_of, IsBooked, IsNext as IsRefused, IsOut as IsRefusedLast, IsWrong}
 use Rattle.server_core.specs.declared.event.Step.TheVariants as made
 use Rattle.server_core.specs.declared.entry.Line.{Line}
-use Rattle.server_core.specs.declared.entry.Line.TheVariants as says
 use Rattle.server_core.specs.declared.trying.Ended.{Ended}
 use Rattle.server_desk.specs.Answers.{Answer, Open, Booked}
 use Rattle.server_desk.specs.Register.{next_place}
@@ -81,21 +79,7 @@ module _ {A : Type 0} (t : Standing) (old mid : Seen A) (gateway i : ℕ) (book 
     -- the candidate by its receipt
     sent_same : (receipt : Receipt A) → IsAsked (ask_for t.job c) receipt.reservation → receipt.frame ≡ frame_for t.job c
         → end_lines t.job.number (answered_as c) (Some receipt) ≡ sent_as t.job.number t.job (Some c)
-    sent_same receipt asked frame =
-        let r = receipt.reservation in
-        ap
-        (λ (x : ℕ). says.Send t.job.number (record { gateway = c.gateway; window = c.window; start = c.start; freq_hz = x; rate = r.rate; len = r.len; carries = c.carries })
-        ∷ says.Frame t.job.number receipt.frame ∷ [])
-        asked.freq_hz
-        ∙ ap
-        (λ (x : DataRate). says.Send t.job.number (record { gateway = c.gateway; window = c.window; start = c.start; freq_hz = c.freq_hz; rate = x; len = r.len; carries = c.carries })
-        ∷ says.Frame t.job.number receipt.frame ∷ [])
-        asked.rate
-        ∙ ap
-        (λ (x : ℕ). says.Send t.job.number (record { gateway = c.gateway; window = c.window; start = c.start; freq_hz = c.freq_hz; rate = c.rate; len = x; carries = c.carries })
-        ∷ says.Frame t.job.number receipt.frame ∷ [])
-        asked.len
-        ∙ ap (λ (x : List ℕ). says.Send t.job.number c ∷ says.Frame t.job.number x ∷ []) frame
+    sent_same receipt asked frame = rw (asked.freq_hz, asked.rate, asked.len, frame) refl
 
     -- the candidate was refused, and another follows
     next_goes : (refusal : Refusal) (w : World) → IsOut w t old → refusal_by book t.job c ≡ Some refusal → (d : Candidate) → candidate_of (next_of t) ≡ Some d → after ≡ book → GoesOn w t old new

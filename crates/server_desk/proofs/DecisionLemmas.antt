@@ -1,6 +1,6 @@
 -- What is to be done with a copy of an uplink, as the desk finds it.
 use Rattle.std.specs.Prelude.{ℕ, ◌≡◌, ◌^◌, ◌<◌, ◌≤◌, nat_lt, nat_le, ◌==◌, Bool, true, false, not, ◌||◌, if◌then◌else◌, ⊤, is_some, List, length, Option, Some, None, Result, Ok, Err, refl}
-use Rattle.std.proofs.Common.{sym, ap, ◌∙◌, arith}
+use Rattle.std.proofs.Common.{ap, ◌∙◌, arith}
 use Rattle.std.specs.List.{list_any}
 use Rattle.std.proofs.lemmas.Bool.Decides.{nat_tests}
 use Rattle.radio_bands.specs.Band.{band_of}
@@ -14,12 +14,13 @@ use Rattle.uplink_gather.specs.declared.answers.Place.{Place}
 use Rattle.uplink_gather.specs.Gatherings.{Gatherings}
 use Rattle.uplink_gather.specs.Hearing.{place_of}
 use Rattle.server_desk.specs.declared.verdict.NewUplink.{NewUplink}
+use Rattle.server_desk.specs.declared.verdict.Verdict.{Verdict}
 use Rattle.server_desk.specs.declared.verdict.Verdict.TheVariants as says
 use Rattle.server_desk.specs.declared.heard.Heard1.{Heard1}
 use Rattle.server_desk.specs.declared.faults.DeskFault.{DeskFault}
 use Rattle.server_desk.specs.declared.faults.DeskFault.TheVariants.{Frame, UnknownGateway, NoRate, NoBand, Moment, BadMic, Crowded}
 use Rattle.server_desk.specs.Register.{Device, Register, device_with}
-use Rattle.server_desk.specs.Hearing.{last_moment, Decision, Refuse, Join, Open, Opening, copy_fault, decide_room, decide_mic, decide_device, decide_place, decide_copy, decide_frame, decide, is_last, asked_by}
+use Rattle.server_desk.specs.Hearing.{last_moment, Decision, Refuse, Join, Open, Opening, copy_fault, decide_device, decide_place, decide_copy, decide_frame, decide, is_last, asked_by}
 use Rattle.server_desk.specs.Kept.{verdict_of}
 use Rattle.server_desk.specs.Desk.{DeskView}
 use Rattle.server_desk.specs.Decided.{read_same}
@@ -87,61 +88,40 @@ decision d bytes heard arrived = decide d.ids d.reg bytes heard arrived
 
 -- what is to be done with an uplink that would open a gathering, by its device, its counter, its MIC and the room
 module _ (bytes : List ℕ) (uplink : Uplink) (crowded : Bool) (devices : List Device) (place : ℕ) (device : Device) (f : device_with uplink.addr devices ≡ Some (place, device)) where
-  by_counter : (m : Option ℕ) → m ≡ inferred_counter device.up uplink.low
-      → verdict_of bytes (decide_mic crowded bytes (place, device) m) ≡ verdict_of bytes (decide_device crowded bytes uplink (device_with uplink.addr devices))
-  by_counter m e =
-      ap (λ (x : Option ℕ). verdict_of bytes (decide_mic crowded bytes (place, device) x)) e
-      ∙ sym (ap (λ (o : Option (ℕ × Device)). verdict_of bytes (decide_device crowded bytes uplink o)) f)
+  abbrev decided_device : Verdict
+  decided_device = verdict_of bytes (decide_device crowded bytes uplink (device_with uplink.addr devices))
 
-  pub no_counter : None ≡ inferred_counter device.up uplink.low → says.Refuse BadMic ≡ verdict_of bytes (decide_device crowded bytes uplink (device_with uplink.addr devices))
-  no_counter e = by_counter None e
+  pub no_counter : None ≡ inferred_counter device.up uplink.low → says.Refuse BadMic ≡ decided_device
+  no_counter e = rw (f, ← e) refl
 
   module _ (counter : ℕ) (e : Some counter ≡ inferred_counter device.up uplink.low) where
-    by_mic : (t : Bool) → t ≡ has_mic bytes device.setting.nwk counter
-        → verdict_of bytes (if t then decide_room crowded (record { place = place; device = device; counter = counter }) else Refuse BadMic)
-        ≡ verdict_of bytes (decide_device crowded bytes uplink (device_with uplink.addr devices))
-    by_mic t m =
-        ap (λ (x : Bool). verdict_of bytes (if x then decide_room crowded (record { place = place; device = device; counter = counter }) else Refuse BadMic)) m
-        ∙ by_counter (Some counter) e
+    pub wrong_mic : false ≡ has_mic bytes device.setting.nwk counter → says.Refuse BadMic ≡ decided_device
+    wrong_mic m = rw (f, ← e, ← m) refl
 
-    pub wrong_mic : false ≡ has_mic bytes device.setting.nwk counter → says.Refuse BadMic ≡ verdict_of bytes (decide_device crowded bytes uplink (device_with uplink.addr devices))
-    wrong_mic m = by_mic false m
-
-    by_room : (t : Bool) → true ≡ has_mic bytes device.setting.nwk counter → t ≡ crowded
-        → verdict_of bytes (decide_room t (record { place = place; device = device; counter = counter })) ≡ verdict_of bytes (decide_device crowded bytes uplink (device_with uplink.addr devices))
-    by_room t m r = ap (λ (x : Bool). verdict_of bytes (decide_room x (record { place = place; device = device; counter = counter }))) r ∙ by_mic true m
-
-    pub no_room : true ≡ has_mic bytes device.setting.nwk counter → true ≡ crowded → says.Refuse Crowded ≡ verdict_of bytes (decide_device crowded bytes uplink (device_with uplink.addr devices))
-    no_room m r = by_room true m r
+    pub no_room : true ≡ has_mic bytes device.setting.nwk counter → true ≡ crowded → says.Refuse Crowded ≡ decided_device
+    no_room m r = rw (f, ← e, ← m, ← r) refl
 
     pub is_new : true ≡ has_mic bytes device.setting.nwk counter → false ≡ crowded → uplink_of bytes ≡ Ok uplink → (repeat : Bool) → repeat ≡ is_last device counter
-        → says.Open (record { counter = counter; repeat = repeat; asked = record { device = place; confirmed = uplink.confirmed; adr_ack_req = uplink.adr_ack_req } })
-        ≡ verdict_of bytes (decide_device crowded bytes uplink (device_with uplink.addr devices))
-    is_new m r u repeat q =
-        ap (λ (x : Bool). says.Open (record { counter = counter; repeat = x; asked = record { device = place; confirmed = uplink.confirmed; adr_ack_req = uplink.adr_ack_req } })) q
-        ∙ ap (λ (x : Uplink). says.Open (record { counter = counter; repeat = is_last device counter; asked = record { device = place; confirmed = x.confirmed; adr_ack_req = x.adr_ack_req } })) (sym (read_same bytes uplink u))
-        ∙ by_room false m r
+        → says.Open (record { counter = counter; repeat = repeat; asked = record { device = place; confirmed = uplink.confirmed; adr_ack_req = uplink.adr_ack_req } }) ≡ decided_device
+    is_new m r u repeat q = rw (f, ← e, ← m, ← r, q, ← read_same bytes uplink u) refl
 
 -- what is to be done with a copy, by its frame, its own numbers, and where it goes
 module _ (d : DeskView) (bytes : List ℕ) (heard : Heard1) (arrived : ℕ) where
   pub no_frame : (fault : FrameFault) → Err fault ≡ uplink_of bytes → says.Refuse (Frame fault) ≡ verdict_of bytes (decide d.ids d.reg bytes heard arrived)
   unfolding decide
-  no_frame fault e = ap (λ (r : Result Uplink FrameFault). verdict_of bytes (decide_frame d.ids d.reg bytes heard arrived r)) e
-
-  by_copy : (uplink : Uplink) (ids : List ℕ) (o : Option DeskFault) → Ok uplink ≡ uplink_of bytes → ids ≡ d.ids → o ≡ copy_fault ids heard arrived
-      → verdict_of bytes (decide_copy d.reg bytes heard arrived uplink o) ≡ verdict_of bytes (decide d.ids d.reg bytes heard arrived)
-  unfolding decide
-  by_copy uplink ids o e i q =
-      ap (λ (x : Option DeskFault). verdict_of bytes (decide_copy d.reg bytes heard arrived uplink x)) (q ∙ ap (λ (l : List ℕ). copy_fault l heard arrived) i)
-      ∙ ap (λ (r : Result Uplink FrameFault). verdict_of bytes (decide_frame d.ids d.reg bytes heard arrived r)) e
+  no_frame fault e = rw (← e) refl
 
   pub wrong_copy : (uplink : Uplink) (ids : List ℕ) (fault : DeskFault) → Ok uplink ≡ uplink_of bytes → ids ≡ d.ids → Some fault ≡ copy_fault ids heard arrived
       → says.Refuse fault ≡ verdict_of bytes (decide d.ids d.reg bytes heard arrived)
-  wrong_copy uplink ids fault e i q = by_copy uplink ids (Some fault) e i q
+  unfolding decide
+  wrong_copy uplink ids fault e i q = ap (λ (x : Option DeskFault). verdict_of bytes (decide_copy d.reg bytes heard arrived uplink x)) (q ∙ ap (λ (l : List ℕ). copy_fault l heard arrived) i)
+      ∙ rw (← e) refl
 
   pub by_place : (uplink : Uplink) (ids : List ℕ) (gathered : Gatherings) (p : Result Place HearFault) → Ok uplink ≡ uplink_of bytes → ids ≡ d.ids → None ≡ copy_fault ids heard arrived
       → gathered ≡ d.reg.gathered → p ≡ place_of gathered bytes heard.gateway arrived
       → verdict_of bytes (decide_place d.reg bytes uplink p) ≡ verdict_of bytes (decide d.ids d.reg bytes heard arrived)
+  unfolding decide
   by_place uplink ids gathered p e i q s r =
       ap (λ (x : Result Place HearFault). verdict_of bytes (decide_place d.reg bytes uplink x)) (r ∙ ap (λ (x : Gatherings). place_of x bytes heard.gateway arrived) s)
-      ∙ by_copy uplink ids None e i q
+      ∙ ap (λ (x : Option DeskFault). verdict_of bytes (decide_copy d.reg bytes heard arrived uplink x)) (q ∙ ap (λ (l : List ℕ). copy_fault l heard arrived) i)
+      ∙ rw (← e) refl

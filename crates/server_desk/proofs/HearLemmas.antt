@@ -217,12 +217,7 @@ desk_with ids devices gathered asked known =
 -- the desk's part of the world, by its parts
 pub same_desk : (i i' : List ℕ) (l l' : List Device) (g g' : Gatherings) (a a' : List Asked) (k k' : List Known) → i ≡ i' → l ≡ l' → g ≡ g' → a ≡ a' → k ≡ k'
     → desk_with i l g a k ≡ desk_with i' l' g' a' k'
-same_desk i i' l l' g g' a a' k k' e f h m n =
-    ap (λ (x : List ℕ). desk_with x l g a k) e
-    ∙ ap (λ (x : List Device). desk_with i' x g a k) f
-    ∙ ap (λ (x : Gatherings). desk_with i' l' x a k) h
-    ∙ ap (λ (x : List Asked). desk_with i' l' g' x k) m
-    ∙ ap (λ (x : List Known). desk_with i' l' g' a' x) n
+same_desk i i' l l' g g' a a' k k' e f h m n = cc
 
 module _ {A : Type 0} (d : DeskView) (bytes : List ℕ) (heard : Heard1) (arrived : ℕ) (new : NewUplink) (v : verdict_of bytes (decision d bytes heard arrived) ≡ says.Open new)
     (ids : List ℕ) (kepts : List (Kept A)) (gathered : Gatherings) (asked : List Asked) (known : List Known) (w : seen ids kepts gathered asked known ≡ d) where

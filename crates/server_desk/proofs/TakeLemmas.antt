@@ -18,7 +18,7 @@ use Rattle.server_desk.specs.declared.faults.TakeFault.{TakeFault}
 use Rattle.server_desk.specs.declared.faults.TakeFault.TheVariants.{NotReady, Taken, Silent, Engaged, CounterSpent}
 use Rattle.server_desk.specs.Answers.{Known, NotGiven, Given, Done, is_not_given}
 use Rattle.server_desk.specs.Register.{Device, Asked, Register}
-use Rattle.server_desk.specs.Taking.{head, is_owed, is_engaged, job_for, job_of, fault_of, given_or, take_by, take_known, take_answer, with_counter_given, counter_given, taken_from, after_taking}
+use Rattle.server_desk.specs.Taking.{head, is_owed, is_engaged, job_for, job_of, fault_of, given_or, take_known, take_answer, with_counter_given, counter_given, taken_from, after_taking}
 use Rattle.server_desk.specs.Kept.{shown, outs, IsSendable, IsServable, IsGathered, AreOut, IsDesk, IsReady}
 use Rattle.server_desk.specs.Desk.{DeskView, desk_taken, desk_take}
 use Rattle.server_desk.specs.Places.{some_inj, all_get}
@@ -28,45 +28,31 @@ use Rattle.server_desk.proofs.DeskLemmas.{seen, get_within, kept_at, written_hol
 
 -- the answer to `take`, by what is found
 module _ (reg : Register) (known : List Known) (n : ℕ) where
-  by_closed : (t : Bool) → t ≡ is_closed_at n reg.gathered.list → take_answer reg known n ≡ (if t then take_known reg known n (numbered n reg.asked) (numbered n known) else Err NotReady)
-  unfolding take_answer
-  by_closed t e = ap (λ (x : Bool). if x then take_known reg known n (numbered n reg.asked) (numbered n known) else Err NotReady) (sym e)
-
   pub not_closed : false ≡ is_closed_at n reg.gathered.list → take_answer reg known n ≡ Err NotReady
-  not_closed e = by_closed false e
-
-  by_known : true ≡ is_closed_at n reg.gathered.list → (o : Option Asked) (k : Option Known) → o ≡ numbered n reg.asked → k ≡ numbered n known → take_answer reg known n ≡ take_known reg known n o k
-  by_known e o k p q =
-      by_closed true e
-      ∙ ap (λ (x : Option Asked). take_known reg known n x (numbered n known)) (sym p)
-      ∙ ap (take_known reg known n o) (sym q)
+  unfolding take_answer
+  not_closed e = rw (← e) refl
 
   not_asked : (k : Option Known) → take_known reg known n None k ≡ Err NotReady
   not_asked None = refl
   not_asked (Some k) = refl
 
   pub no_uplink : true ≡ is_closed_at n reg.gathered.list → None ≡ numbered n reg.asked → take_answer reg known n ≡ Err NotReady
-  no_uplink e p = by_known e None (numbered n known) p refl ∙ not_asked (numbered n known)
+  unfolding take_answer
+  no_uplink e p = rw (← e, ← p) (not_asked (numbered n known))
 
   pub no_answer : (a : Asked) → true ≡ is_closed_at n reg.gathered.list → Some a ≡ numbered n reg.asked → None ≡ numbered n known → take_answer reg known n ≡ Err NotReady
-  no_answer a e p q = by_known e (Some a) None p q
+  unfolding take_answer
+  no_answer a e p q = rw (← e, ← p, ← q) refl
 
   module _ (a : Asked) (k : Known) (e : true ≡ is_closed_at n reg.gathered.list) (p : Some a ≡ numbered n reg.asked) (q : Some k ≡ numbered n known) where
-    by_given : (t : Bool) → t ≡ is_not_given k → take_answer reg known n ≡ (if t then take_by reg known n a (slice_get reg.devices a.device) else Err Taken)
-    by_given t g =
-        by_known e (Some a) (Some k) p q
-        ∙ ap (λ (x : Bool). if x then take_by reg known n a (slice_get reg.devices a.device) else Err Taken) (sym g)
-
     pub was_given : false ≡ is_not_given k → take_answer reg known n ≡ Err Taken
-    was_given g = by_given false g
+    unfolding take_answer
+    was_given g = rw (← e, ← p, ← q, ← g) refl
 
     module _ (g : true ≡ is_not_given k) (device : Device) (served : slice_get reg.devices a.device ≡ Some device) (engaged : Bool) (out : is_engaged a.device reg.asked known ≡ engaged) where
       by_device : (o : Option TakeFault) → o ≡ fault_of a device engaged → take_answer reg known n ≡ given_or reg n a device o
-      by_device o f =
-          by_given true g
-          ∙ ap (take_by reg known n a) served
-          ∙ ap (λ (t : Bool). given_or reg n a device (fault_of a device t)) out
-          ∙ ap (given_or reg n a device) (sym f)
+      unfolding take_answer
+      by_device o f = rw (← e, ← p, ← q, ← g, served) (ap (λ (t : Bool). given_or reg n a device (fault_of a device t)) out ∙ ap (given_or reg n a device) (sym f))
 
       faulted : (fault : TakeFault) → Some fault ≡ fault_of a device engaged → take_answer reg known n ≡ Err fault
       faulted fault f = by_device (Some fault) f
