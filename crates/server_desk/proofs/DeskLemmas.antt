@@ -99,9 +99,7 @@ pub written_holds : {A : Type 0} (keys : List ℕ) (kepts : List (Kept A)) (gath
     → length more ≡ length known → AreOut (outs (slice_set kepts place new)) asked more
     → IsDesk keys (outs (slice_set kepts place new)) (record { devices = map shown (slice_set kepts place new); gathered = gathered; asked = asked }) more
 written_holds keys kepts gathered asked known more i place k new h g s servable l out =
-    let P : List Device → Type 0 = λ l. IsDesk keys (outs (slice_set kepts place new)) (record { devices = l; gathered = gathered; asked = asked }) more in
-    subst P (sym (map-set shown kepts place new))
-    (desk_after_device keys (outs kepts) _ _ known more place (shown k) (shown new) i (kept_at kepts place k h g) s servable l out)
+    rw (map-set shown kepts place new) (desk_after_device keys (outs kepts) _ _ known more place (shown k) (shown new) i (kept_at kepts place k h g) s servable l out)
 
 -- a device of which as many tickets are out as before
 pub same_outs : {A : Type 0} (kepts : List (Kept A)) (place : ℕ) (k new : Kept A) → place < length kepts → k ≡ get_or kepts place k → new.out ≡ k.out → outs (slice_set kepts place new) ≡ outs kepts
@@ -140,11 +138,7 @@ pushed_servable device new payload (Err fault) told e f i = subst IsServable (sy
 pub same_holds : (keys : List ℕ) (flags : List Bool) (devices : List Device) (gathered g : Gatherings) (asked after : List Asked) (known more : List Known)
     → IsDesk keys flags (record { devices = devices; gathered = gathered; asked = asked }) known → g ≡ gathered → after ≡ asked → more ≡ known
     → IsDesk keys flags (record { devices = devices; gathered = g; asked = after }) more
-same_holds keys flags devices gathered g asked after known more i e f h =
-    let P : Gatherings → Type 0 = λ x. IsDesk keys flags (record { devices = devices; gathered = x; asked = after }) more in
-    let Q : List Asked → Type 0 = λ x. IsDesk keys flags (record { devices = devices; gathered = gathered; asked = x }) more in
-    let R : List Known → Type 0 = λ x. IsDesk keys flags (record { devices = devices; gathered = gathered; asked = asked }) x in
-    subst P (sym e) (subst Q (sym f) (subst R (sym h) i))
+same_holds keys flags devices gathered g asked after known more i e f h = rw (e, f, h) i
 
 module _ {A : Type 0} (devices : List Device) (kepts : List (Kept A)) (addr : ℕ) (payload : Payload) (place : ℕ) (k : Kept A) (r : Result ℕ QueueFault)
     (s : map shown kepts ≡ devices) (p : Some place ≡ option_map (λ found. found.0) (device_with addr devices)) (g : k ≡ get_or kepts place k) where
@@ -153,14 +147,10 @@ module _ {A : Type 0} (devices : List Device) (kepts : List (Kept A)) (addr : �
 
   pub queued_answer : MatchResult (queued_or (shown k) (queue_fault (shown k) payload)) (λ _. IsOkUnless r NoMemory) (λ fault. r ≡ Err fault)
       → MatchResult (queue_answer_for (device_with addr devices) payload) (λ _. IsOkUnless r NoMemory) (λ fault. r ≡ Err fault)
-  queued_answer a =
-      let P : Result ℕ QueueFault → Type 0 = λ q. MatchResult q (λ _. IsOkUnless r NoMemory) (λ fault. r ≡ Err fault) in
-      subst P (sym answer_for) a
+  queued_answer a = rw answer_for a
 
   pub queued_told : IfOk r (λ count. queued_or (shown k) (queue_fault (shown k) payload) ≡ Ok count) → IfOk r (λ count. queue_answer_for (device_with addr devices) payload ≡ Ok count)
-  queued_told a =
-      let P : Result ℕ QueueFault → Type 0 = λ q. IfOk r (λ count. q ≡ Ok count) in
-      subst P (sym answer_for) a
+  queued_told a = rw answer_for a
 
 module _ {A : Type 0} (ids : List ℕ) (kepts : List (Kept A)) (gathered : Gatherings) (asked : List Asked) (known : List Known) where
   -- the step, by what the desk keeps
@@ -195,6 +185,4 @@ module _ {A : Type 0} (ids : List ℕ) (kepts : List (Kept A)) (gathered : Gathe
   -- a device that looks as before leaves the desk as it was
   pub queued_refused : (d : DeskView) → seen ids kepts gathered asked known ≡ d → (place : ℕ) (k new : Kept A) (r : Result ℕ QueueFault)
       → place < length kepts → k ≡ get_or kepts place k → OnErr r (shown new ≡ shown k) → OnErr r (seen ids (slice_set kepts place new) gathered asked known ≡ d)
-  queued_refused d v place k new r h g s =
-      let P : DeskView → Type 0 = λ d. OnErr r (seen ids (slice_set kepts place new) gathered asked known ≡ d) in
-      subst P v (same_here place k new r h g s)
+  queued_refused d v place k new r h g s = rw (← v) (same_here place k new r h g s)

@@ -58,16 +58,10 @@ told_by repeat a (Err fault) h = tt
 module _ (answer x : Result DeskHeard DeskFault) (repeat : Bool) (a r : Result Heard HearFault) (e : answer ≡ desk_answer repeat a) (q : x ≡ desk_answer repeat r) where
   pub answered : MatchResult a (λ _. IsOkUnless r gathering.NoMemory) (λ fault. r ≡ Err fault)
       → MatchResult answer (λ _. IsOkUnless x NoMemory) (λ fault. x ≡ Err fault)
-  answered h =
-      let P : Result DeskHeard DeskFault → Type 0 = λ y. MatchResult y (λ _. IsOkUnless x NoMemory) (λ fault. x ≡ Err fault) in
-      let Q : Result DeskHeard DeskFault → Type 0 = λ y. MatchResult (desk_answer repeat a) (λ _. IsOkUnless y NoMemory) (λ fault. y ≡ Err fault) in
-      subst P (sym e) (subst Q (sym q) (answered_by repeat a r h))
+  answered h = rw (e, q) (answered_by repeat a r h)
 
   pub told : IfOk r (λ heard. a ≡ Ok heard) → IfOk x (λ told. answer ≡ Ok told)
-  told h =
-      let P : Result DeskHeard DeskFault → Type 0 = λ y. IfOk x (λ told. y ≡ Ok told) in
-      let Q : Result DeskHeard DeskFault → Type 0 = λ y. IfOk y (λ told. desk_answer repeat a ≡ Ok told) in
-      subst P (sym e) (subst Q (sym q) (told_by repeat a r h))
+  told h = rw (e, q) (told_by repeat a r h)
 
 -- where the desk's answer is a fault, the gathering's was one
 pub was_fault : (P : Type 0) (repeat : Bool) (r : Result Heard HearFault) (fault : DeskFault) → desk_answer repeat r ≡ Err fault → OnErr r P → P
@@ -78,10 +72,7 @@ was_fault P repeat (Err f) fault e h = h
 module _ (d : DeskView) (bytes : List ℕ) (heard : Heard1) (arrived : ℕ) (gathered : Gatherings) (s : gathered ≡ d.reg.gathered) (copy : HeardCopy) (e : copy ≡ copy_of heard) where
   -- the gathering's own answer, by where the copy goes
   answer_at_place : (p : Result Place HearFault) → place_of d.reg.gathered bytes heard.gateway arrived ≡ p → hear_answer gathered bytes copy.gateway arrived ≡ answer_at d.reg.gathered p
-  answer_at_place p q =
-      ap (λ (g : Gatherings). hear_answer g bytes copy.gateway arrived) s
-      ∙ ap (λ (c : HeardCopy). hear_answer d.reg.gathered bytes c.gateway arrived) e
-      ∙ ap (answer_at d.reg.gathered) q
+  answer_at_place p q = rw (s, e, ← q) refl
 
   joined_place : verdict_of bytes (decision d bytes heard arrived) ≡ says.Join → (n : ℕ) × ((decision d bytes heard arrived ≡ Join n) × (place_of d.reg.gathered bytes heard.gateway arrived ≡ Ok (Joins n)))
   joined_place v =
@@ -110,9 +101,8 @@ module _ (d : DeskView) (bytes : List ℕ) (heard : Heard1) (arrived : ℕ) (gat
   heard_gathered : (r : Result Heard HearFault) (g : Gatherings) → g ≡ after_hearing r gathered bytes copy arrived → IfOk r (λ h. hear_answer gathered bytes copy.gateway arrived ≡ Ok h)
       → heard.at ≤ 2 ^ 60 → All IsGathered gathered.list → All IsGathered g.list
   heard_gathered r g q h t all =
-      let P : Gatherings → Type 0 = λ x. All IsGathered x.list in
       let at : copy.at ≡ heard.at = ap (λ (c : HeardCopy). c.at) e in
-      subst P (sym q) (all_heard gathered bytes copy arrived r h (omega (arith, at, t)) all)
+      rw q (all_heard gathered bytes copy arrived r h (omega (arith, at, t)) all)
 
   -- the copies stay in their ranges where one joins
   pub join_gathered : verdict_of bytes (decision d bytes heard arrived) ≡ says.Join → (r : Result Heard HearFault) (g : Gatherings) → g ≡ after_hearing r gathered bytes copy arrived
