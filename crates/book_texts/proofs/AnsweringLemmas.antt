@@ -26,7 +26,7 @@ refused_by old ask refusal None is h =
       starved = true;
       answered = ap (λ e. Refused ask.number e) h ∙ sym (ap (λ o. booking_reply true o ask) is);
       reached = refl;
-      same = record { cap = refl; retired = refl };
+      same = record { rules = refl; retired = refl };
     }
 refused_by old ask refusal (Some e) is h =
     let same : refusal ≡ e = cc in
@@ -34,7 +34,7 @@ refused_by old ask refusal (Some e) is h =
       starved = false;
       answered = ap (λ e. Refused ask.number e) same ∙ sym (ap (λ o. booking_reply false o ask) is);
       reached = sym (ap (λ o. after_answer o (state_of old) ask) is);
-      same = record { cap = refl; retired = refl };
+      same = record { rules = refl; retired = refl };
     }
 
 -- a booking that is refused changes nothing
@@ -89,14 +89,14 @@ pub command_replied : (old new : Book) (number : ℕ) (line : List ℕ) (command
 command_replied old new number line command reply is done =
     record {
       starved = done.starved;
-      answered = ap (answer_to old.cap done.starved number (state_of old)) is ∙ ap (λ r. reply_line r ∷ []) (sym done.answered);
-      reached = done.reached ∙ sym (ap (state_after_line old.cap done.starved (state_of old)) is);
+      answered = ap (answer_to old.rules done.starved number (state_of old)) is ∙ ap (λ r. reply_line r ∷ []) (sym done.answered);
+      reached = done.reached ∙ sym (ap (state_after_line old.rules done.starved (state_of old)) is);
       same = done.same;
     }
 
 -- the answer to a line that is malformed, or passed over
-pub plainly_replied : (old : Book) (number : ℕ) (line : List ℕ) (reply : Option Reply) → answer_to old.cap false number (state_of old) (said line) ≡ reply_lines reply → state_after_line old.cap false (state_of old) (said line) ≡ state_of old → IsReplied old old number line reply
-plainly_replied old number line reply answered stays = record { starved = false; answered = answered; reached = sym stays; same = record { cap = refl; retired = refl } }
+pub plainly_replied : (old : Book) (number : ℕ) (line : List ℕ) (reply : Option Reply) → answer_to old.rules false number (state_of old) (said line) ≡ reply_lines reply → state_after_line old.rules false (state_of old) (said line) ≡ state_of old → IsReplied old old number line reply
+plainly_replied old number line reply answered stays = record { starved = false; answered = answered; reached = sym stays; same = record { rules = refl; retired = refl } }
 
 pub malformed_replied : (old : Book) (number : ℕ) (line : List ℕ) → said line ≡ Malformed → IsReplied old old number line (Some (Bad number))
 malformed_replied old number line is = plainly_replied old number line (Some (Bad number)) (rw is refl) (rw is refl)

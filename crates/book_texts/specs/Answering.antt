@@ -2,9 +2,9 @@ use Rattle.std.specs.Prelude.{ℕ, max, Bool, if◌then◌else◌, List, [], ◌
 use Rattle.gateway_book.specs.declared.ask.Ask.{Ask}
 use Rattle.gateway_book.specs.declared.refusal.Refusal.{Refusal}
 use Rattle.gateway_book.specs.declared.refusal.Refusal.TheVariants.{NoMemory}
-use Rattle.gateway_book.specs.Answer.{Terms, ask_end, refusal_of}
+use Rattle.gateway_book.specs.Answer.{Rules, ask_end, refusal_of}
 use Rattle.gateway_book.specs.declared.cancel.CancelFault.{CancelFault}
-use Rattle.gateway_book.specs.Step.{State, book_step, cancel_answer, cancel_step, tick_step}
+use Rattle.gateway_book.specs.Step.{State, terms_at, book_step, cancel_answer, cancel_step, tick_step}
 use Rattle.gateway_book.specs.Book.{airtime_answer}
 use Rattle.book_texts.specs.declared.command.Command.{Command}
 use Rattle.book_texts.specs.declared.command.Command.TheVariants.{Book, Cancel, Tick}
@@ -16,10 +16,6 @@ use Rattle.book_texts.specs.Reply.{reply_line}
 
 -- What one line of input does, by what is reserved when it comes. `starved` says that the book finds no memory
 -- for one more reservation then.
-
--- what an answer rests on beside the list
-abbrev pub terms_at : ℕ → State → Terms
-terms_at cap s = record { floor = s.floor; cap = cap; booked = s.booked }
 
 -- the answer to a booking; want of memory is the last refusal
 abbrev pub booking_reply : Bool → Option Refusal → Ask → Reply
@@ -33,26 +29,26 @@ cancel_reply number (Ok airtime) = Cancelled number airtime
 cancel_reply number (Err fault) = NotCancelled number fault
 
 -- the answer to a command
-abbrev pub reply_to : ℕ → Bool → State → Command → Reply
-reply_to cap starved s (Book ask) = booking_reply starved (refusal_of (terms_at cap s) s.list ask) ask
-reply_to cap starved s (Cancel number start) =
+abbrev pub reply_to : Rules → Bool → State → Command → Reply
+reply_to rules starved s (Book ask) = booking_reply starved (refusal_of (terms_at rules s) s.list ask) ask
+reply_to rules starved s (Cancel number start) =
     cancel_reply number (airtime_answer (cancel_answer s.floor s.list number start))
-reply_to cap starved s (Tick now) = Floor (max s.floor now)
+reply_to rules starved s (Tick now) = Floor (max s.floor now)
 
 -- what is reserved after it
-abbrev pub state_after : ℕ → Bool → State → Command → State
-state_after cap starved s (Book ask) = if starved then s else book_step cap s ask
-state_after cap starved s (Cancel number start) = cancel_step s number start
-state_after cap starved s (Tick now) = tick_step s now
+abbrev pub state_after : Rules → Bool → State → Command → State
+state_after rules starved s (Book ask) = if starved then s else book_step rules s ask
+state_after rules starved s (Cancel number start) = cancel_step s number start
+state_after rules starved s (Tick now) = tick_step s now
 
 -- the lines that answer line number `number`: none, or one
-abbrev pub answer_to : ℕ → Bool → ℕ → State → Said → List (List ℕ)
-answer_to cap starved number s Nothing = []
-answer_to cap starved number s (Order command) = reply_line (reply_to cap starved s command) ∷ []
-answer_to cap starved number s Malformed = reply_line (Bad number) ∷ []
+abbrev pub answer_to : Rules → Bool → ℕ → State → Said → List (List ℕ)
+answer_to rules starved number s Nothing = []
+answer_to rules starved number s (Order command) = reply_line (reply_to rules starved s command) ∷ []
+answer_to rules starved number s Malformed = reply_line (Bad number) ∷ []
 
 -- what is reserved after that line
-abbrev pub state_after_line : ℕ → Bool → State → Said → State
-state_after_line cap starved s Nothing = s
-state_after_line cap starved s (Order command) = state_after cap starved s command
-state_after_line cap starved s Malformed = s
+abbrev pub state_after_line : Rules → Bool → State → Said → State
+state_after_line rules starved s Nothing = s
+state_after_line rules starved s (Order command) = state_after rules starved s command
+state_after_line rules starved s Malformed = s

@@ -4,6 +4,7 @@ use Rattle.std.specs.Str.Lines.{lines}
 use Rattle.text_lines.specs.Line.{text_of}
 use Rattle.text_lines.specs.Writing.{WritesFront}
 use Rattle.text_lines.specs.declared.ahead.TheConstants.{INPUT_LIMIT}
+use Rattle.gateway_book.specs.Answer.{Rules}
 use Rattle.gateway_book.specs.declared.book.TheConstants.{MAX_CAP}
 use Rattle.gateway_book.specs.Step.{State}
 use Rattle.text_words.specs.declared.fault.TextFault.{TextFault}
@@ -15,37 +16,37 @@ use Rattle.text_words.specs.Words.{has_refusal}
 
 -- all these bytes were read, the writer took the output for them, and `refused` says whether a line of it begins
 -- with `no` or `bad`
-pub record IsAnswered (cap : ℕ) (s : State) (bytes : List ℕ) (left_after before after : Option (List ℕ)) (refused : Bool) : Type 0 where
+pub record IsAnswered (rules : Rules) (s : State) (bytes : List ℕ) (left_after before after : Option (List ℕ)) (refused : Bool) : Type 0 where
   pub starved : List ℕ
   pub consumed : Consumes (Some bytes) left_after bytes
-  pub written : Appends before after (text_of (output_from cap s starved (lines bytes)))
-  pub told : refused ≡ has_refusal (output_from cap s starved (lines bytes))
+  pub written : Appends before after (text_of (output_from rules s starved (lines bytes)))
+  pub told : refused ≡ has_refusal (output_from rules s starved (lines bytes))
 
 -- the same where the reader tells what it has left
-abbrev pub AnswersAll : ℕ → State → Option (List ℕ) → Option (List ℕ) → Option (List ℕ) → Option (List ℕ) → Bool → Type 0
-AnswersAll cap s None left_after before after refused = ⊤
-AnswersAll cap s (Some bytes) left_after before after refused = IsAnswered cap s bytes left_after before after refused
+abbrev pub AnswersAll : Rules → State → Option (List ℕ) → Option (List ℕ) → Option (List ℕ) → Option (List ℕ) → Bool → Type 0
+AnswersAll rules s None left_after before after refused = ⊤
+AnswersAll rules s (Some bytes) left_after before after refused = IsAnswered rules s bytes left_after before after refused
 
 -- the writer took a front of the output for these bytes
-pub record IsAnsweredInPart (cap : ℕ) (s : State) (bytes : List ℕ) (before after : Option (List ℕ)) : Type 0 where
+pub record IsAnsweredInPart (rules : Rules) (s : State) (bytes : List ℕ) (before after : Option (List ℕ)) : Type 0 where
   pub starved : List ℕ
-  pub written : WritesFront before after (text_of (output_from cap s starved (lines bytes)))
+  pub written : WritesFront before after (text_of (output_from rules s starved (lines bytes)))
 
 -- the same where the reader tells what it has left
-abbrev pub AnswersFront : ℕ → State → Option (List ℕ) → Option (List ℕ) → Option (List ℕ) → Type 0
-AnswersFront cap s None before after = ⊤
-AnswersFront cap s (Some bytes) before after = IsAnsweredInPart cap s bytes before after
+abbrev pub AnswersFront : Rules → State → Option (List ℕ) → Option (List ℕ) → Option (List ℕ) → Type 0
+AnswersFront rules s None before after = ⊤
+AnswersFront rules s (Some bytes) before after = IsAnsweredInPart rules s bytes before after
 
 -- the writer took a front of the output for the bytes that were read
-pub record IsAnsweredSoFar (cap : ℕ) (s : State) (bytes : List ℕ) (left_after before after : Option (List ℕ)) : Type 0 where
+pub record IsAnsweredSoFar (rules : Rules) (s : State) (bytes : List ℕ) (left_after before after : Option (List ℕ)) : Type 0 where
   pub read : List ℕ
   pub consumed : Consumes (Some bytes) left_after read
-  pub answered : IsAnsweredInPart cap s read before after
+  pub answered : IsAnsweredInPart rules s read before after
 
 -- the same where the reader tells what it has left
-abbrev pub AnswersRead : ℕ → State → Option (List ℕ) → Option (List ℕ) → Option (List ℕ) → Option (List ℕ) → Type 0
-AnswersRead cap s None left_after before after = ⊤
-AnswersRead cap s (Some bytes) left_after before after = IsAnsweredSoFar cap s bytes left_after before after
+abbrev pub AnswersRead : Rules → State → Option (List ℕ) → Option (List ℕ) → Option (List ℕ) → Option (List ℕ) → Type 0
+AnswersRead rules s None left_after before after = ⊤
+AnswersRead rules s (Some bytes) left_after before after = IsAnsweredSoFar rules s bytes left_after before after
 
 -- the input's length, where it is known: at most 2^28 bytes on `Ok`, and more where `TooMuch` is answered
 abbrev pub KeepsLimit : Option (List ℕ) → Result Bool TextFault → Type 0

@@ -39,9 +39,9 @@ pub fn book_text<A: Allocator, R: ByteIn, W: ByteOut>(
     reader: &mut R,
     writer: &mut W,
 ) -> Result<bool, TextFault>
-    ensures ok { IfOk result (AnswersAll cap opened (R.left reader.old) (R.left reader.new) (W.taken writer.old) (W.taken writer.new)) }
-    ensures front { OnErr result (AnswersFront cap opened (R.left reader.old) (W.taken writer.old) (W.taken writer.new)) }
-    ensures read_front { OnErr result (AnswersRead cap opened (R.left reader.old) (R.left reader.new) (W.taken writer.old) (W.taken writer.new)) }
+    ensures ok { IfOk result (AnswersAll (record { cap = cap }) opened (R.left reader.old) (R.left reader.new) (W.taken writer.old) (W.taken writer.new)) }
+    ensures front { OnErr result (AnswersFront (record { cap = cap }) opened (R.left reader.old) (W.taken writer.old) (W.taken writer.new)) }
+    ensures read_front { OnErr result (AnswersRead (record { cap = cap }) opened (R.left reader.old) (R.left reader.new) (W.taken writer.old) (W.taken writer.new)) }
     ensures limit { KeepsLimit (R.left reader.old) result }
     ensures settings { IsSettingOf cap result }
     ensures untouched { (¬ IsCap cap) → (reader.new ≡ reader.old) × (writer.new ≡ writer.old) }
@@ -70,10 +70,10 @@ fn answer_lines<B: Roster, R: ByteIn, W: ByteOut>(
     writer: &mut W,
 ) -> Result<bool, TextFault>
     requires { output.old ≡ [] }
-    ensures ok { IfOk result (λ refused. AnswersLines book.old.cap (state_of book.old) (R.left reader.old) (R.left reader.new) (state_of book.new) refused (W.taken writer.old) (W.taken writer.new) output.new) }
+    ensures ok { IfOk result (λ refused. AnswersLines book.old.rules (state_of book.old) (R.left reader.old) (R.left reader.new) (state_of book.new) refused (W.taken writer.old) (W.taken writer.new) output.new) }
     ensures same { SameBook book.old book.new }
-    ensures front { OnErr result (AnswersFront book.old.cap (state_of book.old) (R.left reader.old) (W.taken writer.old) (W.taken writer.new)) }
-    ensures read_front { OnErr result (AnswersRead book.old.cap (state_of book.old) (R.left reader.old) (R.left reader.new) (W.taken writer.old) (W.taken writer.new)) }
+    ensures front { OnErr result (AnswersFront book.old.rules (state_of book.old) (R.left reader.old) (W.taken writer.old) (W.taken writer.new)) }
+    ensures read_front { OnErr result (AnswersRead book.old.rules (state_of book.old) (R.left reader.old) (R.left reader.new) (W.taken writer.old) (W.taken writer.new)) }
     ensures limit { KeepsLimit (R.left reader.old) result }
     ensures begun { HasBegun result }
     ensures read { CountsReads (R.failed_calls reader.old) (R.failed_calls reader.new) result }

@@ -17,10 +17,14 @@ use Rattle.resv_list.specs.Reservations.{spent}
 
 -- The answer of a book to an ask: the first of eight rows that holds, or none where it is accepted.
 
+-- what a book is opened with, and keeps: how many members it may have
+pub record Rules : Type 0 where
+  pub cap : ℕ
+
 -- what an answer rests on beside the list
 pub record Terms : Type 0 where
   pub floor : ℕ
-  pub cap : ℕ
+  pub rules : Rules
   pub booked : ℕ
 
 abbrev pub ask_airtime : Ask → ℕ
@@ -76,7 +80,7 @@ duty_full l ask = option_and_then (overfull l ask.start (ask_airtime ask)) (band
 
 -- as many members are kept as may be
 abbrev pub full : Terms → List Reservation → Option Refusal
-full terms l = refused_if (length (kept l terms.floor) == terms.cap) Full
+full terms l = refused_if (length (kept l terms.floor) == terms.rules.cap) Full
 
 -- the greatest total of booked airtime
 abbrev pub total_limit : ℕ

@@ -14,8 +14,8 @@ use Rattle.gateway_book.specs.declared.refusal.Refusal.TheVariants.{NoBand, TooL
 use Rattle.radio_bands.specs.declared.band.Band.{Band}
 use Rattle.gateway_book.specs.Duty.{full_hour}
 use Rattle.gateway_book.specs.Kept.{kept}
-use Rattle.gateway_book.specs.Answer.{Terms, ask_airtime, ask_end, IsAsked, refused_if, no_band, too_long, past_end, passed, overlap, taken, overfull, duty_full, full, total_limit, totals_full, first_some, refusal_of}
-use Rattle.gateway_book.specs.Step.{is_fit, made_if, reservation_of, placed, State, book_step, after_answer}
+use Rattle.gateway_book.specs.Answer.{Rules, Terms, ask_airtime, ask_end, IsAsked, refused_if, no_band, too_long, past_end, passed, overlap, taken, overfull, duty_full, full, total_limit, totals_full, first_some, refusal_of}
+use Rattle.gateway_book.specs.Step.{terms_at, is_fit, made_if, reservation_of, placed, State, book_step, after_answer}
 
 -- What it means that an ask is accepted.
 
@@ -24,7 +24,7 @@ pub record IsAccepted (terms : Terms) (l : List Reservation) (ask : Ask) : Type 
   pub ahead : terms.floor ≤ ask.start
   pub clear : overlap l ask.start (ask_end ask) ≡ None
   pub duty : (band : Band) → band_of ask.freq_hz ask.rate ≡ Some band → full_hour l band ask.start (ask_airtime ask) ≡ None
-  pub spare : length (kept l terms.floor) ≢ terms.cap
+  pub spare : length (kept l terms.floor) ≢ terms.rules.cap
   pub total : terms.booked + ask_airtime ask ≤ total_limit
 
 pub first_none : {X : Type 0} (o : Option X) (os : List (Option X)) → first_some (o ∷ os) ≡ None → (o ≡ None) × (first_some os ≡ None)
@@ -60,7 +60,7 @@ accepted terms l ask e =
     let sized : nat_lt (max_phy_of ask.rate) ask.len ≡ false = no_refusal _ TooLong b.0 in
     let timely : nat_lt last_end (ask_end ask) ≡ false = no_refusal _ PastEnd c.0 in
     let on_time : nat_lt ask.start terms.floor ≡ false = no_refusal _ Passed d.0 in
-    let room : (length (kept l terms.floor) == terms.cap) ≡ false = no_refusal _ Full h.0 in
+    let room : (length (kept l terms.floor) == terms.rules.cap) ≡ false = no_refusal _ Full h.0 in
     let within : nat_lt total_limit (terms.booked + ask_airtime ask) ≡ false = no_refusal _ TotalsFull i.0 in
     record {
       fit = fits banded sized timely;
@@ -83,9 +83,9 @@ pub reservation_of-asked : (ask : Ask) (r : Reservation) → is_fit ask ≡ true
 reservation_of-asked ask r h a = asked_is ask r (is_fit ask) refl h a
 
 -- an accepted ask is one step, by the reservation with its fields
-pub book_step-accepted : (cap : ℕ) (s : State) (ask : Ask) (r : Reservation) → refusal_of (record { floor = s.floor; cap = cap; booked = s.booked }) s.list ask ≡ None → IsAsked ask r → book_step cap s ask ≡ record s { list = place r s.list; booked = s.booked + airtime_us r }
-book_step-accepted cap s ask r e a =
-    let terms : Terms = record { floor = s.floor; cap = cap; booked = s.booked } in
+pub book_step-accepted : (rules : Rules) (s : State) (ask : Ask) (r : Reservation) → refusal_of (terms_at rules s) s.list ask ≡ None → IsAsked ask r → book_step rules s ask ≡ record s { list = place r s.list; booked = s.booked + airtime_us r }
+book_step-accepted rules s ask r e a =
+    let terms : Terms = terms_at rules s in
     let fit : is_fit ask ≡ true = (accepted terms s.list ask e).fit in
     let made : reservation_of ask ≡ Some r = reservation_of-asked ask r fit a in
     let same : ask_airtime ask ≡ airtime_us r = rw (a.rate, a.len) refl in

@@ -4,14 +4,14 @@ use Rattle.resv_list.specs.Reservations.{net, place, airtime_us}
 use Rattle.gateway_book.specs.declared.totals.Totals.{Totals}
 use Rattle.gateway_book.specs.Lawful.{IsLawful}
 use Rattle.gateway_book.specs.Kept.{kept}
-use Rattle.gateway_book.specs.Answer.{Terms, total_limit}
+use Rattle.gateway_book.specs.Answer.{Rules, Terms, total_limit}
 use Rattle.gateway_book.specs.Step.{State, without_named}
 use Rattle.gateway_book.specs.declared.cancel.CancelFault.{CancelFault}
 
 -- What callers see of a gateway's book: its kept list by start, and its totals.
 pub record Book : Type 0 where
   pub id : ℕ
-  pub cap : ℕ
+  pub rules : Rules
   pub floor : ℕ
   pub list : List Reservation
   pub booked : ℕ
@@ -19,7 +19,7 @@ pub record Book : Type 0 where
   pub retired : ℕ
 
 abbrev pub terms_of : Book → Terms
-terms_of b = record { floor = b.floor; cap = b.cap; booked = b.booked }
+terms_of b = record { floor = b.floor; rules = b.rules; booked = b.booked }
 
 abbrev pub state_of : Book → State
 state_of b = record { floor = b.floor; list = b.list; booked = b.booked; cancelled = b.cancelled }
@@ -52,9 +52,9 @@ totals_of b =
 
 -- what every book keeps at all times
 pub record IsSound (b : Book) : Type 0 where
-  pub opened : 0 < b.cap
-  pub capped : b.cap ≤ 65536
-  pub counted : length b.list ≤ b.cap
+  pub opened : 0 < b.rules.cap
+  pub capped : b.rules.cap ≤ 65536
+  pub counted : length b.list ≤ b.rules.cap
   pub lawful : IsLawful b.list
   pub kept_whole : kept b.list b.floor ≡ b.list
   pub none_retired : b.retired ≡ 0

@@ -151,3 +151,13 @@ named_at number start low (m ∷ ms) r h f =
 
 pub named_member : (number start : ℕ) (l : List Reservation) (r : Reservation) → IsByStart l → find (is_named number start) l ≡ Some r → (r.start ≡ start) × (find (λ q. q.start == r.start) l ≡ Some r)
 named_member number start l r s f = let g = named_at number start 0 l r s f in (g.0, g.1)
+
+-- what is taken out has the airtime that the list loses
+pub net_named : (l : List Reservation) (number start : ℕ) (r : Reservation) → IsByStart l → find (is_named number start) l ≡ Some r → without start l ≡ without_named l number start → net (without_named l number start) + airtime_us r ≡ net l
+net_named l number start r o f w =
+    let at = named_member number start l r o f in
+    let k : r.start ≡ start = at.0 in
+    let e : net (without r.start l) + airtime_us r ≡ net l = net-without r 0 l o at.1 in
+    let g : net (without r.start l) ≡ net (without start l) = ap (λ (n : ℕ). net (without n l)) k in
+    let h : net (without start l) ≡ net (without_named l number start) = ap net w in
+    omega arith

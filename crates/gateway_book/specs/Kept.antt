@@ -3,5 +3,5 @@ use Rattle.resv_list.specs.declared.reservation.Reservation.{Reservation}
 use Rattle.resv_list.specs.Reservations.{by_start}
 
 -- the members that a book keeps at this floor, by start: all of them, since none is retired
-abbrev pub kept : List Reservation → ℕ → List Reservation
+unfoldable pub kept : List Reservation → ℕ → List Reservation
 kept l floor = by_start l

@@ -16,8 +16,10 @@ pub mod Step
 pub mod CancelLaws
 pub mod DutyKept
 pub mod AnswerLaws
+pub mod Orderly
+pub mod OrderlyLaws
 pub mod Book
-pub mod BookLaws
+pub mod Remembers
 pub use Rattle.radio_airtime.specs.DataRate
 pub use Rattle.radio_airtime.specs.TimeOnAir
 pub use Rattle.radio_airtime.specs.Bounds

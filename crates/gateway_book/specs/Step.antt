@@ -10,7 +10,7 @@ use Rattle.gateway_book.specs.declared.cancel.CancelFault.TheVariants.{Begun, No
 use Rattle.resv_list.specs.Reservations.{place, airtime_us}
 use Rattle.gateway_book.specs.declared.ask.Ask.{Ask}
 use Rattle.gateway_book.specs.declared.refusal.Refusal.{Refusal}
-use Rattle.gateway_book.specs.Answer.{ask_airtime, ask_end, refusal_of}
+use Rattle.gateway_book.specs.Answer.{Rules, Terms, ask_airtime, ask_end, refusal_of}
 
 -- One step of a gateway, on a list that forgets nothing.
 
@@ -59,10 +59,13 @@ abbrev pub after_answer : Option Refusal → State → Ask → State
 after_answer None s ask = record s { list = placed (reservation_of ask) s.list; booked = s.booked + ask_airtime ask }
 after_answer (Some refusal) s ask = s
 
+-- what its answer rests on beside the list
+abbrev pub terms_at : Rules → State → Terms
+terms_at rules s = record { floor = s.floor; rules = rules; booked = s.booked }
+
 -- booking: an ask that is accepted joins the list and adds to what is booked; a refused one changes nothing
-abbrev pub book_step : ℕ → State → Ask → State
-book_step cap s ask =
-    after_answer (refusal_of (record { floor = s.floor; cap = cap; booked = s.booked }) s.list ask) s ask
+abbrev pub book_step : Rules → State → Ask → State
+book_step rules s ask = after_answer (refusal_of (terms_at rules s) s.list ask) s ask
 
 -- whether a member has this number and this start
 abbrev pub is_named : ℕ → ℕ → Reservation → Bool

@@ -55,9 +55,9 @@ impl<R: Roster> Model for GatewayBook<R> {
 
     ghost Value = { Book };
 
-    ghost view = { λ b. record { id = b.id; cap = b.cap; floor = b.floor; list = R.list b.roster; booked = b.booked; cancelled = b.cancelled; retired = b.retired } };
+    ghost view = { λ b. record { id = b.id; rules = record { cap = b.cap }; floor = b.floor; list = R.list b.roster; booked = b.booked; cancelled = b.cancelled; retired = b.retired } };
 
-    ghost invariant = { λ b. IsSound (record { id = b.id; cap = b.cap; floor = b.floor; list = R.list b.roster; booked = b.booked; cancelled = b.cancelled; retired = b.retired }) };
+    ghost invariant = { λ b. IsSound (record { id = b.id; rules = record { cap = b.cap }; floor = b.floor; list = R.list b.roster; booked = b.booked; cancelled = b.cancelled; retired = b.retired }) };
 }
 
 impl<R: Roster> GatewayBook<R> {
@@ -68,7 +68,7 @@ impl<R: Roster> GatewayBook<R> {
         R: Drop,
         requires { R.list roster ≡ [] }
         ensures capped { IsOk result ↔ ((1 ≤ cap) × (cap ≤ MAX_CAP)) }
-        ensures empty { IfOk result (λ b. b ≡ record { id = id; cap = cap; floor = 0; list = []; booked = 0; cancelled = 0; retired = 0 }) }
+        ensures empty { IfOk result (λ b. b ≡ record { id = id; rules = record { cap = cap }; floor = 0; list = []; booked = 0; cancelled = 0; retired = 0 }) }
     {
         if cap == 0 || cap > MAX_CAP {
             return Err(OpenFault::BadCap);
@@ -93,7 +93,7 @@ impl<R: Roster> GatewayBook<R> {
 
     /// How many transmissions the book may keep.
     pub fn cap(&self) -> u32
-        ensures { result ≡ self.now.cap }
+        ensures { result ≡ self.now.rules.cap }
     {
         self.cap
     }
@@ -104,7 +104,7 @@ impl<R: Roster> GatewayBook<R> {
         ensures answer { MatchOption (refusal_of (terms_of self.old) self.old.list ask) (IsOkUnless result Refusal.NoMemory) (λ refusal. result ≡ Err refusal) }
         ensures asked { IfOk result (IsAsked ask) }
         ensures booked { IfOk result (λ r. self.new ≡ with_booked self.old r) }
-        ensures step { OnOk result (state_of self.new ≡ book_step self.old.cap (state_of self.old) ask) }
+        ensures step { OnOk result (state_of self.new ≡ book_step self.old.rules (state_of self.old) ask) }
         ensures refused { OnErr result (self.new ≡ self.old) }
     {
         let reservation = self.admitted(ask)?;

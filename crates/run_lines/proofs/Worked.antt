@@ -33,7 +33,7 @@ none_sent = record { floor = 0; list = []; booked = 0; cancelled = 0 }
 
 -- one transmission
 pub one_sent : State
-one_sent = book_step 4096 none_sent (record { number = 1; start = 10000000; freq_hz = 868100000; rate = Dr5; len = 12 })
+one_sent = book_step (record { cap = 4096 }) none_sent (record { number = 1; start = 10000000; freq_hz = 868100000; rate = Dr5; len = 12 })
 
 pub worked_lines : List (Line ℕ)
 worked_lines =
@@ -49,7 +49,7 @@ replay_of_two_gateways = refl
 
 -- two transmissions, of which the second is in RX2's sub-band
 pub two_sent : State
-two_sent = book_step 4096 one_sent (record { number = 1; start = 11000000; freq_hz = 869525000; rate = Dr0; len = 12 })
+two_sent = book_step (record { cap = 4096 }) one_sent (record { number = 1; start = 11000000; freq_hz = 869525000; rate = Dr0; len = 12 })
 
 pub each_form : List (Line ℕ)
 each_form =

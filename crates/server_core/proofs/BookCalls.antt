@@ -146,16 +146,16 @@ module _ {A : Type 0} (n : ℕ) (old new : Seen A) (ready : IsReady old) where
       same_id (Ok airtime) c e = ap (λ (x : Book). x.id) c
       same_id (Err fault) c e = ap (λ (x : Book). x.id) e
 
-      same_cap : (r : Result ℕ CancelFault) → IfOk r (λ airtime. after ≡ with_cancelled book n sent.start airtime) → OnErr r (after ≡ book) → after.cap ≡ book.cap
-      same_cap (Ok airtime) c e = ap (λ (x : Book). x.cap) c
-      same_cap (Err fault) c e = ap (λ (x : Book). x.cap) e
+      same_rules : (r : Result ℕ CancelFault) → IfOk r (λ airtime. after ≡ with_cancelled book n sent.start airtime) → OnErr r (after ≡ book) → after.rules ≡ book.rules
+      same_rules (Ok airtime) c e = ap (λ (x : Book). x.rules) c
+      same_rules (Err fault) c e = ap (λ (x : Book). x.rules) e
 
       abbrev cancelled_gateway : Gateway
       cancelled_gateway = record (gateway_of kept.book) { state = cancel_step (gateway_of kept.book).state n sent.start }
 
       cancelled_is : gateway_of after ≡ cancelled_gateway
       cancelled_is =
-          gateway_with_state book after (cancel_step (state_of book) n sent.start) (same_id result cancelled refused) (same_cap result cancelled refused) state
+          gateway_with_state book after (cancel_step (state_of book) n sent.start) (same_id result cancelled refused) (same_rules result cancelled refused) state
           ∙ ap (λ (x : Book). record (gateway_of x) { state = cancel_step (gateway_of x).state n sent.start }) same_kept
 
       step_is : (w : World) → IsAt w old → step w (Cancel n) ≡ cancel_at w n sent (Some (i, gateway_of kept.book))

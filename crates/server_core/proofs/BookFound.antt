@@ -49,7 +49,7 @@ module _ (gateway : ℕ) (books : List Book) where
   same_book at b book e = e ∙ get_or_from_slice_get books at b.book book b.there
 
 -- a book whose gateway has another state
-pub gateway_with_state : (b c : Book) (s : State) → c.id ≡ b.id → c.cap ≡ b.cap → state_of c ≡ s → gateway_of c ≡ record (gateway_of b) { state = s }
+pub gateway_with_state : (b c : Book) (s : State) → c.id ≡ b.id → c.rules ≡ b.rules → state_of c ≡ s → gateway_of c ≡ record (gateway_of b) { state = s }
 gateway_with_state b c s i k e = cc
 
 pub book_written : (books : List Book) (gateways : List Gateway) (at : ℕ) (c : Book) (g : Gateway) → map gateway_of books ≡ gateways → gateway_of c ≡ g

@@ -119,7 +119,7 @@ try_desk_by w n k job c found (Some refusal) e g =
     (same_rewritten known_of (λ a. answer) n w.answers (Open k job) e (refused_known k job refusal (candidate_at job (k + 1))))
 try_desk_by w n k job c found None e g =
     same_known (tried_by w n k job c found None).0 w refl
-    (same_ids w c.gateway found (book_step found.1.cap found.1.state (ask_for job c)) g)
+    (same_ids w c.gateway found (book_step found.1.rules found.1.state (ask_for job c)) g)
     (same_rewritten known_of (λ a. Booked (sent_by job c) c.window c.carries) n w.answers (Open k job) e refl)
 
 try_on_desk : (w : World) (n k : ℕ) (job : Job) (c : Candidate) (o : Option (ℕ × Gateway)) → numbered n w.answers ≡ Some (Open k job) → gateway_with c.gateway w.gateways ≡ o

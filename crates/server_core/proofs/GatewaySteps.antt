@@ -6,16 +6,16 @@ use Rattle.server_desk.specs.Settings.{SettingLists}
 use Rattle.server_desk.specs.World.{Gateway, World, gateway_with}
 use Rattle.server_core.specs.Steps.{tick_at, tick, sent_for, cancel_at, cancel_sent, cancel_of, cancel, terms, sent_by, refused, tried_by, try_on, try_candidate, try_of, try}
 use Rattle.server_desk.specs.Found.{found_there}
-use Rattle.server_core.proofs.Holds.{IsInOrder, Holds, IsGoodStep, unchanged, AllStand, IsGood, book_of, IsJobFor, Stands, both_good}
+use Rattle.server_core.proofs.Holds.{IsInOrder, Holds, IsGoodStep, unchanged, AllStand, IsGood, IsJobFor, Stands, both_good}
 use Rattle.server_core.proofs.Written.{gateway_written, with_gateway, with_answer, answer_written}
 use Rattle.std.proofs.Common.{sym, subst, arith, inl, inr, ◌∙◌}
 use Rattle.resv_list.specs.declared.reservation.Reservation.{Reservation}
 use Rattle.resv_list.specs.Reservations.{start_of, IsByStart, member_from, without, airtime_us, place}
-use Rattle.resv_list.specs.SortedLaws.{RisesFrom-filter, RisesFrom-place_by}
 use Rattle.gateway_book.specs.declared.cancel.CancelFault.{CancelFault}
 use Rattle.gateway_book.specs.declared.cancel.CancelFault.TheVariants.{Begun}
-use Rattle.gateway_book.specs.CancelLaws.{named_found, named_none}
-use Rattle.gateway_book.specs.BookLaws.{sound_cancelled, may_book, sound_booked, free_where_clear}
+use Rattle.gateway_book.specs.CancelLaws.{named_found, named_none, net_named}
+use Rattle.gateway_book.specs.KeptLaws.{net-place}
+use Rattle.gateway_book.specs.OrderlyLaws.{orderly_placed, orderly_filter, may_join}
 use Rattle.server_desk.specs.declared.answers.Sent.{Sent}
 use Rattle.server_desk.specs.Answers.{Answer, Waiting, Open, Booked, Out, Settled}
 use Rattle.uplink_gather.specs.Gatherings.{numbered}
@@ -36,20 +36,7 @@ ticked g now = record g { state = tick_step g.state now }
 -- the list stays
 ticked_in_order : (g : Gateway) (now : ℕ) → IsInOrder g → IsInOrder (ticked g now)
 ticked_in_order g now o =
-    let s = o.sound in
-    record {
-      sound = record {
-        opened = s.opened;
-        capped = s.capped;
-        counted = s.counted;
-        lawful = s.lawful;
-        kept_whole = s.kept_whole;
-        none_retired = s.none_retired;
-        balanced = s.balanced;
-        bounded = s.bounded;
-      };
-      by_start = o.by_start;
-    }
+    record { orderly = o.orderly; balanced = o.balanced }
 
 module _ (settings : SettingLists) (T : Job → Type 0) (w : World) (h : Holds settings T w) (id now : ℕ) where
   ticked_by : (o : Option (ℕ × Gateway)) → gateway_with id w.gateways ≡ o → IsGoodStep settings T w (tick_at w now o)
@@ -92,8 +79,8 @@ cancelled g r number start = record g { state = after_cancel r g.state number st
 cancelled_in_order : (g : Gateway) (number start : ℕ) (r : Reservation) → IsInOrder g → find (is_named number start) g.state.list ≡ Some r → IsInOrder (cancelled g (Ok r) number start)
 cancelled_in_order g number start r o f =
     record {
-      sound = sound_cancelled (book_of g) number start r o.sound o.by_start f (same_without number start g.state.list r o.by_start f);
-      by_start = RisesFrom-filter start_of (λ m. not (is_named number start m)) 0 g.state.list o.by_start;
+      orderly = orderly_filter (λ m. not (is_named number start m)) g.state.list o.orderly;
+      balanced = omega (arith, net_named g.state.list number start r o.orderly.by_start f (same_without number start g.state.list r o.orderly.by_start f), o.balanced);
     }
 
 module _ (settings : SettingLists) (T : Job → Type 0) (w : World) (h : Holds settings T w) (n : ℕ) where
@@ -134,7 +121,7 @@ module _ (settings : SettingLists) (T : Job → Type 0) (w : World) (h : Holds s
 pub record IsBooking (g : Gateway) (ask : Ask) : Type 0 where
   pub made : Reservation
   pub asked : IsAsked ask made
-  pub state : book_step g.cap g.state ask ≡ record (g.state) { list = place made g.state.list; booked = g.state.booked + airtime_us made }
+  pub state : book_step g.rules g.state ask ≡ record (g.state) { list = place made g.state.list; booked = g.state.booked + airtime_us made }
 
 module _ (g : Gateway) (ask : Ask) (e : refusal_of (terms g) g.state.list ask ≡ None) where
   pub booking : IsBooking g ask
@@ -149,17 +136,16 @@ module _ (g : Gateway) (ask : Ask) (e : refusal_of (terms g) g.state.list ask �
         fit = is_fit-IsFit ask (accepted (terms g) g.state.list ask e).fit;
       } in
       let a : IsAsked ask r = record { number = refl; start = refl; freq_hz = refl; rate = refl; len = refl } in
-      record { made = r; asked = a; state = book_step-accepted g.cap g.state ask r e a }
+      record { made = r; asked = a; state = book_step-accepted g.rules g.state ask r e a }
 
-  pub booked_in_order : IsInOrder g → (b : IsBooking g ask) → IsInOrder (record g { state = book_step g.cap g.state ask })
+  pub booked_in_order : IsInOrder g → (b : IsBooking g ask) → IsInOrder (record g { state = book_step g.rules g.state ask })
   booked_in_order o b =
       let r = b.made in
-      let can = may_book (book_of g) ask r o.sound b.asked e in
       let P : State → Type 0 = λ s. IsInOrder (record g { state = s }) in
       subst P (sym b.state)
       (record {
-        sound = sound_booked (book_of g) r o.sound o.by_start can.clear can.duty can.ahead can.spare can.total;
-        by_start = RisesFrom-place_by start_of 0 r g.state.list (omega arith) (free_where_clear g.state.list r o.by_start can.clear) o.by_start;
+        orderly = orderly_placed g.state.list r o.orderly (may_join (terms g) g.state.list ask r b.asked e);
+        balanced = omega (arith, net-place r g.state.list, o.balanced);
       })
 
 -- A gateway is asked for the candidate at which an answer stands.
@@ -209,7 +195,7 @@ module _ (settings : SettingLists) (T : Job → Type 0) (w : World) (h : Holds s
       member_by r (inl e) = subst (Stands settings T w.reg.gathered.list asked.answers g.id) (sym e) made_stands
       member_by r (inr e) = first.holds.stands i g there e.0 r e.1
 
-      booked_stand : AllStand settings T w.reg.gathered.list asked.answers (record g { state = book_step g.cap g.state (ask_for job c) })
+      booked_stand : AllStand settings T w.reg.gathered.list asked.answers (record g { state = book_step g.rules g.state (ask_for job c) })
       booked_stand =
           let P : State → Type 0 = λ s. AllStand settings T w.reg.gathered.list asked.answers (record g { state = s }) in
           subst P (sym b.state) (λ m r e. member_by r (place_member start_of b.made g.state.list m r e))
@@ -218,7 +204,7 @@ module _ (settings : SettingLists) (T : Job → Type 0) (w : World) (h : Holds s
     tried_good (Some refusal) e = record { good = next_by refusal (candidate_at job (k + 1)); used = tt }
     tried_good None e =
         let b = booking g (ask_for job c) e in
-        let v : Gateway = record g { state = book_step g.cap g.state (ask_for job c) } in
+        let v : Gateway = record g { state = book_step g.rules g.state (ask_for job c) } in
         record {
           good = both_good first
               (gateway_written settings T asked first.holds i g v there refl (booked_in_order g (ask_for job c) e (h.in_order i g there) b) (booked_stand b));

@@ -1,10 +1,10 @@
 -- What the system keeps at every step.
-use Rattle.std.specs.Prelude.{ℕ, ◌≡◌, ◌⊎◌, ◌≤◌, ◌<◌, false, List, map, length, slice_get, Some, Ok, ⊤, refl}
+use Rattle.std.specs.Prelude.{ℕ, ◌≡◌, ◌+◌, ◌⊎◌, ◌≤◌, ◌<◌, false, List, map, length, slice_get, Some, Ok, ⊤, refl}
 use Rattle.std.proofs.Common.{◌∙◌, arith}
 use Rattle.lora_frame.specs.Reading.{addr_of}
 use Rattle.resv_list.specs.declared.reservation.Reservation.{Reservation}
-use Rattle.resv_list.specs.Reservations.{IsByStart}
-use Rattle.gateway_book.specs.Book.{Book, IsSound}
+use Rattle.resv_list.specs.Reservations.{net}
+use Rattle.gateway_book.specs.Orderly.{IsOrderly}
 use Rattle.uplink_gather.specs.Gatherings.{Gathering, numbered}
 use Rattle.rx_windows.specs.declared.candidate.Candidate.{Candidate}
 use Rattle.rx_windows.specs.Laws.{IsWindowOf}
@@ -59,21 +59,10 @@ pub record Stands (settings : SettingLists) (T : Job → Type 0) (l : List Gathe
   pub here : candidate.gateway ≡ id
   pub taken : IsTaken candidate r
 
-abbrev pub book_of : Gateway → Book
-book_of g = record {
-  id = g.id;
-  cap = g.cap;
-  floor = g.state.floor;
-  list = g.state.list;
-  booked = g.state.booked;
-  cancelled = g.state.cancelled;
-  retired = 0;
-}
-
--- the gateway's list is that of a sound book, by start
+-- the gateway's list is one that it may hold, and what was booked less what was cancelled is its airtime
 pub record IsInOrder (g : Gateway) : Type 0 where
-  pub sound : IsSound (book_of g)
-  pub by_start : IsByStart g.state.list
+  pub orderly : IsOrderly g.state.list
+  pub balanced : g.state.booked ≡ g.state.cancelled + net g.state.list
 
 -- each reservation of the gateway stands for its uplink's answer
 abbrev pub AllStand : SettingLists → (Job → Type 0) → List Gathering → List Answer → Gateway → Type 0

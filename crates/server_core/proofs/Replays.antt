@@ -7,6 +7,8 @@ use Rattle.gateway_book.specs.Book.{Book}
 use Rattle.gateway_book.specs.Kept.{kept}
 use Rattle.resv_list.specs.declared.reservation.Reservation.{Reservation}
 use Rattle.uplink_gather.specs.Gatherings.{numbered}
+use Rattle.gateway_book.specs.KeptLaws.{kept-own}
+use Rattle.resv_list.specs.Reservations.{start_of}
 use Rattle.server_core.specs.declared.event.Event.{Event}
 use Rattle.server_core.specs.declared.event.Event.TheVariants as events
 use Rattle.server_core.specs.declared.entry.Entry.{Entry}
@@ -146,4 +148,4 @@ module _ {A : Type 0} (settings : SettingLists) (es : List (Event A)) (i : ℕ) 
   replayed_books =
       let w : World = opening settings usual_limits in
       let good = run_good settings r.are (λ j. ⊥) w (opened settings r.are (λ j. ⊥) usual_limits) (schedule settings es) in
-      gateways_are ∙ sym (all_kept (gateways_after settings es) (λ i g e. (good.holds.in_order i g e).sound.kept_whole))
+      gateways_are ∙ sym (all_kept (gateways_after settings es) (λ i g e. kept-own g.state.list g.state.floor (good.holds.in_order i g e).orderly.by_start))

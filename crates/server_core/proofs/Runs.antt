@@ -1,7 +1,8 @@
 -- The world before the first step, and after every list of steps.
 use Rattle.std.specs.Prelude.{ℕ, zero, suc, ◌≡◌, List, [], ◌∷◌, map, slice_get, Some, refl, ◌≢◌, ◌⊎◌, All, AllPairs, Contains, Ok}
 use Rattle.std.proofs.Common.{ap, ◌∙◌, subst, inl, inr, sym, arith}
-use Rattle.gateway_book.specs.BookLaws.{sound_empty}
+use Rattle.resv_list.specs.Reservations.{net}
+use Rattle.gateway_book.specs.OrderlyLaws.{orderly_nil}
 use Rattle.uplink_gather.specs.declared.limits.Limits.{Limits}
 use Rattle.uplink_gather.specs.Gatherings.{numbered}
 use Rattle.answer_ticket.specs.Job.{Job}
@@ -30,14 +31,15 @@ none_numbered : {X : Type 0} (n : ℕ) (x : X) → numbered n [] ≡ Some x → 
 none_numbered zero x e = cc
 none_numbered (suc i) x e = cc
 
-opened_in_order : (s : GatewaySetting) → IsGatewayInRange s → IsInOrder (opened_gateway s)
-opened_in_order s r = record { sound = sound_empty s.id s.cap r.cap.0 r.cap.1; by_start = tt }
+opened_in_order : (s : GatewaySetting) → IsInOrder (opened_gateway s)
+unfolding net
+opened_in_order s = record { orderly = orderly_nil; balanced = refl }
 
 module _ (settings : SettingLists) (are : AreSettings settings.gateways settings.devices) (T : Job → Type 0) (limits : Limits) where
   in_order_at : (i : ℕ) (g : Gateway) → slice_get (map opened_gateway settings.gateways) i ≡ Some g → IsInOrder g
   in_order_at i g e =
       let s = from_map opened_gateway settings.gateways i g e in
-      subst IsInOrder s.2 (opened_in_order s.0 (all_get IsGatewayInRange settings.gateways i s.0 are.gateways_in_range s.1))
+      subst IsInOrder s.2 (opened_in_order s.0)
 
   stand_at : (i : ℕ) (g : Gateway) → slice_get (map opened_gateway settings.gateways) i ≡ Some g → AllStand settings T [] [] g
   stand_at i g e =
@@ -151,7 +153,7 @@ module _ (settings : SettingLists) (are : AreSettings settings.gateways settings
         devices = h.devices;
         told = h.together;
         answered = h.answered;
-        lawful = λ i x e. (h.in_order i x e).sound.lawful;
+        lawful = λ i x e. (h.in_order i x e).orderly.lawful;
         counted = counted_at settings are T r.world h;
         once = once_by settings are T r.world h;
         own = own_at settings r h;

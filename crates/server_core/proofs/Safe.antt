@@ -22,7 +22,7 @@ use Rattle.server_core.proofs.Served.{one_gateway}
 
 module _ (settings : SettingLists) (are : AreSettings settings.gateways settings.devices) (T : Job → Type 0) (w : World) (h : Holds settings T w) where
   pub counted_at : (i : ℕ) (g : Gateway) → slice_get w.gateways i ≡ Some g → g.state.booked ≡ g.state.cancelled + net g.state.list
-  counted_at i g e = omega (arith, (h.in_order i g e).sound.balanced)
+  counted_at i g e = (h.in_order i g e).balanced
 
   -- one number has one answer
   same_sent : (m n : ℕ) (s t : Sent) → m ≡ n → IsKept w.answers m s → IsKept w.answers n t → s ≡ t
@@ -38,7 +38,7 @@ module _ (settings : SettingLists) (are : AreSettings settings.gateways settings
         let there : slice_get w.gateways j ≡ Some g = subst (λ x. slice_get w.gateways x ≡ Some g) p m.gateway in
         let same : f ≡ g = some_inj (sym o.gateway ∙ there) in
         let other : slice_get g.state.list l ≡ Some b = subst (λ (x : Gateway). slice_get x.state.list l ≡ Some b) same o.member in
-        (p, rises_once start_of 0 g.state.list k l a b (h.in_order i g m.gateway).by_start m.member other s)
+        (p, rises_once start_of 0 g.state.list k l a b (h.in_order i g m.gateway).orderly.by_start m.member other s)
 
     pub once_by : a.number ≡ b.number → (i ≡ j) × (k ≡ l)
     once_by q =

@@ -129,10 +129,10 @@ module _ {A : Type 0} (t : Standing) (old mid : Seen A) (gateway i : ℕ) (book 
         let is = try_is w t out.stands c at i book found None e in
         let one = accepted_tries w t out.stands c at i book found e in
         let over : reached w (tries_from w t) ≡ (step w (Try t.job.number)).0 = ap (reached w) one ∙ reached_one w (Try t.job.number) in
-        let booked : Gateway = record (gateway_of book) { state = book_step book.cap (state_of book) (ask_for t.job c) } in
+        let booked : Gateway = record (gateway_of book) { state = book_step book.rules (state_of book) (ask_for t.job c) } in
         let grown_is : gateway_of after ≡ booked =
         ap gateway_of grown
-        ∙ ap (λ (x : State). record { id = book.id; cap = book.cap; state = x }) (sym (book_step-accepted book.cap (state_of book) (ask_for t.job c) receipt.reservation e asked)) in
+        ∙ ap (λ (x : State). record { id = book.id; rules = book.rules; state = x }) (sym (book_step-accepted book.rules (state_of book) (ask_for t.job c) receipt.reservation e asked)) in
         record {
           gateways = book_written mid.books w.gateways i after booked (mid_gateways w out) grown_is
               ∙ sym (ap (λ (v : World). v.gateways) over ∙ ap (λ (a : After). a.0.gateways) is);

@@ -85,4 +85,4 @@ kept_gateway g = record g { state = record g.state { list = kept g.state.list g.
 
 -- the gateway of a book
 abbrev pub gateway_of : Book → Gateway
-gateway_of b = record { id = b.id; cap = b.cap; state = state_of b }
+gateway_of b = record { id = b.id; rules = b.rules; state = state_of b }

@@ -33,7 +33,7 @@ pub record IsMember (w : World) (i k : ℕ) (g : Gateway) (r : Reservation) : Ty
 
 -- the gateway's setting
 abbrev pub setting_of : Gateway → GatewaySetting
-setting_of g = record { id = g.id; cap = g.cap }
+setting_of g = record { id = g.id; cap = g.rules.cap }
 
 -- the jobs for which tickets were given, in order
 abbrev pub with_given : Reply → List Job → List Job

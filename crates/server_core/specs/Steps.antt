@@ -3,7 +3,7 @@ use Rattle.gateway_book.specs.declared.refusal.Refusal.{Refusal}
 use Rattle.gateway_book.specs.declared.cancel.CancelFault.{CancelFault}
 use Rattle.gateway_book.specs.declared.cancel.CancelFault.TheVariants.{NotHere}
 use Rattle.gateway_book.specs.Answer.{Terms, refusal_of, ask_airtime}
-use Rattle.gateway_book.specs.Step.{book_step, cancel_step, cancel_answer, tick_step}
+use Rattle.gateway_book.specs.Step.{terms_at, book_step, cancel_step, cancel_answer, tick_step}
 use Rattle.gateway_book.specs.Book.{airtime_answer}
 use Rattle.uplink_gather.specs.Gatherings.{numbered, rewritten}
 use Rattle.uplink_gather.specs.declared.limits.Limits.{Limits}
@@ -117,7 +117,7 @@ settle w n = settle_of w n (numbered n w.answers)
 
 -- what a gateway's answer to an ask rests on
 abbrev pub terms : Gateway → Terms
-terms g = record { floor = g.state.floor; cap = g.cap; booked = g.state.booked }
+terms g = terms_at g.rules g.state
 
 -- the transmission of a candidate
 abbrev pub sent_by : Job → Candidate → Sent
@@ -137,7 +137,7 @@ tried_by w n k job c found None = (
   record w {
     answers = rewritten (λ a. Booked (sent_by job c) c.window c.carries) n w.answers;
     gateways = slice_set w.gateways found.0
-        (record found.1 { state = book_step found.1.cap found.1.state (ask_for job c) });
+        (record found.1 { state = book_step found.1.rules found.1.state (ask_for job c) });
   },
   Tried (Some None),
 )

@@ -1,4 +1,5 @@
 use Rattle.std.specs.Prelude.{ℕ, ◌==◌, List, [], map, Option}
+use Rattle.gateway_book.specs.Answer.{Rules}
 use Rattle.gateway_book.specs.Step.{State}
 use Rattle.uplink_gather.specs.declared.limits.Limits.{Limits}
 use Rattle.server_desk.specs.declared.setting.GatewaySetting.{GatewaySetting}
@@ -8,10 +9,10 @@ use Rattle.server_desk.specs.Answers.{Answer, Known, known_of}
 
 -- The whole system: what the server knows, how far each answer is, and every gateway's list, which forgets nothing.
 
--- a gateway: its id, how many transmissions it may keep, its floor, its list and its totals
+-- a gateway: its id, what its book is opened with, its floor, its list and its totals
 pub record Gateway : Type 0 where
   pub id : ℕ
-  pub cap : ℕ
+  pub rules : Rules
   pub state : State
 
 pub record World : Type 0 where
@@ -31,11 +32,15 @@ known w = map known_of w.answers
 abbrev pub gateway_with : ℕ → List Gateway → Option (ℕ × Gateway)
 gateway_with id gateways = first_at (λ g. g.id == id) gateways
 
+-- what its setting opens a gateway's book with
+abbrev pub rules_of : GatewaySetting → Rules
+rules_of g = record { cap = g.cap }
+
 -- a gateway that has booked nothing
 abbrev pub opened_gateway : GatewaySetting → Gateway
 opened_gateway g = record {
   id = g.id;
-  cap = g.cap;
+  rules = rules_of g;
   state = record { floor = 0; list = []; booked = 0; cancelled = 0 };
 }
 

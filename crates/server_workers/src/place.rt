@@ -57,7 +57,7 @@ fn empty_place<A: Allocator + Copy>(alloc: A, gateway: &GatewaySetting) -> Place
 /// The empty book of a gateway.
 fn empty_book<A: Allocator + Copy>(alloc: A, gateway: &GatewaySetting) -> GatewayBook<VecRoster<A>>
     requires { IsGatewayInRange gateway.now }
-    ensures { result ≡ record { id = gateway.now.id; cap = gateway.now.cap; floor = 0; list = []; booked = 0; cancelled = 0; retired = 0 } }
+    ensures { result ≡ record { id = gateway.now.id; rules = record { cap = gateway.now.cap }; floor = 0; list = []; booked = 0; cancelled = 0; retired = 0 } }
 {
     // The cap of a setting is in range.
     let Ok(book) = GatewayBook::new(VecRoster::new(alloc), gateway.id, gateway.cap) else {

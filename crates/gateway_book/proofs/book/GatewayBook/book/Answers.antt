@@ -2,7 +2,7 @@ use Rattle.gateway_book.specs.Answer.{refusal_of}
 use Rattle.gateway_book.specs.Book.{terms_of}
 use Rattle.gateway_book.proofs.AdmittedLaws.{not_refused}
 use Rattle.gateway_book.proofs.SoundLaws.{may_book_inside, sound_after, stepped}
-use Rattle.gateway_book.specs.BookLaws.{free_where_clear}
+use Rattle.gateway_book.specs.OrderlyLaws.{free_where_clear}
 use Rattle.gateway_book.proofs.book.GatewayBook.book.Goals as goal
 
 pub insert-requires : goal.insert-requires
@@ -11,7 +11,7 @@ insert-requires g c =
     let r = c.in_ok-reservation.reservation in
     let told = not_refused (refusal_of (terms_of now) now.list c.args.ask) r c.args.ask c.in_ok-reservation.ensures in
     let can = may_book_inside _ now c.args.ask r c.self.view_is c.self.invariant told.1 told.0 in
-    free_where_clear (g.R.Roster.list c.self.inside.roster) r (g.met.R.Roster.by_start c.self.inside.roster) can.clear
+    free_where_clear (g.R.Roster.list c.self.inside.roster) r (g.met.R.Roster.by_start c.self.inside.roster) can.joins.clear
 
 pub invariant_of-self : goal.invariant_of-self
 invariant_of-self g c =

@@ -1,0 +1,87 @@
+use Rattle.std.specs.Prelude.{ℕ, ◌≡◌, ◌+◌, ◌<◌, ◌≤◌, Bool, List, [], Option, Some, None, All, filter, find}
+use Rattle.std.specs.Option.{option_map}
+use Rattle.std.proofs.Common.{refl, sym, subst, ◌∙◌, arith, get_or}
+use Rattle.radio_bands.specs.Band.{hour}
+use Rattle.radio_bands.specs.declared.band.Band.{Band}
+use Rattle.resv_list.specs.declared.reservation.Reservation.{Reservation}
+use Rattle.resv_list.specs.Fit.{IsFit}
+use Rattle.resv_list.specs.Begun.{begun-nil}
+use Rattle.resv_list.specs.SortedLaws.{RisesFrom-place_by, RisesFrom-filter}
+use Rattle.resv_list.specs.Reservations.{start_of, end_of, IsByStart, IsFree, place, airtime_us}
+use Rattle.gateway_book.specs.declared.ask.Ask.{Ask}
+use Rattle.gateway_book.specs.Answer.{Terms, IsAsked, ask_airtime, overlap, refusal_of}
+use Rattle.gateway_book.specs.AnswerLaws.{accepted}
+use Rattle.gateway_book.specs.Duty.{full_hour}
+use Rattle.gateway_book.specs.DutyKept.{duty_placed}
+use Rattle.gateway_book.specs.CancelLaws.{SpacedFrom-filter, begun-filter}
+use Rattle.gateway_book.specs.Spaced.{overlaps}
+use Rattle.gateway_book.specs.SpacedLaws.{SpacedFrom-place_by, free_of_clear}
+use Rattle.gateway_book.specs.ApartLaws.{ends_later, first_has_least_start, apart_spaced, spaced_apart}
+use Rattle.gateway_book.specs.Orderly.{IsOrderly, MayJoin}
+
+-- What stays orderly: no list at all, a list that is joined by what it may hold, and a part of a list.
+
+-- every reservation is fit by its type
+pub all_fit : (l : List Reservation) → All (λ r. IsFit r.start r.freq_hz r.rate r.len) l
+all_fit l k d h = (get_or l k d).fit
+
+pub orderly_nil : IsOrderly []
+orderly_nil =
+    record {
+      by_start = tt;
+      lawful = record { fit = all_fit []; apart = λ i j r s e f n. absurd (cc); duty = λ band t. omega (arith, begun-nil band t (t + hour)) };
+    }
+
+-- where no member overlaps, none is found
+nothing : (o : Option Reservation) → option_map start_of o ≡ None → o ≡ None
+nothing None e = refl
+nothing (Some r) e = absurd (cc)
+
+overlap-None : (l : List Reservation) (from to : ℕ) → IsByStart l → overlap l from to ≡ None
+    → find (overlaps start_of end_of from to) l ≡ None
+unfolding overlap
+overlap-None l from to s e = nothing (find (overlaps start_of end_of from to) l) (sym (first_has_least_start _ l s) ∙ e)
+
+-- a reservation that overlaps no member begins where none does
+pub free_where_clear : (l : List Reservation) (r : Reservation) → IsByStart l → overlap l r.start (end_of r) ≡ None → IsFree r.start l
+free_where_clear l r s e =
+    free_of_clear start_of end_of ends_later r.start (end_of r) l (ends_later r) (overlap-None l r.start (end_of r) s e)
+
+pub orderly_placed : (l : List Reservation) (r : Reservation) → IsOrderly l → MayJoin l r → IsOrderly (place r l)
+orderly_placed l r o j =
+    let clear = overlap-None l r.start (end_of r) o.by_start j.clear in
+    let spaced = SpacedFrom-place_by start_of end_of ends_later 0 r l (omega arith) clear (apart_spaced 0 l o.by_start o.lawful.apart) in
+    record {
+      by_start = RisesFrom-place_by start_of 0 r l (omega arith) (free_where_clear l r o.by_start j.clear) o.by_start;
+      lawful = record { fit = all_fit (place r l); apart = spaced_apart 0 (place r l) spaced; duty = duty_placed l r o.lawful.duty j.duty };
+    }
+
+pub orderly_filter : (test : Reservation → Bool) (l : List Reservation) → IsOrderly l → IsOrderly (filter test l)
+orderly_filter test l o =
+    let spaced = SpacedFrom-filter start_of end_of ends_later test 0 l (apart_spaced 0 l o.by_start o.lawful.apart) in
+    record {
+      by_start = RisesFrom-filter start_of test 0 l o.by_start;
+      lawful = record {
+        fit = all_fit (filter test l);
+        apart = spaced_apart 0 (filter test l) spaced;
+        duty = λ band t. omega (arith, begun-filter band t (t + hour) test l, o.lawful.duty band t);
+      };
+    }
+
+same_hour : (l : List Reservation) (band : Band) (ask : Ask) (r : Reservation) → IsAsked ask r
+    → full_hour l band ask.start (ask_airtime ask) ≡ None → full_hour l band r.start (airtime_us r) ≡ None
+same_hour l band ask r a e =
+    let same : ask_airtime ask ≡ airtime_us r = rw (a.rate, a.len) refl in
+    let P : ℕ → Type 0 = λ s. full_hour l band s (ask_airtime ask) ≡ None in
+    let Q : ℕ → Type 0 = λ n. full_hour l band r.start n ≡ None in
+    subst Q same (subst P (sym a.start) e)
+
+-- the reservation with the fields of an ask that is accepted
+pub may_join : (terms : Terms) (l : List Reservation) (ask : Ask) (r : Reservation) → IsAsked ask r → refusal_of terms l ask ≡ None
+    → MayJoin l r
+may_join terms l ask r a e =
+    let h = accepted terms l ask e in
+    record {
+      clear = rw (a.start, a.rate, a.len) h.clear;
+      duty = λ band e. same_hour l band ask r a (h.duty band (rw (a.freq_hz, a.rate) at e));
+    }
