@@ -91,15 +91,10 @@ not_given_by (Some answer) e = in_known answer e
 
 -- what is out and on a gateway of the settings may be settled
 may : (w : World) (n : ℕ) (ending : Ending) → told w n ≡ Some ending → is_here (ids w) ending ≡ true → may_settle (ids w) (known w) n ending ≡ true
-may w n ending e h =
-    ap (λ (o : Option Known). option_map_or is_given o false && is_here (ids w) ending) (numbered-map known_of n w.answers)
-    ∙ ap (λ (t : Bool). t && is_here (ids w) ending) (given_by (numbered n w.answers) ending e)
-    ∙ h
+may w n ending e h = rw (numbered-map known_of n w.answers, given_by (numbered n w.answers) ending e) h
 
 may_not : (w : World) (n : ℕ) (ending : Ending) → told w n ≡ None → may_settle (ids w) (known w) n ending ≡ false
-may_not w n ending e =
-    ap (λ (o : Option Known). option_map_or is_given o false && is_here (ids w) ending) (numbered-map known_of n w.answers)
-    ∙ ap (λ (t : Bool). t && is_here (ids w) ending) (not_given_by (numbered n w.answers) e)
+may_not w n ending e = rw (numbered-map known_of n w.answers, not_given_by (numbered n w.answers) e) refl
 
 -- a gateway's state alone changes
 same_ids : (w : World) (id : ℕ) (found : ℕ × Gateway) (s : State) → gateway_with id w.gateways ≡ Some found

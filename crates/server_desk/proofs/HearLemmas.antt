@@ -21,7 +21,7 @@ use Rattle.server_desk.specs.declared.heard.Heard1.{Heard1}
 use Rattle.server_desk.specs.declared.heard.DeskHeard.{DeskHeard}
 use Rattle.server_desk.specs.declared.heard.DeskHeard.TheVariants.{Opened}
 use Rattle.server_desk.specs.declared.faults.DeskFault.{DeskFault}
-use Rattle.server_desk.specs.declared.faults.DeskFault.TheVariants.{Crowded, NoMemory}
+use Rattle.server_desk.specs.declared.faults.DeskFault.TheVariants.{NoMemory}
 use Rattle.server_desk.specs.Register.{Device, Asked, Register}
 use Rattle.server_desk.specs.Hearing.{Decision, Join, Open, Opening, copy_of, named_fault, answer_to}
 use Rattle.server_desk.specs.Kept.{shown, outs, IsServable, IsGathered, AreOut, IsDesk, verdict_of, desk_answer}
