@@ -119,6 +119,18 @@ pub record ArePassing {A : Type 0} (place now : ℕ) (old s : Seen A) : Type 0 w
 pub passing_first : {A : Type 0} (place now : ℕ) (s : Seen A) → IsReady s → ArePassing place now s s
 passing_first place now s r = record { ready = r; passing = λ w at. record { world = w; at = at; back = λ new g. g } }
 
+-- time passes at the desk, once
+pass_goes : {A : Type 0} (place now : ℕ) (s new : Seen A) (d : DeskView) → d ≡ desk_pass s.desk now → new ≡ with_step (made.Pass now) (record s { desk = d }) → (w : World) → IsAt w s
+    → Goes w (Pass now ∷ []) (map (entry_at place) (step_lines w (Pass now ∷ []))) s new
+unfolding step
+pass_goes place now s new d stepped noted w at =
+    one_step place w (Pass now) (made.Pass now) [] s new refl
+    (record {
+      desk = ap (λ (x : Seen _). x.desk) noted ∙ stepped ∙ ap (λ (x : DeskView). desk_pass x now) at.desk;
+      gateways = ap (λ (x : Seen _). map gateway_of x.books) noted ∙ at.gateways;
+    })
+    (ap (λ (x : Seen _). x.steps) noted) (ap (λ (x : Seen _). x.outcomes) noted ∙ sym (append-nil s.outcomes)) refl
+
 -- the next that is due is closed
 module _ {A : Type 0} (place now n : ℕ) (old s mid : Seen A) (d : DeskView) (closed : Some n ≡ pass_answer s.desk.reg now) (stepped : d ≡ desk_pass s.desk now)
     (noted : mid ≡ with_step (made.Pass now) (record s { desk = d })) where
@@ -143,16 +155,6 @@ module _ {A : Type 0} (place now n : ℕ) (old s mid : Seen A) (d : DeskView) (c
         idle = subst (λ (x : DeskView). IsIdle x.known) (sym mid_is) r.idle;
       }
 
-  pass_goes : (w : World) → IsAt w s → Goes w (Pass now ∷ []) (map (entry_at place) (step_lines w (Pass now ∷ []))) s mid
-  unfolding step
-  pass_goes w at =
-      one_step place w (Pass now) (made.Pass now) [] s mid refl
-      (record {
-        desk = ap (λ (x : Seen A). x.desk) noted ∙ stepped ∙ ap (λ (x : DeskView). desk_pass x now) at.desk;
-        gateways = ap (λ (x : Seen A). map gateway_of x.books) noted ∙ at.gateways;
-      })
-      (ap (λ (x : Seen A). x.steps) noted) (ap (λ (x : Seen A). x.outcomes) noted ∙ sym (append-nil s.outcomes)) refl
-
   -- and answered
   module _ (next : Seen A) (ready : IsReady next) (same : next.desk.reg.gathered ≡ mid.desk.reg.gathered) (answers : Makes place (λ w. answer_steps w n) mid next) where
     -- fewer are due
@@ -167,11 +169,11 @@ module _ {A : Type 0} (place now n : ℕ) (old s mid : Seen A) (d : DeskView) (c
       v = (step w (Pass now)).0
 
       mid_at : IsAt v mid
-      mid_at = subst (λ (u : World). IsAt u mid) (reached_one w (Pass now)) (pass_goes w at).at
+      mid_at = subst (λ (u : World). IsAt u mid) (reached_one w (Pass now)) (pass_goes place now s mid d stepped noted w at).at
 
       closing_goes : Goes w (closing_steps w now n) (map (entry_at place) (step_lines w (closing_steps w now n))) s next
       closing_goes =
-          goes_on_lines place w (Pass now ∷ []) (answer_steps v n) s mid next (pass_goes w at)
+          goes_on_lines place w (Pass now ∷ []) (answer_steps v n) s mid next (pass_goes place now s mid d stepped noted w at)
           (subst (λ (u : World). Goes u (answer_steps v n) (map (entry_at place) (step_lines u (answer_steps v n))) mid next) (sym (reached_one w (Pass now))) (answers v mid_at))
 
       after : World
@@ -219,17 +221,7 @@ module _ {A : Type 0} (place now : ℕ) (old s new : Seen A) (d : DeskView) (non
   unfolding pass_steps
   last_is w at = ap (λ (x : DeskView). pass_steps w now (due_now now x)) (sym at.desk) ∙ ap (pass_steps w now) (due_none now s.desk.reg.gathered.list (sym none))
 
-  last_goes : (w : World) → IsAt w s → Goes w (Pass now ∷ []) (map (entry_at place) (step_lines w (Pass now ∷ []))) s new
-  unfolding step
-  last_goes w at =
-      one_step place w (Pass now) (made.Pass now) [] s new refl
-      (record {
-        desk = ap (λ (x : Seen A). x.desk) noted ∙ stepped ∙ ap (λ (x : DeskView). desk_pass x now) at.desk;
-        gateways = ap (λ (x : Seen A). map gateway_of x.books) noted ∙ at.gateways;
-      })
-      (ap (λ (x : Seen A). x.steps) noted) (ap (λ (x : Seen A). x.outcomes) noted ∙ sym (append-nil s.outcomes)) refl
-
   pub passed_made : ArePassing place now old s → Makes place (λ w. pass_whole w now) old new
   passed_made p w at =
       let q = p.passing w at in
-      q.back new (subst (λ (ss : List Step). Goes q.world ss (map (entry_at place) (step_lines q.world ss)) s new) (sym (last_is q.world q.at)) (last_goes q.world q.at))
+      q.back new (subst (λ (ss : List Step). Goes q.world ss (map (entry_at place) (step_lines q.world ss)) s new) (sym (last_is q.world q.at)) (pass_goes place now s new d stepped noted q.world q.at))
