@@ -137,47 +137,30 @@ fn told<R: Roster>(book: &GatewayBook<R>) -> (u16, u32, Totals) {
     (book.id(), book.cap(), book.totals())
 }
 
-#[test]
-fn worked_books(rt: HostRuntime) -> Result<(), Fail> {
-    // (name, cap, steps, all that was booked, all that was cancelled)
-    for (name, cap, steps, all, cancelled) in [
-        (
-            "the hour after",
-            65_536,
-            HOUR_AFTER.as_slice(),
-            3_964_928,
-            0,
-        ),
-        (
-            "an hour between",
-            65_536,
-            HOUR_BETWEEN.as_slice(),
-            3_964_928,
-            0,
-        ),
-        (
-            "the hour before",
-            65_536,
-            HOUR_BEFORE.as_slice(),
-            2_973_696,
-            0,
-        ),
+/// A book's steps, by name, with its cap, and all that was booked and cancelled after them.
+type Worked<'a> = (&'a str, u32, &'a [Step], u64, u64);
+
+/// The steps of books, each told by what it shows.
+fn worked<'a>() -> [Worked<'a>; 6] {
+    [
+        ("the hour after", 65_536, &HOUR_AFTER, 3_964_928, 0),
+        ("an hour between", 65_536, &HOUR_BETWEEN, 3_964_928, 0),
+        ("the hour before", 65_536, &HOUR_BEFORE, 2_973_696, 0),
         (
             "what has not begun is cancelled",
             65_536,
-            CANCELLED.as_slice(),
+            &CANCELLED,
             82_432,
             41_216,
         ),
-        ("the end of time", 65_536, TO_THE_END.as_slice(), 41_216, 0),
-        (
-            "no more than may be kept",
-            1,
-            ONE_KEPT.as_slice(),
-            41_216,
-            0,
-        ),
-    ] {
+        ("the end of time", 65_536, &TO_THE_END, 41_216, 0),
+        ("no more than may be kept", 1, &ONE_KEPT, 41_216, 0),
+    ]
+}
+
+#[test]
+fn worked_books(rt: HostRuntime) -> Result<(), Fail> {
+    for (name, cap, steps, all, cancelled) in worked() {
         let mut book = opened(rt.alloc(), 1, cap)?;
         assert_eq!(rt; first_wrong(&mut book, steps), None, "step of: {name}");
         let (_, _, totals) = told(&book);
