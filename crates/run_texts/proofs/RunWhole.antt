@@ -1,5 +1,5 @@
 -- From the parts of a run to what its text promises.
-use Rattle.std.proofs.Common.{◌≡◌, ℕ, Bool, List, Option, None, Some, Ok, IfSome, ap, ◌∙◌, subst}
+use Rattle.std.proofs.Common.{◌≡◌, ℕ, Bool, List, Option, None, Some, Result, Ok, Err, IfSome, IfOk, OnOk, refl, ap, ◌∙◌, subst}
 use Rattle.std.specs.Io.KnownBytes.{Appends, Consumes}
 use Rattle.std.specs.Str.Lines.{lines}
 use Rattle.text_lines.specs.Line.{text_of}
@@ -54,3 +54,12 @@ runs-in_part A (Some bytes) left_after before after input settings answer k w =
       consumed = subst (Consumes (Some bytes) left_after) k.whole k.consumed;
       written = subst (λ l. WritesFront before after (text_of l)) same w;
     }
+
+-- the same of the text call that wrote the lines for the two parts, where it answers Ok
+pub runs-told : {E : Type 0} (A : Type 0) (left left_after before after : Option (List ℕ)) (input first second : List ℕ) (settings : SettingLists) (r : Result Bool E)
+    → IfSome left (λ all. input ≡ all) → Consumes left left_after input → first ≡ settings_part input → second ≡ event_part input → settings_in first ≡ Ok settings
+    → OnOk r (Appends before after (text_of (lines_for {A = A} settings (events_of settings.devices (lines second))))) → IfOk r (λ refused. refused ≡ has_refusal (lines_for {A = A} settings (events_of settings.devices (lines second))))
+    → IfOk r (λ refused. Runs A left left_after before after refused)
+runs-told A left left_after before after input first second settings (Ok refused) w c f e s wrote told =
+    runs A left left_after before after input settings _ refused (answered-by A left left_after input first second settings _ w c f e s refl) wrote told
+runs-told A left left_after before after input first second settings (Err fault) w c f e s wrote told = tt

@@ -10,7 +10,7 @@ use Rattle.server_workers.specs.declared.closing.FinishCause.{FinishCause}
 use Rattle.server_workers.specs.declared.closing.FinishCause.TheVariants as causes
 use Rattle.settings_text.specs.declared.settings_fault.ReadFault.{ReadFault}
 use Rattle.text_words.specs.declared.fault.TextFault.{TextFault}
-use Rattle.text_words.specs.declared.fault.TextFault.TheVariants.{Settings, NoMemory}
+use Rattle.text_words.specs.declared.fault.TextFault.TheVariants.{Write, Settings, NoMemory}
 use Rattle.text_words.specs.Words.{has_refusal}
 use Rattle.run_lines.specs.ReplayText.{replay_lines}
 use Rattle.run_lines.specs.RunInput.{settings_part, event_part}
@@ -82,6 +82,12 @@ abbrev pub IsPlayFault : TextFault → Type 0
 IsPlayFault (Settings name) = IsFinishName name.now
 IsPlayFault NoMemory = ⊤
 IsPlayFault other = ⊥
+
+-- why one thread did not write all lines: a call of the writer failed, or a growth was refused
+abbrev pub IsTellFault : TextFault → Type 0
+IsTellFault Write = ⊤
+IsTellFault NoMemory = ⊤
+IsTellFault other = ⊥
 
 -- a name comes for the settings that some bytes say, where they are refused; where they aren't, for the books
 abbrev pub IsNamedFor : Result SettingLists ReadFault → TextFault → Type 0

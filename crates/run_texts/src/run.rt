@@ -4,7 +4,7 @@ ghost use Rattle.text_words.specs.Fault.{CountsReads, CountsWrites};
 ghost use Rattle.run_lines.specs.RunInput.{KeepsInputLimit};
 ghost use Rattle.run_texts.specs.RunOutput.{Runs, RunsInPart, NamesFault, NamesFaultOfWorkers, NamesWorkers, IsPlayFault, TellsRefusals};
 
-use crate::run_alone::run_alone;
+use crate::run_alone::tell_alone;
 use crate::run_settings::settings_in;
 use crate::station_run::{Played, play};
 use run_lines::{events_of, parts_of, read_all, write_lines};
@@ -64,34 +64,6 @@ where
     if workers > MAX_WORKERS {
         return Err(TextFault::Settings("Workers"));
     }
-    if workers == 0 {
-        return run_alone(alloc, hasher, reader, writer);
-    }
-    let played = match read_and_play(rt, alloc, hasher, workers, reader) {
-        Err(fault) => return Err(fault),
-        Ok(played) => played,
-    };
-    match write_lines(played.entries.as_slice(), played.books.as_slice(), writer) {
-        Err(_) => Err(TextFault::Write),
-        Ok(refused) => Ok(refused),
-    }
-}
-
-/// Reads settings and events, and does what these ask for, with workers.
-fn read_and_play<T: Threads + Wait + Sync, S: BuildHasher + Clone + Drop + Send + Sync, R: ByteIn>(
-    rt: &T,
-    alloc: Global,
-    hasher: S,
-    workers: u8,
-    reader: &mut R,
-) -> Result<Played, TextFault>
-where
-    S::Hasher: Send + Sync,
-    ensures named { NamesFaultOfWorkers (R.left reader.old) result }
-    ensures written { IfErr result (λ fault. fault ≢ TextFault.Write) }
-    ensures limit { KeepsInputLimit (R.left reader.old) result }
-    ensures read { CountsReads (R.failed_calls reader.old) (R.failed_calls reader.new) result }
-{
     let input = match read_all(alloc, reader) {
         Err(fault) => return Err(fault),
         Ok(input) => input,
@@ -101,7 +73,42 @@ where
         Err(fault) => return Err(fault),
         Ok(settings) => settings,
     };
-    play_text(rt, alloc, hasher, &settings, event_text, workers)
+    if workers == 0 {
+        return tell_alone(alloc, hasher, &settings, event_text, writer);
+    }
+    tell_with_workers(rt, alloc, hasher, &settings, event_text, workers, writer)
+}
+
+/// Does what the events of a text ask for, with workers, and writes the answers and the report. After `Write` a front of them
+/// was written, and after each other fault nothing.
+fn tell_with_workers<
+    T: Threads + Wait + Sync,
+    S: BuildHasher + Clone + Drop + Send + Sync,
+    W: ByteOut,
+>(
+    rt: &T,
+    alloc: Global,
+    hasher: S,
+    settings: &Settings<Global>,
+    text: &[u8],
+    workers: u8,
+    writer: &mut W,
+) -> Result<bool, TextFault>
+where
+    S::Hasher: Send + Sync,
+    ensures told { IfOk result (λ refused. TellsRefusals (W.taken writer.old) (W.taken writer.new) refused) }
+    ensures untouched { IfErr result (λ fault. fault ≢ TextFault.Write → writer.new ≡ writer.old) }
+    ensures fault { IfErr result (λ fault. fault ≢ TextFault.Write → IsPlayFault fault) }
+    ensures write { CountsWrites (W.failed_calls writer.old) (W.failed_calls writer.new) result }
+{
+    let played = match play_text(rt, alloc, hasher, settings, text, workers) {
+        Err(fault) => return Err(fault),
+        Ok(played) => played,
+    };
+    match write_lines(played.entries.as_slice(), played.books.as_slice(), writer) {
+        Err(_) => Err(TextFault::Write),
+        Ok(refused) => Ok(refused),
+    }
 }
 
 /// Does what the events of a text ask for, with workers and a ledger of its own.
