@@ -5,7 +5,7 @@ use Rattle.std.specs.Int.{w32, from_be_bytes}
 use Rattle.std.proofs.lemmas.List.{drop_more, drop_all}
 use Rattle.std.proofs.lemmas.Nat.{xor_shr, xor_mod, be_bytes_4}
 use Rattle.aes_cmac.specs.Aes.{xor_bytes}
-use Rattle.aes_cmac.specs.Words.{word_bytes, byte_of}
+use Rattle.aes_cmac.specs.Words.{word_bytes}
 
 -- one byte of a sum of words
 byte-xor : (a b k : ℕ) → bit_xor a b / 2 ^ k % 2 ^ 8 ≡ bit_xor (a / 2 ^ k % 2 ^ 8) (b / 2 ^ k % 2 ^ 8)

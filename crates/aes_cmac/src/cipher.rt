@@ -1,9 +1,10 @@
-// The cipher under an expanded key (FIPS 197 section 5.1).
+// The cipher (FIPS 197 section 5.1).
 
 ghost use Rattle.std.specs.Prelude.{ℕ, List, ◌≡◌};
 ghost use Rattle.aes_cmac.specs.Aes.{xor_bytes, ciphertext};
 ghost use Rattle.aes_cmac.specs.Words.{four_words, state_bytes, IsSchedule};
 
+use crate::keys::Key;
 use crate::rounds::{bytes_of, columns_of, last_round, middle_round};
 
 // AddRoundKey with the first round key.
@@ -29,4 +30,11 @@ pub(crate) fn encrypt_block(words: &[u32; 44], block: &[u8; 16]) -> [u8; 16]
         v = next;
     }
     bytes_of(last_round(v, words, 40))
+}
+
+/// The block that AES-128 gives of a block (FIPS 197 section 5.1). Needs no memory.
+pub fn encrypt(key: &Key, block: [u8; 16]) -> [u8; 16]
+    ensures { result ≡ ciphertext key.now block }
+{
+    encrypt_block(&key.words, &block)
 }

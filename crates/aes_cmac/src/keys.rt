@@ -1,7 +1,6 @@
 // A key, expanded once.
 
 ghost use Rattle.std.specs.Prelude.{◌≡◌};
-ghost use Rattle.aes_cmac.specs.Aes.{ciphertext};
 ghost use Rattle.aes_cmac.specs.Mac.{first_subkey, second_subkey};
 
 use crate::cipher::encrypt_block;
@@ -14,7 +13,7 @@ use std::marker::Model;
 /// schedule (FIPS 197 section 5.2) and the two subkeys of CMAC (RFC 4493 section 2.3).
 #[derive(Clone, Copy)]
 pub struct Key {
-    words: [u32; 44],
+    pub(crate) words: [u32; 44],
     first: [u8; 16],
     second: [u8; 16],
 }
@@ -71,11 +70,4 @@ impl fmt::Debug for Key {
     fn fmt<W: fmt::Write>(&self, f: &mut fmt::Formatter<W>) -> fmt::Result {
         f.write_str("Key { .. }")
     }
-}
-
-/// The block that AES-128 gives of a block (FIPS 197 section 5.1). Needs no memory.
-pub fn encrypt(key: &Key, block: [u8; 16]) -> [u8; 16]
-    ensures { result ≡ ciphertext key.now block }
-{
-    encrypt_block(&key.words, &block)
 }

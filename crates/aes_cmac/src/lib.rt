@@ -10,6 +10,7 @@ mod subkeys;
 mod tables;
 mod whole;
 
-pub use keys::{Key, encrypt};
+pub use cipher::encrypt;
+pub use keys::Key;
 pub use state::Cmac;
 pub use whole::cmac;

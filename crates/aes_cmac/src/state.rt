@@ -5,7 +5,8 @@ ghost use Rattle.aes_cmac.specs.Aes.{xor_bytes, ciphertext};
 ghost use Rattle.aes_cmac.specs.Mac.{cmac, first_subkey, second_subkey};
 ghost use Rattle.aes_cmac.specs.Progress.{HasTaken};
 
-use crate::keys::{Key, encrypt};
+use crate::cipher::encrypt;
+use crate::keys::Key;
 use std::marker::Model;
 
 const BLOCK_LEN: usize = 16;
@@ -130,7 +131,8 @@ impl<'a> Cmac<'a> {
           tail = [];
         } }
     {
-        self.chain = encrypt(self.key, sum_of(&self.chain, &self.buffer));
+        let block = self.buffer;
+        self.add(&block);
         self.held = 0;
     }
 

@@ -1,11 +1,11 @@
 -- Lemmas on tills together.
 use Rattle.std.proofs.Common.{◌≡◌, ◌+◌, ◌≤◌, List, [], ◌∷◌, ◌++◌, refl, sym, ap, ◌∙◌, arith, false, nat_lt}
 use Rattle.std.proofs.lemmas.Bool.{ltb-false}
-use Rattle.air_ledger.specs.Tills.{Holding, together, gathered, parts_of, amount_of}
+use Rattle.air_ledger.specs.Tills.{Holding, all_parts, together, gathered, parts_of, amount_of}
 
 -- tills that are not too many
-pub within : (l : List Holding) → nat_lt 65536 (parts_of l) ≡ false → parts_of l ≤ 65536
-within l e = ltb-false 65536 (parts_of l) e
+pub within : (l : List Holding) → nat_lt all_parts (parts_of l) ≡ false → parts_of l ≤ all_parts
+within l e = ltb-false all_parts (parts_of l) e
 
 parts_of-last : (l : List Holding) (h : Holding) → parts_of (l ++ h ∷ []) ≡ h.parts + parts_of l
 parts_of-last [] h = refl
@@ -32,7 +32,7 @@ gathered-on whole left new h old l e cut n =
     ∙ ap (λ k. together k (gathered l)) (sym n)
 
 -- a till that is left fits
-pub fits-on : (whole all h : Holding) (old l : List Holding) → all ≡ together whole (gathered old) → old ≡ l ++ h ∷ [] → all.parts ≤ 65536 → whole.parts + h.parts ≤ 65536
+pub fits-on : (whole all h : Holding) (old l : List Holding) → all ≡ together whole (gathered old) → old ≡ l ++ h ∷ [] → all.parts ≤ all_parts → whole.parts + h.parts ≤ all_parts
 fits-on whole all h old l e cut most =
     let p : all.parts ≡ whole.parts + parts_of old = ap (λ k. k.parts) e in
     let q : parts_of old ≡ h.parts + parts_of l = ap parts_of cut ∙ parts_of-last l h in

@@ -1,4 +1,5 @@
 use Rattle.std.specs.Prelude.{ℕ, ◌+◌, ◌<◌, ◌⊎◌, ◌≡◌, List, [], ◌∷◌}
+use Rattle.air_ledger.specs.declared.opening.TheConstants.{PARTS}
 
 -- Parts of a ledger of airtime, after this project's profile.
 
@@ -27,7 +28,7 @@ gathered l = record { parts = parts_of l; amount = amount_of l }
 
 -- how many parts a station's ledger has
 abbrev pub all_parts : ℕ
-all_parts = 65536
+all_parts = PARTS
 
 -- there is nothing to gather, or more than all parts
 abbrev pub IsOver : List Holding → Type 0

@@ -14,12 +14,13 @@ pub struct Tally<B: Ledger> {
 
 impl<B: Ledger> Model for Tally<B> {
     ghost use Rattle.std.specs.Prelude.{◌≡◌, ℕ};
+    ghost use Rattle.air_ledger.specs.Tills.{all_parts};
 
     ghost Value = { ℕ };
 
     ghost view = { λ t. t.total };
 
-    ghost invariant = { λ t. (t.book.total ≡ t.total) × (B.parts ≡ 65536) };
+    ghost invariant = { λ t. (t.book.total ≡ t.total) × (B.parts ≡ all_parts) };
 }
 
 impl<B: Ledger> Tally<B> {

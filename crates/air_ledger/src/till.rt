@@ -16,13 +16,13 @@ pub struct Till<B: Ledger> {
 
 impl<B: Ledger> Model for Till<B> {
     ghost use Rattle.std.specs.Prelude.{◌≡◌, ◌≤◌};
-    ghost use Rattle.air_ledger.specs.Tills.{Holding};
+    ghost use Rattle.air_ledger.specs.Tills.{Holding, all_parts};
 
     ghost Value = { Holding };
 
     ghost view = { λ t. record { parts = t.parts; amount = t.share.amount } };
 
-    ghost invariant = { λ t. (t.share.parts ≡ t.parts) × ((1 ≤ t.parts) × (t.parts ≤ 65536)) };
+    ghost invariant = { λ t. (t.share.parts ≡ t.parts) × ((1 ≤ t.parts) × (t.parts ≤ all_parts)) };
 }
 
 impl<B: Ledger> Till<B> {

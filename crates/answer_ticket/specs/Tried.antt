@@ -1,13 +1,12 @@
 use Rattle.std.specs.Prelude.{ℕ, ◌≡◌, ◌≢◌, ◌+◌, List, Option, Some, None, IsSome}
 use Rattle.std.specs.Option.{IsSomeAnd}
-use Rattle.radio_airtime.specs.TimeOnAir.{airtime_of}
 use Rattle.resv_list.specs.declared.reservation.Reservation.{Reservation}
 use Rattle.gateway_book.specs.declared.refusal.Refusal.{Refusal}
 use Rattle.gateway_book.specs.Answer.{IsAsked, refusal_of}
 use Rattle.gateway_book.specs.Book.{Book, terms_of, with_booked}
 use Rattle.rx_windows.specs.declared.candidate.Candidate.{Candidate}
 use Rattle.answer_ticket.specs.declared.outcome.Ending.{Ending}
-use Rattle.answer_ticket.specs.declared.outcome.Ending.TheVariants.{Answered, Unanswered}
+use Rattle.answer_ticket.specs.declared.outcome.Ending.TheVariants.{Unanswered}
 use Rattle.answer_ticket.specs.declared.outcome.Outcome.{Outcome}
 use Rattle.answer_ticket.specs.declared.tried.Receipt.{Receipt}
 use Rattle.answer_ticket.specs.declared.tried.Tried.{Tried}

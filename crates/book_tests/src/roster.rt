@@ -33,10 +33,9 @@ fn put<R: Roster>(rt: &impl Abort, roster: &mut R, start: u64) -> Result<(), Ros
     }
 }
 
-/// The starts of the members on either side of a moment.
-fn nearest<R: Roster>(roster: &R, start: u64) -> (Option<u64>, Option<u64>) {
-    let before = roster.before(start).map(|member| member.number);
-    (before, roster.first_from(start).map(|member| member.number))
+/// The members on either side of a moment.
+fn nearest<R: Roster>(roster: &R, start: u64) -> (Option<Reservation>, Option<Reservation>) {
+    (roster.before(start), roster.first_from(start))
 }
 
 #[test]
@@ -57,9 +56,10 @@ fn keeps_reservations_by_start(rt: HostRuntime) -> Result<(), Fail> {
         (21, Some(20), None),
     ];
     for (start, before, from) in cases {
+        let before = before.map(|s| reservation_at(&rt, s));
+        let from = from.map(|s| reservation_at(&rt, s));
         assert_eq!(rt; nearest(&roster, start), (before, from), "round {start}");
     }
-    assert_eq!(rt; roster.first_from(20), Some(reservation_at(&rt, 20)));
     Ok(())
 }
 

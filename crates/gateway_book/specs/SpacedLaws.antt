@@ -1,8 +1,9 @@
 use Rattle.std.specs.Prelude.{ℕ, ◌≡◌, ◌≢◌, ◌+◌, ◌<◌, ◌≤◌, nat_lt, Bool, true, false, List, [], ◌∷◌, Option, Some, None, map, filter, find, cond, All}
 use Rattle.std.specs.Option.{option_map}
-use Rattle.std.proofs.Common.{refl, ap, arith, zero, suc}
+use Rattle.std.proofs.Common.{refl, ap, arith}
 use Rattle.std.proofs.lemmas.Bool.{ltb-true, ltb-false}
 use Rattle.std.proofs.lemmas.Bool.Decides.{nat_tests}
+use Rattle.std.proofs.lemmas.List.Elements.{All-cons}
 use Rattle.resv_list.specs.Sorted.{RisesFrom, place_by}
 use Rattle.gateway_book.specs.Least.{least, at_most}
 use Rattle.gateway_book.specs.Spaced.{SpacedFrom, overlaps}
@@ -58,10 +59,6 @@ module _ {X : Type 0} (key end : X → ℕ) (positive : (x : X) → key x < end 
       let c = clear_by (overlaps key end (key x) (end x)) y ys (overlaps key end (key x) (end x) y) f in
       spaced_placed low x y ys (nat_lt (key y) (key x)) refl h c.0 s (λ g. SpacedFrom-place_by (end y) x ys g c.1 s.1)
 
-  free_cons : (from : ℕ) (y : X) (ys : List X) → key y ≢ from → All (λ k. k ≢ from) (map key ys) → All (λ k. k ≢ from) (map key (y ∷ ys))
-  free_cons from y ys h a zero d l = h
-  free_cons from y ys h a (suc k) d l = a k d (omega arith)
-
   -- where no member overlaps, none begins at that very moment
   pub free_of_clear : (from to : ℕ) (xs : List X) → from < to → find (overlaps key end from to) xs ≡ None → All (λ k. k ≢ from) (map key xs)
   free_of_clear from to [] h f = λ k d l. absurd (omega arith)
@@ -69,4 +66,4 @@ module _ {X : Type 0} (key end : X → ℕ) (positive : (x : X) → key x < end 
       let c = clear_by (overlaps key end from to) y ys (overlaps key end from to y) f in
       let o : overlaps key end from to y ≡ false = c.0 in
       let p = positive y in
-      free_cons from y ys (λ e. grind (arith, nat_tests)) (free_of_clear from to ys h c.1)
+      All-cons (λ k. k ≢ from) (key y) (map key ys) (λ e. grind (arith, nat_tests)) (free_of_clear from to ys h c.1)

@@ -1,15 +1,16 @@
-ghost use Rattle.std.specs.Prelude.{◌≡◌, ℕ, ◌+◌, ◌≤◌, ◌↔◌, [], ◌∷◌, IsOk, IfOk, OnOk, OnErr, MatchOption, IsOkUnless, IsOkAnd, nat_lt, max, find, OnSome};
+ghost use Rattle.std.specs.Prelude.{◌≡◌, ℕ, ◌+◌, ◌≤◌, ◌↔◌, [], ◌∷◌, IsOk, IfOk, OnOk, OnErr, MatchOption, IsOkUnless, IsOkAnd, nat_lt, max};
 ghost use Rattle.std.specs.Option.{option_map, option_and_then};
 ghost use Rattle.gateway_book.specs.Answer.{IsAsked, first_some, no_band, too_long, past_end, refusal_of, overlap, overfull};
 ghost use Rattle.gateway_book.specs.Lawful.{IsLawful};
 ghost use Rattle.gateway_book.specs.Book.{terms_of, state_of, with_booked, with_cancelled, airtime_answer, totals_of};
 ghost use Rattle.radio_bands.specs.Band.{band_of};
-ghost use Rattle.resv_list.specs.Reservations.{start_of, end_of, airtime_us, without};
+ghost use Rattle.resv_list.specs.Reservations.{start_of, end_of, airtime_us};
 ghost use Rattle.gateway_book.specs.Busiest.{IsBusiestAnswer, busiest_of};
 ghost use Rattle.gateway_book.specs.Spaced.{keep_if};
-ghost use Rattle.gateway_book.specs.Step.{book_step, cancel_answer, cancel_step, tick_step, is_named, without_named};
+ghost use Rattle.gateway_book.specs.Step.{book_step, cancel_answer, cancel_step, tick_step};
 
 use crate::busiest::busiest_hour;
+use crate::cancel::named;
 use crate::duty::{HOUR, full_hour};
 use crate::{Ask, CancelFault, Refusal, Totals};
 use radio_bands::Band;
@@ -242,26 +243,6 @@ fn members_of<R: Roster, A: Allocator>(
         from = member.start + 1;
     }
     Ok(members)
-}
-
-/// The member with this number and this start.
-fn named<R: Roster>(roster: &R, number: u64, start: u64) -> Option<Reservation>
-    ensures member { result ≡ find (is_named number start) (R.list roster.now) }
-    ensures alone { OnSome result (without start (R.list roster.now) ≡ without_named (R.list roster.now) number start) }
-{
-    let member = roster.first_from(start)?;
-    if is_named(&member, number, start) {
-        Some(member)
-    } else {
-        None
-    }
-}
-
-/// Whether a member has this number and this start.
-fn is_named(member: &Reservation, number: u64, start: u64) -> bool
-    ensures { result ≡ is_named number start member.now }
-{
-    member.number == number && member.start == start
 }
 
 /// The reservation with the asked fields, or why they are not fit for one.

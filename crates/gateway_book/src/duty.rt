@@ -1,6 +1,8 @@
-ghost use Rattle.std.specs.Prelude.{◌≡◌, ◌≤◌, ◌<◌, ◌+◌, ◌^◌, ◌&&◌, find, IfSome};
+ghost use Rattle.std.specs.Prelude.{◌≡◌, ◌≤◌, ◌<◌, ◌+◌, ◌&&◌, find, IfSome};
 ghost use Rattle.std.specs.Option.{option_map};
+ghost use Rattle.resv_list.specs.Fit.{last_end};
 ghost use Rattle.resv_list.specs.Reservations.{start_of, is_in, begun, net};
+ghost use Rattle.gateway_book.specs.Answer.{total_limit};
 ghost use Rattle.gateway_book.specs.Duty.{would_pass, full_hour, opens_full};
 
 use radio_bands::{Band, limit_us};
@@ -13,9 +15,9 @@ pub const HOUR: u64 = 3_600_000_000;
 /// airtime, among the start and the starts of the band's members. Where the two hours round the start
 /// leave room, no single hour is looked at.
 pub(crate) fn full_hour<R: Roster>(roster: &R, band: Band, start: u64, airtime: u64) -> Option<u64>
-    requires early { start ≤ 2 ^ 61 }
+    requires early { start ≤ last_end }
     requires short { airtime < 10000000 }
-    requires bounded { net (R.list roster.now) ≤ 2 ^ 62 }
+    requires bounded { net (R.list roster.now) ≤ total_limit }
     ensures opening { result ≡ full_hour (R.list roster.now) band start airtime }
     ensures early { IfSome result (λ from. from ≤ start) }
 {
@@ -36,9 +38,9 @@ pub(crate) fn full_hour<R: Roster>(roster: &R, band: Band, start: u64, airtime: 
 /// The start of the first member, from the last hour before `start` on, that opens an hour which would
 /// be overfull.
 fn first_full<R: Roster>(roster: &R, band: Band, start: u64, airtime: u64) -> Option<u64>
-    requires early { start ≤ 2 ^ 61 }
+    requires early { start ≤ last_end }
     requires short { airtime < 10000000 }
-    requires bounded { net (R.list roster.now) ≤ 2 ^ 62 }
+    requires bounded { net (R.list roster.now) ≤ total_limit }
     ensures { result ≡ option_map start_of (find (opens_full (R.list roster.now) band start airtime) (R.list roster.now)) }
 {
     let mut from = (start + 1).saturating_sub(HOUR);
@@ -57,7 +59,7 @@ fn first_full<R: Roster>(roster: &R, band: Band, start: u64, airtime: u64) -> Op
 /// Whether the member is one of the band, and the hour that it opens would pass the limit.
 fn is_full_from<R: Roster>(roster: &R, band: Band, airtime: u64, member: &Reservation) -> bool
     requires short { airtime < 10000000 }
-    requires bounded { net (R.list roster.now) ≤ 2 ^ 62 }
+    requires bounded { net (R.list roster.now) ≤ total_limit }
     ensures { result ≡ (is_in band member.now && would_pass (R.list roster.now) band airtime member.now.start) }
 {
     band.holds(member.freq_hz, member.rate) && would_pass(roster, band, airtime, member.start)
@@ -65,9 +67,9 @@ fn is_full_from<R: Roster>(roster: &R, band: Band, airtime: u64, member: &Reserv
 
 /// Whether the hour that opens at `from` would pass the band's limit with so much more airtime.
 fn would_pass<R: Roster>(roster: &R, band: Band, airtime: u64, from: u64) -> bool
-    requires early { from ≤ 2 ^ 61 }
+    requires early { from ≤ last_end }
     requires short { airtime < 10000000 }
-    requires bounded { net (R.list roster.now) ≤ 2 ^ 62 }
+    requires bounded { net (R.list roster.now) ≤ total_limit }
     ensures { result ≡ would_pass (R.list roster.now) band airtime from }
 {
     roster.spent(band, from, from + HOUR) + airtime > limit_us(band)

@@ -1,7 +1,7 @@
 -- A payload with the key stream added to it, block by block.
-use Rattle.std.proofs.Common.{◌≡◌, ℕ, suc, ◌+◌, ◌-◌, ◌*◌, ◌/◌, ◌<◌, ◌≤◌, min, List, [], ◌∷◌, ◌++◌, length, take, drop, get_or, set, refl, ap, sym, ◌∙◌, arith}
+use Rattle.std.proofs.Common.{◌≡◌, ℕ, suc, ◌+◌, ◌*◌, ◌/◌, ◌<◌, ◌≤◌, List, [], ◌∷◌, ◌++◌, length, take, drop, get_or, set, refl, ap, sym, ◌∙◌, arith}
 use Rattle.std.specs.Prelude.{bit_xor}
-use Rattle.std.proofs.lemmas.List.{append_assoc, take-append-drop, take-take, drop-take, take_all, take_more, take_more_set, length-take, length-take-le}
+use Rattle.std.proofs.lemmas.List.{append_assoc, take-append-drop, take-take, drop-take, take_all, take_more, take_more_set, length-take-le}
 use Rattle.aes_cmac.specs.Aes.{xor_bytes, ciphertext}
 use Rattle.lora_frame.specs.Blocks.{key_stream, stream_seed, crypted}
 

@@ -5,6 +5,7 @@ ghost use Rattle.std.specs.Int.{w32, to_le_bytes};
 ghost use Rattle.aes_cmac.specs.Aes.{xor_bytes, ciphertext};
 ghost use Rattle.lora_frame.specs.Blocks.{stream_seed, crypted, mic_of};
 
+use crate::layout::MAX_PAYLOAD;
 use aes_cmac::{Cmac, Key, encrypt};
 use std::alloc::Allocator;
 
@@ -86,7 +87,7 @@ pub(crate) fn append_crypted<A: Allocator>(
     counter: u32,
     payload: &[u8],
 )
-    requires short { length payload.now ≤ 242 }
+    requires short { length payload.now ≤ MAX_PAYLOAD }
     requires room { vec_len frame.old + length payload.now ≤ vec_capacity frame.old }
     ensures items { frame.new.items ≡ frame.old.items ++ crypted key.now direction addr counter payload.now }
     ensures len { vec_len frame.new ≡ vec_len frame.old + length payload.now }

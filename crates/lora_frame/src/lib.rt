@@ -5,6 +5,7 @@
 mod blocks;
 mod counting;
 mod laws;
+mod layout;
 mod parts;
 mod reading;
 mod writing;

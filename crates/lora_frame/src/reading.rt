@@ -2,9 +2,10 @@
 
 ghost use Rattle.std.specs.Prelude.{◌≡◌, ◌↔◌, ◌+◌, ◌≤◌, Some, None, IsOk, IsTrue, nat_lt, length, take, drop, slice_index, if◌then◌else◌};
 ghost use Rattle.std.specs.Int.{w16, from_le_bytes};
-ghost use Rattle.lora_frame.specs.Reading.{uplink_of, uplink_record, HasMic, has_mic};
+ghost use Rattle.lora_frame.specs.Reading.{mic_place, options_end, uplink_of, uplink_record, HasMic, has_mic};
 
 use crate::blocks::{UP, mic};
+use crate::layout::{ADDR_AT, CONTROL_AT, COUNTER_AT, EMPTY_LEN, MAX_LEN, MIC_LEN, OPTIONS_AT};
 use aes_cmac::Key;
 use thiserror::Error;
 
@@ -64,7 +65,7 @@ fn low_of(bytes: &[u8]) -> u16
     ensures { result ≡ from_le_bytes w16 (take 2 (drop 6 bytes.now)) }
 {
     let mut out = [0u8; 2];
-    out.copy_from_slice(&bytes[6..8]);
+    out.copy_from_slice(&bytes[COUNTER_AT..OPTIONS_AT]);
     u16::from_le_bytes(out)
 }
 
@@ -89,17 +90,33 @@ fn payload_place(options_end: usize, mic_at: usize) -> usize
     mic_at
 }
 
+// The place of the MIC.
+fn mic_place(bytes: &[u8]) -> usize
+    requires { 12 ≤ length bytes.now }
+    ensures { result ≡ mic_place bytes.now }
+{
+    bytes.len() - MIC_LEN
+}
+
+// The place where FOpts end.
+fn options_end(bytes: &[u8]) -> usize
+    requires { 12 ≤ length bytes.now }
+    ensures { result ≡ options_end bytes.now }
+{
+    OPTIONS_AT + (bytes[CONTROL_AT] % 16) as usize
+}
+
 // What an uplink says in which no fault was found.
 fn uplink_from(bytes: &[u8]) -> Uplink
     requires { 12 ≤ length bytes.now }
     ensures { result ≡ uplink_record bytes.now }
 {
-    let mic_at = bytes.len() - 4;
-    let control = bytes[5];
-    let options_end = 8 + (control % 16) as usize;
+    let mic_at = mic_place(bytes);
+    let control = bytes[CONTROL_AT];
+    let options_end = options_end(bytes);
     Uplink {
         confirmed: bytes[0] / 32 == 4,
-        addr: u32::from_le_bytes(four_at(bytes, 1)),
+        addr: u32::from_le_bytes(four_at(bytes, ADDR_AT)),
         adr: control / 128 % 2 == 1,
         adr_ack_req: control / 64 % 2 == 1,
         ack: control / 32 % 2 == 1,
@@ -116,10 +133,10 @@ fn uplink_from(bytes: &[u8]) -> Uplink
 pub fn read_uplink(bytes: &[u8]) -> Result<Uplink, FrameFault>
     ensures { result ≡ uplink_of bytes.now }
 {
-    if bytes.len() < 12 {
+    if bytes.len() < EMPTY_LEN {
         return Err(FrameFault::Short);
     }
-    if bytes.len() > 255 {
+    if bytes.len() > MAX_LEN {
         return Err(FrameFault::Long);
     }
     let kind = bytes[0] / 32;
@@ -129,8 +146,8 @@ pub fn read_uplink(bytes: &[u8]) -> Result<Uplink, FrameFault>
     if bytes[0] % 4 != 0 {
         return Err(FrameFault::Major);
     }
-    let mic_at = bytes.len() - 4;
-    let options_end = 8 + (bytes[5] % 16) as usize;
+    let mic_at = mic_place(bytes);
+    let options_end = options_end(bytes);
     if options_end > mic_at {
         return Err(FrameFault::OptionsCut);
     }
@@ -144,7 +161,7 @@ pub fn check_mic(bytes: &[u8], nwk: &Key, counter: u32) -> bool
     ensures mic { IsTrue result ↔ HasMic bytes.now nwk.now counter }
     ensures value { result ≡ has_mic bytes.now nwk.now counter }
 {
-    let mic_at = bytes.len() - 4;
-    let addr = u32::from_le_bytes(four_at(bytes, 1));
+    let mic_at = mic_place(bytes);
+    let addr = u32::from_le_bytes(four_at(bytes, ADDR_AT));
     mic(nwk, UP, addr, counter, &bytes[..mic_at]) == four_at(bytes, mic_at)
 }

@@ -5,6 +5,7 @@ ghost use Rattle.lora_frame.specs.Frame.{header_bytes, body_bytes, body_len, pay
 ghost use Rattle.lora_frame.specs.Faults.{down_fault, up_fault, has_high_port};
 
 use crate::blocks::{DOWN, UP, append, append_crypted, mic};
+use crate::layout::{EMPTY_LEN, MAX_LEN, MAX_OPTIONS, MAX_PAYLOAD};
 use crate::parts::{Body, Down, Keys, Up};
 use aes_cmac::Key;
 use std::alloc::Allocator;
@@ -39,7 +40,7 @@ fn down_refusal(down: &Down) -> Option<DownFault>
     if body.port == 0 || body.port > 223 {
         return Some(DownFault::Port);
     }
-    if body.payload.len() > 242 {
+    if body.payload.len() > MAX_PAYLOAD {
         return Some(DownFault::Long);
     }
     None
@@ -51,10 +52,10 @@ fn up_refusal(up: &Up) -> Option<UpFault>
     if has_high_port(up.body) {
         return Some(UpFault::Port);
     }
-    if up.options.len() > 15 {
+    if up.options.len() > MAX_OPTIONS {
         return Some(UpFault::Long);
     }
-    if is_longer(up.body, 243 - up.options.len()) {
+    if is_longer(up.body, MAX_LEN - EMPTY_LEN - up.options.len()) {
         return Some(UpFault::Long);
     }
     None
@@ -106,7 +107,7 @@ fn down_control(down: &Down) -> u8
 }
 
 fn up_control(up: &Up) -> u8
-    requires { length up.now.options.now ≤ 15 }
+    requires { length up.now.options.now ≤ MAX_OPTIONS }
     ensures { result ≡ up_control up.now }
 {
     bit_worth(up.adr, 0x80)
@@ -148,7 +149,7 @@ fn append_body<A: Allocator>(
     counter: u32,
     body: Option<Body>,
 )
-    requires short { body_len body ≤ 243 }
+    requires short { body_len body ≤ MAX_PAYLOAD + 1 }
     requires room { vec_len frame.old + body_len body ≤ vec_capacity frame.old }
     ensures items { frame.new.items ≡ frame.old.items ++ body_bytes keys.now direction addr counter body.entry }
     ensures len { vec_len frame.new ≡ vec_len frame.old + body_len body.entry }
@@ -190,7 +191,7 @@ pub fn downlink<A: Allocator>(alloc: A, down: &Down, keys: &Keys) -> Result<Vec<
     if let Some(fault) = down_refusal(down) {
         return Err(fault);
     }
-    let Ok(mut frame) = Vec::with_capacity(alloc, 12 + body_len(down.body)) else {
+    let Ok(mut frame) = Vec::with_capacity(alloc, EMPTY_LEN + body_len(down.body)) else {
         return Err(DownFault::NoMemory);
     };
     append(
@@ -214,7 +215,7 @@ pub fn uplink_bytes<A: Allocator>(alloc: A, up: &Up, keys: &Keys) -> Result<Vec<
     if let Some(fault) = up_refusal(up) {
         return Err(fault);
     }
-    let size = 12 + up.options.len() + body_len(up.body);
+    let size = EMPTY_LEN + up.options.len() + body_len(up.body);
     let Ok(mut frame) = Vec::with_capacity(alloc, size) else {
         return Err(UpFault::NoMemory);
     };

@@ -1,4 +1,4 @@
-use Rattle.std.specs.Prelude.{ℕ, ◌+◌}
+use Rattle.std.specs.Prelude.{ℕ, ◌+◌, ◌==◌, if◌then◌else◌}
 use Rattle.radio_airtime.specs.declared.data_rate.DataRate.{DataRate}
 use Rattle.radio_airtime.specs.declared.data_rate.DataRate.TheVariants.{Dr0, Dr1, Dr2, Dr3, Dr4, Dr5, Dr6}
 
@@ -13,6 +13,17 @@ number_of Dr3 = 3
 number_of Dr4 = 4
 number_of Dr5 = 5
 number_of Dr6 = 6
+
+-- the data rate with a number 0 to 6 (RP002, EU863-870, "Data rate")
+abbrev pub rate_numbered : ℕ → DataRate
+rate_numbered n =
+    if n == 0 then Dr0
+    else if n == 1 then Dr1
+    else if n == 2 then Dr2
+    else if n == 3 then Dr3
+    else if n == 4 then Dr4
+    else if n == 5 then Dr5
+    else Dr6
 
 -- the spreading factor SF: bits in a symbol
 abbrev pub spreading_factor_of : DataRate → ℕ

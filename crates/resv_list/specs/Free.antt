@@ -1,6 +1,7 @@
 use Rattle.std.specs.Prelude.{ℕ, ◌≡◌, ◌≢◌, ◌+◌, ◌≤◌, nat_le, Bool, true, false, List, [], ◌∷◌, Option, Some, None, All, map, cond, ⊤}
 use Rattle.std.proofs.Common.{refl, arith, zero, suc, subst}
 use Rattle.std.proofs.lemmas.Bool.{leb-true, leb-false}
+use Rattle.std.proofs.lemmas.List.Elements.{All-cons}
 use Rattle.resv_list.specs.Sorted.{RisesFrom, first_from}
 
 -- What is first from a key on tells whether a member has that very key.
@@ -18,17 +19,13 @@ module _ {X : Type 0} (key : X → ℕ) where
       let g = r.0 in
       above k (key x + 1) xs (omega arith) r.1 i d (omega arith)
 
-  free_cons : (k : ℕ) (x : X) (xs : List X) → key x ≢ k → All (λ n. n ≢ k) (map key xs) → All (λ n. n ≢ k) (map key (x ∷ xs))
-  free_cons k x xs h a zero d l = h
-  free_cons k x xs h a (suc i) d l = a i d (omega arith)
-
   free_by : (k low : ℕ) (x : X) (xs : List X) (t : Bool) → nat_le k (key x) ≡ t → RisesFrom key low (x ∷ xs) → Misses k (cond t (Some x) (first_from key k xs)) → (Misses k (first_from key k xs) → All (λ n. n ≢ k) (map key xs)) → All (λ n. n ≢ k) (map key (x ∷ xs))
   free_by k low x xs true e r m rest =
       let h : k ≤ key x = leb-true k (key x) e in
-      free_cons k x xs m (above k (key x + 1) xs (omega arith) r.1)
+      All-cons (λ n. n ≢ k) (key x) (map key xs) m (above k (key x + 1) xs (omega arith) r.1)
   free_by k low x xs false e r m rest =
       let h = leb-false k (key x) e in
-      free_cons k x xs (omega arith) (rest m)
+      All-cons (λ n. n ≢ k) (key x) (map key xs) (omega arith) (rest m)
 
   missed : (k low : ℕ) (xs : List X) → RisesFrom key low xs → Misses k (first_from key k xs) → All (λ n. n ≢ k) (map key xs)
   missed k low [] r m = λ i d l. absurd (omega arith)

@@ -1,5 +1,6 @@
 ghost use Rattle.std.specs.Prelude.{◌≡◌, ◌≤◌, [], ◌<◌, length, insert, remove, nat_lt, slice_get, vec_len, MatchOption, IfSome, if◌then◌else◌};
 ghost use Rattle.resv_list.specs.declared.reservation.Reservation.{Reservation as Member};
+ghost use Rattle.resv_list.specs.declared.roster.TheConstants.{MAX_MEMBERS};
 ghost use Rattle.resv_list.specs.Sorted.{RisesFrom, RisesFrom-prop};
 ghost use Rattle.resv_list.specs.SortedLaws.{IsCut};
 ghost use Rattle.resv_list.specs.Reservations.{start_of, IsByStart, place, member_before, member_from, member_at, without, begun, is_in, airtime_us};
@@ -13,7 +14,7 @@ use std::alloc::Allocator;
 pub struct VecRoster<A: Allocator> {
     items: Vec<Reservation, A>,
     ghost by_start: { IsByStart items.items } by { RisesFrom-prop start_of 0 items.items },
-    ghost bounded: { vec_len items ≤ 65536 },
+    ghost bounded: { vec_len items ≤ MAX_MEMBERS },
 }
 
 impl<A: Allocator> VecRoster<A> {
@@ -122,7 +123,7 @@ fn place_at(members: &[Reservation], start: u64) -> Option<usize>
 /// `to`.
 fn spent_in(members: &[Reservation], band: Band, from: u64, to: u64) -> u64
     requires by_start { IsByStart members.now }
-    requires bounded { length members.now ≤ 65536 }
+    requires bounded { length members.now ≤ MAX_MEMBERS }
     ensures { result ≡ begun band from to members.now }
 {
     begun_before(&members[place_of(members, from)..], band, from, to)
@@ -131,7 +132,7 @@ fn spent_in(members: &[Reservation], band: Band, from: u64, to: u64) -> u64
 /// The same of members that begin from `from` on.
 fn begun_before(members: &[Reservation], band: Band, from: u64, to: u64) -> u64
     requires rising { RisesFrom start_of from members.now }
-    requires bounded { length members.now ≤ 65536 }
+    requires bounded { length members.now ≤ MAX_MEMBERS }
     ensures { result ≡ begun band from to members.now }
 {
     let mut sum = 0;

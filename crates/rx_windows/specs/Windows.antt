@@ -1,10 +1,10 @@
 -- The receive windows of a Class A device (LoRaWAN L2 1.0.4, section 3.3, and RP002, EU863-870), and what
 -- could be sent in them.
-use Rattle.std.specs.Prelude.{ℕ, ◌+◌, ◌-◌, ◌*◌, ◌^◌, ◌≤◌, nat_le, ◌==◌, Bool, false, List, map, ◌++◌, Option, Some, None, if◌then◌else◌}
+use Rattle.std.specs.Prelude.{ℕ, ◌+◌, ◌-◌, ◌*◌, ◌^◌, ◌≤◌, nat_le, Bool, false, List, map, ◌++◌, Option, Some, None, if◌then◌else◌}
 use Rattle.std.specs.Option.{ForSome}
 use Rattle.radio_airtime.specs.declared.data_rate.DataRate.{DataRate}
-use Rattle.radio_airtime.specs.declared.data_rate.DataRate.TheVariants.{Dr0, Dr1, Dr2, Dr3, Dr4, Dr5, Dr6}
 use Rattle.radio_airtime.specs.DataRate.{number_of, max_phy_of}
+pub use Rattle.radio_airtime.specs.DataRate.{rate_numbered}
 use Rattle.uplink_gather.specs.declared.heard.HeardCopy.{HeardCopy}
 use Rattle.rx_windows.specs.declared.plan.Plan.{Plan}
 use Rattle.rx_windows.specs.declared.candidate.Candidate.{Candidate}
@@ -29,17 +29,6 @@ rx1_start plan copy = copy.at + plan.delay * 1000000
 -- RX2 opens RECEIVE_DELAY2 after it, one second after RX1 (section 3.3.2); in µs
 abbrev pub rx2_start : Plan → HeardCopy → ℕ
 rx2_start plan copy = copy.at + (plan.delay + 1) * 1000000
-
--- the data rate with a number 0 to 6 (RP002, EU863-870, "Data rate")
-abbrev pub rate_numbered : ℕ → DataRate
-rate_numbered n =
-    if n == 0 then Dr0
-    else if n == 1 then Dr1
-    else if n == 2 then Dr2
-    else if n == 3 then Dr3
-    else if n == 4 then Dr4
-    else if n == 5 then Dr5
-    else Dr6
 
 -- the rate of RX1: the uplink's less RX1DROffset, DR0 at the lowest (RP002, EU863-870, "Receive windows");
 -- `-` stops at 0
