@@ -108,12 +108,12 @@ in_last_hour l band start airtime r h g = same (is_in band r) (would_pass l band
     same p q = rw (le-leb r.start start h, lt-ltb start (r.start + hour) g) refl
 
 -- what a walk finds next
-pub record IsNext (l : List Reservation) (from : ℕ) (m : Reservation) : Type 0 where
+pub record IsNextMember (l : List Reservation) (from : ℕ) (m : Reservation) : Type 0 where
   pub rest : rest_from start_of from l ≡ m ∷ rest_from start_of (m.start + 1) l
   pub rises : RisesFrom start_of (m.start + 1) (rest_from start_of (m.start + 1) l)
   pub later : from ≤ m.start
 
-pub is_next : (l : List Reservation) (from : ℕ) (m : Reservation) → IsByStart l → member_from from l ≡ Some m → IsNext l from m
+pub is_next : (l : List Reservation) (from : ℕ) (m : Reservation) → IsByStart l → member_from from l ≡ Some m → IsNextMember l from m
 is_next l from m s e =
     let next = rest_from-Some start_of 0 from m l s e in
     let P : List Reservation → Type 0 = λ ms. RisesFrom start_of 0 ms in
@@ -121,7 +121,7 @@ is_next l from m s e =
     let passes : nat_le from m.start ≡ true = found_passes start_of (λ r. nat_le from r.start) m l e in
     record { rest = next.0; rises = rises.1; later = leb-true from m.start passes }
 
-pub none_further : (l : List Reservation) (band : Band) (start airtime from : ℕ) (m : Reservation) → IsNext l from m → start < m.start → find (opens_full l band start airtime) (rest_from start_of from l) ≡ None
+pub none_further : (l : List Reservation) (band : Band) (start airtime from : ℕ) (m : Reservation) → IsNextMember l from m → start < m.start → find (opens_full l band start airtime) (rest_from start_of from l) ≡ None
 none_further l band start airtime from m n h =
     ap (find (opens_full l band start airtime)) n.rest
     ∙ find_above_none start_of (opens_full l band start airtime) start m.start (m ∷ rest_from start_of (m.start + 1) l) h (omega arith, n.rises) (λ r g. too_late l band start airtime r g)
@@ -132,12 +132,12 @@ found_first test m ms e = rw e refl
 found_not : (test : Reservation → Bool) (m : Reservation) (ms : List Reservation) → test m ≡ false → find test (m ∷ ms) ≡ find test ms
 found_not test m ms e = rw e refl
 
-pub found_here : (l : List Reservation) (band : Band) (start airtime from : ℕ) (m : Reservation) → IsNext l from m → m.start ≤ start → start < m.start + hour → (is_in band m && would_pass l band airtime m.start) ≡ true → find (opens_full l band start airtime) (rest_from start_of from l) ≡ Some m
+pub found_here : (l : List Reservation) (band : Band) (start airtime from : ℕ) (m : Reservation) → IsNextMember l from m → m.start ≤ start → start < m.start + hour → (is_in band m && would_pass l band airtime m.start) ≡ true → find (opens_full l band start airtime) (rest_from start_of from l) ≡ Some m
 found_here l band start airtime from m n h g e =
     ap (find (opens_full l band start airtime)) n.rest
     ∙ found_first (opens_full l band start airtime) m (rest_from start_of (m.start + 1) l) (in_last_hour l band start airtime m h g ∙ e)
 
-pub found_later : (l : List Reservation) (band : Band) (start airtime from : ℕ) (m : Reservation) → IsNext l from m → m.start ≤ start → start < m.start + hour → (is_in band m && would_pass l band airtime m.start) ≡ false → find (opens_full l band start airtime) (rest_from start_of from l) ≡ find (opens_full l band start airtime) (rest_from start_of (m.start + 1) l)
+pub found_later : (l : List Reservation) (band : Band) (start airtime from : ℕ) (m : Reservation) → IsNextMember l from m → m.start ≤ start → start < m.start + hour → (is_in band m && would_pass l band airtime m.start) ≡ false → find (opens_full l band start airtime) (rest_from start_of from l) ≡ find (opens_full l band start airtime) (rest_from start_of (m.start + 1) l)
 found_later l band start airtime from m n h g e =
     ap (find (opens_full l band start airtime)) n.rest
     ∙ found_not (opens_full l band start airtime) m (rest_from start_of (m.start + 1) l) (in_last_hour l band start airtime m h g ∙ e)

@@ -148,31 +148,31 @@ ranked-ranking copies n = record { permutation = ranked-permutation copies; each
 
 -- Gateways stay distinct where copies change places.
 
-abbrev gateway_of : HeardCopy → ℕ
-gateway_of c = c.gateway
+abbrev heard_by : HeardCopy → ℕ
+heard_by c = c.gateway
 
-distinct_from : (copies : List HeardCopy) → HaveDistinctGateways copies → IsDistinct nat_eq (map gateway_of copies)
+distinct_from : (copies : List HeardCopy) → HaveDistinctGateways copies → IsDistinct nat_eq (map heard_by copies)
 unfolding IsDistinct
 distinct_from [] n = tt
 distinct_from (c ∷ cs) n = (
-  recursion_from_All (λ y. nat_eq c.gateway y ≡ false) (map gateway_of cs) (All-map (λ y. nat_eq c.gateway y ≡ false) gateway_of cs (λ k d l. let a = n zero (suc k) d (omega arith) (omega arith) in grind (arith, nat_tests))),
+  recursion_from_All (λ y. nat_eq c.gateway y ≡ false) (map heard_by cs) (All-map (λ y. nat_eq c.gateway y ≡ false) heard_by cs (λ k d l. let a = n zero (suc k) d (omega arith) (omega arith) in grind (arith, nat_tests))),
   distinct_from cs (AllPairs-tail apart c cs n),
 )
 
-apart_from : (c : HeardCopy) (cs : List HeardCopy) → All (λ y. nat_eq c.gateway y ≡ false) (map gateway_of cs) → All (apart c) cs
+apart_from : (c : HeardCopy) (cs : List HeardCopy) → All (λ y. nat_eq c.gateway y ≡ false) (map heard_by cs) → All (apart c) cs
 apart_from c [] a k d l = absurd (omega arith)
 apart_from c (e ∷ es) a zero d l = let n = a zero c.gateway (omega arith) in grind (arith, nat_tests)
 apart_from c (e ∷ es) a (suc k) d l = apart_from c es (λ i g h. a (suc i) g (omega arith)) k d (omega arith)
 
-from_distinct : (copies : List HeardCopy) → IsDistinct nat_eq (map gateway_of copies) → HaveDistinctGateways copies
+from_distinct : (copies : List HeardCopy) → IsDistinct nat_eq (map heard_by copies) → HaveDistinctGateways copies
 unfolding IsDistinct
 from_distinct [] n = λ i j d l g. absurd (omega arith)
 from_distinct (c ∷ cs) n =
-    AllPairs-cons apart c cs (apart_from c cs (All-from_recursion (λ y. nat_eq c.gateway y ≡ false) (map gateway_of cs) n.0)) (from_distinct cs n.1)
+    AllPairs-cons apart c cs (apart_from c cs (All-from_recursion (λ y. nat_eq c.gateway y ≡ false) (map heard_by cs) n.0)) (from_distinct cs n.1)
 
 flips : (x y : ℕ) → nat_eq x y ≡ nat_eq y x
 flips x y = grind (arith, nat_tests)
 
 pub HaveDistinctGateways-permutation : (a b : List HeardCopy) → IsPermutation a b → HaveDistinctGateways a → HaveDistinctGateways b
 HaveDistinctGateways-permutation a b p n =
-    from_distinct b (IsDistinct-IsPermutation nat_eq flips (map gateway_of a) (map gateway_of b) (IsPermutation-map gateway_of a b p) (distinct_from a n))
+    from_distinct b (IsDistinct-IsPermutation nat_eq flips (map heard_by a) (map heard_by b) (IsPermutation-map heard_by a b p) (distinct_from a n))
