@@ -3,10 +3,9 @@ ghost use Rattle.std.specs.Prelude.{◌≡◌, IfErr};
 ghost use Rattle.run_texts.specs.RunOutput.{IsPlayFault};
 
 use crate::receipts::Receipts;
-use gateway_book::{CancelFault, GatewayBook};
-use resv_list::VecRoster;
+use gateway_book::CancelFault;
 use server_core::{
-    Entry, Event, Line, NoMemory, Settings, cancelled_line, heard_line, queued_line,
+    Book, Entry, Event, Line, NoMemory, Settings, cancelled_line, heard_line, queued_line,
 };
 use server_workers::{Blank, Ledger, PARTS, Station, Till};
 use std::alloc::Global;
@@ -19,7 +18,7 @@ use text_words::TextFault;
 #[derive(Drop)]
 pub(crate) struct Played {
     pub(crate) entries: Vec<Entry<Global>>,
-    pub(crate) books: Vec<GatewayBook<VecRoster<Global>>>,
+    pub(crate) books: Vec<Book<Global>>,
 }
 
 /// A station at work, the till with all parts of its ledger, what was booked, and the lines that were told.

@@ -1,9 +1,9 @@
 // The books of a server's gateways.
 
-ghost use Rattle.std.specs.Prelude.{◌≡◌, map, All, IfOk};
+ghost use Rattle.std.specs.Prelude.{◌≡◌, [], map, All, IfOk};
 ghost use Rattle.std.specs.Option.{option_map};
 ghost use Rattle.server_desk.specs.Settings.{IsGatewayInRange};
-ghost use Rattle.server_desk.specs.World.{opened_gateway, gateway_with};
+ghost use Rattle.server_desk.specs.World.{opened_gateway, rules_of, gateway_with};
 ghost use Rattle.server_core.specs.Entries.{gateway_of};
 
 use crate::GatewaySetting;
@@ -24,13 +24,21 @@ pub(crate) fn books_of<A: Allocator + Copy>(
 {
     let mut books = Vec::with_capacity(alloc, gateways.len())?;
     for gateway in gateways {
-        // The cap of a setting is in range.
-        let Ok(book) = Book::new(VecRoster::new(alloc), gateway.id, gateway.cap) else {
-            unreachable!()
-        };
-        books.push(book)?;
+        books.push(empty_book(alloc, gateway))?;
     }
     Ok(books)
+}
+
+/// The empty book of a gateway with this setting, which is one of accepted settings. Takes no memory.
+pub fn empty_book<A: Allocator + Copy>(alloc: A, gateway: &GatewaySetting) -> Book<A>
+    requires { IsGatewayInRange gateway.now }
+    ensures { result ≡ record { id = gateway.now.id; rules = rules_of gateway.now; floor = 0; list = []; booked = 0; cancelled = 0; retired = 0 } }
+{
+    // The cap of a setting is in range.
+    let Ok(book) = Book::new(VecRoster::new(alloc), gateway.id, gateway.cap) else {
+        unreachable!()
+    };
+    book
 }
 
 /// The place of the gateway with this number.

@@ -14,7 +14,7 @@ mod replaying;
 mod server;
 mod trying;
 
-pub use books::Book;
+pub use books::{Book, empty_book};
 pub use entry::{Entry, Line};
 pub use event::{Event, Step};
 pub use laws::{law_desk_calls_are_steps, law_every_interleaving};

@@ -3,9 +3,7 @@
 ghost use Rattle.std.specs.Prelude.{◌≡◌, ◌≢◌, All, MatchOption};
 ghost use Rattle.server_workers.specs.Closings.{airtime_at};
 
-use gateway_book::GatewayBook;
-use resv_list::VecRoster;
-use server_core::Desk;
+use server_core::{Book, Desk};
 use std::alloc::Allocator;
 use std::hash::BuildHasher;
 
@@ -13,7 +11,7 @@ use std::hash::BuildHasher;
 /// microseconds. Takes no memory.
 pub(crate) fn first_apart<S: BuildHasher, A: Allocator>(
     desk: &Desk<S, A>,
-    shelf: &[(u16, GatewayBook<VecRoster<A>>)],
+    shelf: &[(u16, Book<A>)],
 ) -> Option<(u16, u64, u64)>
     ensures { MatchOption result (All (λ s. s.1.booked ≡ airtime_at desk.now s.0) shelf.now) (λ apart. apart.1 ≢ apart.2) }
 {

@@ -2,9 +2,8 @@
 ghost use Rattle.std.specs.Prelude.{◌≡◌};
 
 use crate::{Ledger, Station, Till};
-use gateway_book::{GatewayBook, Totals};
-use resv_list::VecRoster;
-use server_core::Desk;
+use gateway_book::Totals;
+use server_core::{Book, Desk};
 use std::alloc::{Allocator, Global};
 use std::hash::BuildHasher;
 use thiserror::Error;
@@ -17,7 +16,7 @@ pub struct Closing<S: BuildHasher, A: Allocator = Global> {
     /// What each gateway's book has counted, beside the gateway's number, by number.
     pub totals: Vec<(u16, Totals), A>,
     /// The gateways' books, in the same order.
-    pub books: Vec<GatewayBook<VecRoster<A>>, A>,
+    pub books: Vec<Book<A>, A>,
     /// The desk, with all that it knows.
     pub desk: Desk<S, A>,
 }

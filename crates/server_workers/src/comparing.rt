@@ -9,9 +9,7 @@ use crate::apart::first_apart;
 use crate::held::{first_doubled, held_by_number};
 use crate::lost::first_lost;
 use answer_ticket::Receipt;
-use gateway_book::GatewayBook;
-use resv_list::VecRoster;
-use server_core::Desk;
+use server_core::{Book, Desk};
 use std::alloc::Allocator;
 use std::hash::BuildHasher;
 
@@ -20,7 +18,7 @@ use std::hash::BuildHasher;
 pub(crate) fn compare<S: BuildHasher, A: Allocator + Copy>(
     alloc: A,
     desk: &Desk<S, A>,
-    shelf: &[(u16, GatewayBook<VecRoster<A>>)],
+    shelf: &[(u16, Book<A>)],
     receipts: &[Receipt<A>],
 ) -> Result<(), FinishCause>
     ensures equal { OnOk result (All (λ s. s.1.booked ≡ airtime_at desk.now s.0) shelf.now) }

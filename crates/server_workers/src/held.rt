@@ -5,8 +5,8 @@ ghost use Rattle.std.specs.List.Sorted.{IsPermutation, IsNonDecreasingBy};
 ghost use Rattle.server_workers.specs.Closings.{held_by, EachStandsOnce, StandsTwice};
 
 use crate::NoMemory;
-use gateway_book::GatewayBook;
-use resv_list::{Reservation, VecRoster};
+use resv_list::Reservation;
+use server_core::Book;
 use std::alloc::Allocator;
 
 /// A reservation that a book keeps, beside its gateway's number.
@@ -15,7 +15,7 @@ pub(crate) type Held = (u16, Reservation);
 /// What all books keep, in the order of the numbers.
 pub(crate) fn held_by_number<A: Allocator + Copy>(
     alloc: A,
-    shelf: &[(u16, GatewayBook<VecRoster<A>>)],
+    shelf: &[(u16, Book<A>)],
 ) -> Result<Vec<Held, A>, NoMemory>
     ensures same { IfOk result (λ held. IsPermutation (held_by shelf.now) held.items) }
     ensures rising { IfOk result (λ held. IsNonDecreasingBy (λ h. h.1.number) held.items) }
@@ -44,7 +44,7 @@ pub(crate) fn first_doubled(held: &[Held]) -> Option<(u64, u16, u16)>
 /// What all books keep, one after another.
 fn held_of<A: Allocator + Copy>(
     alloc: A,
-    shelf: &[(u16, GatewayBook<VecRoster<A>>)],
+    shelf: &[(u16, Book<A>)],
 ) -> Result<Vec<Held, A>, NoMemory>
     ensures { IfOk result (λ held. held.items ≡ held_by shelf.now) }
 {

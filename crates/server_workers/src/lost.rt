@@ -6,14 +6,15 @@ ghost use Rattle.server_workers.specs.Closings.{held_by, HasBook, IsAccountedFor
 
 use crate::held::Held;
 use answer_ticket::Receipt;
-use gateway_book::{GatewayBook, HOUR};
-use resv_list::{Reservation, VecRoster};
+use gateway_book::HOUR;
+use resv_list::Reservation;
+use server_core::Book;
 use std::alloc::Allocator;
 
 /// The number of the first receipt whose gateway is unknown, or whose reservation is not kept there though the book's floor
 /// is no more than an hour past its start. `held` is what the books keep, in the order of the numbers. Takes no memory.
 pub(crate) fn first_lost<A: Allocator>(
-    shelf: &[(u16, GatewayBook<VecRoster<A>>)],
+    shelf: &[(u16, Book<A>)],
     held: &[Held],
     receipts: &[Receipt<A>],
 ) -> Option<u64>
@@ -30,7 +31,7 @@ pub(crate) fn first_lost<A: Allocator>(
 
 /// Whether a receipt's reservation is kept by the book of its gateway, or that book is past it.
 fn is_accounted_for<A: Allocator>(
-    shelf: &[(u16, GatewayBook<VecRoster<A>>)],
+    shelf: &[(u16, Book<A>)],
     held: &[Held],
     receipt: &Receipt<A>,
 ) -> bool
@@ -55,11 +56,7 @@ fn is_held(held: &[Held], gateway: u16, reservation: &Reservation) -> bool
 }
 
 /// Whether the book of the gateway with this number has a floor more than an hour past the reservation's start.
-fn is_past<A: Allocator>(
-    shelf: &[(u16, GatewayBook<VecRoster<A>>)],
-    gateway: u16,
-    reservation: &Reservation,
-) -> bool
+fn is_past<A: Allocator>(shelf: &[(u16, Book<A>)], gateway: u16, reservation: &Reservation) -> bool
     ensures { IsTrue result → HasBook shelf.now gateway (λ b. reservation.now.start + HOUR < b.floor) }
 {
     let last = reservation.start + HOUR;

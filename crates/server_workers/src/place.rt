@@ -4,9 +4,7 @@ ghost use Rattle.std.specs.Option.{option_map};
 ghost use Rattle.server_core.specs.Settings.{IsGatewayInRange};
 ghost use Rattle.server_workers.specs.Stations.{ids_of, put_in_order};
 
-use gateway_book::GatewayBook;
-use resv_list::VecRoster;
-use server_core::GatewaySetting;
+use server_core::{Book, GatewaySetting, empty_book};
 use std::alloc::{AllocError, Allocator};
 use std::marker::Model;
 use std::sync::Mutex;
@@ -15,7 +13,7 @@ use std::sync::Mutex;
 #[derive(Drop)]
 pub(crate) struct Place<A: Allocator> {
     pub(crate) id: u16,
-    pub(crate) book: Mutex<GatewayBook<VecRoster<A>>>,
+    pub(crate) book: Mutex<Book<A>>,
 }
 
 impl<A: Allocator> Model for Place<A> {
@@ -52,18 +50,6 @@ fn empty_place<A: Allocator + Copy>(alloc: A, gateway: &GatewaySetting) -> Place
         id: gateway.id,
         book: Mutex::new(empty_book(alloc, gateway)),
     }
-}
-
-/// The empty book of a gateway.
-fn empty_book<A: Allocator + Copy>(alloc: A, gateway: &GatewaySetting) -> GatewayBook<VecRoster<A>>
-    requires { IsGatewayInRange gateway.now }
-    ensures { result ≡ record { id = gateway.now.id; rules = record { cap = gateway.now.cap }; floor = 0; list = []; booked = 0; cancelled = 0; retired = 0 } }
-{
-    // The cap of a setting is in range.
-    let Ok(book) = GatewayBook::new(VecRoster::new(alloc), gateway.id, gateway.cap) else {
-        unreachable!()
-    };
-    book
 }
 
 /// The first of these gateways with this number.

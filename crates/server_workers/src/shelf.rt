@@ -5,20 +5,20 @@ ghost use Rattle.server_workers.specs.Closings.{counted};
 
 use crate::NoMemory;
 use crate::place::Place;
-use gateway_book::{GatewayBook, Totals};
-use resv_list::VecRoster;
+use gateway_book::Totals;
+use server_core::Book;
 use std::alloc::Allocator;
 use std::sync::Mutex;
 
 /// Books beside their gateways' numbers.
-pub(crate) type Shelf<A> = Vec<(u16, GatewayBook<VecRoster<A>>), A>;
+pub(crate) type Shelf<A> = Vec<(u16, Book<A>), A>;
 
 /// Lists with room for a station's books.
 #[derive(Drop)]
 pub(crate) struct ClosingLists<A: Allocator> {
     pub(crate) shelf: Shelf<A>,
     pub(crate) totals: Vec<(u16, Totals), A>,
-    pub(crate) books: Vec<GatewayBook<VecRoster<A>>, A>,
+    pub(crate) books: Vec<Book<A>, A>,
 }
 
 impl<A: Allocator + Copy> ClosingLists<A> {
@@ -70,7 +70,7 @@ pub(crate) fn put_back<A: Allocator>(shelf: &mut Shelf<A>, places: &mut Vec<Plac
 pub(crate) fn part<A: Allocator>(
     shelf: &mut Shelf<A>,
     totals: &mut Vec<(u16, Totals), A>,
-    books: &mut Vec<GatewayBook<VecRoster<A>>, A>,
+    books: &mut Vec<Book<A>, A>,
 )
     requires no_totals { totals.old.items ≡ [] }
     requires no_books { books.old.items ≡ [] }

@@ -2,18 +2,18 @@
 //! books, and what becomes of tickets. Nothing here has a contract, so a test's proof carries no facts about what it is given.
 #![tactic(auto)]
 
-mod books;
-mod desks;
-mod devices;
-mod tickets;
-mod uplinks;
+mod books_for_tests;
+mod desks_for_tests;
+mod devices_for_tests;
+mod tickets_for_tests;
+mod uplinks_for_tests;
 
-pub use books::{WorkedBook, book_of};
-pub use desks::{
+pub use books_for_tests::{WorkedBook, book_of};
+pub use desks_for_tests::{
     AMPLE, WorkedDesk, WorkedHasher, answered, desk_of, hasher, heard, passed, queued, settings_of,
 };
-pub use devices::{ADDR, APP, DEVICE, NWK, device};
-pub use tickets::{
+pub use devices_for_tests::{ADDR, APP, DEVICE, NWK, device};
+pub use tickets_for_tests::{
     booked, given_up, handed_back, last_refused, next_refused, settled, spent, taken, tried_on,
 };
-pub use uplinks::{COPY, copy_at, uplink};
+pub use uplinks_for_tests::{COPY, copy_at, uplink};

@@ -19,6 +19,7 @@ pub const AMPLE: Limits = Limits {
     max_copies: 16,
 };
 
+/// That hasher.
 pub fn hasher() -> WorkedHasher {
     BuildHasherDefault::new()
 }
