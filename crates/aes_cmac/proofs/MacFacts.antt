@@ -1,5 +1,6 @@
 -- The subkeys, and a message that is taken in piece by piece.
-use Rattle.std.proofs.Common.{◌≡◌, ℕ, zero, suc, ◌+◌, ◌*◌, ◌/◌, ◌%◌, ◌^◌, ◌<◌, ◌≤◌, replicate, List, [], ◌∷◌, length, get_or, set, refl, subst, false, nat_lt, inl, inr, ap, sym, ◌∙◌, arith}
+use Rattle.std.proofs.Common.{◌≡◌, ℕ, zero, suc, ◌+◌, ◌*◌, ◌/◌, ◌%◌, ◌^◌, ◌<◌, ◌≤◌, replicate, List, [], ◌∷◌, length, get_or, set}
+use Rattle.std.proofs.Common.{refl, subst, false, nat_lt, inl, inr, ap, sym, ◌∙◌, arith}
 use Rattle.std.specs.Prelude.{bit_xor}
 use Rattle.std.proofs.lemmas.Bool.{cases_lt}
 use Rattle.std.proofs.lemmas.Bool.Decides.{nat_tests}
@@ -15,7 +16,8 @@ length-shifted_left [] = refl
 length-shifted_left (b ∷ bs) = ap suc (length-shifted_left bs)
 
 -- a byte of a shifted block; past its end stands 0
-pub get_or-shifted_left : (bs : List ℕ) (i : ℕ) → i < length bs → get_or (shifted_left bs) i 0 ≡ 2 * get_or bs i 0 % 256 + get_or bs (i + 1) 0 / 128
+pub get_or-shifted_left : (bs : List ℕ) (i : ℕ) → i < length bs
+    → get_or (shifted_left bs) i 0 ≡ 2 * get_or bs i 0 % 256 + get_or bs (i + 1) 0 / 128
 get_or-shifted_left [] i h = absurd (omega arith)
 get_or-shifted_left (b ∷ bs) zero h = refl
 get_or-shifted_left (b ∷ bs) (suc i) h =
@@ -58,7 +60,8 @@ shifted_all out bs v len width is done =
 
 -- ---- sums of lists of bytes
 
-pub get_or-xor_bytes : (a b : List ℕ) (k : ℕ) → k < length a → k < length b → get_or (xor_bytes a b) k 0 ≡ bit_xor (get_or a k 0) (get_or b k 0)
+pub get_or-xor_bytes : (a b : List ℕ) (k : ℕ) → k < length a → k < length b
+    → get_or (xor_bytes a b) k 0 ≡ bit_xor (get_or a k 0) (get_or b k 0)
 get_or-xor_bytes [] b k ha hb = absurd (omega arith)
 get_or-xor_bytes (x ∷ xs) [] k ha hb = absurd (omega arith)
 get_or-xor_bytes (x ∷ xs) (y ∷ ys) zero ha hb = refl
@@ -76,7 +79,8 @@ doubled_block-carry l h =
 
 -- what a new key holds
 pub expanded_key : (words key first second zeros : List ℕ) → length words ≡ 44 → length key ≡ 16 → IsSchedule words key
-    → ((i : ℕ) → get_or words i 0 < 2 ^ 32) → zeros ≡ ciphertext key (replicate 16 0) → first ≡ doubled_block zeros → second ≡ doubled_block first
+    → ((i : ℕ) → get_or words i 0 < 2 ^ 32) → zeros ≡ ciphertext key (replicate 16 0) → first ≡ doubled_block zeros
+    → second ≡ doubled_block first
     → IsExpanded words first second
 unfolding first_subkey second_subkey
 expanded_key words key first second zeros len width is fits ez ef es =

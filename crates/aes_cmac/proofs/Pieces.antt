@@ -1,9 +1,11 @@
 -- A message that grows, and the code of the whole.
-use Rattle.std.proofs.Common.{◌≡◌, ℕ, zero, suc, ◌+◌, ◌-◌, ◌*◌, ◌/◌, ◌%◌, ◌<◌, ◌≤◌, List, [], ◌∷◌, ◌++◌, length, take, drop, replicate, true, false, nat_lt, refl, inl, inr, ap, sym, ◌∙◌, arith}
+use Rattle.std.proofs.Common.{◌≡◌, ℕ, zero, suc, ◌+◌, ◌-◌, ◌*◌, ◌/◌, ◌%◌, ◌<◌, ◌≤◌, List, [], ◌∷◌, ◌++◌, length, take, drop}
+use Rattle.std.proofs.Common.{replicate, true, false, nat_lt, refl, inl, inr, ap, sym, ◌∙◌, arith}
 use Rattle.std.specs.Prelude.{◌==◌, ◌&&◌}
 use Rattle.std.proofs.lemmas.Bool.{cases_lt}
 use Rattle.std.proofs.lemmas.Bool.Decides.{nat_tests}
-use Rattle.std.proofs.lemmas.List.{take-append-le, drop-append-le, take_all, drop_at, append_assoc, drop-take, take-take, take-append-drop, length-append, length-drop, length-take-le, length-replicate}
+use Rattle.std.proofs.lemmas.List.{take-append-le, drop-append-le, take_all, drop_at, append_assoc, drop-take, take-take}
+use Rattle.std.proofs.lemmas.List.{take-append-drop, length-append, length-drop, length-take-le, length-replicate}
 use Rattle.aes_cmac.specs.Aes.{xor_bytes, ciphertext}
 use Rattle.aes_cmac.specs.Mac.{chain_after, cmac, padded_message, last_subkey, first_subkey, second_subkey}
 use Rattle.aes_cmac.specs.Progress.{Progress, HasTaken, full_blocks}
@@ -57,7 +59,8 @@ HasTaken_from s key p t same chain tail split =
     let count : full_blocks (length (p ++ t)) ≡ length p / 16 = omega arith in
     record {
       same_key = same;
-      chain_is = chain ∙ sym (chain_after-append key p t (length p / 16) (omega arith)) ∙ ap (chain_after key (p ++ t)) (sym count);
+      chain_is = chain ∙ sym (chain_after-append key p t (length p / 16) (omega arith))
+          ∙ ap (chain_after key (p ++ t)) (sym count);
       tail_is = tail ∙ sym (drop_at p t (16 * full_blocks (length (p ++ t))) (omega arith));
     }
 
@@ -77,20 +80,24 @@ pub chain-front : (s : Progress) (key m : List ℕ) → HasTaken s key m → s.c
 chain-front s key m held =
     let count : full_blocks (length m) ≡ length (front m) / 16 = omega (arith, length-front m) in
     held.chain_is ∙ ap (λ (x : List ℕ). chain_after key x (full_blocks (length m))) (front-tail s key m held)
-    ∙ chain_after-append key (front m) s.tail (full_blocks (length m)) (omega (arith, length-front m)) ∙ ap (chain_after key (front m)) count
+    ∙ chain_after-append key (front m) s.tail (full_blocks (length m)) (omega (arith, length-front m))
+    ∙ ap (chain_after key (front m)) count
 
 pub length-tail : (s : Progress) (key m : List ℕ) → HasTaken s key m → length m ≡ 16 * full_blocks (length m) + length s.tail
 length-tail s key m held =
-    ap (λ (x : List ℕ). length x) (front-tail s key m held) ∙ length-append (front m) s.tail ∙ ap (λ (k : ℕ). k + length s.tail) (length-front m)
+    ap (λ (x : List ℕ). length x) (front-tail s key m held) ∙ length-append (front m) s.tail
+    ∙ ap (λ (k : ℕ). k + length s.tail) (length-front m)
 
 -- a piece that leaves what is held within a block
 pub HasTaken_short : (s : Progress) (key m d : List ℕ) → HasTaken s key m → length s.tail + length d ≤ 16
     → HasTaken (record { key = s.key; chain = s.chain; tail = s.tail ++ d }) key (m ++ d)
 HasTaken_short s key m d held room =
     let len : length (s.tail ++ d) ≡ length s.tail + length d = length-append s.tail d in
-    let whole : m ++ d ≡ front m ++ (s.tail ++ d) = ap (λ (x : List ℕ). x ++ d) (front-tail s key m held) ∙ append_assoc (front m) s.tail d in
+    let whole : m ++ d ≡ front m ++ (s.tail ++ d) = ap (λ (x : List ℕ). x ++ d) (front-tail s key m held)
+    ∙ append_assoc (front m) s.tail d in
     rw whole
-    (HasTaken_from (record { key = s.key; chain = s.chain; tail = s.tail ++ d }) key (front m) (s.tail ++ d) held.same_key (chain-front s key m held) refl
+    (HasTaken_from (record { key = s.key; chain = s.chain; tail = s.tail ++ d }) key (front m) (s.tail ++ d) held.same_key
+    (chain-front s key m held) refl
     (omega (arith, length-front m, length-tail s key m held)))
 
 -- a piece that fills the block that is held, which is then added
@@ -98,7 +105,8 @@ pub HasChained_first : (s : Progress) (key m d : List ℕ) → HasTaken s key m 
     → HasChained (record { key = s.key; chain = ciphertext s.key (xor_bytes s.chain (s.tail ++ d)); tail = [] }) key (m ++ d)
 HasChained_first s key m d held full =
     let len : length (s.tail ++ d) ≡ length s.tail + length d = length-append s.tail d in
-    let whole : m ++ d ≡ front m ++ (s.tail ++ d) = ap (λ (x : List ℕ). x ++ d) (front-tail s key m held) ∙ append_assoc (front m) s.tail d in
+    let whole : m ++ d ≡ front m ++ (s.tail ++ d) = ap (λ (x : List ℕ). x ++ d) (front-tail s key m held)
+    ∙ append_assoc (front m) s.tail d in
     rw whole
     (HasChained_more (record { key = s.key; chain = s.chain; tail = [] }) key (front m) (s.tail ++ d)
     (record {
@@ -112,7 +120,8 @@ HasChained_first s key m d held full =
 -- sixteen bytes more of a piece
 pub HasChained_block : (s : Progress) (key m d x : List ℕ) (a : ℕ) → HasChained s key (m ++ take a d) → a + 16 ≤ length d
     → x ≡ take 16 (drop a d)
-    → HasChained (record { key = s.key; chain = ciphertext s.key (xor_bytes s.chain x); tail = s.tail }) key (m ++ take (a + 16) d)
+    → HasChained (record { key = s.key; chain = ciphertext s.key (xor_bytes s.chain x); tail = s.tail }) key
+    (m ++ take (a + 16) d)
 HasChained_block s key m d x a held fits ex =
     let width : length (take 16 (drop a d)) ≡ 16 = length-take-le 16 (drop a d) (omega (arith, length-drop a d)) in
     let grown : take (a + 16) d ≡ take a d ++ take 16 (drop a d) =
@@ -122,18 +131,21 @@ HasChained_block s key m d x a held fits ex =
     rw (whole, ex) (HasChained_more s key (m ++ take a d) (take 16 (drop a d)) held width)
 
 -- the rest of a piece, which is held
-pub HasTaken_rest : (s : Progress) (key m d x : List ℕ) (a : ℕ) → HasChained s key (m ++ take a d) → a < length d → length d ≤ a + 16
+pub HasTaken_rest : (s : Progress) (key m d x : List ℕ) (a : ℕ) → HasChained s key (m ++ take a d) → a < length d
+    → length d ≤ a + 16
     → x ≡ drop a d → HasTaken (record { key = s.key; chain = s.chain; tail = s.tail ++ x }) key (m ++ d)
 HasTaken_rest s key m d x a held more short ex =
     let whole : m ++ d ≡ (m ++ take a d) ++ drop a d =
     ap (λ (y : List ℕ). m ++ y) (sym (take-append-drop a d)) ∙ sym (append_assoc m (take a d) (drop a d)) in
     rw whole
-    (HasTaken_from (record { key = s.key; chain = s.chain; tail = s.tail ++ x }) key (m ++ take a d) (drop a d) held.same_key held.chain_is
+    (HasTaken_from (record { key = s.key; chain = s.chain; tail = s.tail ++ x }) key (m ++ take a d)
+    (drop a d) held.same_key held.chain_is
     (ap (λ (y : List ℕ). y ++ x) held.empty ∙ ex) (omega (arith, length-drop a d, held.whole)))
 
 -- ---- the code of the whole message
 
-pub cmac-whole : (s : Progress) (key m x : List ℕ) → HasTaken s key m → length s.tail ≡ 16 → x ≡ xor_bytes s.tail (first_subkey s.key)
+pub cmac-whole : (s : Progress) (key m x : List ℕ) → HasTaken s key m → length s.tail ≡ 16
+    → x ≡ xor_bytes s.tail (first_subkey s.key)
     → ciphertext s.key (xor_bytes s.chain x) ≡ cmac key m
 unfolding cmac padded_message last_subkey
 cmac-whole s key m x held full ex =
@@ -141,7 +153,8 @@ cmac-whole s key m x held full ex =
     let some : nat_lt 0 (length m) ≡ true = grind (arith, nat_tests) in
     let even : (length m % 16 == 0) ≡ true = grind (arith, nat_tests) in
     let count : length m / 16 - 1 ≡ full_blocks (length m) = omega arith in
-    let block : take 16 (drop (16 * full_blocks (length m)) m) ≡ s.tail = ap (take 16) (sym held.tail_is) ∙ take_all 16 s.tail (omega arith) in
+    let block : take 16 (drop (16 * full_blocks (length m)) m) ≡ s.tail =
+    ap (take 16) (sym held.tail_is) ∙ take_all 16 s.tail (omega arith) in
     rw (some, even, count, block, ex, held.same_key, held.chain_is) refl
 
 not_whole : (n t : ℕ) → n % 16 ≡ t → n ≡ 16 * full_blocks n + t → t < 16 → (nat_lt 0 n && (n % 16 == 0)) ≡ false
@@ -161,7 +174,8 @@ cmac-filled s key m x held short ex =
     let test : (nat_lt 0 (length m) && (length m % 16 == 0)) ≡ false = not_whole (length m) (length s.tail) rest len short in
     let last : List ℕ = s.tail ++ 0x80 ∷ replicate (15 - length s.tail) 0 in
     let width : length last ≡ 16 =
-    length-append s.tail (0x80 ∷ replicate (15 - length s.tail) 0) ∙ ap (λ (k : ℕ). length s.tail + suc k) (length-replicate (15 - length s.tail) 0) ∙ omega arith in
+    length-append s.tail (0x80 ∷ replicate (15 - length s.tail) 0)
+    ∙ ap (λ (k : ℕ). length s.tail + suc k) (length-replicate (15 - length s.tail) 0) ∙ omega arith in
     let padded : m ++ 0x80 ∷ replicate (15 - length m % 16) 0 ≡ front m ++ last =
     ap (λ (k : ℕ). m ++ 0x80 ∷ replicate (15 - k) 0) rest
     ∙ ap (λ (y : List ℕ). y ++ 0x80 ∷ replicate (15 - length s.tail) 0) (front-tail s key m held)
@@ -169,9 +183,11 @@ cmac-filled s key m x held short ex =
     let count : length (front m ++ last) / 16 - 1 ≡ length (front m) / 16 =
     omega (arith, length-append (front m) last, length-front m) in
     let chain : chain_after key (front m ++ last) (length (front m) / 16) ≡ s.chain =
-    chain_after-append key (front m) last (length (front m) / 16) (omega (arith, length-front m)) ∙ sym (chain-front s key m held) in
+    chain_after-append key (front m) last (length (front m) / 16) (omega (arith, length-front m))
+    ∙ sym (chain-front s key m held) in
     let block : take 16 (drop (16 * (length (front m) / 16)) (front m ++ last)) ≡ last =
-    ap (take 16) (drop_at (front m) last (16 * (length (front m) / 16)) (omega (arith, length-front m))) ∙ take_all 16 last (omega arith) in
+    ap (take 16) (drop_at (front m) last (16 * (length (front m) / 16)) (omega (arith, length-front m)))
+    ∙ take_all 16 last (omega arith) in
     rw (test, padded, count, chain, block, ex, held.same_key) refl
 
 -- the cipher of the last sum, from what the state holds and the sum of the last block and its subkey

@@ -1,5 +1,6 @@
 -- The code's tables are what the standard computes, at each of the 256 bytes.
-use Rattle.std.proofs.Common.{◌≡◌, ℕ, zero, suc, ◌+◌, ◌<◌, List, [], ◌∷◌, map, get_or, length, refl, ap, sym, ◌∙◌, arith, Bool, true, false, nat_lt}
+use Rattle.std.proofs.Common.{◌≡◌, ℕ, zero, suc, ◌+◌, ◌<◌, List, [], ◌∷◌, map, get_or, length, refl, ap, sym, ◌∙◌, arith, Bool}
+use Rattle.std.proofs.Common.{true, false, nat_lt}
 use Rattle.std.specs.Prelude.{◌&&◌}
 use Rattle.std.proofs.lemmas.Bool.{ltb-true, false≢true}
 use Rattle.std.proofs.lemmas.List.{get_or-map}
@@ -7,7 +8,8 @@ use Rattle.std.specs.List.{range_with_len, list_all}
 use Rattle.aes_cmac.specs.Field.{times_x, product_of_bits, product, power, inverse, s_box}
 use Rattle.aes_cmac.specs.Aes.{round_constant}
 use Rattle.aes_cmac.specs.Words.{word_bytes}
-use Rattle.aes_cmac.specs.declared.tables.TheConstants.{ROUND_CONSTANTS, S_BOX, FIRST_COLUMN, SECOND_COLUMN, THIRD_COLUMN, FOURTH_COLUMN}
+use Rattle.aes_cmac.specs.declared.tables.TheConstants.{ROUND_CONSTANTS, S_BOX, FIRST_COLUMN, SECOND_COLUMN, THIRD_COLUMN}
+use Rattle.aes_cmac.specs.declared.tables.TheConstants.{FOURTH_COLUMN}
 
 S_BOX-map : S_BOX ≡ map s_box (range_with_len 0 256)
 unfolding times_x product_of_bits product power inverse s_box
@@ -66,19 +68,23 @@ get_or-table table f same len i h =
     sym (get_or-map word_bytes table i 0 [] (omega arith)) ∙ ap (λ (xs : List (List ℕ)). get_or xs i []) same
     ∙ get_or-map f S_BOX i 0 [] (omega arith) ∙ ap f (get_or-S_BOX i h)
 
-pub get_or-FIRST_COLUMN : (i : ℕ) → i < 256 → word_bytes (get_or FIRST_COLUMN i 0) ≡ product 2 (s_box i) ∷ s_box i ∷ s_box i ∷ product 3 (s_box i) ∷ []
+pub get_or-FIRST_COLUMN : (i : ℕ) → i < 256 → word_bytes (get_or FIRST_COLUMN i 0) ≡ product 2 (s_box i) ∷ s_box i ∷ s_box i
+    ∷ product 3 (s_box i) ∷ []
 unfolding first_column
 get_or-FIRST_COLUMN i h = get_or-table FIRST_COLUMN first_column FIRST_COLUMN-map refl i h
 
-pub get_or-SECOND_COLUMN : (i : ℕ) → i < 256 → word_bytes (get_or SECOND_COLUMN i 0) ≡ product 3 (s_box i) ∷ product 2 (s_box i) ∷ s_box i ∷ s_box i ∷ []
+pub get_or-SECOND_COLUMN : (i : ℕ) → i < 256 → word_bytes (get_or SECOND_COLUMN i 0) ≡ product 3 (s_box i) ∷ product 2 (s_box i)
+    ∷ s_box i ∷ s_box i ∷ []
 unfolding second_column
 get_or-SECOND_COLUMN i h = get_or-table SECOND_COLUMN second_column SECOND_COLUMN-map refl i h
 
-pub get_or-THIRD_COLUMN : (i : ℕ) → i < 256 → word_bytes (get_or THIRD_COLUMN i 0) ≡ s_box i ∷ product 3 (s_box i) ∷ product 2 (s_box i) ∷ s_box i ∷ []
+pub get_or-THIRD_COLUMN : (i : ℕ) → i < 256 → word_bytes (get_or THIRD_COLUMN i 0) ≡ s_box i ∷ product 3 (s_box i)
+    ∷ product 2 (s_box i) ∷ s_box i ∷ []
 unfolding third_column
 get_or-THIRD_COLUMN i h = get_or-table THIRD_COLUMN third_column THIRD_COLUMN-map refl i h
 
-pub get_or-FOURTH_COLUMN : (i : ℕ) → i < 256 → word_bytes (get_or FOURTH_COLUMN i 0) ≡ s_box i ∷ s_box i ∷ product 3 (s_box i) ∷ product 2 (s_box i) ∷ []
+pub get_or-FOURTH_COLUMN : (i : ℕ) → i < 256 → word_bytes (get_or FOURTH_COLUMN i 0) ≡ s_box i ∷ s_box i ∷ product 3 (s_box i)
+    ∷ product 2 (s_box i) ∷ []
 unfolding fourth_column
 get_or-FOURTH_COLUMN i h = get_or-table FOURTH_COLUMN fourth_column FOURTH_COLUMN-map refl i h
 
@@ -104,5 +110,7 @@ pub get_or-ROUND_CONSTANTS : (n : ℕ) → n < 10 → word_bytes (get_or ROUND_C
 get_or-ROUND_CONSTANTS n h =
     let len : length (range_with_len 1 10) ≡ 10 = length-range 10 1 in
     let words : length ROUND_CONSTANTS ≡ 10 = refl in
-    sym (get_or-map word_bytes ROUND_CONSTANTS n 0 [] (omega arith)) ∙ ap (λ (xs : List (List ℕ)). get_or xs n []) ROUND_CONSTANTS-map
-    ∙ get_or-map round_constant (range_with_len 1 10) n 0 [] (omega arith) ∙ ap round_constant (get_or-range 10 1 n h ∙ omega arith)
+    sym (get_or-map word_bytes ROUND_CONSTANTS n 0 [] (omega arith))
+    ∙ ap (λ (xs : List (List ℕ)). get_or xs n []) ROUND_CONSTANTS-map
+    ∙ get_or-map round_constant (range_with_len 1 10) n 0 [] (omega arith)
+    ∙ ap round_constant (get_or-range 10 1 n h ∙ omega arith)

@@ -1,5 +1,6 @@
 -- Words by their bytes.
-use Rattle.std.proofs.Common.{◌≡◌, ℕ, zero, suc, ◌+◌, ◌/◌, ◌%◌, ◌^◌, ◌<◌, List, [], ◌∷◌, ◌++◌, length, get_or, drop, refl, ap, sym, ◌∙◌, arith}
+use Rattle.std.proofs.Common.{◌≡◌, ℕ, zero, suc, ◌+◌, ◌/◌, ◌%◌, ◌^◌, ◌<◌, List, [], ◌∷◌, ◌++◌, length, get_or, drop, refl, ap}
+use Rattle.std.proofs.Common.{sym, ◌∙◌, arith}
 use Rattle.std.specs.Prelude.{bit_xor}
 use Rattle.std.specs.Int.{w32, from_be_bytes}
 use Rattle.std.proofs.lemmas.List.{drop_more, drop_all}
@@ -15,9 +16,12 @@ pub word_bytes-xor : (a b : ℕ) → word_bytes (bit_xor a b) ≡ xor_bytes (wor
 unfolding word_bytes
 word_bytes-xor a b =
     ap (λ (n : ℕ). n ∷ bit_xor a b / 65536 % 256 ∷ bit_xor a b / 256 % 256 ∷ bit_xor a b % 256 ∷ []) (byte-xor a b 24)
-    ∙ ap (λ (n : ℕ). bit_xor (a / 16777216 % 256) (b / 16777216 % 256) ∷ n ∷ bit_xor a b / 256 % 256 ∷ bit_xor a b % 256 ∷ []) (byte-xor a b 16)
-    ∙ ap (λ (n : ℕ). bit_xor (a / 16777216 % 256) (b / 16777216 % 256) ∷ bit_xor (a / 65536 % 256) (b / 65536 % 256) ∷ n ∷ bit_xor a b % 256 ∷ []) (byte-xor a b 8)
-    ∙ ap (λ (n : ℕ). bit_xor (a / 16777216 % 256) (b / 16777216 % 256) ∷ bit_xor (a / 65536 % 256) (b / 65536 % 256) ∷ bit_xor (a / 256 % 256) (b / 256 % 256) ∷ n ∷ []) (xor_mod a b 8)
+    ∙ ap (λ (n : ℕ). bit_xor (a / 16777216 % 256) (b / 16777216 % 256) ∷ n ∷ bit_xor a b / 256 % 256 ∷ bit_xor a b % 256 ∷ [])
+    (byte-xor a b 16)
+    ∙ ap (λ (n : ℕ). bit_xor (a / 16777216 % 256) (b / 16777216 % 256) ∷ bit_xor (a / 65536 % 256) (b / 65536 % 256) ∷ n
+    ∷ bit_xor a b % 256 ∷ []) (byte-xor a b 8)
+    ∙ ap (λ (n : ℕ). bit_xor (a / 16777216 % 256) (b / 16777216 % 256) ∷ bit_xor (a / 65536 % 256) (b / 65536 % 256)
+    ∷ bit_xor (a / 256 % 256) (b / 256 % 256) ∷ n ∷ []) (xor_mod a b 8)
 
 -- each of four bytes, wherever it is read
 four_below : (a b c d : ℕ) → a < 256 → b < 256 → c < 256 → d < 256 → (i : ℕ) → get_or (a ∷ b ∷ c ∷ d ∷ []) i 0 < 256
@@ -47,7 +51,8 @@ drop-places b i (suc n) len =
 -- a list of sixteen bytes, byte by byte
 pub sixteen : (b : List ℕ) → length b ≡ 16
     → b ≡ get_or b 0 0 ∷ get_or b 1 0 ∷ get_or b 2 0 ∷ get_or b 3 0 ∷ get_or b 4 0 ∷ get_or b 5 0 ∷ get_or b 6 0 ∷ get_or b 7 0
-    ∷ get_or b 8 0 ∷ get_or b 9 0 ∷ get_or b 10 0 ∷ get_or b 11 0 ∷ get_or b 12 0 ∷ get_or b 13 0 ∷ get_or b 14 0 ∷ get_or b 15 0 ∷ []
+    ∷ get_or b 8 0 ∷ get_or b 9 0 ∷ get_or b 10 0 ∷ get_or b 11 0 ∷ get_or b 12 0 ∷ get_or b 13 0 ∷ get_or b 14 0 ∷ get_or b 15 0
+    ∷ []
 unfolding places
 sixteen b len = drop-places b 0 16 len
 

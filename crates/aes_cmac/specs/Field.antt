@@ -28,7 +28,8 @@ inverse b = power b 254
 -- bit i of the affine transformation of a byte (section 5.1.1)
 abbrev pub affine_bit : ℕ → ℕ → ℕ
 affine_bit b i =
-    (bit_at b i + bit_at b ((i + 4) % 8) + bit_at b ((i + 5) % 8) + bit_at b ((i + 6) % 8) + bit_at b ((i + 7) % 8) + bit_at 0x63 i) % 2
+    (bit_at b i + bit_at b ((i + 4) % 8) + bit_at b ((i + 5) % 8) + bit_at b ((i + 6) % 8) + bit_at b
+    ((i + 7) % 8) + bit_at 0x63 i) % 2
 
 -- the byte whose bits are those of f, from bit 0 up to bit n - 1
 abbrev pub from_bits : (ℕ → ℕ) → ℕ → ℕ

@@ -19,6 +19,11 @@ record_equal : (w w' f f' s s' : List ℕ) → w ≡ w' → f ≡ f' → s ≡ s
 record_equal w w' f f' s s' ew ef es = cc
 
 pub same_fields : (k : Inside) → IsExpanded k.words k.first k.second
-    → (let a : Inside = record { words = schedule_numbers (four_words k.words 0); first = first_subkey (four_words k.words 0); second = second_subkey (four_words k.words 0) } in a) ≡ k
+    → (let a : Inside = record {
+      words = schedule_numbers (four_words k.words 0);
+      first = first_subkey (four_words k.words 0);
+      second = second_subkey (four_words k.words 0);
+    } in a) ≡ k
 same_fields k h =
-    record_equal _ _ _ _ _ _ (ap (map (from_be_bytes w32)) (sym h.schedule) ∙ numbers-word_bytes k.words h.fits) (sym h.first_is) (sym h.second_is)
+    record_equal _ _ _ _ _ _ (ap (map (from_be_bytes w32)) (sym h.schedule) ∙ numbers-word_bytes k.words h.fits) (sym h.first_is)
+    (sym h.second_is)

@@ -1,10 +1,13 @@
 -- How long the lists of the definitions are.
-use Rattle.std.proofs.Common.{◌≡◌, ℕ, zero, suc, ◌+◌, ◌-◌, ◌%◌, ◌/◌, ◌<◌, Bool, true, false, List, [], ◌∷◌, ◌++◌, length, take, drop, inl, inr, refl, ap, sym, ◌∙◌, arith}
+use Rattle.std.proofs.Common.{◌≡◌, ℕ, zero, suc, ◌+◌, ◌-◌, ◌%◌, ◌/◌, ◌<◌, Bool, true, false, List, [], ◌∷◌, ◌++◌, length, take}
+use Rattle.std.proofs.Common.{drop, inl, inr, refl, ap, sym, ◌∙◌, arith}
 use Rattle.std.specs.Prelude.{◌==◌, if◌then◌else◌}
 use Rattle.std.proofs.lemmas.Bool.{cases_lt}
-use Rattle.std.proofs.lemmas.List.{length-append, length-drop, length-map, length-take, length-take-le, get_or_append_left, get_or_push}
+use Rattle.std.proofs.lemmas.List.{length-append, length-drop, length-map, length-take, length-take-le, get_or_append_left}
+use Rattle.std.proofs.lemmas.List.{get_or_push}
 use Rattle.aes_cmac.specs.Field.{s_box}
-use Rattle.aes_cmac.specs.Aes.{xor_bytes, rot_word, sub_word, added_word, round_constant, next_word, word_at, key_words, round_key, shift_rows, sub_bytes, state_after, ciphertext}
+use Rattle.aes_cmac.specs.Aes.{xor_bytes, rot_word, sub_word, added_word, round_constant, next_word, word_at, key_words}
+use Rattle.aes_cmac.specs.Aes.{round_key, shift_rows, sub_bytes, state_after, ciphertext}
 use Rattle.aes_cmac.specs.Mac.{cmac}
 
 pub length-xor_bytes : (a b : List ℕ) → length a ≡ length b → length (xor_bytes a b) ≡ length a
@@ -16,7 +19,8 @@ pub length-key_words : (key : List ℕ) (n : ℕ) → length (key_words key n) �
 unfolding key_words
 length-key_words key zero = refl
 length-key_words key (suc n) =
-    length-append (key_words key n) (next_word (key_words key n) (n + 4) ∷ []) ∙ ap (λ (k : ℕ). k + 1) (length-key_words key n) ∙ omega arith
+    length-append (key_words key n) (next_word (key_words key n) (n + 4) ∷ []) ∙ ap (λ (k : ℕ). k + 1) (length-key_words key n)
+    ∙ omega arith
 
 length-rot_word : (w : List ℕ) → length w ≡ 4 → length (rot_word w) ≡ 4
 length-rot_word w h = length-append (drop 1 w) (take 1 w) ∙ omega (arith, length-drop 1 w, length-take 1 w)
@@ -39,22 +43,36 @@ length-word key zero (suc (suc (suc (suc k)))) h low = absurd (omega arith)
 length-word key (suc n) k h low =
     elim (cases_lt k (n + 4)) [
       | inl below ↦
-          ap (λ (w : List ℕ). length w) (get_or_append_left (key_words key n) (next_word (key_words key n) (n + 4) ∷ []) [] k (omega (arith, length-key_words key n)))
+          ap (λ (w : List ℕ). length w) (get_or_append_left (key_words key n) (next_word (key_words key n) (n + 4) ∷ []) [] k
+          (omega (arith, length-key_words key n)))
           ∙ length-word key n k h below
       | inr over ↦
           let here : k ≡ n + 4 = omega arith in
           let first : length (word_at (key_words key n) (n + 4 - 4)) ≡ 4 = length-word key n (n + 4 - 4) h (omega arith) in
           let second : length (word_at (key_words key n) (n + 4 - 1)) ≡ 4 = length-word key n (n + 4 - 1) h (omega arith) in
-          let added : length (added_word (word_at (key_words key n) (n + 4 - 1)) (n + 4)) ≡ 4 = length-added (word_at (key_words key n) (n + 4 - 1)) (round_constant ((n + 4) / 4)) ((n + 4) % 4 == 0) second refl in
-          ap (λ (w : List ℕ). length w) (get_or_push (key_words key n) (next_word (key_words key n) (n + 4)) [] k (length-key_words key n ∙ sym here))
-          ∙ length-xor_bytes (word_at (key_words key n) (n + 4 - 4)) (added_word (word_at (key_words key n) (n + 4 - 1)) (n + 4)) (first ∙ sym added) ∙ first
+          let added : length (added_word (word_at (key_words key n) (n + 4 - 1)) (n + 4)) ≡ 4 =
+          length-added (word_at (key_words key n) (n + 4 - 1)) (round_constant ((n + 4) / 4))
+          ((n + 4) % 4 == 0) second refl in
+          ap (λ (w : List ℕ). length w) (get_or_push (key_words key n) (next_word (key_words key n) (n + 4)) [] k
+          (length-key_words key n ∙ sym here))
+          ∙ length-xor_bytes (word_at (key_words key n) (n + 4 - 4)) (added_word (word_at (key_words key n) (n + 4 - 1)) (n + 4))
+          (first ∙ sym added) ∙ first
     ]
 
 length-round_key : (key : List ℕ) → length key ≡ 16 → length (round_key key 10) ≡ 16
 unfolding round_key
 length-round_key key h =
     let w = word_at (key_words key 40) in
-    omega (arith, length-append (w 40 ++ w 41 ++ w 42) (w 43), length-append (w 40 ++ w 41) (w 42), length-append (w 40) (w 41), length-word key 40 40 h (omega arith), length-word key 40 41 h (omega arith), length-word key 40 42 h (omega arith), length-word key 40 43 h (omega arith))
+    omega (
+      arith,
+      length-append (w 40 ++ w 41 ++ w 42) (w 43),
+      length-append (w 40 ++ w 41) (w 42),
+      length-append (w 40) (w 41),
+      length-word key 40 40 h (omega arith),
+      length-word key 40 41 h (omega arith),
+      length-word key 40 42 h (omega arith),
+      length-word key 40 43 h (omega arith),
+    )
 
 -- under a key of 16 bytes a block has 16 bytes
 pub length-ciphertext : (key block : List ℕ) → length key ≡ 16 → length (ciphertext key block) ≡ 16

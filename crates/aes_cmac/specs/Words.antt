@@ -16,7 +16,8 @@ byte_of n r = slice_index (to_be_bytes w32 n) r
 -- the bytes of four words, from word i on
 abbrev pub four_words : List ℕ → ℕ → List ℕ
 four_words ws i =
-    word_bytes (slice_index ws i) ++ word_bytes (slice_index ws (i + 1)) ++ word_bytes (slice_index ws (i + 2)) ++ word_bytes (slice_index ws (i + 3))
+    word_bytes (slice_index ws i) ++ word_bytes (slice_index ws (i + 1)) ++ word_bytes (slice_index ws (i + 2))
+    ++ word_bytes (slice_index ws (i + 3))
 
 -- the state of four columns
 abbrev pub state_bytes : List ℕ → List ℕ

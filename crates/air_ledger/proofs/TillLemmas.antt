@@ -22,7 +22,8 @@ gathered-last all l h e =
     ∙ ap (λ a. record { parts = h.parts + parts_of l; amount = a }) (amount_of-last l h)
 
 -- one more till is taken in
-pub gathered-on : (whole left new : Holding) (h : Holding) (old l : List Holding) → left ≡ together whole (gathered old) → old ≡ l ++ h ∷ [] → new ≡ together whole h → left ≡ together new (gathered l)
+pub gathered-on : (whole left new : Holding) (h : Holding) (old l : List Holding) → left ≡ together whole (gathered old)
+    → old ≡ l ++ h ∷ [] → new ≡ together whole h → left ≡ together new (gathered l)
 gathered-on whole left new h old l e cut n =
     let p : whole.parts + (h.parts + parts_of l) ≡ whole.parts + h.parts + parts_of l = omega arith in
     let a : whole.amount + (h.amount + amount_of l) ≡ whole.amount + h.amount + amount_of l = omega arith in
@@ -32,7 +33,8 @@ gathered-on whole left new h old l e cut n =
     ∙ ap (λ k. together k (gathered l)) (sym n)
 
 -- a till that is left fits
-pub fits-on : (whole all h : Holding) (old l : List Holding) → all ≡ together whole (gathered old) → old ≡ l ++ h ∷ [] → all.parts ≤ all_parts → whole.parts + h.parts ≤ all_parts
+pub fits-on : (whole all h : Holding) (old l : List Holding) → all ≡ together whole (gathered old) → old ≡ l ++ h ∷ []
+    → all.parts ≤ all_parts → whole.parts + h.parts ≤ all_parts
 fits-on whole all h old l e cut most =
     let p : all.parts ≡ whole.parts + parts_of old = ap (λ k. k.parts) e in
     let q : parts_of old ≡ h.parts + parts_of l = ap parts_of cut ∙ parts_of-last l h in

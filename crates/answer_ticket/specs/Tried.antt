@@ -38,7 +38,8 @@ pub record IsReceipt {A : Type 0} (job : Job) (c : Candidate) (receipt : Receipt
   pub frame : receipt.frame ≡ frame_for job c
 
 -- the book accepted the candidate, and has its reservation
-pub record IsBooked {A : Type 0} (t : Standing) (c : Candidate) (old new : Book) (stub : Outcome) (receipt : Receipt A) : Type 0 where
+pub record IsBooked {A : Type 0} (t : Standing) (c : Candidate) (old new : Book) (stub : Outcome)
+    (receipt : Receipt A) : Type 0 where
   pub asked : old.id ≡ c.gateway
   pub accepted : refusal_by old t.job c ≡ None
   pub ended : stub ≡ stub_of t.job (answered_as c)

@@ -37,7 +37,18 @@ impl<A: Allocator> Model for Job<A> {
 
     ghost Value = { Fixed };
 
-    ghost view = { λ j. record { number = j.number; addr = j.addr; ack = j.ack; counter = j.counter; queued = j.queued; body = j.body; copies = j.copies; plan = j.plan; keys = j.keys } };
+    ghost view = { λ j. record {
+      number = j.number;
+      addr = j.addr;
+      ack = j.ack;
+      counter = j.counter;
+      queued = j.queued;
+      body =
+          j.body;
+      copies = j.copies;
+      plan = j.plan;
+      keys = j.keys;
+    } };
 }
 
 impl<A: Allocator> Job<A> {

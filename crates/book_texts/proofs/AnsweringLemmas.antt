@@ -1,5 +1,6 @@
 -- Lemmas on one line: how a command is carried out, and its answer written.
-use Rattle.std.proofs.Common.{◌≡◌, ℕ, Bool, true, false, List, [], ◌∷◌, ◌++◌, Option, None, Some, Result, Ok, Err, MatchOption, IsOkUnless, IfOk, OnOk, OnErr, append-nil, refl, sym, ap, ◌∙◌, subst}
+use Rattle.std.proofs.Common.{◌≡◌, ℕ, Bool, true, false, List, [], ◌∷◌, ◌++◌, Option, None, Some, Result, Ok, Err, MatchOption}
+use Rattle.std.proofs.Common.{IsOkUnless, IfOk, OnOk, OnErr, append-nil, refl, sym, ap, ◌∙◌, subst}
 use Rattle.std.proofs.Math.Bool.{or-false}
 use Rattle.text_lines.specs.Writing.{WritesAllBut, WritesFront, WritesAllBut-refl}
 use Rattle.resv_list.specs.declared.reservation.Reservation.{Reservation}
@@ -20,7 +21,10 @@ use Rattle.text_words.specs.Words.{is_refusal, has_refusal}
 use Rattle.book_texts.specs.Answering.{booking_reply, answer_to, state_after_line}
 use Rattle.book_texts.specs.Progress.{IsCarriedOut, reply_lines, IsReplied, IsLineAnswered}
 
-refused_by : (old : Book) (ask : Ask) (refusal : Refusal) (o : Option Refusal) → refusal_of (terms_of old) old.list ask ≡ o → MatchOption o (IsOkUnless {T = Reservation} (Err refusal) NoMemory) (λ e. ◌≡◌ {A = Result Reservation Refusal} (Err refusal) (Err e)) → IsCarriedOut old old (Booking ask) (Refused ask.number refusal)
+refused_by : (old : Book) (ask : Ask) (refusal : Refusal) (o : Option Refusal) → refusal_of (terms_of old) old.list ask ≡ o
+    → MatchOption o (IsOkUnless {T = Reservation} (Err refusal) NoMemory)
+    (λ e. ◌≡◌ {A = Result Reservation Refusal} (Err refusal) (Err e))
+    → IsCarriedOut old old (Booking ask) (Refused ask.number refusal)
 refused_by old ask refusal None is h =
     record {
       starved = true;
@@ -38,13 +42,17 @@ refused_by old ask refusal (Some e) is h =
     }
 
 -- a booking that is refused changes nothing
-pub carried_out-refused : (old new : Book) (ask : Ask) (refusal : Refusal) → MatchOption (refusal_of (terms_of old) old.list ask) (IsOkUnless {T = Reservation} (Err refusal) NoMemory) (λ e. ◌≡◌ {A = Result Reservation Refusal} (Err refusal) (Err e)) → new ≡ old → IsCarriedOut old new (Booking ask) (Refused ask.number refusal)
+pub carried_out-refused : (old new : Book) (ask : Ask) (refusal : Refusal)
+    → MatchOption (refusal_of (terms_of old) old.list ask) (IsOkUnless {T = Reservation} (Err refusal) NoMemory)
+    (λ e. ◌≡◌ {A = Result Reservation Refusal} (Err refusal) (Err e)) → new ≡ old
+    → IsCarriedOut old new (Booking ask) (Refused ask.number refusal)
 carried_out-refused old new ask refusal h same =
     let P : Book → Type 0 = λ b. IsCarriedOut old b (Booking ask) (Refused ask.number refusal) in
     subst P (sym same) (refused_by old ask refusal (refusal_of (terms_of old) old.list ask) refl h)
 
 -- a line is answered where what was written is its answer's line
-pub line_answered : {E : Type 0} (old new : Book) (number : ℕ) (line pending pending_after : List ℕ) (before after : Option (List ℕ)) (result : Result Bool E) (reply : Reply)
+pub line_answered : {E : Type 0} (old new : Book) (number : ℕ) (line pending pending_after : List ℕ)
+    (before after : Option (List ℕ)) (result : Result Bool E) (reply : Reply)
     → IsReplied old new number line (Some reply)
     → OnOk result (WritesAllBut before after (pending ++ (reply_line reply ++ (10 ∷ []))) pending_after)
     → OnErr result (WritesFront before after (pending ++ (reply_line reply ++ (10 ∷ []))))
@@ -72,7 +80,8 @@ line_answered old new number line pending pending_after before after (Err e) rep
     }
 
 -- a line that is passed over needs nothing to be written
-pub passed_over : {E : Type 0} (old new : Book) (number : ℕ) (line pending : List ℕ) (before : Option (List ℕ)) → IsReplied old new number line None → IsLineAnswered {E = E} old new number line pending pending before before (Ok false)
+pub passed_over : {E : Type 0} (old new : Book) (number : ℕ) (line pending : List ℕ) (before : Option (List ℕ))
+    → IsReplied old new number line None → IsLineAnswered {E = E} old new number line pending pending before before (Ok false)
 passed_over old new number line pending before replied =
     let e = replied.answered in
     record {
@@ -85,7 +94,8 @@ passed_over old new number line pending before replied =
     }
 
 -- a command's answer
-pub command_replied : (old new : Book) (number : ℕ) (line : List ℕ) (command : Command) (reply : Reply) → said line ≡ Order command → IsCarriedOut old new command reply → IsReplied old new number line (Some reply)
+pub command_replied : (old new : Book) (number : ℕ) (line : List ℕ) (command : Command) (reply : Reply)
+    → said line ≡ Order command → IsCarriedOut old new command reply → IsReplied old new number line (Some reply)
 command_replied old new number line command reply is done =
     record {
       starved = done.starved;
@@ -95,10 +105,14 @@ command_replied old new number line command reply is done =
     }
 
 -- the answer to a line that is malformed, or passed over
-pub plainly_replied : (old : Book) (number : ℕ) (line : List ℕ) (reply : Option Reply) → answer_to old.rules false number (state_of old) (said line) ≡ reply_lines reply → state_after_line old.rules false (state_of old) (said line) ≡ state_of old → IsReplied old old number line reply
-plainly_replied old number line reply answered stays = record { starved = false; answered = answered; reached = sym stays; same = record { rules = refl; retired = refl } }
+pub plainly_replied : (old : Book) (number : ℕ) (line : List ℕ) (reply : Option Reply)
+    → answer_to old.rules false number (state_of old) (said line) ≡ reply_lines reply
+    → state_after_line old.rules false (state_of old) (said line) ≡ state_of old → IsReplied old old number line reply
+plainly_replied old number line reply answered stays = record
+    { starved = false; answered = answered; reached = sym stays; same = record { rules = refl; retired = refl } }
 
-pub malformed_replied : (old : Book) (number : ℕ) (line : List ℕ) → said line ≡ Malformed → IsReplied old old number line (Some (Bad number))
+pub malformed_replied : (old : Book) (number : ℕ) (line : List ℕ) → said line ≡ Malformed
+    → IsReplied old old number line (Some (Bad number))
 malformed_replied old number line is = plainly_replied old number line (Some (Bad number)) (rw is refl) (rw is refl)
 
 pub nothing_replied : (old : Book) (number : ℕ) (line : List ℕ) → said line ≡ Nothing → IsReplied old old number line None

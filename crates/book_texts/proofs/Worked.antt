@@ -13,29 +13,39 @@ use Rattle.book_texts.specs.Toa.{toa_line}
 
 -- two transmissions that touch, and a third that overlaps both
 pub three_bookings :
-    output (record { cap = 4096 }) [] (codes "book 1 10000000 868100000 5 12" ∷ codes "book 2 10041216 868100000 5 12" ∷ codes "book 3 10041215 868100000 5 12" ∷ [])
-    ≡ codes "ok 1 10000000 10041216" ∷ codes "ok 2 10041216 10082432" ∷ codes "no 3 Taken 10000000" ∷ codes "booked 82432" ∷ codes "cancelled 0" ∷ codes "retired 0" ∷ codes "kept 2 82432" ∷ codes "floor 0" ∷ codes "busiest M 10000000 82432" ∷ []
+    output (record { cap = 4096 }) [] (codes "book 1 10000000 868100000 5 12" ∷ codes "book 2 10041216 868100000 5 12"
+    ∷ codes "book 3 10041215 868100000 5 12" ∷ [])
+    ≡ codes "ok 1 10000000 10041216" ∷ codes "ok 2 10041216 10082432" ∷ codes "no 3 Taken 10000000" ∷ codes "booked 82432"
+    ∷ codes "cancelled 0" ∷ codes "retired 0" ∷ codes "kept 2 82432" ∷ codes "floor 0" ∷ codes "busiest M 10000000 82432" ∷ []
 unfolding airtime_of band_of net begun kept overlap full_hour busiest_of digits
 three_bookings = refl
 
 -- malformed lines, a comment and a blank line between; the booking at line 4 finds no memory
 pub starved_booking :
-    output (record { cap = 4096 }) (4 ∷ []) (codes "book 1 0 868100000 5" ∷ codes "# note" ∷ [] ∷ codes "book 1 0 868100000 5 12" ∷ codes "book 2 0 868100000 7 12" ∷ codes "cancel 1" ∷ [])
-    ≡ codes "bad 1 Syntax" ∷ codes "no 1 NoMemory" ∷ codes "bad 5 Syntax" ∷ codes "bad 6 Syntax" ∷ codes "booked 0" ∷ codes "cancelled 0" ∷ codes "retired 0" ∷ codes "kept 0 0" ∷ codes "floor 0" ∷ []
+    output (record { cap = 4096 }) (4 ∷ []) (codes "book 1 0 868100000 5" ∷ codes "# note" ∷ [] ∷ codes "book 1 0 868100000 5 12"
+    ∷ codes "book 2 0 868100000 7 12" ∷ codes "cancel 1" ∷ [])
+    ≡ codes "bad 1 Syntax" ∷ codes "no 1 NoMemory" ∷ codes "bad 5 Syntax" ∷ codes "bad 6 Syntax" ∷ codes "booked 0"
+    ∷ codes "cancelled 0" ∷ codes "retired 0" ∷ codes "kept 0 0" ∷ codes "floor 0" ∷ []
 unfolding airtime_of band_of net begun kept overlap full_hour busiest_of digits
 starved_booking = refl
 
 -- a cap of one transmission
 pub full_book :
     output (record { cap = 1 }) [] (codes "book 1 0 868100000 5 12" ∷ codes "book 2 1000000 868100000 5 12" ∷ [])
-    ≡ codes "ok 1 0 41216" ∷ codes "no 2 Full" ∷ codes "booked 41216" ∷ codes "cancelled 0" ∷ codes "retired 0" ∷ codes "kept 1 41216" ∷ codes "floor 0" ∷ codes "busiest M 0 41216" ∷ []
+    ≡ codes "ok 1 0 41216" ∷ codes "no 2 Full" ∷ codes "booked 41216" ∷ codes "cancelled 0" ∷ codes "retired 0"
+    ∷ codes "kept 1 41216" ∷ codes "floor 0" ∷ codes "busiest M 0 41216" ∷ []
 unfolding airtime_of band_of net begun kept overlap full_hour busiest_of digits
 full_book = refl
 
 -- a full hour of sub-band K, a cancellation that makes room in it, and one that comes too late
 pub full_hour_of_k :
-    output (record { cap = 4096 }) [] (codes "book 1 0 863500000 0 12" ∷ codes "book 2 1000000 863500000 0 12" ∷ codes "book 3 2000000 863500000 0 12" ∷ codes "book 4 3599999999 863500000 0 12" ∷ codes "cancel 3 2000000" ∷ codes "book 5 3599999999 863500000 0 12" ∷ codes "tick 3600000000" ∷ codes "cancel 5 3599999999" ∷ codes "tick 1" ∷ [])
-    ≡ codes "ok 1 0 991232" ∷ codes "ok 2 1000000 1991232" ∷ codes "ok 3 2000000 2991232" ∷ codes "no 4 DutyFull K 0 2973696" ∷ codes "cancelled 3 991232" ∷ codes "ok 5 3599999999 3600991231" ∷ codes "floor 3600000000" ∷ codes "no 5 Begun" ∷ codes "floor 3600000000" ∷ codes "booked 3964928" ∷ codes "cancelled 991232" ∷ codes "retired 0" ∷ codes "kept 3 2973696" ∷ codes "floor 3600000000" ∷ codes "busiest K 0 2973696" ∷ []
+    output (record { cap = 4096 }) [] (codes "book 1 0 863500000 0 12" ∷ codes "book 2 1000000 863500000 0 12"
+    ∷ codes "book 3 2000000 863500000 0 12" ∷ codes "book 4 3599999999 863500000 0 12" ∷ codes "cancel 3 2000000"
+    ∷ codes "book 5 3599999999 863500000 0 12" ∷ codes "tick 3600000000" ∷ codes "cancel 5 3599999999" ∷ codes "tick 1" ∷ [])
+    ≡ codes "ok 1 0 991232" ∷ codes "ok 2 1000000 1991232" ∷ codes "ok 3 2000000 2991232" ∷ codes "no 4 DutyFull K 0 2973696"
+    ∷ codes "cancelled 3 991232" ∷ codes "ok 5 3599999999 3600991231" ∷ codes "floor 3600000000" ∷ codes "no 5 Begun"
+    ∷ codes "floor 3600000000" ∷ codes "booked 3964928" ∷ codes "cancelled 991232" ∷ codes "retired 0"
+    ∷ codes "kept 3 2973696" ∷ codes "floor 3600000000" ∷ codes "busiest K 0 2973696" ∷ []
 unfolding airtime_of band_of net begun kept overlap full_hour busiest_of digits
 full_hour_of_k = refl
 

@@ -15,7 +15,8 @@ use Rattle.book_texts.specs.Output.{answers}
 abbrev pub OkWhereAccepted : Type 0
 OkWhereAccepted =
     (rules : Rules) (starved : Bool) (s : State) (ask : Ask)
-    → (is_refusal (reply_line (reply_to rules starved s (Book ask))) ≡ false) ↔ ((refusal_of (terms_at rules s) s.list ask ≡ None) × (starved ≡ false))
+    → (is_refusal (reply_line (reply_to rules starved s (Book ask))) ≡ false)
+    ↔ ((refusal_of (terms_at rules s) s.list ask ≡ None) × (starved ≡ false))
 
 -- each line that is not passed over has one line that answers it
 abbrev pub OneAnswerALine : Type 0

@@ -9,7 +9,8 @@ use Rattle.book_texts.specs.Said.{said}
 use Rattle.book_texts.specs.Report.{report_of}
 use Rattle.book_texts.specs.Answering.{answer_to, state_after_line}
 
--- The output of `airbook book` as a list of lines: a function of the lines of the input, of what the book is opened with, and of the
+-- The output of `airbook book` as a list of lines: a function of the lines of the input, of what the book is opened with, and of
+-- the
 -- numbers of those lines at which a booking found no memory.
 
 -- at first nothing is reserved

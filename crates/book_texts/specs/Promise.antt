@@ -16,7 +16,8 @@ use Rattle.text_words.specs.Words.{has_refusal}
 
 -- all these bytes were read, the writer took the output for them, and `refused` says whether a line of it begins
 -- with `no` or `bad`
-pub record IsAnswered (rules : Rules) (s : State) (bytes : List ℕ) (left_after before after : Option (List ℕ)) (refused : Bool) : Type 0 where
+pub record IsAnswered (rules : Rules) (s : State) (bytes : List ℕ) (left_after before after : Option (List ℕ))
+    (refused : Bool) : Type 0 where
   pub starved : List ℕ
   pub consumed : Consumes (Some bytes) left_after bytes
   pub written : Appends before after (text_of (output_from rules s starved (lines bytes)))

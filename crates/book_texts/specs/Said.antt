@@ -27,7 +27,8 @@ ask_with _ _ _ _ _ = None
 -- what follows the word `book`: NUMBER START FREQ DR LEN
 abbrev pub book_command : List (List ℕ) → Option Command
 book_command (number ∷ start ∷ freq_hz ∷ rate ∷ len ∷ []) =
-    option_map Book (ask_with (number_below (2 ^ 64) number) (number_below (2 ^ 64) start) (number_below (2 ^ 32) freq_hz) (rate_word rate) (number_below (2 ^ 8) len))
+    option_map Book (ask_with (number_below (2 ^ 64) number) (number_below (2 ^ 64) start) (number_below (2 ^ 32) freq_hz)
+    (rate_word rate) (number_below (2 ^ 8) len))
 book_command _ = None
 
 -- a cancellation of these fields, where each is there

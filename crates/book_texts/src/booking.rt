@@ -39,9 +39,12 @@ pub fn book_text<A: Allocator, R: ByteIn, W: ByteOut>(
     reader: &mut R,
     writer: &mut W,
 ) -> Result<bool, TextFault>
-    ensures ok { IfOk result (AnswersAll (record { cap = cap }) opened (R.left reader.old) (R.left reader.new) (W.taken writer.old) (W.taken writer.new)) }
-    ensures front { OnErr result (AnswersFront (record { cap = cap }) opened (R.left reader.old) (W.taken writer.old) (W.taken writer.new)) }
-    ensures read_front { OnErr result (AnswersRead (record { cap = cap }) opened (R.left reader.old) (R.left reader.new) (W.taken writer.old) (W.taken writer.new)) }
+    ensures ok { IfOk result (AnswersAll (record { cap = cap }) opened (R.left reader.old) (R.left reader.new)
+        (W.taken writer.old) (W.taken writer.new)) }
+    ensures front { OnErr result (AnswersFront (record { cap = cap }) opened (R.left reader.old) (W.taken writer.old)
+        (W.taken writer.new)) }
+    ensures read_front { OnErr result (AnswersRead (record { cap = cap }) opened (R.left reader.old) (R.left reader.new)
+        (W.taken writer.old) (W.taken writer.new)) }
     ensures limit { KeepsLimit (R.left reader.old) result }
     ensures settings { IsSettingOf cap result }
     ensures untouched { (¬ IsCap cap) → (reader.new ≡ reader.old) × (writer.new ≡ writer.old) }
@@ -70,10 +73,13 @@ fn answer_lines<B: Roster, R: ByteIn, W: ByteOut>(
     writer: &mut W,
 ) -> Result<bool, TextFault>
     requires { output.old ≡ [] }
-    ensures ok { IfOk result (λ refused. AnswersLines book.old.rules (state_of book.old) (R.left reader.old) (R.left reader.new) (state_of book.new) refused (W.taken writer.old) (W.taken writer.new) output.new) }
+    ensures ok { IfOk result (λ refused. AnswersLines book.old.rules (state_of book.old) (R.left reader.old) (R.left reader.new)
+        (state_of book.new) refused (W.taken writer.old) (W.taken writer.new) output.new) }
     ensures same { SameBook book.old book.new }
-    ensures front { OnErr result (AnswersFront book.old.rules (state_of book.old) (R.left reader.old) (W.taken writer.old) (W.taken writer.new)) }
-    ensures read_front { OnErr result (AnswersRead book.old.rules (state_of book.old) (R.left reader.old) (R.left reader.new) (W.taken writer.old) (W.taken writer.new)) }
+    ensures front { OnErr result (AnswersFront book.old.rules (state_of book.old) (R.left reader.old) (W.taken writer.old)
+        (W.taken writer.new)) }
+    ensures read_front { OnErr result (AnswersRead book.old.rules (state_of book.old) (R.left reader.old) (R.left reader.new)
+        (W.taken writer.old) (W.taken writer.new)) }
     ensures limit { KeepsLimit (R.left reader.old) result }
     ensures begun { HasBegun result }
     ensures read { CountsReads (R.failed_calls reader.old) (R.failed_calls reader.new) result }
@@ -117,7 +123,8 @@ fn answer_line<B: Roster, W: ByteOut>(
     output: &mut WriteBehind,
     writer: &mut W,
 ) -> Result<bool, CallFailed>
-    ensures line { IsLineAnswered book.old book.new number line.now output.old output.new (W.taken writer.old) (W.taken writer.new) result }
+    ensures line { IsLineAnswered book.old book.new number line.now output.old output.new (W.taken writer.old)
+        (W.taken writer.new) result }
     ensures failed { CountsFailure (W.failed_calls writer.old) (W.failed_calls writer.new) result }
 {
     let Some(reply) = reply_to_line(book, number, line) else {
@@ -196,8 +203,10 @@ fn report<B: Roster, W: ByteOut>(
     output: &mut WriteBehind,
     writer: &mut W,
 ) -> Result<(), CallFailed>
-    ensures ok { OnOk result (Appends (W.taken writer.old) (W.taken writer.new) (output.old ++ text_of (report_of (totals_of book.now) book.now.list))) }
-    ensures err { OnErr result (WritesFront (W.taken writer.old) (W.taken writer.new) (output.old ++ text_of (report_of (totals_of book.now) book.now.list))) }
+    ensures ok { OnOk result (Appends (W.taken writer.old) (W.taken writer.new)
+        (output.old ++ text_of (report_of (totals_of book.now) book.now.list))) }
+    ensures err { OnErr result (WritesFront (W.taken writer.old) (W.taken writer.new)
+        (output.old ++ text_of (report_of (totals_of book.now) book.now.list))) }
     ensures failed { CountsFailure (W.failed_calls writer.old) (W.failed_calls writer.new) result }
 {
     let mut text = TextLine::new();

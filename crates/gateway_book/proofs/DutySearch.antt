@@ -1,4 +1,5 @@
-use Rattle.std.specs.Prelude.{ℕ, ◌≡◌, ◌+◌, ◌-◌, ◌<◌, ◌≤◌, nat_lt, nat_le, min, Bool, true, false, ◌&&◌, List, [], ◌∷◌, Option, Some, None, map, filter, find, cond, refl}
+use Rattle.std.specs.Prelude.{ℕ, ◌≡◌, ◌+◌, ◌-◌, ◌<◌, ◌≤◌, nat_lt, nat_le, min, Bool, true, false, ◌&&◌, List, [], ◌∷◌, Option}
+use Rattle.std.specs.Prelude.{Some, None, map, filter, find, cond, refl}
 use Rattle.std.specs.Option.{option_map}
 use Rattle.std.proofs.Common.{sym, ap, ◌∙◌, arith, subst}
 use Rattle.std.proofs.lemmas.Bool.{leb-true, leb-false, le-leb, lt-ltb}
@@ -21,22 +22,27 @@ use Rattle.gateway_book.proofs.DutyRow.{begun_wider, duty_row_is_exact}
 
 module _ {X : Type 0} (key : X → ℕ) (test : X → Bool) where
   -- what lies below a limit, and fails, may be left out of a search
-  find_rest_by : (limit : ℕ) (x : X) (xs : List X) (t u : Bool) → nat_le limit (key x) ≡ t → test x ≡ u → (key x < limit → test x ≡ false) → find test (rest_from key limit xs) ≡ find test xs → find test (cond t (x ∷ rest_from key limit xs) (rest_from key limit xs)) ≡ cond u (Some x) (find test xs)
+  find_rest_by : (limit : ℕ) (x : X) (xs : List X) (t u : Bool) → nat_le limit (key x) ≡ t → test x ≡ u
+      → (key x < limit → test x ≡ false) → find test (rest_from key limit xs) ≡ find test xs
+      → find test (cond t (x ∷ rest_from key limit xs) (rest_from key limit xs)) ≡ cond u (Some x) (find test xs)
   find_rest_by limit x xs true u e f h rest = rw (f, rest) refl
   find_rest_by limit x xs false true e f h rest = absurd (cc (h (leb-false limit (key x) e)))
   find_rest_by limit x xs false false e f h rest = rest
 
-  pub find_rest : (limit : ℕ) (xs : List X) → ((x : X) → key x < limit → test x ≡ false) → find test (rest_from key limit xs) ≡ find test xs
+  pub find_rest : (limit : ℕ) (xs : List X) → ((x : X) → key x < limit → test x ≡ false)
+      → find test (rest_from key limit xs) ≡ find test xs
   find_rest limit [] h = refl
   find_rest limit (x ∷ xs) h = find_rest_by limit x xs (nat_le limit (key x)) (test x) refl refl (h x) (find_rest limit xs h)
 
   -- nothing is found among members that lie above a limit, where those fail
-  pub find_above_none : (limit low : ℕ) (xs : List X) → limit < low → RisesFrom key low xs → ((x : X) → limit < key x → test x ≡ false) → find test xs ≡ None
+  pub find_above_none : (limit low : ℕ) (xs : List X) → limit < low → RisesFrom key low xs
+      → ((x : X) → limit < key x → test x ≡ false) → find test xs ≡ None
   find_above_none limit low [] l r h = refl
   find_above_none limit low (x ∷ xs) l r h =
       rw (h x (omega (arith, r.0))) (find_above_none limit (key x + 1) xs (omega (arith, r.0)) r.1 h)
 
-  found_passes_by : (x y : X) (xs : List X) (t : Bool) → test y ≡ t → cond t (Some y) (find test xs) ≡ Some x → (find test xs ≡ Some x → test x ≡ true) → test x ≡ true
+  found_passes_by : (x y : X) (xs : List X) (t : Bool) → test y ≡ t → cond t (Some y) (find test xs) ≡ Some x
+      → (find test xs ≡ Some x → test x ≡ true) → test x ≡ true
   found_passes_by x y xs true e f rest = let same : y ≡ x = cc in sym (ap test same) ∙ e
   found_passes_by x y xs false e f rest = rest f
 
@@ -45,12 +51,17 @@ module _ {X : Type 0} (key : X → ℕ) (test : X → Bool) where
   found_passes x (y ∷ ys) e = found_passes_by x y ys (test y) refl e (found_passes x ys)
 
 -- the starts that pass, of the members of the band, are those of the members that open a full hour
-passing_by : (test : ℕ → Bool) (band : Band) (r : Reservation) (rs : List Reservation) (p q : Bool) → is_in band r ≡ p → test r.start ≡ q → filter test (starts_in rs band) ≡ map start_of (filter (λ s. is_in band s && test s.start) rs) → filter test (map start_of (cond p (r ∷ filter (is_in band) rs) (filter (is_in band) rs))) ≡ map start_of (cond (p && q) (r ∷ filter (λ s. is_in band s && test s.start) rs) (filter (λ s. is_in band s && test s.start) rs))
+passing_by : (test : ℕ → Bool) (band : Band) (r : Reservation) (rs : List Reservation) (p q : Bool) → is_in band r ≡ p
+    → test r.start ≡ q → filter test (starts_in rs band) ≡ map start_of (filter (λ s. is_in band s && test s.start) rs)
+    → filter test (map start_of (cond p (r ∷ filter (is_in band) rs) (filter (is_in band) rs)))
+    ≡ map start_of (cond (p && q) (r ∷ filter (λ s. is_in band s && test s.start) rs)
+    (filter (λ s. is_in band s && test s.start) rs))
 passing_by test band r rs true true e f h = rw (f, h) refl
 passing_by test band r rs true false e f h = rw f h
 passing_by test band r rs false q e f h = h
 
-passing : (test : ℕ → Bool) (band : Band) (l : List Reservation) → filter test (starts_in l band) ≡ map start_of (filter (λ s. is_in band s && test s.start) l)
+passing : (test : ℕ → Bool) (band : Band) (l : List Reservation)
+    → filter test (starts_in l band) ≡ map start_of (filter (λ s. is_in band s && test s.start) l)
 passing test band [] = refl
 passing test band (r ∷ rs) = passing_by test band r rs (is_in band r) (test r.start) refl refl (passing test band rs)
 
@@ -62,13 +73,15 @@ or_own own start None = cond own (Some start) None
 own_hour : (start : ℕ) → is_within_hour start start ≡ true
 own_hour start = grind (arith, nat_tests)
 
-least_own : (own : Bool) (start : ℕ) (ns : List ℕ) (o : Option Reservation) → least ns ≡ option_map start_of o → ((m : Reservation) → o ≡ Some m → m.start ≤ start) → least (cond own (start ∷ ns) ns) ≡ or_own own start o
+least_own : (own : Bool) (start : ℕ) (ns : List ℕ) (o : Option Reservation) → least ns ≡ option_map start_of o
+    → ((m : Reservation) → o ≡ Some m → m.start ≤ start) → least (cond own (start ∷ ns) ns) ≡ or_own own start o
 least_own true start ns None e h = rw e refl
 least_own true start ns (Some m) e h = let k = h m refl in let q : min start m.start ≡ m.start = omega arith in rw (e, q) refl
 least_own false start ns None e h = e
 least_own false start ns (Some m) e h = e
 
-pub full_hour-search : (l : List Reservation) (band : Band) (start airtime : ℕ) → IsByStart l → full_hour l band start airtime ≡ or_own (would_pass l band airtime start) start (find (opens_full l band start airtime) l)
+pub full_hour-search : (l : List Reservation) (band : Band) (start airtime : ℕ) → IsByStart l
+    → full_hour l band start airtime ≡ or_own (would_pass l band airtime start) start (find (opens_full l band start airtime) l)
 unfolding full_hour
 full_hour-search l band start airtime s =
     let test : ℕ → Bool = is_overfull l band start airtime in
@@ -76,32 +89,39 @@ full_hour-search l band start airtime s =
     let firsts : least (filter test (starts_in l band)) ≡ option_map start_of (find (opens_full l band start airtime) l) =
     ap least (passing test band l) ∙ least-find start_of (opens_full l band start airtime) 0 l s in
     let early : (m : Reservation) → find (opens_full l band start airtime) l ≡ Some m → m.start ≤ start =
-    λ m e. let p : opens_full l band start airtime m ≡ true = found_passes start_of (opens_full l band start airtime) m l e in grind (arith, nat_tests) in
-    rw own (least_own (would_pass l band airtime start) start (filter test (starts_in l band)) (find (opens_full l band start airtime) l) firsts early)
+    λ m e. let p : opens_full l band start airtime m ≡ true = found_passes start_of (opens_full l band start airtime) m l e in
+    grind (arith, nat_tests) in
+    rw own (least_own (would_pass l band airtime start) start (filter test (starts_in l band))
+    (find (opens_full l band start airtime) l) firsts early)
 
 -- where the two hours round the start leave room, no hour is full
-pub full_hour-spare : (l : List Reservation) (band : Band) (start airtime : ℕ) → begun band (start + 1 - hour) (start + hour) l + airtime ≤ limit_of band → full_hour l band start airtime ≡ None
+pub full_hour-spare : (l : List Reservation) (band : Band) (start airtime : ℕ)
+    → begun band (start + 1 - hour) (start + hour) l + airtime ≤ limit_of band → full_hour l band start airtime ≡ None
 full_hour-spare l band start airtime h =
-    sym ((duty_row_is_exact l band start airtime None).0 (λ t a b. let w = begun_wider band t (t + hour) (start + 1 - hour) (start + hour) l (omega arith) (omega arith) in omega arith))
+    sym ((duty_row_is_exact l band start airtime None).0 (λ t a b. let w =
+    begun_wider band t (t + hour) (start + 1 - hour) (start + hour) l (omega arith) (omega arith) in omega arith))
 
 -- Steps of the walk: `test` is whether a member opens a full hour.
 
 -- a member that begins an hour or more before the start opens none that holds it
-pub too_early : (l : List Reservation) (band : Band) (start airtime limit : ℕ) (r : Reservation) → limit ≤ start + 1 - hour → r.start < limit → opens_full l band start airtime r ≡ false
+pub too_early : (l : List Reservation) (band : Band) (start airtime limit : ℕ) (r : Reservation) → limit ≤ start + 1 - hour
+    → r.start < limit → opens_full l band start airtime r ≡ false
 too_early l band start airtime limit r h g = early (is_in band r) (would_pass l band airtime r.start)
   where
     early : (p q : Bool) → (p && (nat_le r.start start && nat_lt start (r.start + hour) && q)) ≡ false
     early p q = let k : r.start + hour ≤ start = omega arith in grind (arith, nat_tests)
 
 -- nor one that begins after it
-pub too_late : (l : List Reservation) (band : Band) (start airtime : ℕ) (r : Reservation) → start < r.start → opens_full l band start airtime r ≡ false
+pub too_late : (l : List Reservation) (band : Band) (start airtime : ℕ) (r : Reservation) → start < r.start
+    → opens_full l band start airtime r ≡ false
 too_late l band start airtime r h = late (is_in band r) (would_pass l band airtime r.start)
   where
     late : (p q : Bool) → (p && (nat_le r.start start && nat_lt start (r.start + hour) && q)) ≡ false
     late p q = grind (arith, nat_tests)
 
 -- of those between, the walk asks only for the band and the hour's airtime
-pub in_last_hour : (l : List Reservation) (band : Band) (start airtime : ℕ) (r : Reservation) → r.start ≤ start → start < r.start + hour → opens_full l band start airtime r ≡ (is_in band r && would_pass l band airtime r.start)
+pub in_last_hour : (l : List Reservation) (band : Band) (start airtime : ℕ) (r : Reservation) → r.start ≤ start
+    → start < r.start + hour → opens_full l band start airtime r ≡ (is_in band r && would_pass l band airtime r.start)
 in_last_hour l band start airtime r h g = same (is_in band r) (would_pass l band airtime r.start)
   where
     same : (p q : Bool) → (p && (nat_le r.start start && nat_lt start (r.start + hour) && q)) ≡ (p && q)
@@ -113,56 +133,75 @@ pub record IsNextMember (l : List Reservation) (from : ℕ) (m : Reservation) : 
   pub rises : RisesFrom start_of (m.start + 1) (rest_from start_of (m.start + 1) l)
   pub later : from ≤ m.start
 
-pub is_next : (l : List Reservation) (from : ℕ) (m : Reservation) → IsByStart l → member_from from l ≡ Some m → IsNextMember l from m
+pub is_next : (l : List Reservation) (from : ℕ) (m : Reservation) → IsByStart l → member_from from l ≡ Some m
+    → IsNextMember l from m
 is_next l from m s e =
     let next = rest_from-Some start_of 0 from m l s e in
     let P : List Reservation → Type 0 = λ ms. RisesFrom start_of 0 ms in
-    let rises : RisesFrom start_of 0 (m ∷ rest_from start_of (m.start + 1) l) = subst P next.0 (RisesFrom-filter start_of (λ r. nat_le from r.start) 0 l s) in
+    let rises : RisesFrom start_of 0 (m ∷ rest_from start_of (m.start + 1) l) =
+    subst P next.0 (RisesFrom-filter start_of (λ r. nat_le from r.start) 0 l s) in
     let passes : nat_le from m.start ≡ true = found_passes start_of (λ r. nat_le from r.start) m l e in
     record { rest = next.0; rises = rises.1; later = leb-true from m.start passes }
 
-pub none_further : (l : List Reservation) (band : Band) (start airtime from : ℕ) (m : Reservation) → IsNextMember l from m → start < m.start → find (opens_full l band start airtime) (rest_from start_of from l) ≡ None
+pub none_further : (l : List Reservation) (band : Band) (start airtime from : ℕ) (m : Reservation) → IsNextMember l from m
+    → start < m.start → find (opens_full l band start airtime) (rest_from start_of from l) ≡ None
 none_further l band start airtime from m n h =
     ap (find (opens_full l band start airtime)) n.rest
-    ∙ find_above_none start_of (opens_full l band start airtime) start m.start (m ∷ rest_from start_of (m.start + 1) l) h (omega arith, n.rises) (λ r g. too_late l band start airtime r g)
+    ∙ find_above_none start_of (opens_full l band start airtime) start m.start (m ∷ rest_from start_of (m.start + 1) l) h
+    (omega arith, n.rises) (λ r g. too_late l band start airtime r g)
 
 found_first : (test : Reservation → Bool) (m : Reservation) (ms : List Reservation) → test m ≡ true → find test (m ∷ ms) ≡ Some m
 found_first test m ms e = rw e refl
 
-found_not : (test : Reservation → Bool) (m : Reservation) (ms : List Reservation) → test m ≡ false → find test (m ∷ ms) ≡ find test ms
+found_not : (test : Reservation → Bool) (m : Reservation) (ms : List Reservation) → test m ≡ false
+    → find test (m ∷ ms) ≡ find test ms
 found_not test m ms e = rw e refl
 
-pub found_here : (l : List Reservation) (band : Band) (start airtime from : ℕ) (m : Reservation) → IsNextMember l from m → m.start ≤ start → start < m.start + hour → (is_in band m && would_pass l band airtime m.start) ≡ true → find (opens_full l band start airtime) (rest_from start_of from l) ≡ Some m
+pub found_here : (l : List Reservation) (band : Band) (start airtime from : ℕ) (m : Reservation) → IsNextMember l from m
+    → m.start ≤ start → start < m.start + hour → (is_in band m && would_pass l band airtime m.start) ≡ true
+    → find (opens_full l band start airtime) (rest_from start_of from l) ≡ Some m
 found_here l band start airtime from m n h g e =
     ap (find (opens_full l band start airtime)) n.rest
-    ∙ found_first (opens_full l band start airtime) m (rest_from start_of (m.start + 1) l) (in_last_hour l band start airtime m h g ∙ e)
+    ∙ found_first (opens_full l band start airtime) m (rest_from start_of (m.start + 1) l)
+    (in_last_hour l band start airtime m h g ∙ e)
 
-pub found_later : (l : List Reservation) (band : Band) (start airtime from : ℕ) (m : Reservation) → IsNextMember l from m → m.start ≤ start → start < m.start + hour → (is_in band m && would_pass l band airtime m.start) ≡ false → find (opens_full l band start airtime) (rest_from start_of from l) ≡ find (opens_full l band start airtime) (rest_from start_of (m.start + 1) l)
+pub found_later : (l : List Reservation) (band : Band) (start airtime from : ℕ) (m : Reservation) → IsNextMember l from m
+    → m.start ≤ start → start < m.start + hour → (is_in band m && would_pass l band airtime m.start) ≡ false
+    → find (opens_full l band start airtime) (rest_from start_of from l)
+    ≡ find (opens_full l band start airtime) (rest_from start_of (m.start + 1) l)
 found_later l band start airtime from m n h g e =
     ap (find (opens_full l band start airtime)) n.rest
-    ∙ found_not (opens_full l band start airtime) m (rest_from start_of (m.start + 1) l) (in_last_hour l band start airtime m h g ∙ e)
+    ∙ found_not (opens_full l band start airtime) m (rest_from start_of (m.start + 1) l)
+    (in_last_hour l band start airtime m h g ∙ e)
 
 -- What the whole search answers, by what it found.
 
-or_own_found : (own : Bool) (start from : ℕ) (o : Option Reservation) → option_map start_of o ≡ Some from → or_own own start o ≡ Some from
+or_own_found : (own : Bool) (start from : ℕ) (o : Option Reservation) → option_map start_of o ≡ Some from
+    → or_own own start o ≡ Some from
 or_own_found own start from None e = absurd (cc)
 or_own_found own start from (Some m) e = e
 
-or_own_none : (own : Bool) (start : ℕ) (o : Option Reservation) → option_map start_of o ≡ None → or_own own start o ≡ cond own (Some start) None
+or_own_none : (own : Bool) (start : ℕ) (o : Option Reservation) → option_map start_of o ≡ None
+    → or_own own start o ≡ cond own (Some start) None
 or_own_none own start None e = refl
 or_own_none own start (Some m) e = absurd (cc)
 
-pub full_hour-found : (l : List Reservation) (band : Band) (start airtime from : ℕ) → IsByStart l → option_map start_of (find (opens_full l band start airtime) l) ≡ Some from → full_hour l band start airtime ≡ Some from
+pub full_hour-found : (l : List Reservation) (band : Band) (start airtime from : ℕ) → IsByStart l
+    → option_map start_of (find (opens_full l band start airtime) l) ≡ Some from → full_hour l band start airtime ≡ Some from
 full_hour-found l band start airtime from s e =
-    full_hour-search l band start airtime s ∙ or_own_found (would_pass l band airtime start) start from (find (opens_full l band start airtime) l) e
+    full_hour-search l band start airtime s ∙ or_own_found (would_pass l band airtime start) start from
+    (find (opens_full l band start airtime) l) e
 
-pub full_hour-own : (l : List Reservation) (band : Band) (start airtime : ℕ) (own : Bool) → IsByStart l → option_map start_of (find (opens_full l band start airtime) l) ≡ None → would_pass l band airtime start ≡ own → full_hour l band start airtime ≡ cond own (Some start) None
+pub full_hour-own : (l : List Reservation) (band : Band) (start airtime : ℕ) (own : Bool) → IsByStart l
+    → option_map start_of (find (opens_full l band start airtime) l) ≡ None → would_pass l band airtime start ≡ own
+    → full_hour l band start airtime ≡ cond own (Some start) None
 full_hour-own l band start airtime own s e h =
     full_hour-search l band start airtime s
     ∙ or_own_none (would_pass l band airtime start) start (find (opens_full l band start airtime) l) e
     ∙ ap (λ (b : Bool). cond b (Some start) None) h
 
-pub full_hour-early : (l : List Reservation) (band : Band) (start airtime from : ℕ) → full_hour l band start airtime ≡ Some from → from ≤ start
+pub full_hour-early : (l : List Reservation) (band : Band) (start airtime from : ℕ) → full_hour l band start airtime ≡ Some from
+    → from ≤ start
 full_hour-early l band start airtime from e =
     let P : Option ℕ → Type 0 = λ o. IsDutyAnswer l band start airtime o in
     let found : IsFirstFullHour l band start airtime from = subst P e (full_hour_answers l band start airtime) in

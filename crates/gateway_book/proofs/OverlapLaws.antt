@@ -1,4 +1,5 @@
-use Rattle.std.specs.Prelude.{ℕ, ◌≡◌, ◌<◌, ◌≤◌, nat_lt, nat_le, Bool, true, false, List, [], ◌∷◌, Option, Some, None, find, cond, unwrap_or, ◌↔◌}
+use Rattle.std.specs.Prelude.{ℕ, ◌≡◌, ◌<◌, ◌≤◌, nat_lt, nat_le, Bool, true, false, List, [], ◌∷◌, Option, Some, None, find, cond}
+use Rattle.std.specs.Prelude.{unwrap_or, ◌↔◌}
 use Rattle.std.proofs.Common.{refl, sym, ap, ◌∙◌, arith}
 use Rattle.std.proofs.lemmas.Bool.{leb-true, leb-false, le-leb, lt-leb, lt-ltb, le-ltb, ltb-true, ltb-false}
 use Rattle.std.proofs.lemmas.Bool.Decides.{nat_tests}
@@ -47,7 +48,9 @@ module _ {X : Type 0} (key end : X → ℕ) (positive : (x : X) → key x < end 
   neighbour_from from to xs = keep_if (λ n. nat_lt (key n) to) (first_from key from xs)
 
   -- it begins no earlier than what is asked for
-  begins_later : (from to : ℕ) (x : X) (xs : List X) (u : Bool) → nat_lt (key x) to ≡ u → from < to → from ≤ key x → SpacedFrom key end (key x) (x ∷ xs) → cond (overlaps key end from to x) (Some x) (find (overlaps key end from to) xs) ≡ cond u (Some x) None
+  begins_later : (from to : ℕ) (x : X) (xs : List X) (u : Bool) → nat_lt (key x) to ≡ u → from < to → from ≤ key x
+      → SpacedFrom key end (key x) (x ∷ xs) → cond (overlaps key end from to x) (Some x) (find (overlaps key end from to) xs)
+      ≡ cond u (Some x) None
   begins_later from to x xs true e h k s =
       let p = positive x in
       let o : overlaps key end from to x ≡ true = grind (arith, nat_tests) in
@@ -59,11 +62,16 @@ module _ {X : Type 0} (key end : X → ℕ) (positive : (x : X) → key x < end 
       rw (o, none_after (end x) from to xs (omega arith) s.1) refl
 
   -- it ends no later than what is asked for begins
-  same_before : (from : ℕ) (x : X) (o : Option X) → nat_lt from (end x) ≡ false → keep_if (λ b. nat_lt from (end b)) o ≡ keep_if (λ b. nat_lt from (end b)) (Some (unwrap_or o x))
+  same_before : (from : ℕ) (x : X) (o : Option X) → nat_lt from (end x) ≡ false
+      → keep_if (λ b. nat_lt from (end b)) o ≡ keep_if (λ b. nat_lt from (end b)) (Some (unwrap_or o x))
   same_before from x None e = rw e refl
   same_before from x (Some b) e = refl
 
-  begins_before : (from to : ℕ) (x : X) (xs : List X) (u : Bool) → nat_le (end x) from ≡ u → from < to → key x < from → SpacedFrom key end (end x) xs → find (overlaps key end from to) xs ≡ or_else (neighbour_before from xs) (neighbour_from from to xs) → cond (overlaps key end from to x) (Some x) (find (overlaps key end from to) xs) ≡ or_else (keep_if (λ b. nat_lt from (end b)) (Some (unwrap_or (last_below key from xs) x))) (neighbour_from from to xs)
+  begins_before : (from to : ℕ) (x : X) (xs : List X) (u : Bool) → nat_le (end x) from ≡ u → from < to → key x < from
+      → SpacedFrom key end (end x) xs → find (overlaps key end from to) xs
+      ≡ or_else (neighbour_before from xs) (neighbour_from from to xs)
+      → cond (overlaps key end from to x) (Some x) (find (overlaps key end from to) xs)
+      ≡ or_else (keep_if (λ b. nat_lt from (end b)) (Some (unwrap_or (last_below key from xs) x))) (neighbour_from from to xs)
   begins_before from to x xs true e h k s rest =
       let l : end x ≤ from = leb-true (end x) from e in
       let o : overlaps key end from to x ≡ false = rw e refl in
@@ -76,7 +84,10 @@ module _ {X : Type 0} (key end : X → ℕ) (positive : (x : X) → key x < end 
       let n : below key from xs ≡ [] = none_below (end x) from xs (omega arith) s in
       rw (o, n, f) refl
 
-  neighbours_by : (low from to : ℕ) (x : X) (xs : List X) (t : Bool) → nat_lt (key x) from ≡ t → from < to → SpacedFrom key end low (x ∷ xs) → find (overlaps key end from to) xs ≡ or_else (neighbour_before from xs) (neighbour_from from to xs) → find (overlaps key end from to) (x ∷ xs) ≡ or_else (neighbour_before from (x ∷ xs)) (neighbour_from from to (x ∷ xs))
+  neighbours_by : (low from to : ℕ) (x : X) (xs : List X) (t : Bool) → nat_lt (key x) from ≡ t → from < to
+      → SpacedFrom key end low (x ∷ xs) → find (overlaps key end from to) xs
+      ≡ or_else (neighbour_before from xs) (neighbour_from from to xs)
+      → find (overlaps key end from to) (x ∷ xs) ≡ or_else (neighbour_before from (x ∷ xs)) (neighbour_from from to (x ∷ xs))
   neighbours_by low from to x xs true e h s rest =
       let k : key x < from = ltb-true (key x) from e in
       let f : nat_le from (key x) ≡ false = lt-leb from (key x) k in
@@ -90,15 +101,20 @@ module _ {X : Type 0} (key end : X → ℕ) (positive : (x : X) → key x < end 
       begins_later from to x xs (nat_lt (key x) to) refl h k g ∙ (rw (e, f, n) refl)
 
   -- what overlaps first is the neighbour before, or else the neighbour after
-  pub find-neighbours : (low from to : ℕ) (xs : List X) → from < to → SpacedFrom key end low xs → find (overlaps key end from to) xs ≡ or_else (neighbour_before from xs) (neighbour_from from to xs)
+  pub find-neighbours : (low from to : ℕ) (xs : List X) → from < to → SpacedFrom key end low xs
+      → find (overlaps key end from to) xs ≡ or_else (neighbour_before from xs) (neighbour_from from to xs)
   find-neighbours low from to [] h s = refl
-  find-neighbours low from to (x ∷ xs) h s = neighbours_by low from to x xs (nat_lt (key x) from) refl h s (find-neighbours (end x) from to xs h s.1)
+  find-neighbours low from to (x ∷ xs) h s = neighbours_by low from to x xs (nat_lt (key x) from) refl h s
+      (find-neighbours (end x) from to xs h s.1)
 
 pub spaced_is_apart : (l : List Reservation) → IsByStart l → SpacedFrom start_of end_of 0 l ↔ AreApart l
 spaced_is_apart l s = (λ h. spaced_apart 0 l h, λ a. apart_spaced 0 l s a)
 
 -- only the last member that begins before what is asked for, and the first that doesn't, can overlap it
-pub overlap-neighbours : (l : List Reservation) (from to : ℕ) → IsByStart l → AreApart l → from < to → overlap l from to ≡ option_map start_of (or_else (keep_if (λ b. nat_lt from (end_of b)) (member_before from l)) (keep_if (λ n. nat_lt n.start to) (member_from from l)))
+pub overlap-neighbours : (l : List Reservation) (from to : ℕ) → IsByStart l → AreApart l → from < to
+    → overlap l from to ≡ option_map start_of (or_else (keep_if (λ b. nat_lt from (end_of b)) (member_before from l))
+    (keep_if (λ n. nat_lt n.start to) (member_from from l)))
 unfolding overlap
 overlap-neighbours l from to s a h =
-    first_has_least_start _ l s ∙ ap (option_map start_of) (find-neighbours start_of end_of ends_later 0 from to l h (apart_spaced 0 l s a))
+    first_has_least_start _ l s ∙ ap (option_map start_of) (find-neighbours start_of end_of ends_later 0 from to l h
+    (apart_spaced 0 l s a))

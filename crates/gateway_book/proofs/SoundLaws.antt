@@ -26,7 +26,8 @@ use Rattle.gateway_book.specs.Book.{Book, IsSound, terms_of, with_booked, with_c
 
 -- What a book keeps when it is opened and when it books.
 
-pub sound_empty : (id cap : ℕ) → 0 < cap → cap ≤ 65536 → IsSound (record { id = id; rules = record { cap = cap }; floor = 0; list = []; booked = 0; cancelled = 0; retired = 0 })
+pub sound_empty : (id cap : ℕ) → 0 < cap → cap ≤ 65536 → IsSound
+    (record { id = id; rules = record { cap = cap }; floor = 0; list = []; booked = 0; cancelled = 0; retired = 0 })
 unfolding net
 sound_empty id cap h g =
     record {
@@ -64,7 +65,8 @@ sound_booked b r s o c =
       bounded = c.total;
     }
 
-pub may_book : (b : Book) (ask : Ask) (r : Reservation) → IsSound b → IsAsked ask r → refusal_of (terms_of b) b.list ask ≡ None → CanBook b r
+pub may_book : (b : Book) (ask : Ask) (r : Reservation) → IsSound b → IsAsked ask r → refusal_of (terms_of b) b.list ask ≡ None
+    → CanBook b r
 may_book b ask r s a e =
     let h = accepted (terms_of b) b.list ask e in
     let n : length (kept b.list b.floor) ≡ length b.list = ap length s.kept_whole in
@@ -90,7 +92,9 @@ sound_ticked b floor s o =
     }
 
 -- what a book keeps when it cancels
-pub sound_cancelled : (b : Book) (number start : ℕ) (r : Reservation) → IsSound b → IsByStart b.list → find (is_named number start) b.list ≡ Some r → without start b.list ≡ without_named b.list number start → IsSound (with_cancelled b number start (airtime_us r))
+pub sound_cancelled : (b : Book) (number start : ℕ) (r : Reservation) → IsSound b → IsByStart b.list
+    → find (is_named number start) b.list ≡ Some r → without start b.list ≡ without_named b.list number start
+    → IsSound (with_cancelled b number start (airtime_us r))
 sound_cancelled b number start r s o f w =
     let rest : List Reservation = without_named b.list number start in
     let left : IsOrderly rest = orderly_filter (λ m. not (is_named number start m)) b.list (orderly_book b s o) in
@@ -108,24 +112,31 @@ sound_cancelled b number start r s o f w =
 -- What a book keeps where its roster and its counts are known one by one.
 
 -- the same of a book that is seen from inside
-pub may_book_inside : (inside now : Book) (ask : Ask) (r : Reservation) → inside ≡ now → IsSound inside → IsAsked ask r → refusal_of (terms_of now) now.list ask ≡ None → CanBook inside r
+pub may_book_inside : (inside now : Book) (ask : Ask) (r : Reservation) → inside ≡ now → IsSound inside → IsAsked ask r
+    → refusal_of (terms_of now) now.list ask ≡ None → CanBook inside r
 may_book_inside inside now ask r v s a e =
     let P : Book → Type 0 = λ b. refusal_of (terms_of b) b.list ask ≡ None in
     may_book inside ask r s a (subst P (sym v) e)
 
-pub sound_after : (b : Book) (r : Reservation) (l : List Reservation) (airtime : ℕ) → IsSound b → IsByStart b.list → CanBook b r → l ≡ place r b.list → airtime ≡ airtime_us r → IsSound (record b { list = l; booked = b.booked + airtime })
+pub sound_after : (b : Book) (r : Reservation) (l : List Reservation) (airtime : ℕ) → IsSound b → IsByStart b.list → CanBook b r
+    → l ≡ place r b.list → airtime ≡ airtime_us r → IsSound (record b { list = l; booked = b.booked + airtime })
 sound_after b r l airtime s o c p e =
     let P : List Reservation → Type 0 = λ m. IsSound (record b { list = m; booked = b.booked + airtime }) in
     let Q : ℕ → Type 0 = λ n. IsSound (record b { list = place r b.list; booked = b.booked + n }) in
     subst P (sym p) (subst Q (sym e) (sound_booked b r s o c))
 
-pub stepped : (inside now : Book) (ask : Ask) (r : Reservation) (l : List Reservation) (airtime : ℕ) → inside ≡ now → l ≡ place r inside.list → airtime ≡ airtime_us r → refusal_of (terms_of now) now.list ask ≡ None → IsAsked ask r → state_of (record inside { list = l; booked = inside.booked + airtime }) ≡ book_step now.rules (state_of now) ask
+pub stepped : (inside now : Book) (ask : Ask) (r : Reservation) (l : List Reservation) (airtime : ℕ) → inside ≡ now
+    → l ≡ place r inside.list → airtime ≡ airtime_us r → refusal_of (terms_of now) now.list ask ≡ None → IsAsked ask r
+    → state_of (record inside { list = l; booked = inside.booked + airtime }) ≡ book_step now.rules (state_of now) ask
 stepped inside now ask r l airtime v p e n a =
-    let P : Book → Type 0 = λ b. state_of (record b { list = place r b.list; booked = b.booked + airtime_us r }) ≡ book_step now.rules (state_of now) ask in
+    let P : Book → Type 0 = λ b. state_of (record b { list = place r b.list; booked = b.booked + airtime_us r })
+    ≡ book_step now.rules (state_of now) ask in
     let at_now : P now = sym (book_step-accepted now.rules (state_of now) ask r n a) in
     rw (p, e) (subst P (sym v) at_now)
 
-pub sound_after_cancel : (b : Book) (number start : ℕ) (r : Reservation) (l : List Reservation) (airtime : ℕ) → IsSound b → IsByStart b.list → find (is_named number start) b.list ≡ Some r → without start b.list ≡ without_named b.list number start → l ≡ without start b.list → airtime ≡ airtime_us r → IsSound (record b { list = l; cancelled = b.cancelled + airtime })
+pub sound_after_cancel : (b : Book) (number start : ℕ) (r : Reservation) (l : List Reservation) (airtime : ℕ) → IsSound b
+    → IsByStart b.list → find (is_named number start) b.list ≡ Some r → without start b.list ≡ without_named b.list number start
+    → l ≡ without start b.list → airtime ≡ airtime_us r → IsSound (record b { list = l; cancelled = b.cancelled + airtime })
 sound_after_cancel b number start r l airtime s o f w p e =
     let P : List Reservation → Type 0 = λ m. IsSound (record b { list = m; cancelled = b.cancelled + airtime }) in
     let Q : ℕ → Type 0 = λ n. IsSound (record b { list = without_named b.list number start; cancelled = b.cancelled + n }) in

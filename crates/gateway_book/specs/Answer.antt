@@ -1,4 +1,5 @@
-use Rattle.std.specs.Prelude.{ℕ, ◌≡◌, ◌+◌, ◌^◌, nat_lt, ◌==◌, Bool, not, if◌then◌else◌, is_some, List, [], ◌∷◌, length, Option, Some, None, option_and_then}
+use Rattle.std.specs.Prelude.{ℕ, ◌≡◌, ◌+◌, ◌^◌, nat_lt, ◌==◌, Bool, not, if◌then◌else◌, is_some, List, [], ◌∷◌, length, Option}
+use Rattle.std.specs.Prelude.{Some, None, option_and_then}
 use Rattle.std.specs.Option.{option_map}
 use Rattle.radio_airtime.specs.DataRate.{max_phy_of}
 use Rattle.radio_airtime.specs.TimeOnAir.{airtime_of}
@@ -7,7 +8,8 @@ use Rattle.resv_list.specs.declared.reservation.Reservation.{Reservation}
 use Rattle.resv_list.specs.Fit.{end_at, last_end}
 use Rattle.gateway_book.specs.declared.ask.Ask.{Ask}
 use Rattle.gateway_book.specs.declared.refusal.Refusal.{Refusal}
-use Rattle.gateway_book.specs.declared.refusal.Refusal.TheVariants.{NoBand, TooLong, PastEnd, Passed, Taken, DutyFull, Full, TotalsFull}
+use Rattle.gateway_book.specs.declared.refusal.Refusal.TheVariants.{NoBand, TooLong, PastEnd, Passed, Taken, DutyFull, Full}
+use Rattle.gateway_book.specs.declared.refusal.Refusal.TheVariants.{TotalsFull}
 use Rattle.gateway_book.specs.Disjoint.{is_clear}
 use Rattle.gateway_book.specs.Kept.{kept}
 use Rattle.gateway_book.specs.Least.{first_start}

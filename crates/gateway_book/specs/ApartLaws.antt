@@ -18,10 +18,12 @@ use Rattle.gateway_book.specs.SpacedLaws.{least-find}
 pub ends_later : (r : Reservation) → start_of r < end_of r
 ends_later r = omega (arith, airtime_of-positive r.rate r.len)
 
-pub first_has_least_start : (test : Reservation → Bool) (l : List Reservation) → IsByStart l → first_start test l ≡ option_map start_of (find test l)
+pub first_has_least_start : (test : Reservation → Bool) (l : List Reservation) → IsByStart l
+    → first_start test l ≡ option_map start_of (find test l)
 first_has_least_start test l s = least-find start_of test 0 l s
 
-spaced_get : (low : ℕ) (l : List Reservation) (i : ℕ) (r : Reservation) → SpacedFrom start_of end_of low l → slice_get l i ≡ Some r → low ≤ r.start
+spaced_get : (low : ℕ) (l : List Reservation) (i : ℕ) (r : Reservation) → SpacedFrom start_of end_of low l
+    → slice_get l i ≡ Some r → low ≤ r.start
 spaced_get low [] i r s e = absurd (cc)
 spaced_get low (x ∷ xs) zero r s e = let same : x ≡ r = cc in let k : x.start ≡ r.start = ap start_of same in omega (arith, s.0)
 spaced_get low (x ∷ xs) (suc i) r s e =
@@ -29,7 +31,8 @@ spaced_get low (x ∷ xs) (suc i) r s e =
     let p = ends_later x in
     omega (arith, s.0)
 
-spaced_pair : (low : ℕ) (l : List Reservation) (i j : ℕ) (r s : Reservation) → SpacedFrom start_of end_of low l → slice_get l i ≡ Some r → slice_get l j ≡ Some s → i < j → end_of r ≤ s.start
+spaced_pair : (low : ℕ) (l : List Reservation) (i j : ℕ) (r s : Reservation) → SpacedFrom start_of end_of low l
+    → slice_get l i ≡ Some r → slice_get l j ≡ Some s → i < j → end_of r ≤ s.start
 spaced_pair low [] i j r s h e f g = absurd (cc)
 spaced_pair low (x ∷ xs) i zero r s h e f g = absurd (omega arith)
 spaced_pair low (x ∷ xs) zero (suc j) r s h e f g =

@@ -1,4 +1,5 @@
-use Rattle.std.specs.Prelude.{ℕ, ◌≡◌, ◌≤◌, max, ◌==◌, List, [], ◌∷◌, Option, map, filter, Contains, MatchOption, nat_lt, Some, None, cond}
+use Rattle.std.specs.Prelude.{ℕ, ◌≡◌, ◌≤◌, max, ◌==◌, List, [], ◌∷◌, Option, map, filter, Contains, MatchOption, nat_lt, Some}
+use Rattle.std.specs.Prelude.{None, cond}
 use Rattle.std.specs.Option.{option_map}
 use Rattle.radio_bands.specs.declared.band.Band.{Band}
 use Rattle.resv_list.specs.declared.reservation.Reservation.{Reservation}

@@ -22,7 +22,8 @@ module _ {X : Type 0} (key : X → ℕ) where
   sort_by-rises low [] r = refl
   sort_by-rises low (x ∷ xs) r = rw (sort_by-rises (key x + 1) xs r.1) (place_by-first x xs r.1)
 
--- What is kept of a list that is by start: all of it, at every floor; so of what it becomes with one more member, of a part of it, of
+-- What is kept of a list that is by start: all of it, at every floor; so of what it becomes with one more member, of a part of
+-- it, of
 -- what was kept of it, and at a later floor.
 pub kept-own : (l : List Reservation) (floor : ℕ) → IsByStart l → kept l floor ≡ l
 unfolding kept
@@ -44,7 +45,8 @@ pub kept-later : (l : List Reservation) (floor later : ℕ) → IsByStart l → 
 kept-later l floor later o h = ap (λ (m : List Reservation). kept m later) (kept-own l floor o)
 
 -- one more member adds its airtime
-net_placed : (r s : Reservation) (ss : List Reservation) (t : Bool) → net (place r ss) ≡ airtime_us r + net ss → net (cond t (s ∷ place r ss) (r ∷ s ∷ ss)) ≡ airtime_us r + (airtime_us s + net ss)
+net_placed : (r s : Reservation) (ss : List Reservation) (t : Bool) → net (place r ss) ≡ airtime_us r + net ss
+    → net (cond t (s ∷ place r ss) (r ∷ s ∷ ss)) ≡ airtime_us r + (airtime_us s + net ss)
 unfolding net
 net_placed r s ss true h = omega (arith, h)
 net_placed r s ss false h = refl

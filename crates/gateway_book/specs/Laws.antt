@@ -35,7 +35,8 @@ pub record IsFirstFullHour (l : List Reservation) (band : Band) (start airtime f
   pub begins : from ≤ start
   pub lasts : start < from + hour
   pub passes : limit_of band < spent l band from + airtime
-  pub first : (t : ℕ) → IsOpening l band start t → t ≤ start → start < t + hour → limit_of band < spent l band t + airtime → from ≤ t
+  pub first : (t : ℕ) → IsOpening l band start t → t ≤ start → start < t + hour → limit_of band < spent l band t + airtime
+      → from ≤ t
 
 -- what the row of the duty cycle says: no hour that holds the start would pass the limit, wherever it opens; or the
 -- first full hour

@@ -17,10 +17,14 @@ the_less n m ns c (inr h) =
 order : (n m : ℕ) → (n ≤ m) ⊎ (m ≤ n)
 order n m = elim (cases_lt n m) [ inl h ↦ inl (omega arith) | inr h ↦ inr h ]
 
-least_cons : (n : ℕ) (ns : List ℕ) (o : Option ℕ) → MatchOption o (ns ≡ []) (λ m. Contains ns m × All (λ k. m ≤ k) ns) → Contains (n ∷ ns) (at_most n o) × All (λ k. at_most n o ≤ k) (n ∷ ns)
+least_cons : (n : ℕ) (ns : List ℕ) (o : Option ℕ) → MatchOption o (ns ≡ []) (λ m. Contains ns m × All (λ k. m ≤ k) ns)
+    → Contains (n ∷ ns) (at_most n o) × All (λ k. at_most n o ≤ k) (n ∷ ns)
 least_cons n [] None h = ((zero, omega arith, refl), All-cons (λ k. n ≤ k) n [] (omega arith) (λ k d l. absurd (omega arith)))
 least_cons n (x ∷ ns) None h = absurd (cc)
-least_cons n ns (Some m) h = (the_less n m ns h.0 (order n m), All-cons (λ k. min n m ≤ k) n ns (omega arith) (λ k d l. let g = h.1 k d l in omega arith))
+least_cons n ns (Some m) h = (
+  the_less n m ns h.0 (order n m),
+  All-cons (λ k. min n m ≤ k) n ns (omega arith) (λ k d l. let g = h.1 k d l in omega arith),
+)
 
 pub least_is_least : (ns : List ℕ) → MatchOption (least ns) (ns ≡ []) (λ m. Contains ns m × All (λ n. m ≤ n) ns)
 least_is_least [] = refl

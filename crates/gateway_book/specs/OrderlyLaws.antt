@@ -29,7 +29,12 @@ pub orderly_nil : IsOrderly []
 orderly_nil =
     record {
       by_start = tt;
-      lawful = record { fit = all_fit []; apart = λ i j r s e f n. absurd (cc); duty = λ band t. omega (arith, begun-nil band t (t + hour)) };
+      lawful = record {
+        fit = all_fit [];
+        apart = λ i j r s e f n. absurd (cc);
+        duty =
+            λ band t. omega (arith, begun-nil band t (t + hour));
+      };
     }
 
 -- where no member overlaps, none is found
@@ -43,17 +48,24 @@ unfolding overlap
 overlap-None l from to s e = nothing (find (overlaps start_of end_of from to) l) (sym (first_has_least_start _ l s) ∙ e)
 
 -- a reservation that overlaps no member begins where none does
-pub free_where_clear : (l : List Reservation) (r : Reservation) → IsByStart l → overlap l r.start (end_of r) ≡ None → IsFree r.start l
+pub free_where_clear : (l : List Reservation) (r : Reservation) → IsByStart l → overlap l r.start (end_of r) ≡ None
+    → IsFree r.start l
 free_where_clear l r s e =
     free_of_clear start_of end_of ends_later r.start (end_of r) l (ends_later r) (overlap-None l r.start (end_of r) s e)
 
 pub orderly_placed : (l : List Reservation) (r : Reservation) → IsOrderly l → MayJoin l r → IsOrderly (place r l)
 orderly_placed l r o j =
     let clear = overlap-None l r.start (end_of r) o.by_start j.clear in
-    let spaced = SpacedFrom-place_by start_of end_of ends_later 0 r l (omega arith) clear (apart_spaced 0 l o.by_start o.lawful.apart) in
+    let spaced = SpacedFrom-place_by start_of end_of ends_later 0 r l (omega arith) clear
+    (apart_spaced 0 l o.by_start o.lawful.apart) in
     record {
       by_start = RisesFrom-place_by start_of 0 r l (omega arith) (free_where_clear l r o.by_start j.clear) o.by_start;
-      lawful = record { fit = all_fit (place r l); apart = spaced_apart 0 (place r l) spaced; duty = duty_placed l r o.lawful.duty j.duty };
+      lawful = record {
+        fit = all_fit (place r l);
+        apart = spaced_apart 0 (place r l) spaced;
+        duty =
+            duty_placed l r o.lawful.duty j.duty;
+      };
     }
 
 pub orderly_filter : (test : Reservation → Bool) (l : List Reservation) → IsOrderly l → IsOrderly (filter test l)
@@ -77,7 +89,8 @@ same_hour l band ask r a e =
     subst Q same (subst P (sym a.start) e)
 
 -- the reservation with the fields of an ask that is accepted
-pub may_join : (terms : Terms) (l : List Reservation) (ask : Ask) (r : Reservation) → IsAsked ask r → refusal_of terms l ask ≡ None
+pub may_join : (terms : Terms) (l : List Reservation) (ask : Ask) (r : Reservation) → IsAsked ask r
+    → refusal_of terms l ask ≡ None
     → MayJoin l r
 may_join terms l ask r a e =
     let h = accepted terms l ask e in

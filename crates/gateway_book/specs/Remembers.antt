@@ -34,7 +34,8 @@ module _ (b : Book) (s : State) (o : IsByStart s.list) (r : Remembers b s) where
   pub remembers_answer : (ask : Ask) → refusal_of (terms_of b) b.list ask ≡ refusal_of (terms_at b.rules s) s.list ask
   remembers_answer ask = ap (λ (t : State). refusal_of (terms_at b.rules t) t.list ask) remembered
 
-  pub remembers_cancel : (number start : ℕ) → cancel_answer b.floor b.list number start ≡ cancel_answer s.floor s.list number start
+  pub remembers_cancel : (number start : ℕ) → cancel_answer b.floor b.list number start
+      ≡ cancel_answer s.floor s.list number start
   remembers_cancel number start = ap (λ (t : State). cancel_answer t.floor t.list number start) remembered
 
 -- a book remembers its own state, and what it is equal to

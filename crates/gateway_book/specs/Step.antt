@@ -1,4 +1,5 @@
-use Rattle.std.specs.Prelude.{ℕ, ◌≡◌, ◌+◌, nat_le, Bool, true, false, ◌&&◌, is_some, refl, List, Option, Some, None, ◌==◌, if◌then◌else◌, not, filter, find, max, Result, Ok, Err}
+use Rattle.std.specs.Prelude.{ℕ, ◌≡◌, ◌+◌, nat_le, Bool, true, false, ◌&&◌, is_some, refl, List, Option, Some, None, ◌==◌}
+use Rattle.std.specs.Prelude.{if◌then◌else◌, not, filter, find, max, Result, Ok, Err}
 use Rattle.std.proofs.Common.{sym, true≢false}
 use Rattle.std.proofs.lemmas.Bool.{leb-true}
 use Rattle.radio_airtime.specs.DataRate.{max_phy_of}
@@ -25,7 +26,8 @@ both false t h = absurd (true≢false (sym h))
 
 pub is_fit-IsFit : (ask : Ask) → is_fit ask ≡ true → IsFit ask.start ask.freq_hz ask.rate ask.len
 is_fit-IsFit ask h =
-    let outer = both (is_some (band_of ask.freq_hz ask.rate) && nat_le ask.len (max_phy_of ask.rate)) (nat_le (ask_end ask) last_end) h in
+    let outer = both (is_some (band_of ask.freq_hz ask.rate) && nat_le ask.len (max_phy_of ask.rate))
+    (nat_le (ask_end ask) last_end) h in
     let inner = both (is_some (band_of ask.freq_hz ask.rate)) (nat_le ask.len (max_phy_of ask.rate)) outer.0 in
     record {
       banded = inner.0;
@@ -36,7 +38,15 @@ is_fit-IsFit ask h =
 abbrev pub made_if : (ask : Ask) (t : Bool) → is_fit ask ≡ t → Option Reservation
 made_if ask true e =
     Some
-    (record { number = ask.number; start = ask.start; freq_hz = ask.freq_hz; rate = ask.rate; len = ask.len; fit = is_fit-IsFit ask e })
+    (record {
+      number = ask.number;
+      start = ask.start;
+      freq_hz = ask.freq_hz;
+      rate = ask.rate;
+      len = ask.len;
+      fit =
+          is_fit-IsFit ask e;
+    })
 made_if ask false e = None
 
 -- the reservation with the asked fields, where they are fit

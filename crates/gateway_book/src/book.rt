@@ -1,4 +1,5 @@
-ghost use Rattle.std.specs.Prelude.{◌≡◌, ℕ, ◌+◌, ◌≤◌, ◌↔◌, [], ◌∷◌, IsOk, IfOk, OnOk, OnErr, MatchOption, IsOkUnless, IsOkAnd, nat_lt, max};
+ghost use Rattle.std.specs.Prelude.{◌≡◌, ℕ, ◌+◌, ◌≤◌, ◌↔◌, [], ◌∷◌, IsOk, IfOk, OnOk, OnErr, MatchOption, IsOkUnless, IsOkAnd};
+ghost use Rattle.std.specs.Prelude.{nat_lt, max};
 ghost use Rattle.std.specs.Option.{option_map, option_and_then};
 ghost use Rattle.gateway_book.specs.Answer.{IsAsked, first_some, no_band, too_long, past_end, refusal_of, overlap, overfull};
 ghost use Rattle.gateway_book.specs.Lawful.{IsLawful};
@@ -56,9 +57,26 @@ impl<R: Roster> Model for GatewayBook<R> {
 
     ghost Value = { Book };
 
-    ghost view = { λ b. record { id = b.id; rules = record { cap = b.cap }; floor = b.floor; list = R.list b.roster; booked = b.booked; cancelled = b.cancelled; retired = b.retired } };
+    ghost view = { λ b. record {
+      id = b.id;
+      rules = record { cap = b.cap };
+      floor = b.floor;
+      list = R.list b.roster;
+      booked =
+          b.booked;
+      cancelled = b.cancelled;
+      retired = b.retired;
+    } };
 
-    ghost invariant = { λ b. IsSound (record { id = b.id; rules = record { cap = b.cap }; floor = b.floor; list = R.list b.roster; booked = b.booked; cancelled = b.cancelled; retired = b.retired }) };
+    ghost invariant = { λ b. IsSound (record {
+      id = b.id;
+      rules = record { cap = b.cap };
+      floor = b.floor;
+      list = R.list b.roster;
+      booked = b.booked;
+      cancelled = b.cancelled;
+      retired = b.retired;
+    }) };
 }
 
 impl<R: Roster> GatewayBook<R> {
@@ -69,7 +87,15 @@ impl<R: Roster> GatewayBook<R> {
         R: Drop,
         requires { R.list roster ≡ [] }
         ensures capped { IsOk result ↔ ((1 ≤ cap) × (cap ≤ MAX_CAP)) }
-        ensures empty { IfOk result (λ b. b ≡ record { id = id; rules = record { cap = cap }; floor = 0; list = []; booked = 0; cancelled = 0; retired = 0 }) }
+        ensures empty { IfOk result (λ b. b ≡ record {
+          id = id;
+          rules = record { cap = cap };
+          floor = 0;
+          list = [];
+          booked = 0;
+          cancelled = 0;
+          retired = 0;
+        }) }
     {
         if cap == 0 || cap > MAX_CAP {
             return Err(OpenFault::BadCap);
@@ -102,7 +128,8 @@ impl<R: Roster> GatewayBook<R> {
     /// Reserves what is asked for, or answers the first refusal that holds, in the order of `Refusal`;
     /// `NoMemory` comes last, where the roster found none. A refusal changes nothing.
     pub fn book(&mut self, ask: Ask) -> Result<Reservation, Refusal>
-        ensures answer { MatchOption (refusal_of (terms_of self.old) self.old.list ask) (IsOkUnless result Refusal.NoMemory) (λ refusal. result ≡ Err refusal) }
+        ensures answer { MatchOption (refusal_of (terms_of self.old) self.old.list ask) (IsOkUnless result Refusal.NoMemory)
+            (λ refusal. result ≡ Err refusal) }
         ensures asked { IfOk result (IsAsked ask) }
         ensures booked { IfOk result (λ r. self.new ≡ with_booked self.old r) }
         ensures step { OnOk result (state_of self.new ≡ book_step self.old.rules (state_of self.old) ask) }
@@ -121,7 +148,8 @@ impl<R: Roster> GatewayBook<R> {
 
     /// The reservation that an ask becomes if there is memory, or its refusal.
     fn admitted(&self, ask: Ask) -> Result<Reservation, Refusal>
-        ensures { MatchOption (refusal_of (terms_of self.now) self.now.list ask) (IsOkAnd result (IsAsked ask)) (λ refusal. result ≡ Err refusal) }
+        ensures { MatchOption (refusal_of (terms_of self.now) self.now.list ask) (IsOkAnd result (IsAsked ask))
+            (λ refusal. result ≡ Err refusal) }
     {
         let reservation = fitted(ask)?;
         if ask.start < self.floor {
@@ -156,7 +184,8 @@ impl<R: Roster> GatewayBook<R> {
 
     /// The refusal of what would overfill an hour of its sub-band.
     fn duty_full(&self, reservation: &Reservation) -> Option<Refusal>
-        ensures { result ≡ option_and_then (overfull self.now.list reservation.now.start (airtime_us reservation.now)) (band_of reservation.now.freq_hz reservation.now.rate) }
+        ensures { result ≡ option_and_then (overfull self.now.list reservation.now.start (airtime_us reservation.now))
+            (band_of reservation.now.freq_hz reservation.now.rate) }
     {
         let band = reservation.band();
         let from = full_hour(&self.roster, band, reservation.start, reservation.airtime())?;
@@ -247,7 +276,8 @@ fn members_of<R: Roster, A: Allocator>(
 
 /// The reservation with the asked fields, or why they are not fit for one.
 fn fitted(ask: Ask) -> Result<Reservation, Refusal>
-    ensures { MatchOption (first_some (no_band ask ∷ too_long ask ∷ past_end ask ∷ [])) (IsOkAnd result (IsAsked ask)) (λ refusal. result ≡ Err refusal) }
+    ensures { MatchOption (first_some (no_band ask ∷ too_long ask ∷ past_end ask ∷ [])) (IsOkAnd result (IsAsked ask))
+        (λ refusal. result ≡ Err refusal) }
 {
     if Band::of(ask.freq_hz, ask.rate).is_none() {
         return Err(Refusal::NoBand);

@@ -27,7 +27,8 @@ fn with_hour_of<R: Roster>(
     member: &Reservation,
     best: Option<(u64, u64)>,
 ) -> Option<(u64, u64)>
-    ensures { result ≡ (if is_in band member.now then busier best member.now.start (spent (R.list roster.now) band member.now.start) else best) }
+    ensures { result ≡ (if is_in band member.now then busier best member.now.start
+        (spent (R.list roster.now) band member.now.start) else best) }
 {
     if !band.holds(member.freq_hz, member.rate) {
         return best;

@@ -1,4 +1,5 @@
-ghost use Rattle.gateway_book.specs.Laws.{SpacedIsApart, FirstHasLeastStart, LeastIsLeast, FewHoursSuffice, DutyRowIsExact, BusiestIsExact};
+ghost use Rattle.gateway_book.specs.Laws.{SpacedIsApart, FirstHasLeastStart, LeastIsLeast, FewHoursSuffice, DutyRowIsExact};
+ghost use Rattle.gateway_book.specs.Laws.{BusiestIsExact};
 
 /// Members at different places of a list by start are disjoint exactly where each begins no earlier
 /// than the one before it ends.

@@ -13,7 +13,8 @@ take-four (a ∷ b ∷ c ∷ []) h = absurd (omega arith)
 take-four (a ∷ b ∷ c ∷ d ∷ xs) h = refl
 
 -- what a test of two lists of bytes says, where each is known under another name
-pub test_is : (r : Bool) (m m' d d' : List ℕ) → r ≡ pointwise nat_eq m d → m ≡ m' → d ≡ d' → (IsTrue r → d' ≡ m') × (d' ≡ m' → IsTrue r)
+pub test_is : (r : Bool) (m m' d d' : List ℕ) → r ≡ pointwise nat_eq m d → m ≡ m' → d ≡ d'
+    → (IsTrue r → d' ≡ m') × (d' ≡ m' → IsTrue r)
 test_is r m m' d d' er em ed =
     let both = bytes_eq-Decides m d in (
       λ h. sym ed ∙ sym (both.0 (sym er ∙ h)) ∙ em,

@@ -1,5 +1,6 @@
 -- Payloads are decrypted again.
-use Rattle.std.proofs.Common.{◌≡◌, ℕ, zero, suc, ◌-◌, ◌*◌, ◌≤◌, Bool, true, false, Option, Some, List, [], ◌∷◌, ◌++◌, length, take, drop, refl, ap, ◌∙◌, arith}
+use Rattle.std.proofs.Common.{◌≡◌, ℕ, zero, suc, ◌-◌, ◌*◌, ◌≤◌, Bool, true, false, Option, Some, List, [], ◌∷◌, ◌++◌, length}
+use Rattle.std.proofs.Common.{take, drop, refl, ap, ◌∙◌, arith}
 use Rattle.std.specs.Prelude.{bit_xor, if◌then◌else◌, ◌==◌}
 use Rattle.std.specs.Int.Bits.{xor_assoc, xor_self}
 use Rattle.std.proofs.lemmas.Nat.{xor_comm}
@@ -28,21 +29,32 @@ pub sum_twice : (a b : List ℕ) → length a ≤ length b → xor_bytes (xor_by
 sum_twice [] b h = refl
 sum_twice (x ∷ xs) [] h = absurd (omega arith)
 sum_twice (x ∷ xs) (y ∷ ys) h =
-    ap (λ (n : ℕ). n ∷ xor_bytes (xor_bytes xs ys) ys) (xor_twice x y) ∙ ap (λ (t : List ℕ). x ∷ t) (sum_twice xs ys (omega arith))
+    ap (λ (n : ℕ). n ∷ xor_bytes (xor_bytes xs ys) ys) (xor_twice x y)
+    ∙ ap (λ (t : List ℕ). x ∷ t) (sum_twice xs ys (omega arith))
 
-pub length-key_stream : (key : List ℕ) (direction addr counter n : ℕ) → length key ≡ 16 → length (key_stream key direction addr counter n) ≡ 16 * n
+pub length-key_stream : (key : List ℕ) (direction addr counter n : ℕ) → length key ≡ 16
+    → length (key_stream key direction addr counter n) ≡ 16 * n
 unfolding key_stream
 length-key_stream key direction addr counter zero h = refl
 length-key_stream key direction addr counter (suc n) h =
     length-append (key_stream key direction addr counter n) (ciphertext key (stream_seed direction addr counter (suc n)))
-    ∙ omega (arith, length-key_stream key direction addr counter n h, length-ciphertext key (stream_seed direction addr counter (suc n)) h)
+    ∙ omega (
+      arith,
+      length-key_stream key direction addr counter n h,
+      length-ciphertext key (stream_seed direction addr counter (suc n)) h,
+    )
 
 -- the key stream is long enough
 enough : (key payload : List ℕ) (direction addr counter : ℕ) → length key ≡ 16
     → length payload ≤ length (key_stream key direction addr counter (block_count (length payload)))
-enough key payload direction addr counter h = omega (arith, length-key_stream key direction addr counter (block_count (length payload)) h)
+enough key payload direction addr counter h = omega (
+  arith,
+  length-key_stream key direction addr counter
+      (block_count (length payload)) h,
+)
 
-pub length-crypted : (key payload : List ℕ) (direction addr counter : ℕ) → length key ≡ 16 → length (crypted key direction addr counter payload) ≡ length payload
+pub length-crypted : (key payload : List ℕ) (direction addr counter : ℕ) → length key ≡ 16
+    → length (crypted key direction addr counter payload) ≡ length payload
 unfolding crypted
 length-crypted key payload direction addr counter h = length-sum payload _ (enough key payload direction addr counter h)
 
@@ -51,7 +63,8 @@ pub crypted_twice : (key payload : List ℕ) (direction addr counter : ℕ) → 
 unfolding crypted
 crypted_twice key payload direction addr counter h =
     let same = length-sum payload _ (enough key payload direction addr counter h) in
-    ap (λ (n : ℕ). xor_bytes (xor_bytes payload (key_stream key direction addr counter (block_count (length payload)))) (key_stream key direction addr counter (block_count n))) same
+    ap (λ (n : ℕ). xor_bytes (xor_bytes payload (key_stream key direction addr counter (block_count (length payload))))
+    (key_stream key direction addr counter (block_count n))) same
     ∙ sum_twice payload _ (enough key payload direction addr counter h)
 
 pub length-payload_key : (keys : Keys) (port : ℕ) → IsKeyPair keys → length (payload_key keys port) ≡ 16
@@ -61,7 +74,8 @@ length-payload_key keys port pair = by_test (port == 0)
     by_test true = pair.nwk
     by_test false = pair.app
 
-pub length-mic : (key message : List ℕ) (direction addr counter : ℕ) → length key ≡ 16 → length (mic_of key direction addr counter message) ≡ 4
+pub length-mic : (key message : List ℕ) (direction addr counter : ℕ) → length key ≡ 16
+    → length (mic_of key direction addr counter message) ≡ 4
 unfolding mic_of
 length-mic key message direction addr counter h =
     length-take-le 4 (cmac key (first_block direction addr counter (length message) ++ message))
@@ -80,9 +94,12 @@ unfolding down_frame
 device_decrypts down keys body pair is =
     let message : List ℕ = down_message down keys in
     let mic : List ℕ = mic_of keys.nwk 1 down.addr down.counter message in
-    let front : take (length (message ++ mic) - 4) (message ++ mic) ≡ message = front-mic message mic (length-mic keys.nwk message 1 down.addr down.counter pair.nwk) in
+    let front : take (length (message ++ mic) - 4) (message ++ mic) ≡ message =
+    front-mic message mic (length-mic keys.nwk message 1 down.addr down.counter pair.nwk) in
     let inner : drop 9 message ≡ crypted (payload_key keys body.port) 1 down.addr down.counter body.payload.now =
-    ap (λ (b : Option Body). drop 9 (header_bytes 3 down.addr (down_control down) down.counter ++ body_bytes keys 1 down.addr down.counter b)) is in
+    ap (λ (b : Option Body). drop 9 (header_bytes 3 down.addr (down_control down) down.counter
+    ++ body_bytes keys 1 down.addr down.counter b)) is in
     ap (λ (x : List ℕ). crypted (payload_key keys body.port) 1 down.addr down.counter (drop 9 x)) front
     ∙ ap (λ (x : List ℕ). crypted (payload_key keys body.port) 1 down.addr down.counter x) inner
-    ∙ crypted_twice (payload_key keys body.port) body.payload.now 1 down.addr down.counter (length-payload_key keys body.port pair)
+    ∙ crypted_twice (payload_key keys body.port) body.payload.now 1 down.addr down.counter
+    (length-payload_key keys body.port pair)

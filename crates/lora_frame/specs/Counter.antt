@@ -1,5 +1,6 @@
 -- The whole counter of an uplink from the 16 bits that the frame has (LoRaWAN L2 1.0.4 section 4.3.1.5).
-use Rattle.std.specs.Prelude.{◌≡◌, ℕ, ◌+◌, ◌-◌, ◌%◌, ◌^◌, ◌<◌, ◌≤◌, nat_lt, Option, Some, None, unwrap_or, MatchOption, if◌then◌else◌}
+use Rattle.std.specs.Prelude.{◌≡◌, ℕ, ◌+◌, ◌-◌, ◌%◌, ◌^◌, ◌<◌, ◌≤◌, nat_lt, Option, Some, None, unwrap_or, MatchOption}
+use Rattle.std.specs.Prelude.{if◌then◌else◌}
 
 -- the least number not below n whose low 16 bits are low
 abbrev pub next_with_low : ℕ → ℕ → ℕ

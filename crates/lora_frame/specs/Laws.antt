@@ -1,5 +1,6 @@
 -- What the definitions of frames mean together.
-use Rattle.std.specs.Prelude.{◌≡◌, ℕ, ◌+◌, ◌-◌, ◌%◌, ◌^◌, ◌<◌, List, length, take, drop, Some, None, Ok, option_map, if◌then◌else◌, is_some}
+use Rattle.std.specs.Prelude.{◌≡◌, ℕ, ◌+◌, ◌-◌, ◌%◌, ◌^◌, ◌<◌, List, length, take, drop, Some, None, Ok, option_map}
+use Rattle.std.specs.Prelude.{if◌then◌else◌, is_some}
 use Rattle.lora_frame.specs.Blocks.{crypted, mic_of}
 use Rattle.lora_frame.specs.Frame.{payload_key, down_bytes, up_bytes, up_message}
 use Rattle.lora_frame.specs.Faults.{up_fault}

@@ -1,5 +1,6 @@
 -- How a data uplink is read (LoRaWAN L2 1.0.4 section 4).
-use Rattle.std.specs.Prelude.{◌≡◌, ℕ, ◌+◌, ◌-◌, ◌/◌, ◌%◌, Bool, ◌==◌, ◌||◌, not, nat_lt, List, length, take, drop, slice_index, Some, None, Result, Ok, Err, if◌then◌else◌}
+use Rattle.std.specs.Prelude.{◌≡◌, ℕ, ◌+◌, ◌-◌, ◌/◌, ◌%◌, Bool, ◌==◌, ◌||◌, not, nat_lt, List, length, take, drop, slice_index}
+use Rattle.std.specs.Prelude.{Some, None, Result, Ok, Err, if◌then◌else◌}
 use Rattle.std.specs.Int.{w16, w32, from_le_bytes}
 use Rattle.std.specs.Str.{bytes_eq}
 use Rattle.lora_frame.specs.Blocks.{mic_of}

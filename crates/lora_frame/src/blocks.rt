@@ -1,6 +1,7 @@
 // The blocks that a frame's payload and MIC are made with (LoRaWAN L2 1.0.4 sections 4.3.3 and 4.4).
 
-ghost use Rattle.std.specs.Prelude.{◌≡◌, ◌+◌, ◌-◌, ◌*◌, ◌≤◌, ◌<◌, ◌∷◌, [], ◌++◌, length, take, drop, min, replicate, vec_len, vec_capacity};
+ghost use Rattle.std.specs.Prelude.{◌≡◌, ◌+◌, ◌-◌, ◌*◌, ◌≤◌, ◌<◌, ◌∷◌, [], ◌++◌, length, take, drop, min, replicate, vec_len};
+ghost use Rattle.std.specs.Prelude.{vec_capacity};
 ghost use Rattle.std.specs.Int.{w32, to_le_bytes};
 ghost use Rattle.aes_cmac.specs.Aes.{xor_bytes, ciphertext};
 ghost use Rattle.lora_frame.specs.Blocks.{stream_seed, crypted, mic_of};

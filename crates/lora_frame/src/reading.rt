@@ -1,6 +1,7 @@
 // Uplinks are read.
 
-ghost use Rattle.std.specs.Prelude.{◌≡◌, ◌↔◌, ◌+◌, ◌≤◌, Some, None, IsOk, IsTrue, nat_lt, length, take, drop, slice_index, if◌then◌else◌};
+ghost use Rattle.std.specs.Prelude.{◌≡◌, ◌↔◌, ◌+◌, ◌≤◌, Some, None, IsOk, IsTrue, nat_lt, length, take, drop, slice_index};
+ghost use Rattle.std.specs.Prelude.{if◌then◌else◌};
 ghost use Rattle.std.specs.Int.{w16, from_le_bytes};
 ghost use Rattle.lora_frame.specs.Reading.{mic_place, options_end, uplink_of, uplink_record, HasMic, has_mic};
 

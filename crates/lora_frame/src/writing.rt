@@ -1,7 +1,9 @@
 // Frames are written: the server's downlink and the device's uplink.
 
-ghost use Rattle.std.specs.Prelude.{◌≡◌, ◌↔◌, ◌+◌, ◌≤◌, ◌<◌, ◌++◌, Some, None, Err, IfOk, nat_lt, if◌then◌else◌, length, vec_len, vec_capacity};
-ghost use Rattle.lora_frame.specs.Frame.{header_bytes, body_bytes, body_len, payload_key, with_mic, bit_worth, down_control, up_control, down_bytes, up_bytes};
+ghost use Rattle.std.specs.Prelude.{◌≡◌, ◌↔◌, ◌+◌, ◌≤◌, ◌<◌, ◌++◌, Some, None, Err, IfOk, nat_lt, if◌then◌else◌, length, vec_len};
+ghost use Rattle.std.specs.Prelude.{vec_capacity};
+ghost use Rattle.lora_frame.specs.Frame.{header_bytes, body_bytes, body_len, payload_key, with_mic, bit_worth, down_control};
+ghost use Rattle.lora_frame.specs.Frame.{up_control, down_bytes, up_bytes};
 ghost use Rattle.lora_frame.specs.Faults.{down_fault, up_fault, has_high_port};
 
 use crate::blocks::{DOWN, UP, append, append_crypted, mic};

@@ -26,7 +26,8 @@ none_of_five (suc q) = none_below (suc q * 5)
 none_up : (a b d : ℕ) → a < b → 5 * div_ceil (a - b) d ≡ 0
 none_up a b d h = let e : a - b ≡ 0 = omega arith in rw (e, zero-div, zero-mod) refl
 
-blocks_by : (t : Bool) (a b d : ℕ) → ltb a b ≡ t → at_least_zero (ceil_div (cond t (negsuc (b - suc a)) (pos (a - b))) d *ℤ pos 5) ≡ 5 * div_ceil (a - b) d
+blocks_by : (t : Bool) (a b d : ℕ) → ltb a b ≡ t → at_least_zero (ceil_div (cond t (negsuc (b - suc a)) (pos (a - b))) d *ℤ pos 5)
+    ≡ 5 * div_ceil (a - b) d
 blocks_by true a b d h = none_of_five ((b - suc a + 1) / d) ∙ sym (none_up a b d (ltb-true a b h))
 blocks_by false a b d h = omega arith
 
@@ -35,7 +36,8 @@ blocks a b d = blocks_by (ltb a b) a b d refl
 
 -- time on air, as the code computes it
 pub airtime_of-whole : (rate : DataRate) (len : ℕ) →
-    airtime_of rate len ≡ (49 + 4 * (8 + 5 * div_ceil (8 * len + 28 - 4 * spreading_factor_of rate) (4 * (spreading_factor_of rate - 2 * low_data_rate_optimisation rate)))) * (symbol_us rate / 4)
+    airtime_of rate len ≡ (49 + 4 * (8 + 5 * div_ceil (8 * len + 28 - 4 * spreading_factor_of rate)
+    (4 * (spreading_factor_of rate - 2 * low_data_rate_optimisation rate)))) * (symbol_us rate / 4)
 unfolding airtime_of
 airtime_of-whole Dr0 len = let e = blocks (8 * len + 28 + 0) 48 40 in omega (arith, e)
 airtime_of-whole Dr1 len = let e = blocks (8 * len + 28 + 0) 44 36 in omega (arith, e)

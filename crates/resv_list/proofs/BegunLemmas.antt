@@ -28,7 +28,8 @@ share_after band from to r h = none (is_in band r && nat_le from r.start) (le-lt
     none false e = refl
 
 -- a member of the band in the stretch counts whole, a member of another band not at all
-pub share_within : (band : Band) (from to : ℕ) (r : Reservation) → from ≤ r.start → r.start < to → share band from to r ≡ cond (is_in band r) (airtime_us r) 0
+pub share_within : (band : Band) (from to : ℕ) (r : Reservation) → from ≤ r.start → r.start < to
+    → share band from to r ≡ cond (is_in band r) (airtime_us r) 0
 share_within band from to r h g = whole (is_in band r)
   where
     whole : (p : Bool) → cond (p && nat_le from r.start && nat_lt r.start to) (airtime_us r) 0 ≡ cond p (airtime_us r) 0
@@ -36,22 +37,35 @@ share_within band from to r h g = whole (is_in band r)
     whole false = refl
 
 -- what begins from a moment on begins behind the cut there
-pub begun-cut : (band : Band) (from to : ℕ) (l : List Reservation) (i : ℕ) → IsCut (λ r. nat_lt (start_of r) from) l i → begun band from to l ≡ begun band from to (drop i l)
+pub begun-cut : (band : Band) (from to : ℕ) (l : List Reservation) (i : ℕ) → IsCut (λ r. nat_lt (start_of r) from) l i
+    → begun band from to l ≡ begun band from to (drop i l)
 begun-cut band from to [] zero c = refl
 begun-cut band from to [] (suc i) c = refl
 begun-cut band from to (r ∷ rs) zero c = refl
 begun-cut band from to (r ∷ rs) (suc i) c =
     let h : r.start < from = ltb-true r.start from (c.0 zero r (omega arith) (omega arith)) in
-    omega (arith, begun-cons band from to r rs, share_before band from to r h, begun-cut band from to rs i (cut_rest (λ s. nat_lt (start_of s) from) r rs i c))
+    omega (
+      arith,
+      begun-cons band from to r rs,
+      share_before band from to r h,
+      begun-cut band from to rs i (cut_rest (λ s. nat_lt (start_of s) from) r rs i c),
+    )
 
 -- nothing of a list that rises from `to` begins before it
-pub begun_late : (band : Band) (from to low : ℕ) (l : List Reservation) → to ≤ low → RisesFrom start_of low l → begun band from to l ≡ 0
+pub begun_late : (band : Band) (from to low : ℕ) (l : List Reservation) → to ≤ low → RisesFrom start_of low l
+    → begun band from to l ≡ 0
 begun_late band from to low [] h r = begun-nil band from to
 begun_late band from to low (x ∷ xs) h r =
-    omega (arith, begun-cons band from to x xs, share_after band from to x (omega arith), begun_late band from to (x.start + 1) xs (omega arith) r.1)
+    omega (
+      arith,
+      begun-cons band from to x xs,
+      share_after band from to x (omega arith),
+      begun_late band from to (x.start + 1) xs (omega arith) r.1,
+    )
 
 -- nothing begins before `to` from a member on that doesn't
-pub begun_behind : (band : Band) (from to low : ℕ) (l : List Reservation) (i : ℕ) (m : Reservation) → RisesFrom start_of low l → i < length l → m ≡ get_or l i m → to ≤ m.start → begun band from to (drop i l) ≡ 0
+pub begun_behind : (band : Band) (from to low : ℕ) (l : List Reservation) (i : ℕ) (m : Reservation) → RisesFrom start_of low l
+    → i < length l → m ≡ get_or l i m → to ≤ m.start → begun band from to (drop i l) ≡ 0
 begun_behind band from to low [] i m r h e g = absurd (omega arith)
 begun_behind band from to low (x ∷ xs) zero m r h e g =
     let k : m.start ≡ x.start = ap start_of e in

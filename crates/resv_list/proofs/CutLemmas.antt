@@ -1,4 +1,5 @@
-use Rattle.std.specs.Prelude.{ℕ, ◌≡◌, ◌≢◌, ◌+◌, ◌<◌, ◌≤◌, nat_lt, Bool, true, false, not, List, [], ◌∷◌, ◌++◌, length, Some, filter, find, take, drop, ◌-◌, slice_get, ◌==◌, remove, None}
+use Rattle.std.specs.Prelude.{ℕ, ◌≡◌, ◌≢◌, ◌+◌, ◌<◌, ◌≤◌, nat_lt, Bool, true, false, not, List, [], ◌∷◌, ◌++◌, length, Some}
+use Rattle.std.specs.Prelude.{filter, find, take, drop, ◌-◌, slice_get, ◌==◌, remove, None}
 use Rattle.std.specs.List.Sorted.{IsNonDecreasingBy}
 use Rattle.std.proofs.Common.{refl, sym, ap, ◌∙◌, arith, zero, suc, get_or}
 use Rattle.std.proofs.lemmas.Bool.{ltb-true, ltb-false}
@@ -19,9 +20,11 @@ module _ {X : Type 0} (key : X → ℕ) where
   pub RisesFrom-IsNonDecreasingBy : (low : ℕ) (xs : List X) → RisesFrom key low xs → IsNonDecreasingBy key xs
   RisesFrom-IsNonDecreasingBy low [] r i j d h g = absurd (omega arith)
   RisesFrom-IsNonDecreasingBy low (x ∷ xs) r zero zero d h g = omega arith
-  RisesFrom-IsNonDecreasingBy low (x ∷ xs) r zero (suc j) d h g = let i = RisesFrom-get (key x + 1) xs j d r.1 (omega arith) in omega arith
+  RisesFrom-IsNonDecreasingBy low (x ∷ xs) r zero (suc j) d h g = let i = RisesFrom-get (key x + 1) xs j d r.1 (omega arith) in
+      omega arith
   RisesFrom-IsNonDecreasingBy low (x ∷ xs) r (suc i) zero d h g = absurd (omega arith)
-  RisesFrom-IsNonDecreasingBy low (x ∷ xs) r (suc i) (suc j) d h g = RisesFrom-IsNonDecreasingBy (key x + 1) xs r.1 i j d (omega arith) (omega arith)
+  RisesFrom-IsNonDecreasingBy low (x ∷ xs) r (suc i) (suc j) d h g =
+      RisesFrom-IsNonDecreasingBy (key x + 1) xs r.1 i j d (omega arith) (omega arith)
 
 module _ {X : Type 0} (test : X → Bool) where
   pub cut_rest : (x : X) (xs : List X) (i : ℕ) → IsCut test (x ∷ xs) (suc i) → IsCut test xs i
@@ -41,7 +44,8 @@ module _ {X : Type 0} (test : X → Bool) where
       let e : test x ≡ true = c.0 zero x (omega arith) (omega arith) in
       rw (e, filter-cut xs i (cut_rest x xs i c)) refl
 
-  pub find-cut : (other : X → Bool) → ((x : X) → other x ≡ not (test x)) → (xs : List X) (i : ℕ) → IsCut test xs i → find other xs ≡ slice_get xs i
+  pub find-cut : (other : X → Bool) → ((x : X) → other x ≡ not (test x)) → (xs : List X) (i : ℕ) → IsCut test xs i
+      → find other xs ≡ slice_get xs i
   find-cut other o [] i c = refl
   find-cut other o (x ∷ xs) zero c =
       let e : test x ≡ false = c.1 zero x (omega arith) (omega arith) in
@@ -51,7 +55,8 @@ module _ {X : Type 0} (test : X → Bool) where
       rw (o x, e) (find-cut other o xs i (cut_rest x xs i c))
 
 module _ {X : Type 0} (key : X → ℕ) where
-  pub place_by-cut : (x : X) (xs : List X) (i : ℕ) → IsCut (λ y. nat_lt (key y) (key x)) xs i → place_by key x xs ≡ take i xs ++ x ∷ drop i xs
+  pub place_by-cut : (x : X) (xs : List X) (i : ℕ) → IsCut (λ y. nat_lt (key y) (key x)) xs i
+      → place_by key x xs ≡ take i xs ++ x ∷ drop i xs
   place_by-cut x [] zero c = refl
   place_by-cut x [] (suc i) c = refl
   place_by-cut x (y ∷ ys) zero c =
@@ -75,7 +80,8 @@ slice_get-read (y ∷ ys) zero x h e = ap Some (sym e)
 slice_get-read (y ∷ ys) (suc i) x h e = slice_get-read ys i x (omega arith) e
 
 -- the last of the first i members, where i is above 0
-pub last-take_before : {X : Type 0} (xs : List X) (i : ℕ) (x : X) → 0 < i → i ≤ length xs → x ≡ get_or xs (i - 1) x → last (take i xs) ≡ Some x
+pub last-take_before : {X : Type 0} (xs : List X) (i : ℕ) (x : X) → 0 < i → i ≤ length xs → x ≡ get_or xs (i - 1) x
+    → last (take i xs) ≡ Some x
 last-take_before xs zero x p h e = absurd (omega arith)
 last-take_before xs (suc i) x p h e =
     let s : suc i - 1 ≡ i = omega arith in
@@ -89,7 +95,9 @@ module _ {X : Type 0} (key : X → ℕ) where
   cut_passes at x xs i c = ltb-true (key x) at (c.0 zero x (omega arith) (omega arith))
 
   -- the member at the key, where the first that doesn't lie below it has it
-  pub at_cut : (low at : ℕ) (xs : List X) (i : ℕ) (y : X) → IsCut (λ x. nat_lt (key x) at) xs i → RisesFrom key low xs → slice_get xs i ≡ Some y → key y ≡ at → (find (λ x. key x == at) xs ≡ Some y) × (filter (λ x. not (key x == at)) xs ≡ remove xs i)
+  pub at_cut : (low at : ℕ) (xs : List X) (i : ℕ) (y : X) → IsCut (λ x. nat_lt (key x) at) xs i → RisesFrom key low xs
+      → slice_get xs i ≡ Some y → key y ≡ at → (find (λ x. key x == at) xs ≡ Some y)
+      × (filter (λ x. not (key x == at)) xs ≡ remove xs i)
   at_cut low at [] i y c r g k = absurd (cc)
   at_cut low at (x ∷ xs) zero y c r g k =
       let same : x ≡ y = cc in
@@ -104,7 +112,9 @@ module _ {X : Type 0} (key : X → ℕ) where
       (rw e rest.0, rw (e, rest.1) refl)
 
   -- no member at the key, where the first that doesn't lie below it has another or there is none
-  pub not_at_cut : (low at : ℕ) (xs : List X) (i : ℕ) → IsCut (λ x. nat_lt (key x) at) xs i → RisesFrom key low xs → ((y : X) → slice_get xs i ≡ Some y → key y ≢ at) → (find (λ x. key x == at) xs ≡ None) × (filter (λ x. not (key x == at)) xs ≡ xs)
+  pub not_at_cut : (low at : ℕ) (xs : List X) (i : ℕ) → IsCut (λ x. nat_lt (key x) at) xs i → RisesFrom key low xs
+      → ((y : X) → slice_get xs i ≡ Some y → key y ≢ at) → (find (λ x. key x == at) xs ≡ None)
+      × (filter (λ x. not (key x == at)) xs ≡ xs)
   not_at_cut low at [] i c r n = (refl, refl)
   not_at_cut low at (x ∷ xs) zero c r n =
       let l = cut_fails at x xs c in
@@ -119,7 +129,8 @@ module _ {X : Type 0} (key : X → ℕ) where
       (rw e rest.0, rw (e, rest.1) refl)
 
   -- from a cut on, the list rises from its key
-  pub RisesFrom-cut : (low at : ℕ) (xs : List X) (i : ℕ) → IsCut (λ x. nat_lt (key x) at) xs i → RisesFrom key low xs → RisesFrom key at (drop i xs)
+  pub RisesFrom-cut : (low at : ℕ) (xs : List X) (i : ℕ) → IsCut (λ x. nat_lt (key x) at) xs i → RisesFrom key low xs
+      → RisesFrom key at (drop i xs)
   RisesFrom-cut low at [] zero c r = tt
   RisesFrom-cut low at [] (suc i) c r = tt
   RisesFrom-cut low at (x ∷ xs) zero c r = (cut_fails at x xs c, r.1)

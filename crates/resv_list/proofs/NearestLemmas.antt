@@ -1,5 +1,6 @@
 -- The law on the members on either side of a moment.
-use Rattle.std.proofs.Common.{◌≡◌, ℕ, ◌+◌, ◌<◌, ◌≤◌, Bool, true, false, nat_lt, nat_le, cond, List, [], ◌∷◌, Option, None, Some, All, Contains, refl, ap, arith, zero, suc}
+use Rattle.std.proofs.Common.{◌≡◌, ℕ, ◌+◌, ◌<◌, ◌≤◌, Bool, true, false, nat_lt, nat_le, cond, List, [], ◌∷◌, Option, None, Some}
+use Rattle.std.proofs.Common.{All, Contains, refl, ap, arith, zero, suc}
 use Rattle.std.proofs.lemmas.Bool.{ltb-true, ltb-false, leb-true, leb-false}
 use Rattle.resv_list.specs.declared.reservation.Reservation.{Reservation}
 use Rattle.resv_list.specs.Reservations.{start_of, member_before, member_from}
@@ -20,10 +21,12 @@ contains_cons x r xs c = (suc c.0, omega (arith, c.1), c.2)
 above : (x : Reservation) (xs : List Reservation) → RisesFrom start_of (x.start + 1) xs → All (λ s. x.start < s.start) xs
 above x xs rises k d l = omega (arith, RisesFrom-get start_of (x.start + 1) xs k d rises l)
 
-above_member : (x r : Reservation) (xs : List Reservation) → RisesFrom start_of (x.start + 1) xs → Contains xs r → x.start < r.start
+above_member : (x r : Reservation) (xs : List Reservation) → RisesFrom start_of (x.start + 1) xs → Contains xs r
+    → x.start < r.start
 above_member x r xs rises c = omega (arith, above x xs rises c.0 r c.1, ap start_of c.2)
 
-first_by : (start : ℕ) (x : Reservation) (xs : List Reservation) (t : Bool) (o : Option Reservation) → nat_le start x.start ≡ t → RisesFrom start_of (x.start + 1) xs → IsFirstFrom xs start o → IsFirstFrom (x ∷ xs) start (cond t (Some x) o)
+first_by : (start : ℕ) (x : Reservation) (xs : List Reservation) (t : Bool) (o : Option Reservation) → nat_le start x.start ≡ t
+    → RisesFrom start_of (x.start + 1) xs → IsFirstFrom xs start o → IsFirstFrom (x ∷ xs) start (cond t (Some x) o)
 first_by start x xs true o e rises is =
     let from : start ≤ x.start = leb-true start x.start e in
     let others : All (λ s. start ≤ s.start → x.start ≤ s.start) xs = λ k d l h. omega (arith, above x xs rises k d l) in
@@ -31,8 +34,12 @@ first_by start x xs true o e rises is =
 first_by start x xs false None e rises is =
     all_cons (λ s. s.start < start) x xs (leb-false start x.start e) is
 first_by start x xs false (Some r) e rises is =
-    let past : x.start < start = leb-false start x.start e in
-    (contains_cons x r xs is.0, is.1, all_cons (λ s. start ≤ s.start → r.start ≤ s.start) x xs (λ h. absurd (omega (arith, past, h))) is.2)
+    let past : x.start < start = leb-false start x.start e in (
+      contains_cons x r xs is.0,
+      is.1,
+      all_cons (λ s. start ≤ s.start → r.start ≤ s.start) x xs
+          (λ h. absurd (omega (arith, past, h))) is.2,
+    )
 
 first_is : (low start : ℕ) (l : List Reservation) → RisesFrom start_of low l → IsFirstFrom l start (member_from start l)
 first_is low start [] rises = λ k d l. absurd (omega (arith, l))
@@ -44,24 +51,37 @@ last_stands : (y : Reservation) (ys : List Reservation) → last (y ∷ ys) ≡ 
 last_stands y [] e = cc
 last_stands y (z ∷ zs) e = last_stands z zs e
 
-last_after : (start : ℕ) (x : Reservation) (xs : List Reservation) (o : Option Reservation) → x.start < start → RisesFrom start_of (x.start + 1) xs → (o ≡ None → ⊥) → IsLastBefore xs start o → IsLastBefore (x ∷ xs) start o
+last_after : (start : ℕ) (x : Reservation) (xs : List Reservation) (o : Option Reservation) → x.start < start
+    → RisesFrom start_of (x.start + 1) xs → (o ≡ None → ⊥) → IsLastBefore xs start o → IsLastBefore (x ∷ xs) start o
 last_after start x xs None h rises some is = absurd (some refl)
-last_after start x xs (Some r) h rises some is =
-    (contains_cons x r xs is.0, is.1, all_cons (λ s. s.start < start → s.start ≤ r.start) x xs (λ g. omega (arith, above_member x r xs rises is.0)) is.2)
+last_after start x xs (Some r) h rises some is = (
+  contains_cons x r xs is.0,
+  is.1,
+  all_cons (λ s. s.start < start → s.start ≤ r.start) x xs
+      (λ g. omega (arith, above_member x r xs rises is.0)) is.2,
+)
 
-last_cons : (start : ℕ) (x : Reservation) (xs ys : List Reservation) → x.start < start → RisesFrom start_of (x.start + 1) xs → IsLastBefore xs start (last ys) → IsLastBefore (x ∷ xs) start (last (x ∷ ys))
+last_cons : (start : ℕ) (x : Reservation) (xs ys : List Reservation) → x.start < start → RisesFrom start_of (x.start + 1) xs
+    → IsLastBefore xs start (last ys) → IsLastBefore (x ∷ xs) start (last (x ∷ ys))
 last_cons start x xs [] h rises is =
     let others : All (λ s. s.start < start → s.start ≤ x.start) xs = λ k d l g. absurd (omega (arith, is k d l, g)) in
     ((zero, omega arith, refl), h, all_cons (λ s. s.start < start → s.start ≤ x.start) x xs (λ g. omega arith) others)
 last_cons start x xs (y ∷ ys) h rises is =
     last_after start x xs (last (y ∷ ys)) h rises (last_stands y ys) is
 
-last_skips : (start : ℕ) (x : Reservation) (xs : List Reservation) (o : Option Reservation) → start ≤ x.start → IsLastBefore xs start o → IsLastBefore (x ∷ xs) start o
+last_skips : (start : ℕ) (x : Reservation) (xs : List Reservation) (o : Option Reservation) → start ≤ x.start
+    → IsLastBefore xs start o → IsLastBefore (x ∷ xs) start o
 last_skips start x xs None h is = all_cons (λ s. start ≤ s.start) x xs h is
-last_skips start x xs (Some r) h is =
-    (contains_cons x r xs is.0, is.1, all_cons (λ s. s.start < start → s.start ≤ r.start) x xs (λ g. absurd (omega (arith, h, g))) is.2)
+last_skips start x xs (Some r) h is = (
+  contains_cons x r xs is.0,
+  is.1,
+  all_cons (λ s. s.start < start → s.start ≤ r.start) x xs
+      (λ g. absurd (omega (arith, h, g))) is.2,
+)
 
-last_by : (start : ℕ) (x : Reservation) (xs ys : List Reservation) (t : Bool) → nat_lt x.start start ≡ t → RisesFrom start_of (x.start + 1) xs → IsLastBefore xs start (last ys) → IsLastBefore (x ∷ xs) start (last (cond t (x ∷ ys) ys))
+last_by : (start : ℕ) (x : Reservation) (xs ys : List Reservation) (t : Bool) → nat_lt x.start start ≡ t
+    → RisesFrom start_of (x.start + 1) xs → IsLastBefore xs start (last ys)
+    → IsLastBefore (x ∷ xs) start (last (cond t (x ∷ ys) ys))
 last_by start x xs ys true e rises is = last_cons start x xs ys (ltb-true x.start start e) rises is
 last_by start x xs ys false e rises is = last_skips start x xs (last ys) (ltb-false x.start start e) is
 

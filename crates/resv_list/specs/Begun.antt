@@ -6,7 +6,8 @@ use Rattle.resv_list.specs.Reservations.{share, begun}
 
 -- The airtime that begins in a stretch of time, member by member.
 
-pub begun-cons : (band : Band) (from to : ℕ) (r : Reservation) (rs : List Reservation) → begun band from to (r ∷ rs) ≡ share band from to r + begun band from to rs
+pub begun-cons : (band : Band) (from to : ℕ) (r : Reservation) (rs : List Reservation)
+    → begun band from to (r ∷ rs) ≡ share band from to r + begun band from to rs
 unfolding begun
 begun-cons band from to r rs = refl
 

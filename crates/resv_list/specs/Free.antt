@@ -1,4 +1,5 @@
-use Rattle.std.specs.Prelude.{ℕ, ◌≡◌, ◌≢◌, ◌+◌, ◌≤◌, nat_le, Bool, true, false, List, [], ◌∷◌, Option, Some, None, All, map, cond, ⊤}
+use Rattle.std.specs.Prelude.{ℕ, ◌≡◌, ◌≢◌, ◌+◌, ◌≤◌, nat_le, Bool, true, false, List, [], ◌∷◌, Option, Some, None, All, map, cond}
+use Rattle.std.specs.Prelude.{⊤}
 use Rattle.std.proofs.Common.{refl, arith, zero, suc, subst}
 use Rattle.std.proofs.lemmas.Bool.{leb-true, leb-false}
 use Rattle.std.proofs.lemmas.List.Elements.{All-cons}
@@ -19,7 +20,9 @@ module _ {X : Type 0} (key : X → ℕ) where
       let g = r.0 in
       above k (key x + 1) xs (omega arith) r.1 i d (omega arith)
 
-  free_by : (k low : ℕ) (x : X) (xs : List X) (t : Bool) → nat_le k (key x) ≡ t → RisesFrom key low (x ∷ xs) → Misses k (cond t (Some x) (first_from key k xs)) → (Misses k (first_from key k xs) → All (λ n. n ≢ k) (map key xs)) → All (λ n. n ≢ k) (map key (x ∷ xs))
+  free_by : (k low : ℕ) (x : X) (xs : List X) (t : Bool) → nat_le k (key x) ≡ t → RisesFrom key low (x ∷ xs)
+      → Misses k (cond t (Some x) (first_from key k xs)) → (Misses k (first_from key k xs) → All (λ n. n ≢ k) (map key xs))
+      → All (λ n. n ≢ k) (map key (x ∷ xs))
   free_by k low x xs true e r m rest =
       let h : k ≤ key x = leb-true k (key x) e in
       All-cons (λ n. n ≢ k) (key x) (map key xs) m (above k (key x + 1) xs (omega arith) r.1)
@@ -31,5 +34,6 @@ module _ {X : Type 0} (key : X → ℕ) where
   missed k low [] r m = λ i d l. absurd (omega arith)
   missed k low (x ∷ xs) r m = free_by k low x xs (nat_le k (key x)) refl r m (missed k (key x + 1) xs r.1)
 
-  pub free_where_missed : (k low : ℕ) (xs : List X) (o : Option X) → o ≡ first_from key k xs → Misses k o → RisesFrom key low xs → All (λ n. n ≢ k) (map key xs)
+  pub free_where_missed : (k low : ℕ) (xs : List X) (o : Option X) → o ≡ first_from key k xs → Misses k o → RisesFrom key low xs
+      → All (λ n. n ≢ k) (map key xs)
   free_where_missed k low xs o e m r = missed k low xs r (subst (Misses k) e m)

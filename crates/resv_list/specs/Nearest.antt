@@ -7,12 +7,14 @@ use Rattle.resv_list.specs.Reservations.{IsByStart, member_before, member_from}
 -- the member with the greatest start below the moment, or that no member begins below it
 abbrev pub IsLastBefore : List Reservation → ℕ → Option Reservation → Type 0
 IsLastBefore l start o =
-    MatchOption o (All (λ s. start ≤ s.start) l) (λ r. Contains l r × (r.start < start) × All (λ s. s.start < start → s.start ≤ r.start) l)
+    MatchOption o (All (λ s. start ≤ s.start) l) (λ r. Contains l r × (r.start < start)
+    × All (λ s. s.start < start → s.start ≤ r.start) l)
 
 -- the member with the least start not below the moment, or that every member begins below it
 abbrev pub IsFirstFrom : List Reservation → ℕ → Option Reservation → Type 0
 IsFirstFrom l start o =
-    MatchOption o (All (λ s. s.start < start) l) (λ r. Contains l r × (start ≤ r.start) × All (λ s. start ≤ s.start → r.start ≤ s.start) l)
+    MatchOption o (All (λ s. s.start < start) l) (λ r. Contains l r × (start ≤ r.start)
+    × All (λ s. start ≤ s.start → r.start ≤ s.start) l)
 
 -- in a list that is by start, where no two members begin together, these are the ones that are found
 abbrev pub NearestAreFound : Type 0

@@ -11,7 +11,8 @@ use Rattle.resv_list.specs.Fit.{IsFit}
 pub IsFit-prop : (start freq_hz : ℕ) (rate : DataRate) (len : ℕ) → IsProp (IsFit start freq_hz rate len)
 IsFit-prop start freq_hz rate len = hlevel (le_prop, Bool-set)
 
-pub same_fields : (r s : Reservation) → r.number ≡ s.number → r.start ≡ s.start → r.freq_hz ≡ s.freq_hz → r.rate ≡ s.rate → r.len ≡ s.len → r ≡ s
+pub same_fields : (r s : Reservation) → r.number ≡ s.number → r.start ≡ s.start → r.freq_hz ≡ s.freq_hz → r.rate ≡ s.rate
+    → r.len ≡ s.len → r ≡ s
 same_fields r s n b f d l =
     λ i.
     record {

@@ -1,4 +1,5 @@
-use Rattle.std.specs.Prelude.{ℕ, ◌≡◌, ◌≢◌, ◌+◌, ◌<◌, ◌≤◌, nat_lt, Bool, true, false, not, List, [], ◌∷◌, length, filter, find, All, map, cond, ◌==◌, None}
+use Rattle.std.specs.Prelude.{ℕ, ◌≡◌, ◌≢◌, ◌+◌, ◌<◌, ◌≤◌, nat_lt, Bool, true, false, not, List, [], ◌∷◌, length, filter, find}
+use Rattle.std.specs.Prelude.{All, map, cond, ◌==◌, None}
 use Rattle.std.specs.List.Sorted.{IsPartitionPoint}
 use Rattle.std.proofs.Common.{refl, arith, zero, suc}
 use Rattle.std.proofs.lemmas.Bool.{ltb-true, ltb-false}
@@ -17,7 +18,8 @@ abbrev pub IsCut : {X : Type 0} → (X → Bool) → List X → ℕ → Type 0
 IsCut test xs i = IsPartitionPoint (λ y. test y ≡ true) (λ y. test y ≡ false) xs i
 
 module _ {X : Type 0} (key : X → ℕ) where
-  grown : (x y : X) (ys : List X) (t : Bool) → length (place_by key x ys) ≡ length ys + 1 → length (cond t (y ∷ place_by key x ys) (x ∷ y ∷ ys)) ≡ length (y ∷ ys) + 1
+  grown : (x y : X) (ys : List X) (t : Bool) → length (place_by key x ys) ≡ length ys + 1
+      → length (cond t (y ∷ place_by key x ys) (x ∷ y ∷ ys)) ≡ length (y ∷ ys) + 1
   grown x y ys true h = omega arith
   grown x y ys false h = omega arith
 
@@ -25,20 +27,25 @@ module _ {X : Type 0} (key : X → ℕ) where
   length-place_by x [] = refl
   length-place_by x (y ∷ ys) = grown x y ys (nat_lt (key y) (key x)) (length-place_by x ys)
 
-  rises_placed : (low : ℕ) (x y : X) (ys : List X) (t : Bool) → nat_lt (key y) (key x) ≡ t → low ≤ key x → key y ≢ key x → RisesFrom key low (y ∷ ys) → (key y + 1 ≤ key x → RisesFrom key (key y + 1) (place_by key x ys)) → RisesFrom key low (cond t (y ∷ place_by key x ys) (x ∷ y ∷ ys))
+  rises_placed : (low : ℕ) (x y : X) (ys : List X) (t : Bool) → nat_lt (key y) (key x) ≡ t → low ≤ key x → key y ≢ key x
+      → RisesFrom key low (y ∷ ys) → (key y + 1 ≤ key x → RisesFrom key (key y + 1) (place_by key x ys))
+      → RisesFrom key low (cond t (y ∷ place_by key x ys) (x ∷ y ∷ ys))
   rises_placed low x y ys true e h n r rest = (r.0, rest (omega (arith, ltb-true (key y) (key x) e)))
   rises_placed low x y ys false e h n r rest = (h, (omega (arith, ltb-false (key y) (key x) e), r.1))
 
   -- a member whose key is new keeps the list rising
-  pub RisesFrom-place_by : (low : ℕ) (x : X) (xs : List X) → low ≤ key x → All (λ k. k ≢ key x) (map key xs) → RisesFrom key low xs → RisesFrom key low (place_by key x xs)
+  pub RisesFrom-place_by : (low : ℕ) (x : X) (xs : List X) → low ≤ key x → All (λ k. k ≢ key x) (map key xs)
+      → RisesFrom key low xs → RisesFrom key low (place_by key x xs)
   RisesFrom-place_by low x [] h n r = (h, tt)
   RisesFrom-place_by low x (y ∷ ys) h n r =
-      rises_placed low x y ys (nat_lt (key y) (key x)) refl h (n zero 0 (omega arith)) r (λ g. RisesFrom-place_by (key y + 1) x ys g (λ k d l. n (suc k) d (omega arith)) r.1)
+      rises_placed low x y ys (nat_lt (key y) (key x)) refl h (n zero 0 (omega arith)) r
+      (λ g. RisesFrom-place_by (key y + 1) x ys g (λ k d l. n (suc k) d (omega arith)) r.1)
 
 -- What stands at one key of a list that rises: one member at most.
 
 module _ {X : Type 0} (key : X → ℕ) where
-  pub at_none : (low at : ℕ) (xs : List X) → at < low → RisesFrom key low xs → (find (λ x. key x == at) xs ≡ None) × (filter (λ x. not (key x == at)) xs ≡ xs)
+  pub at_none : (low at : ℕ) (xs : List X) → at < low → RisesFrom key low xs
+      → (find (λ x. key x == at) xs ≡ None) × (filter (λ x. not (key x == at)) xs ≡ xs)
   at_none low at [] h r = (refl, refl)
   at_none low at (x ∷ xs) h r =
       let e : (key x == at) ≡ false = grind (arith, nat_tests) in
@@ -46,7 +53,8 @@ module _ {X : Type 0} (key : X → ℕ) where
       (rw e i.0, rw (e, i.1) refl)
 
 module _ {X : Type 0} (key : X → ℕ) where
-  filtered_by : (test : X → Bool) (low : ℕ) (x : X) (xs : List X) (t : Bool) → RisesFrom key low (x ∷ xs) → RisesFrom key (key x + 1) (filter test xs) → RisesFrom key low (cond t (x ∷ filter test xs) (filter test xs))
+  filtered_by : (test : X → Bool) (low : ℕ) (x : X) (xs : List X) (t : Bool) → RisesFrom key low (x ∷ xs)
+      → RisesFrom key (key x + 1) (filter test xs) → RisesFrom key low (cond t (x ∷ filter test xs) (filter test xs))
   filtered_by test low x xs true r f = (r.0, f)
   filtered_by test low x xs false r f = RisesFrom-lower key low (key x + 1) (filter test xs) (omega arith) f
 

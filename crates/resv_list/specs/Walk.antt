@@ -17,7 +17,8 @@ module _ {X : Type 0} (key : X → ℕ) where
       let e : nat_le limit (key x) ≡ true = le-leb limit (key x) (omega arith) in
       rw (e, rest_from-rises (key x + 1) limit xs (omega arith) r.1) refl
 
-  nothing_by : (x : X) (limit : ℕ) (xs : List X) (t : Bool) → cond t (Some x) (first_from key limit xs) ≡ None → (first_from key limit xs ≡ None → rest_from limit xs ≡ []) → cond t (x ∷ rest_from limit xs) (rest_from limit xs) ≡ []
+  nothing_by : (x : X) (limit : ℕ) (xs : List X) (t : Bool) → cond t (Some x) (first_from key limit xs) ≡ None
+      → (first_from key limit xs ≡ None → rest_from limit xs ≡ []) → cond t (x ∷ rest_from limit xs) (rest_from limit xs) ≡ []
   nothing_by x limit xs true e rest = absurd (cc)
   nothing_by x limit xs false e rest = rest e
 
@@ -26,7 +27,10 @@ module _ {X : Type 0} (key : X → ℕ) where
   rest_from-None limit [] e = refl
   rest_from-None limit (x ∷ xs) e = nothing_by x limit xs (nat_le limit (key x)) e (rest_from-None limit xs)
 
-  found_by : (low limit : ℕ) (x y : X) (xs : List X) (t : Bool) → nat_le limit (key y) ≡ t → cond t (Some y) (first_from key limit xs) ≡ Some x → RisesFrom key low (y ∷ xs) → (first_from key limit xs ≡ Some x → (rest_from limit xs ≡ x ∷ rest_from (key x + 1) xs) × (key y < key x)) → (cond t (y ∷ rest_from limit xs) (rest_from limit xs) ≡ x ∷ rest_from (key x + 1) (y ∷ xs)) × (low ≤ key x)
+  found_by : (low limit : ℕ) (x y : X) (xs : List X) (t : Bool) → nat_le limit (key y) ≡ t
+      → cond t (Some y) (first_from key limit xs) ≡ Some x → RisesFrom key low (y ∷ xs)
+      → (first_from key limit xs ≡ Some x → (rest_from limit xs ≡ x ∷ rest_from (key x + 1) xs) × (key y < key x))
+      → (cond t (y ∷ rest_from limit xs) (rest_from limit xs) ≡ x ∷ rest_from (key x + 1) (y ∷ xs)) × (low ≤ key x)
   found_by low limit x y xs true e f r rest =
       let s : y ≡ x = cc in
       let k : key y ≡ key x = ap key s in
@@ -41,6 +45,8 @@ module _ {X : Type 0} (key : X → ℕ) where
       rw b (g.0, omega (arith, g.1))
 
   -- a member that is found is the first of what is left, and a later walk goes on behind it
-  pub rest_from-Some : (low limit : ℕ) (x : X) (xs : List X) → RisesFrom key low xs → first_from key limit xs ≡ Some x → (rest_from limit xs ≡ x ∷ rest_from (key x + 1) xs) × (low ≤ key x)
+  pub rest_from-Some : (low limit : ℕ) (x : X) (xs : List X) → RisesFrom key low xs → first_from key limit xs ≡ Some x
+      → (rest_from limit xs ≡ x ∷ rest_from (key x + 1) xs) × (low ≤ key x)
   rest_from-Some low limit x [] r e = absurd (cc)
-  rest_from-Some low limit x (y ∷ ys) r e = found_by low limit x y ys (nat_le limit (key y)) refl e r (λ f. let g = rest_from-Some (key y + 1) limit x ys r.1 f in (g.0, omega (arith, g.1)))
+  rest_from-Some low limit x (y ∷ ys) r e = found_by low limit x y ys (nat_le limit (key y)) refl e r
+      (λ f. let g = rest_from-Some (key y + 1) limit x ys r.1 f in (g.0, omega (arith, g.1)))

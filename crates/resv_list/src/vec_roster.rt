@@ -1,9 +1,11 @@
-ghost use Rattle.std.specs.Prelude.{◌≡◌, ◌≤◌, [], ◌<◌, length, insert, remove, nat_lt, slice_get, vec_len, MatchOption, IfSome, if◌then◌else◌};
+ghost use Rattle.std.specs.Prelude.{◌≡◌, ◌≤◌, [], ◌<◌, length, insert, remove, nat_lt, slice_get, vec_len, MatchOption, IfSome};
+ghost use Rattle.std.specs.Prelude.{if◌then◌else◌};
 ghost use Rattle.resv_list.specs.declared.reservation.Reservation.{Reservation as Member};
 ghost use Rattle.resv_list.specs.declared.roster.TheConstants.{MAX_MEMBERS};
 ghost use Rattle.resv_list.specs.Sorted.{RisesFrom, RisesFrom-prop};
 ghost use Rattle.resv_list.specs.SortedLaws.{IsCut};
-ghost use Rattle.resv_list.specs.Reservations.{start_of, IsByStart, place, member_before, member_from, member_at, without, begun, is_in, airtime_us};
+ghost use Rattle.resv_list.specs.Reservations.{start_of, IsByStart, place, member_before, member_from, member_at, without, begun};
+ghost use Rattle.resv_list.specs.Reservations.{is_in, airtime_us};
 
 use crate::{MAX_MEMBERS, Reservation, Roster, RosterFault};
 use radio_bands::Band;
@@ -105,8 +107,10 @@ fn member_at(members: &[Reservation], place: usize) -> Option<Reservation>
 fn place_at(members: &[Reservation], start: u64) -> Option<usize>
     requires { IsByStart members.now }
     ensures within { IfSome result (λ place. place < length members.now) }
-    ensures found { MatchOption result (member_at start members.now ≡ None) (λ place. member_at start members.now ≡ slice_get members.now place) }
-    ensures left { MatchOption result (without start members.now ≡ members.now) (λ place. without start members.now ≡ remove members.now place) }
+    ensures found { MatchOption result (member_at start members.now ≡ None)
+        (λ place. member_at start members.now ≡ slice_get members.now place) }
+    ensures left { MatchOption result (without start members.now ≡ members.now)
+        (λ place. without start members.now ≡ remove members.now place) }
 {
     let place = place_of(members, start);
     if place == members.len() {

@@ -1,5 +1,6 @@
 -- Lemmas on what an event line says.
-use Rattle.std.proofs.Common.{◌≡◌, ◌≢◌, ℕ, ◌+◌, List, [], ◌∷◌, ◌++◌, length, map, get_or, Option, None, refl, sym, ap, ◌∙◌, arith, append_assoc, append-nil}
+use Rattle.std.proofs.Common.{◌≡◌, ◌≢◌, ℕ, ◌+◌, List, [], ◌∷◌, ◌++◌, length, map, get_or, Option, None, refl, sym, ap, ◌∙◌, arith}
+use Rattle.std.proofs.Common.{append_assoc, append-nil}
 use Rattle.std.specs.Option.{option_to_list}
 use Rattle.server_core.specs.declared.event.Event.{Event}
 use Rattle.text_lines.specs.Number.{number_signed}
@@ -9,7 +10,8 @@ use Rattle.run_lines.specs.RunEvents.{number_of, heard_with, hear_with, hear_eve
 use Rattle.server_desk.specs.declared.heard.Heard1.{Heard1}
 
 -- a copy has just eight words after its name
-pub hear_event-other : {A X : Type 0} (f : X → List ℕ) (devices : List DeviceSetting) (words : List X) → length words ≢ 8 → hear_event {A = A} devices (map f words) ≡ None
+pub hear_event-other : {A X : Type 0} (f : X → List ℕ) (devices : List DeviceSetting) (words : List X) → length words ≢ 8
+    → hear_event {A = A} devices (map f words) ≡ None
 hear_event-other f devices [] h = refl
 hear_event-other f devices (a ∷ []) h = refl
 hear_event-other f devices (a ∷ b ∷ []) h = refl
@@ -23,7 +25,10 @@ hear_event-other f devices (a ∷ b ∷ c ∷ d ∷ e ∷ g ∷ i ∷ j ∷ k �
 
 -- the eight words by their places
 pub hear_event-eight : {A X : Type 0} (f : X → List ℕ) (devices : List DeviceSetting) (words : List X) (x : X) → length words ≡ 8
-    → hear_event {A = A} devices (map f words) ≡ hear_with (heard_with (number_of 16 (f (get_or words 0 x))) (number_of 64 (f (get_or words 1 x))) (number_of 32 (f (get_or words 2 x))) (number_of 8 (f (get_or words 3 x))) (number_signed (f (get_or words 4 x))) (number_signed (f (get_or words 5 x)))) (number_of 64 (f (get_or words 6 x))) (uplink_word devices (f (get_or words 7 x)))
+    → hear_event {A = A} devices (map f words) ≡ hear_with (heard_with (number_of 16 (f (get_or words 0 x)))
+    (number_of 64 (f (get_or words 1 x))) (number_of 32 (f (get_or words 2 x))) (number_of 8 (f (get_or words 3 x)))
+    (number_signed (f (get_or words 4 x))) (number_signed (f (get_or words 5 x)))) (number_of 64 (f (get_or words 6 x)))
+    (uplink_word devices (f (get_or words 7 x)))
 hear_event-eight f devices [] x h = absurd (omega (arith, h))
 hear_event-eight f devices (a ∷ []) x h = absurd (omega (arith, h))
 hear_event-eight f devices (a ∷ b ∷ []) x h = absurd (omega (arith, h))
@@ -36,19 +41,26 @@ hear_event-eight f devices (a ∷ b ∷ c ∷ d ∷ e ∷ g ∷ i ∷ j ∷ []) 
 hear_event-eight f devices (a ∷ b ∷ c ∷ d ∷ e ∷ g ∷ i ∷ j ∷ k ∷ more) x h = absurd (omega (arith, h))
 
 -- an event that is that of the eight words
-pub hear_event-by : {A X : Type 0} (f : X → List ℕ) (devices : List DeviceSetting) (words : List X) (x : X) (heard : Option Heard1) (arrived : Option ℕ) (event : Option (Event A)) → length words ≡ 8
-    → heard ≡ heard_with (number_of 16 (f (get_or words 0 x))) (number_of 64 (f (get_or words 1 x))) (number_of 32 (f (get_or words 2 x))) (number_of 8 (f (get_or words 3 x))) (number_signed (f (get_or words 4 x))) (number_signed (f (get_or words 5 x)))
+pub hear_event-by : {A X : Type 0} (f : X → List ℕ) (devices : List DeviceSetting) (words : List X) (x : X)
+    (heard : Option Heard1) (arrived : Option ℕ) (event : Option (Event A)) → length words ≡ 8
+    → heard ≡ heard_with (number_of 16 (f (get_or words 0 x))) (number_of 64 (f (get_or words 1 x)))
+    (number_of 32 (f (get_or words 2 x))) (number_of 8 (f (get_or words 3 x))) (number_signed (f (get_or words 4 x)))
+    (number_signed (f (get_or words 5 x)))
     → arrived ≡ number_of 64 (f (get_or words 6 x))
     → event ≡ hear_with heard arrived (uplink_word devices (f (get_or words 7 x)))
     → event ≡ hear_event devices (map f words)
 hear_event-by {A = A} f devices words x heard arrived event eight h a e =
     e ∙ ap (λ k. hear_with k arrived (uplink_word devices (f (get_or words 7 x)))) h
-    ∙ ap (λ k. hear_with (heard_with (number_of 16 (f (get_or words 0 x))) (number_of 64 (f (get_or words 1 x))) (number_of 32 (f (get_or words 2 x))) (number_of 8 (f (get_or words 3 x))) (number_signed (f (get_or words 4 x))) (number_signed (f (get_or words 5 x)))) k (uplink_word devices (f (get_or words 7 x)))) a
+    ∙ ap (λ k. hear_with (heard_with (number_of 16 (f (get_or words 0 x))) (number_of 64 (f (get_or words 1 x)))
+    (number_of 32 (f (get_or words 2 x))) (number_of 8 (f (get_or words 3 x))) (number_signed (f (get_or words 4 x)))
+    (number_signed (f (get_or words 5 x)))) k (uplink_word devices (f (get_or words 7 x)))) a
     ∙ sym (hear_event-eight {A = A} f devices words x eight)
 
 -- the events of the lines so far, and of those that are left
-pub events-so_far : {A : Type 0} (devices : List DeviceSetting) (all text rest : List (List ℕ)) (line : List ℕ) (number : ℕ) (old new : List (Event A)) → text ≡ line ∷ rest
-    → events_of devices all ≡ old ++ events_from devices number text → new ≡ old ++ option_to_list (line_event devices number line)
+pub events-so_far : {A : Type 0} (devices : List DeviceSetting) (all text rest : List (List ℕ)) (line : List ℕ) (number : ℕ)
+    (old new : List (Event A)) → text ≡ line ∷ rest
+    → events_of devices all ≡ old ++ events_from devices number text
+    → new ≡ old ++ option_to_list (line_event devices number line)
     → events_of devices all ≡ new ++ events_from devices (number + 1) rest
 unfolding events_from
 events-so_far devices all text rest line number old new e so_far grown =
@@ -56,7 +68,8 @@ events-so_far devices all text rest line number old new e so_far grown =
     ∙ sym (append_assoc old (option_to_list (line_event devices number line)) (events_from devices (number + 1) rest))
     ∙ ap (λ l. l ++ events_from devices (number + 1) rest) (sym grown)
 
-pub events-all : {A : Type 0} (devices : List DeviceSetting) (all text : List (List ℕ)) (number : ℕ) (events : List (Event A)) → text ≡ []
+pub events-all : {A : Type 0} (devices : List DeviceSetting) (all text : List (List ℕ)) (number : ℕ) (events : List (Event A))
+    → text ≡ []
     → events_of devices all ≡ events ++ events_from devices number text → events ≡ events_of devices all
 unfolding events_from
 events-all devices all text number events e so_far =

@@ -22,16 +22,21 @@ entries-append xs ys =
     ap text_of (map-append (λ e. line_text e.line) xs ys) ∙ text_of-append (entry_lines xs) (entry_lines ys)
 
 -- the last line is put together word by word
-pub tally-parts : (a u s : List ℕ) → (((((codes "answered" ++ (32 ∷ a)) ++ (32 ∷ codes "unanswered")) ++ (32 ∷ u)) ++ (32 ∷ codes "silent")) ++ (32 ∷ s)) ++ (10 ∷ []) ≡ spaced (codes "answered" ∷ a ∷ codes "unanswered" ∷ u ∷ codes "silent" ∷ s ∷ []) ++ (10 ∷ [])
+pub tally-parts : (a u s : List ℕ) → (((((codes "answered" ++ (32 ∷ a)) ++ (32 ∷ codes "unanswered")) ++ (32 ∷ u))
+    ++ (32 ∷ codes "silent")) ++ (32 ∷ s)) ++ (10 ∷ []) ≡ spaced
+    (codes "answered" ∷ a ∷ codes "unanswered" ∷ u ∷ codes "silent" ∷ s ∷ []) ++ (10 ∷ [])
 tally-parts a u s = simp append_assoc
 
 -- the whole text is that of the answers, of the gateways and of the last line
-pub replay-parts : {A : Type 0} (entries : List (Entry A)) (gateways : List Gateway) → text_of (replay_lines entries gateways) ≡ entries_text entries ++ (gateways_text (by_id gateways) ++ text_of (tally_line entries ∷ []))
+pub replay-parts : {A : Type 0} (entries : List (Entry A)) (gateways : List Gateway)
+    → text_of (replay_lines entries gateways) ≡ entries_text entries
+    ++ (gateways_text (by_id gateways) ++ text_of (tally_line entries ∷ []))
 replay-parts entries gateways =
     text_of-append (entry_lines entries) (report_lines entries gateways)
     ∙ ap (λ l. entries_text entries ++ l) (text_of-append (flat_map gateway_lines (by_id gateways)) (tally_line entries ∷ []))
 
-list_any-map : {X Y : Type 0} (test : Y → Bool) (f : X → Y) (xs : List X) → list_any test (map f xs) ≡ list_any (λ x. test (f x)) xs
+list_any-map : {X Y : Type 0} (test : Y → Bool) (f : X → Y) (xs : List X)
+    → list_any test (map f xs) ≡ list_any (λ x. test (f x)) xs
 list_any-map test f [] = refl
 list_any-map test f (x ∷ xs) = ap (λ t. test (f x) || t) (list_any-map test f xs)
 
@@ -39,7 +44,8 @@ gateway_refuses_nothing : (g : Gateway) → has_refusal (gateway_lines g) ≡ fa
 gateway_refuses_nothing g = busiest-refuses_nothing (Some g.id) g.state.list
 
 -- no line of the gateways' reports begins with `no` or `bad`, nor does the last line
-report_refuses_nothing : (gateways : List Gateway) (last : List (List ℕ)) → has_refusal last ≡ false → has_refusal (flat_map gateway_lines gateways ++ last) ≡ false
+report_refuses_nothing : (gateways : List Gateway) (last : List (List ℕ)) → has_refusal last ≡ false
+    → has_refusal (flat_map gateway_lines gateways ++ last) ≡ false
 report_refuses_nothing [] last h = h
 report_refuses_nothing (g ∷ gateways) last h =
     ap has_refusal (append_assoc (gateway_lines g) (flat_map gateway_lines gateways) last)
@@ -47,7 +53,8 @@ report_refuses_nothing (g ∷ gateways) last h =
     ∙ ap (λ t. t || has_refusal (flat_map gateway_lines gateways ++ last)) (gateway_refuses_nothing g)
     ∙ report_refuses_nothing gateways last h
 
-pub refuses-entries : {A : Type 0} (entries : List (Entry A)) (gateways : List Gateway) → list_any (λ e. is_refusal (line_text e.line)) entries ≡ has_refusal (replay_lines entries gateways)
+pub refuses-entries : {A : Type 0} (entries : List (Entry A)) (gateways : List Gateway)
+    → list_any (λ e. is_refusal (line_text e.line)) entries ≡ has_refusal (replay_lines entries gateways)
 refuses-entries entries gateways = sym (
     list_any-append is_refusal (entry_lines entries) (report_lines entries gateways)
     ∙ ap (λ t. has_refusal (entry_lines entries) || t) (report_refuses_nothing (by_id gateways) (tally_line entries ∷ []) refl)

@@ -13,7 +13,8 @@ use Rattle.gateway_book.specs.declared.refusal.Refusal.TheVariants.{Taken, DutyF
 use Rattle.gateway_book.specs.Step.{State, book_step}
 use Rattle.rx_windows.specs.declared.candidate.Window.TheVariants.{Rx1, Rx2}
 use Rattle.server_core.specs.declared.entry.Line.{Line}
-use Rattle.server_core.specs.declared.entry.Line.TheVariants.{Queued, NotQueued, Heard, NotHeard, Silent, NotTaken, Send, Frame, Unanswered, Stray, Cancelled, NotCancelled, Floor, NotTicked, Bad}
+use Rattle.server_core.specs.declared.entry.Line.TheVariants.{Queued, NotQueued, Heard, NotHeard, Silent, NotTaken, Send, Frame}
+use Rattle.server_core.specs.declared.entry.Line.TheVariants.{Unanswered, Stray, Cancelled, NotCancelled, Floor, NotTicked, Bad}
 use Rattle.server_desk.specs.declared.heard.DeskHeard.TheVariants.{Opened, Joined}
 use Rattle.lora_frame.specs.declared.reading.FrameFault.TheVariants.{Short, OptionsCut}
 use Rattle.server_core.specs.Entries.{entry_at}
@@ -33,39 +34,50 @@ none_sent = record { floor = 0; list = []; booked = 0; cancelled = 0 }
 
 -- one transmission
 pub one_sent : State
-one_sent = book_step (record { cap = 4096 }) none_sent (record { number = 1; start = 10000000; freq_hz = 868100000; rate = Dr5; len = 12 })
+one_sent = book_step (record { cap = 4096 }) none_sent (record
+    { number = 1; start = 10000000; freq_hz = 868100000; rate = Dr5; len = 12 })
 
 pub worked_lines : List (Line ℕ)
 worked_lines =
     Queued 637606874 2 ∷ Heard (Opened 1 false) ∷ Heard (Opened 2 true) ∷ Heard (Joined 1 2) ∷ NotHeard (hears.Frame Short)
-    ∷ Send 1 (record { gateway = 2; window = Rx1; start = 10000000; freq_hz = 868100000; rate = Dr5; len = 12; carries = false }) ∷ Frame 1 (96 ∷ 218 ∷ 10 ∷ []) ∷ Silent 2 ∷ Unanswered 3 (Taken 5) ∷ []
+    ∷ Send 1 (record { gateway = 2; window = Rx1; start = 10000000; freq_hz = 868100000; rate = Dr5; len = 12; carries = false })
+    ∷ Frame 1 (96 ∷ 218 ∷ 10 ∷ []) ∷ Silent 2 ∷ Unanswered 3 (Taken 5) ∷ []
 
 -- two gateways that are not in order
 pub replay_of_two_gateways :
-    replay_lines (map (entry_at 0) worked_lines) (record { id = 10; cap = 4096; state = one_sent } ∷ record { id = 2; cap = 1; state = none_sent } ∷ [])
-    ≡ codes "queued 26011bda 2" ∷ codes "opened 1" ∷ codes "opened 2 repeat" ∷ codes "joined 1 2" ∷ codes "no hear Short" ∷ codes "send 1 2 RX1 10000000 868100000 5 12" ∷ codes "frame 1 60da0a" ∷ codes "silent 2" ∷ codes "unanswered 3 Taken" ∷ codes "gateway 2 booked 0 cancelled 0 retired 0 kept 0" ∷ codes "gateway 10 booked 41216 cancelled 0 retired 0 kept 1" ∷ codes "busiest 10 M 10000000 41216" ∷ codes "answered 1 unanswered 1 silent 1" ∷ []
+    replay_lines (map (entry_at 0) worked_lines) (record { id = 10; cap = 4096; state = one_sent }
+    ∷ record { id = 2; cap = 1; state = none_sent } ∷ [])
+    ≡ codes "queued 26011bda 2" ∷ codes "opened 1" ∷ codes "opened 2 repeat" ∷ codes "joined 1 2" ∷ codes "no hear Short"
+    ∷ codes "send 1 2 RX1 10000000 868100000 5 12" ∷ codes "frame 1 60da0a" ∷ codes "silent 2" ∷ codes "unanswered 3 Taken"
+    ∷ codes "gateway 2 booked 0 cancelled 0 retired 0 kept 0" ∷ codes "gateway 10 booked 41216 cancelled 0 retired 0 kept 1"
+    ∷ codes "busiest 10 M 10000000 41216" ∷ codes "answered 1 unanswered 1 silent 1" ∷ []
 unfolding none_sent one_sent worked_lines airtime_of band_of net begun overlap full_hour busiest_of digits encode_with
 replay_of_two_gateways = refl
 
 -- two transmissions, of which the second is in RX2's sub-band
 pub two_sent : State
-two_sent = book_step (record { cap = 4096 }) one_sent (record { number = 1; start = 11000000; freq_hz = 869525000; rate = Dr0; len = 12 })
+two_sent = book_step (record { cap = 4096 }) one_sent (record
+    { number = 1; start = 11000000; freq_hz = 869525000; rate = Dr0; len = 12 })
 
 pub each_form : List (Line ℕ)
 each_form =
     Queued 10 2 ∷ NotQueued QueueFull ∷ Heard (Opened 1 false) ∷ Heard (Opened 2 true) ∷ Heard (Joined 1 2)
     ∷ NotHeard (hears.Frame OptionsCut) ∷ NotHeard hears.UnknownGateway ∷ Silent 2 ∷ NotTaken 3 CounterSpent
-    ∷ Send 1 (record { gateway = 2; window = Rx1; start = 10000000; freq_hz = 868100000; rate = Dr5; len = 12; carries = false }) ∷ Frame 1 (96 ∷ 218 ∷ 27 ∷ 1 ∷ 255 ∷ [])
-    ∷ Send 4 (record { gateway = 1; window = Rx2; start = 11000000; freq_hz = 869525000; rate = Dr0; len = 12; carries = false }) ∷ Frame 4 []
+    ∷ Send 1 (record { gateway = 2; window = Rx1; start = 10000000; freq_hz = 868100000; rate = Dr5; len = 12; carries = false })
+    ∷ Frame 1 (96 ∷ 218 ∷ 27 ∷ 1 ∷ 255 ∷ [])
+    ∷ Send 4 (record { gateway = 1; window = Rx2; start = 11000000; freq_hz = 869525000; rate = Dr0; len = 12; carries = false })
+    ∷ Frame 4 []
     ∷ Unanswered 5 (Taken 10000000) ∷ Unanswered 6 (DutyFull K 0 2973696) ∷ Cancelled 1 41216 ∷ NotCancelled 7 Begun
     ∷ Floor 1 18446744073709551615 ∷ NotTicked ∷ Stray 8 ∷ Bad 12 ∷ []
 
 -- a line of each form
 pub replay_of_each_form :
-    replay_lines (map (entry_at 0) each_form) (record { id = 2; cap = 4096; state = two_sent } ∷ record { id = 1; cap = 4096; state = none_sent } ∷ [])
+    replay_lines (map (entry_at 0) each_form) (record { id = 2; cap = 4096; state = two_sent }
+    ∷ record { id = 1; cap = 4096; state = none_sent } ∷ [])
     ≡ codes "queued 0000000a 2" ∷ codes "no queue QueueFull" ∷ codes "opened 1" ∷ codes "opened 2 repeat" ∷ codes "joined 1 2"
     ∷ codes "no hear OptionsCut" ∷ codes "no hear UnknownGateway" ∷ codes "silent 2" ∷ codes "no 3 CounterSpent"
-    ∷ codes "send 1 2 RX1 10000000 868100000 5 12" ∷ codes "frame 1 60da1b01ff" ∷ codes "send 4 1 RX2 11000000 869525000 0 12" ∷ codes "frame 4 -"
+    ∷ codes "send 1 2 RX1 10000000 868100000 5 12" ∷ codes "frame 1 60da1b01ff" ∷ codes "send 4 1 RX2 11000000 869525000 0 12"
+    ∷ codes "frame 4 -"
     ∷ codes "unanswered 5 Taken" ∷ codes "unanswered 6 DutyFull" ∷ codes "cancelled 1 41216" ∷ codes "no cancel 7 Begun"
     ∷ codes "floor 1 18446744073709551615" ∷ codes "no tick UnknownGateway" ∷ codes "no 8 Stray" ∷ codes "bad 12 Syntax"
     ∷ codes "gateway 1 booked 0 cancelled 0 retired 0 kept 0" ∷ codes "gateway 2 booked 1032448 cancelled 0 retired 0 kept 2"

@@ -5,7 +5,8 @@ use Rattle.radio_airtime.specs.DataRate.{number_of}
 use Rattle.rx_windows.specs.declared.candidate.Candidate.{Candidate}
 use Rattle.rx_windows.specs.Window.{window_text}
 use Rattle.server_core.specs.declared.entry.Line.{Line}
-use Rattle.server_core.specs.declared.entry.Line.TheVariants.{Queued, NotQueued, Heard, NotHeard, Silent, NotTaken, Send, Frame, Unanswered, Stray, Cancelled, NotCancelled, Floor, NotTicked, Bad}
+use Rattle.server_core.specs.declared.entry.Line.TheVariants.{Queued, NotQueued, Heard, NotHeard, Silent, NotTaken, Send, Frame}
+use Rattle.server_core.specs.declared.entry.Line.TheVariants.{Unanswered, Stray, Cancelled, NotCancelled, Floor, NotTicked, Bad}
 use Rattle.server_desk.specs.declared.heard.DeskHeard.{DeskHeard}
 use Rattle.server_desk.specs.declared.heard.DeskHeard.TheVariants.{Opened, Joined}
 use Rattle.text_words.specs.Words.{spaced, fault_word, refusal_name}
@@ -31,7 +32,8 @@ heard_words (Joined n copies) = codes "joined" ∷ decimal n ∷ decimal copies 
 -- what was booked: GATEWAY RX1 START FREQ DR LEN
 abbrev pub candidate_words : Candidate → List (List ℕ)
 candidate_words c =
-    decimal c.gateway ∷ window_text c.window ∷ decimal c.start ∷ decimal c.freq_hz ∷ decimal (number_of c.rate) ∷ decimal c.len ∷ []
+    decimal c.gateway ∷ window_text c.window ∷ decimal c.start ∷ decimal c.freq_hz ∷ decimal (number_of c.rate) ∷ decimal c.len
+    ∷ []
 
 -- the words of a line
 abbrev pub line_words : {A : Type 0} → Line A → List (List ℕ)

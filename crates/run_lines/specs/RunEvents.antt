@@ -38,7 +38,8 @@ hear_with _ _ _ = None
 abbrev pub hear_event : {A : Type 0} → List DeviceSetting → List (List ℕ) → Option (Event A)
 hear_event devices (gateway ∷ at ∷ freq_hz ∷ rate ∷ snr ∷ rssi ∷ arrived ∷ uplink ∷ []) =
     hear_with
-    (heard_with (number_of 16 gateway) (number_of 64 at) (number_of 32 freq_hz) (number_of 8 rate) (number_signed snr) (number_signed rssi))
+    (heard_with (number_of 16 gateway) (number_of 64 at) (number_of 32 freq_hz) (number_of 8 rate) (number_signed snr)
+    (number_signed rssi))
     (number_of 64 arrived)
     (uplink_word devices uplink)
 hear_event devices _ = None

@@ -1,4 +1,5 @@
-use Rattle.std.specs.Prelude.{ℕ, ◌≢◌, ◌<◌, ◌≤◌, ⊤, length, slice_index, Option, Some, None, Result, Ok, Err, ◌==◌, Bool, ◌||◌, if◌then◌else◌, List, [], ◌∷◌, codes}
+use Rattle.std.specs.Prelude.{ℕ, ◌≢◌, ◌<◌, ◌≤◌, ⊤, length, slice_index, Option, Some, None, Result, Ok, Err, ◌==◌, Bool, ◌||◌}
+use Rattle.std.specs.Prelude.{if◌then◌else◌, List, [], ◌∷◌, codes}
 use Rattle.std.specs.List.{concat}
 use Rattle.std.specs.Str.{bytes_eq}
 use Rattle.text_lines.specs.declared.ahead.TheConstants.{INPUT_LIMIT}

@@ -21,8 +21,10 @@ pub(crate) fn put_line<A: Allocator, W: ByteOut>(
     output: &mut WriteBehind,
     writer: &mut W,
 ) -> Result<(), CallFailed>
-    ensures ok { OnOk result (WritesAllBut (W.taken writer.old) (W.taken writer.new) (output.old ++ (line_text line.now ++ (10 ∷ []))) output.new) }
-    ensures err { OnErr result (WritesFront (W.taken writer.old) (W.taken writer.new) (output.old ++ (line_text line.now ++ (10 ∷ [])))) }
+    ensures ok { OnOk result (WritesAllBut (W.taken writer.old) (W.taken writer.new)
+        (output.old ++ (line_text line.now ++ (10 ∷ []))) output.new) }
+    ensures err { OnErr result (WritesFront (W.taken writer.old) (W.taken writer.new)
+        (output.old ++ (line_text line.now ++ (10 ∷ [])))) }
     ensures failed { CountsFailure (W.failed_calls writer.old) (W.failed_calls writer.new) result }
 {
     match line {
@@ -200,8 +202,10 @@ fn put_frame<W: ByteOut>(
     output: &mut WriteBehind,
     writer: &mut W,
 ) -> Result<(), CallFailed>
-    ensures ok { OnOk result (WritesAllBut (W.taken writer.old) (W.taken writer.new) (output.old ++ (spaced (codes "frame" ∷ decimal number ∷ hex_digits bytes.now ∷ []) ++ (10 ∷ []))) output.new) }
-    ensures err { OnErr result (WritesFront (W.taken writer.old) (W.taken writer.new) (output.old ++ (spaced (codes "frame" ∷ decimal number ∷ hex_digits bytes.now ∷ []) ++ (10 ∷ [])))) }
+    ensures ok { OnOk result (WritesAllBut (W.taken writer.old) (W.taken writer.new)
+        (output.old ++ (spaced (codes "frame" ∷ decimal number ∷ hex_digits bytes.now ∷ []) ++ (10 ∷ []))) output.new) }
+    ensures err { OnErr result (WritesFront (W.taken writer.old) (W.taken writer.new)
+        (output.old ++ (spaced (codes "frame" ∷ decimal number ∷ hex_digits bytes.now ∷ []) ++ (10 ∷ [])))) }
     ensures failed { CountsFailure (W.failed_calls writer.old) (W.failed_calls writer.new) result }
 {
     match put_frame_number(number, output, writer) {
@@ -220,8 +224,10 @@ fn put_frame_number<W: ByteOut>(
     output: &mut WriteBehind,
     writer: &mut W,
 ) -> Result<(), CallFailed>
-    ensures ok { OnOk result (WritesAllBut (W.taken writer.old) (W.taken writer.new) (output.old ++ (codes "frame " ++ (decimal number ++ (32 ∷ [])))) output.new) }
-    ensures err { OnErr result (WritesFront (W.taken writer.old) (W.taken writer.new) (output.old ++ (codes "frame " ++ (decimal number ++ (32 ∷ []))))) }
+    ensures ok { OnOk result (WritesAllBut (W.taken writer.old) (W.taken writer.new)
+        (output.old ++ (codes "frame " ++ (decimal number ++ (32 ∷ [])))) output.new) }
+    ensures err { OnErr result (WritesFront (W.taken writer.old) (W.taken writer.new)
+        (output.old ++ (codes "frame " ++ (decimal number ++ (32 ∷ []))))) }
     ensures failed { CountsFailure (W.failed_calls writer.old) (W.failed_calls writer.new) result }
 {
     let mut text = TextLine::new();
@@ -236,7 +242,8 @@ fn put_hex<W: ByteOut>(
     output: &mut WriteBehind,
     writer: &mut W,
 ) -> Result<(), CallFailed>
-    ensures ok { OnOk result (WritesAllBut (W.taken writer.old) (W.taken writer.new) (output.old ++ hex_digits bytes.now) output.new) }
+    ensures ok { OnOk result (WritesAllBut (W.taken writer.old) (W.taken writer.new)
+        (output.old ++ hex_digits bytes.now) output.new) }
     ensures err { OnErr result (WritesFront (W.taken writer.old) (W.taken writer.new) (output.old ++ hex_digits bytes.now)) }
     ensures failed { CountsFailure (W.failed_calls writer.old) (W.failed_calls writer.new) result }
 {
@@ -252,7 +259,8 @@ fn put_digits<W: ByteOut>(
     output: &mut WriteBehind,
     writer: &mut W,
 ) -> Result<(), CallFailed>
-    ensures ok { OnOk result (WritesAllBut (W.taken writer.old) (W.taken writer.new) (output.old ++ encode_lower bytes.now) output.new) }
+    ensures ok { OnOk result (WritesAllBut (W.taken writer.old) (W.taken writer.new)
+        (output.old ++ encode_lower bytes.now) output.new) }
     ensures err { OnErr result (WritesFront (W.taken writer.old) (W.taken writer.new) (output.old ++ encode_lower bytes.now)) }
     ensures failed { CountsFailure (W.failed_calls writer.old) (W.failed_calls writer.new) result }
 {

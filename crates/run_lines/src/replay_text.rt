@@ -27,9 +27,11 @@ pub fn write_lines<A: Allocator, B: Roster, W: ByteOut>(
     books: &[GatewayBook<B>],
     writer: &mut W,
 ) -> Result<bool, CallFailed>
-    ensures ok { OnOk result (Appends (W.taken writer.old) (W.taken writer.new) (text_of (replay_lines entries.now (map gateway_of books.now)))) }
+    ensures ok { OnOk result (Appends (W.taken writer.old) (W.taken writer.new)
+        (text_of (replay_lines entries.now (map gateway_of books.now)))) }
     ensures told { IfOk result (λ refused. refused ≡ has_refusal (replay_lines entries.now (map gateway_of books.now))) }
-    ensures err { OnErr result (WritesFront (W.taken writer.old) (W.taken writer.new) (text_of (replay_lines entries.now (map gateway_of books.now)))) }
+    ensures err { OnErr result (WritesFront (W.taken writer.old) (W.taken writer.new)
+        (text_of (replay_lines entries.now (map gateway_of books.now)))) }
     ensures failed { CountsFailure (W.failed_calls writer.old) (W.failed_calls writer.new) result }
 {
     let mut output = WriteBehind::new();
@@ -57,8 +59,10 @@ fn put_lines<A: Allocator, B: Roster, W: ByteOut>(
     output: &mut WriteBehind,
     writer: &mut W,
 ) -> Result<(), CallFailed>
-    ensures ok { OnOk result (WritesAllBut (W.taken writer.old) (W.taken writer.new) (output.old ++ text_of (replay_lines entries.now (map gateway_of books.now))) output.new) }
-    ensures err { OnErr result (WritesFront (W.taken writer.old) (W.taken writer.new) (output.old ++ text_of (replay_lines entries.now (map gateway_of books.now)))) }
+    ensures ok { OnOk result (WritesAllBut (W.taken writer.old) (W.taken writer.new)
+        (output.old ++ text_of (replay_lines entries.now (map gateway_of books.now))) output.new) }
+    ensures err { OnErr result (WritesFront (W.taken writer.old) (W.taken writer.new)
+        (output.old ++ text_of (replay_lines entries.now (map gateway_of books.now)))) }
     ensures failed { CountsFailure (W.failed_calls writer.old) (W.failed_calls writer.new) result }
 {
     match put_entries(entries, output, writer) {
@@ -77,8 +81,10 @@ fn put_entries<A: Allocator, W: ByteOut>(
     output: &mut WriteBehind,
     writer: &mut W,
 ) -> Result<(), CallFailed>
-    ensures ok { OnOk result (WritesAllBut (W.taken writer.old) (W.taken writer.new) (output.old ++ text_of (entry_lines entries.now)) output.new) }
-    ensures err { OnErr result (WritesFront (W.taken writer.old) (W.taken writer.new) (output.old ++ text_of (entry_lines entries.now))) }
+    ensures ok { OnOk result (WritesAllBut (W.taken writer.old) (W.taken writer.new)
+        (output.old ++ text_of (entry_lines entries.now)) output.new) }
+    ensures err { OnErr result (WritesFront (W.taken writer.old) (W.taken writer.new)
+        (output.old ++ text_of (entry_lines entries.now))) }
     ensures failed { CountsFailure (W.failed_calls writer.old) (W.failed_calls writer.new) result }
 {
     for entry in entries {

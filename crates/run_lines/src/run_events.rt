@@ -4,7 +4,8 @@ ghost use Rattle.std.specs.Option.{option_to_list};
 ghost use Rattle.std.specs.Str.Lines.{lines};
 ghost use Rattle.text_lines.specs.Number.{number_signed};
 ghost use Rattle.run_lines.specs.RunWords.{uplink_word};
-ghost use Rattle.run_lines.specs.RunEvents.{queue_event, heard_with, number_of, hear_with, hear_event, pass_event, tick_event, cancel_event, worded_event, line_event, events_of};
+ghost use Rattle.run_lines.specs.RunEvents.{queue_event, heard_with, number_of, hear_with, hear_event, pass_event, tick_event};
+ghost use Rattle.run_lines.specs.RunEvents.{cancel_event, worded_event, line_event, events_of};
 
 use crate::run_input::next_line;
 use crate::run_words::{NoMemory, addr_word, hex_word, uplink_word};
@@ -128,7 +129,8 @@ fn heard_with(
     snr: &[u8],
     rssi: &[u8],
 ) -> Option<Heard1>
-    ensures { result ≡ heard_with (number_of 16 gateway.now) (number_of 64 at.now) (number_of 32 freq_hz.now) (number_of 8 rate.now) (number_signed snr.now) (number_signed rssi.now) }
+    ensures { result ≡ heard_with (number_of 16 gateway.now) (number_of 64 at.now) (number_of 32 freq_hz.now)
+        (number_of 8 rate.now) (number_signed snr.now) (number_signed rssi.now) }
 {
     Some(Heard1 {
         gateway: number_u16(gateway)?,

@@ -1,9 +1,11 @@
 // The two parts of the input of `airbook run`, and the lines of the second.
-ghost use Rattle.std.specs.Prelude.{◌≡◌, ◌<◌, ◌∷◌, ◌++◌, [], length, take, drop, slice_index, MatchOption, IfSome, IfNone, IfOk, IfErr};
+ghost use Rattle.std.specs.Prelude.{◌≡◌, ◌<◌, ◌∷◌, ◌++◌, [], length, take, drop, slice_index, MatchOption, IfSome, IfNone, IfOk};
+ghost use Rattle.std.specs.Prelude.{IfErr};
 ghost use Rattle.std.specs.Io.KnownBytes.{Consumes};
 ghost use Rattle.text_words.specs.Fault.{CountsReads};
 ghost use Rattle.std.specs.Str.Lines.{lines, strip_carriage_return};
-ghost use Rattle.run_lines.specs.RunInput.{NoFeedBefore, raw_lines, is_rule, settings_part, event_part, KeepsInputLimit, IsInputFault};
+ghost use Rattle.run_lines.specs.RunInput.{NoFeedBefore, raw_lines, is_rule, settings_part, event_part, KeepsInputLimit};
+ghost use Rattle.run_lines.specs.RunInput.{IsInputFault};
 
 use std::alloc::Global;
 use text_lines::{ByteIn, INPUT_LIMIT, READ_SIZE};

@@ -1,7 +1,8 @@
 // What the words of an event line say.
 ghost use Rattle.std.specs.Prelude.{◌≡◌, ◌^◌, ◌<◌, [], ◌∷◌, ◌++◌, length, IfOk};
 ghost use Rattle.std.specs.Option.{option_map};
-ghost use Rattle.run_lines.specs.RunWords.{addr_word, hex_word, Kind, kind_of, keys_for, bare_message, bare_uplink, made_word, uplink_word};
+ghost use Rattle.run_lines.specs.RunWords.{addr_word, hex_word, Kind, kind_of, keys_for, bare_message, bare_uplink, made_word};
+ghost use Rattle.run_lines.specs.RunWords.{uplink_word};
 ghost use Rattle.lora_frame.specs.Frame.{with_mic};
 
 use answer_ticket::Bytes;

@@ -17,8 +17,10 @@ pub(crate) fn put_tally<A: Allocator, W: ByteOut>(
     output: &mut WriteBehind,
     writer: &mut W,
 ) -> Result<(), CallFailed>
-    ensures ok { OnOk result (WritesAllBut (W.taken writer.old) (W.taken writer.new) (output.old ++ text_of (tally_line entries.now ∷ [])) output.new) }
-    ensures err { OnErr result (WritesFront (W.taken writer.old) (W.taken writer.new) (output.old ++ text_of (tally_line entries.now ∷ []))) }
+    ensures ok { OnOk result (WritesAllBut (W.taken writer.old) (W.taken writer.new)
+        (output.old ++ text_of (tally_line entries.now ∷ [])) output.new) }
+    ensures err { OnErr result (WritesFront (W.taken writer.old) (W.taken writer.new)
+        (output.old ++ text_of (tally_line entries.now ∷ []))) }
     ensures failed { CountsFailure (W.failed_calls writer.old) (W.failed_calls writer.new) result }
 {
     let mut text = TextLine::new();

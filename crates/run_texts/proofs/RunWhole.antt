@@ -12,16 +12,19 @@ use Rattle.run_texts.specs.RunSettings.{settings_in}
 use Rattle.run_texts.specs.RunOutput.{lines_for, run_lines, Runs, RunsInPart}
 
 -- what is known of an input that was read, and of the lines that answer it
-pub record IsAnsweredBy (A : Type 0) (left left_after : Option (List ℕ)) (input : List ℕ) (settings : SettingLists) (answer : List (List ℕ)) : Type 0 where
+pub record IsAnsweredBy (A : Type 0) (left left_after : Option (List ℕ)) (input : List ℕ) (settings : SettingLists)
+    (answer : List (List ℕ)) : Type 0 where
   pub whole : IfSome left (λ all. input ≡ all)
   pub consumed : Consumes left left_after input
   pub given : settings_in (settings_part input) ≡ Ok settings
   pub lines : answer ≡ run_lines A settings input
 
 -- what was made of the two parts of an input
-pub answered-by : (A : Type 0) (left left_after : Option (List ℕ)) (input first second : List ℕ) (settings : SettingLists) (answer : List (List ℕ))
+pub answered-by : (A : Type 0) (left left_after : Option (List ℕ)) (input first second : List ℕ) (settings : SettingLists)
+    (answer : List (List ℕ))
     → IfSome left (λ all. input ≡ all) → Consumes left left_after input → first ≡ settings_part input → second ≡ event_part input
-    → settings_in first ≡ Ok settings → answer ≡ lines_for {A = A} settings (events_of settings.devices (lines second)) → IsAnsweredBy A left left_after input settings answer
+    → settings_in first ≡ Ok settings → answer ≡ lines_for {A = A} settings (events_of settings.devices (lines second))
+    → IsAnsweredBy A left left_after input settings answer
 answered-by A left left_after input first second settings answer w c f e s a =
     record {
       whole = w;
@@ -30,8 +33,10 @@ answered-by A left left_after input first second settings answer w c f e s a =
       lines = a ∙ ap (λ p. lines_for {A = A} settings (events_of settings.devices (lines p))) e;
     }
 
-pub runs : (A : Type 0) (left left_after before after : Option (List ℕ)) (input : List ℕ) (settings : SettingLists) (answer : List (List ℕ)) (refused : Bool)
-    → IsAnsweredBy A left left_after input settings answer → Appends before after (text_of answer) → refused ≡ has_refusal answer → Runs A left left_after before after refused
+pub runs : (A : Type 0) (left left_after before after : Option (List ℕ)) (input : List ℕ) (settings : SettingLists)
+    (answer : List (List ℕ)) (refused : Bool)
+    → IsAnsweredBy A left left_after input settings answer → Appends before after (text_of answer) → refused ≡ has_refusal answer
+    → Runs A left left_after before after refused
 runs A None left_after before after input settings answer refused k w t = tt
 runs A (Some bytes) left_after before after input settings answer refused k w t =
     let same = k.lines ∙ ap (run_lines A settings) k.whole in
@@ -43,8 +48,10 @@ runs A (Some bytes) left_after before after input settings answer refused k w t 
       told = subst (λ l. refused ≡ has_refusal l) same t;
     }
 
-pub runs-in_part : (A : Type 0) (left left_after before after : Option (List ℕ)) (input : List ℕ) (settings : SettingLists) (answer : List (List ℕ))
-    → IsAnsweredBy A left left_after input settings answer → WritesFront before after (text_of answer) → RunsInPart A left left_after before after
+pub runs-in_part : (A : Type 0) (left left_after before after : Option (List ℕ)) (input : List ℕ) (settings : SettingLists)
+    (answer : List (List ℕ))
+    → IsAnsweredBy A left left_after input settings answer → WritesFront before after (text_of answer)
+    → RunsInPart A left left_after before after
 runs-in_part A None left_after before after input settings answer k w = tt
 runs-in_part A (Some bytes) left_after before after input settings answer k w =
     let same = k.lines ∙ ap (run_lines A settings) k.whole in
@@ -56,10 +63,14 @@ runs-in_part A (Some bytes) left_after before after input settings answer k w =
     }
 
 -- the same of the text call that wrote the lines for the two parts, where it answers Ok
-pub runs-told : {E : Type 0} (A : Type 0) (left left_after before after : Option (List ℕ)) (input first second : List ℕ) (settings : SettingLists) (r : Result Bool E)
-    → IfSome left (λ all. input ≡ all) → Consumes left left_after input → first ≡ settings_part input → second ≡ event_part input → settings_in first ≡ Ok settings
-    → OnOk r (Appends before after (text_of (lines_for {A = A} settings (events_of settings.devices (lines second))))) → IfOk r (λ refused. refused ≡ has_refusal (lines_for {A = A} settings (events_of settings.devices (lines second))))
+pub runs-told : {E : Type 0} (A : Type 0) (left left_after before after : Option (List ℕ)) (input first second : List ℕ)
+    (settings : SettingLists) (r : Result Bool E)
+    → IfSome left (λ all. input ≡ all) → Consumes left left_after input → first ≡ settings_part input → second ≡ event_part input
+    → settings_in first ≡ Ok settings
+    → OnOk r (Appends before after (text_of (lines_for {A = A} settings (events_of settings.devices (lines second)))))
+    → IfOk r (λ refused. refused ≡ has_refusal (lines_for {A = A} settings (events_of settings.devices (lines second))))
     → IfOk r (λ refused. Runs A left left_after before after refused)
 runs-told A left left_after before after input first second settings (Ok refused) w c f e s wrote told =
-    runs A left left_after before after input settings _ refused (answered-by A left left_after input first second settings _ w c f e s refl) wrote told
+    runs A left left_after before after input settings _ refused
+    (answered-by A left left_after input first second settings _ w c f e s refl) wrote told
 runs-told A left left_after before after input first second settings (Err fault) w c f e s wrote told = tt

@@ -22,7 +22,8 @@ pub settings_in-other : (bytes : List ℕ) → ¬ (IsUtf8 bytes) → settings_in
 settings_in-other bytes h = by_test bytes (is_utf8 bytes) refl h
 
 -- a fault of the settings refuses the call
-pub refused : (said : Result SettingLists ReadFault) (fault : ReadFault) (named : TextFault) → (fault ≢ NoMemory → said ≡ Err fault) → IsNamed fault named → IsRefusedBy said named
+pub refused : (said : Result SettingLists ReadFault) (fault : ReadFault) (named : TextFault)
+    → (fault ≢ NoMemory → said ≡ Err fault) → IsNamed fault named → IsRefusedBy said named
 refused said fault Read h n = absurd n
 refused said fault Write h n = absurd n
 refused said fault TooMuch h n = absurd n

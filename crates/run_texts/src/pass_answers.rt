@@ -2,7 +2,8 @@
 ghost use Rattle.std.specs.Prelude.{◌≡◌, ◌<◌, ◌++◌, [], ◌∷◌, length, slice_get, Some, map, OnOk, IfSome};
 ghost use Rattle.std.specs.Option.{option_map};
 ghost use Rattle.std.specs.List.Sorted.{IsPermutation, IsNonDecreasingBy};
-ghost use Rattle.run_texts.specs.PassAnswers.{line_alone, refused_answer, stray_answer, sent_answer, IsAnswerTo, numbers_of, number_of, settled_numbers, IsTurnTold};
+ghost use Rattle.run_texts.specs.PassAnswers.{line_alone, refused_answer, stray_answer, sent_answer, IsAnswerTo, numbers_of};
+ghost use Rattle.run_texts.specs.PassAnswers.{number_of, settled_numbers, IsTurnTold};
 
 use answer_ticket::{Bytes, Ending, Outcome, Receipt};
 use gateway_book::Refusal;
@@ -40,7 +41,8 @@ impl PassAnswers {
 
     /// Takes in outcomes that were settled.
     pub fn add_outcomes(&mut self, alloc: Global, outcomes: &[Outcome]) -> Result<(), NoMemory>
-        ensures { OnOk result (numbers_of self.new.answers.items ≡ numbers_of self.old.answers.items ++ settled_numbers outcomes.now) }
+        ensures { OnOk result (numbers_of self.new.answers.items ≡ numbers_of self.old.answers.items
+            ++ settled_numbers outcomes.now) }
     {
         for outcome in outcomes {
             let answer = answer_of(alloc, outcome, self.receipts.as_mut_slice());
@@ -76,7 +78,8 @@ impl PassAnswers {
         number: u64,
         turn: Turn<Global>,
     ) -> Result<(), NoMemory>
-        ensures number { OnOk result (numbers_of self.new.answers.items ≡ numbers_of self.old.answers.items ++ number_of number turn ∷ []) }
+        ensures number { OnOk result (numbers_of self.new.answers.items ≡ numbers_of self.old.answers.items
+            ++ number_of number turn ∷ []) }
         ensures told { OnOk result (IsTurnTold number turn self.old.answers.items self.new.answers.items) }
     {
         let (answer, receipt) = match turn {

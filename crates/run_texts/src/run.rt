@@ -2,7 +2,8 @@
 ghost use Rattle.std.specs.Prelude.{◌≡◌, ◌≢◌, ◌<◌, ◌≤◌, Err, IfOk, IfErr};
 ghost use Rattle.text_words.specs.Fault.{CountsReads, CountsWrites};
 ghost use Rattle.run_lines.specs.RunInput.{KeepsInputLimit};
-ghost use Rattle.run_texts.specs.RunOutput.{Runs, RunsInPart, NamesFault, NamesFaultOfWorkers, NamesWorkers, IsPlayFault, TellsRefusals};
+ghost use Rattle.run_texts.specs.RunOutput.{Runs, RunsInPart, NamesFault, NamesFaultOfWorkers, NamesWorkers, IsPlayFault};
+ghost use Rattle.run_texts.specs.RunOutput.{TellsRefusals};
 
 use crate::run_alone::tell_alone;
 use crate::run_settings::settings_in;
@@ -49,8 +50,10 @@ pub fn run_text<
 ) -> Result<bool, TextFault>
 where
     S::Hasher: Send + Sync,
-    ensures ok { workers ≡ 0 → IfOk result (λ refused. Runs Global (R.left reader.old) (R.left reader.new) (W.taken writer.old) (W.taken writer.new) refused) }
-    ensures front { workers ≡ 0 → result ≡ Err TextFault.Write → RunsInPart Global (R.left reader.old) (R.left reader.new) (W.taken writer.old) (W.taken writer.new) }
+    ensures ok { workers ≡ 0 → IfOk result (λ refused. Runs Global (R.left reader.old) (R.left reader.new) (W.taken writer.old)
+        (W.taken writer.new) refused) }
+    ensures front { workers ≡ 0 → result ≡ Err TextFault.Write
+        → RunsInPart Global (R.left reader.old) (R.left reader.new) (W.taken writer.old) (W.taken writer.new) }
     ensures told { 0 < workers → IfOk result (λ refused. TellsRefusals (W.taken writer.old) (W.taken writer.new) refused) }
     ensures settings { workers ≡ 0 → NamesFault (R.left reader.old) result }
     ensures named { 0 < workers → workers ≤ 16 → NamesFaultOfWorkers (R.left reader.old) result }

@@ -28,9 +28,12 @@ pub(crate) fn tell_alone<S: BuildHasher + Clone, W: ByteOut>(
     text: &[u8],
     writer: &mut W,
 ) -> Result<bool, TextFault>
-    ensures ok { OnOk result (Appends (W.taken writer.old) (W.taken writer.new) (text_of (lines_for {A = Global} settings.now (events_of settings.now.devices (lines text.now))))) }
-    ensures told { IfOk result (λ refused. refused ≡ has_refusal (lines_for {A = Global} settings.now (events_of settings.now.devices (lines text.now)))) }
-    ensures front { result ≡ Err TextFault.Write → WritesFront (W.taken writer.old) (W.taken writer.new) (text_of (lines_for {A = Global} settings.now (events_of settings.now.devices (lines text.now)))) }
+    ensures ok { OnOk result (Appends (W.taken writer.old) (W.taken writer.new)
+        (text_of (lines_for {A = Global} settings.now (events_of settings.now.devices (lines text.now))))) }
+    ensures told { IfOk result (λ refused. refused ≡ has_refusal
+        (lines_for {A = Global} settings.now (events_of settings.now.devices (lines text.now)))) }
+    ensures front { result ≡ Err TextFault.Write → WritesFront (W.taken writer.old) (W.taken writer.new)
+        (text_of (lines_for {A = Global} settings.now (events_of settings.now.devices (lines text.now)))) }
     ensures untouched { IfErr result (λ fault. fault ≢ TextFault.Write → writer.new ≡ writer.old) }
     ensures fault { IfErr result IsTellFault }
     ensures write { CountsWrites (W.failed_calls writer.old) (W.failed_calls writer.new) result }
@@ -52,7 +55,8 @@ fn replay_text<S: BuildHasher + Clone>(
     settings: &Settings<Global>,
     text: &[u8],
 ) -> Result<Replay<Global>, NoMemory>
-    ensures { IfOk result (λ r. replay_lines r.outcomes.items (map gateway_of r.books.items) ≡ lines_for {A = Global} settings.now (events_of settings.now.devices (lines text.now))) }
+    ensures { IfOk result (λ r. replay_lines r.outcomes.items (map gateway_of r.books.items)
+        ≡ lines_for {A = Global} settings.now (events_of settings.now.devices (lines text.now))) }
 {
     let events = events_of(alloc, settings.devices(), text)?;
     replay(alloc, hasher, settings, events.as_slice())
@@ -61,9 +65,12 @@ fn replay_text<S: BuildHasher + Clone>(
 /// Writes the lines of a replay, and answers whether one of them begins with `no` or `bad`. After an Err a front of them
 /// was written.
 fn write_replay<W: ByteOut>(replay: &Replay<Global>, writer: &mut W) -> Result<bool, CallFailed>
-    ensures ok { OnOk result (Appends (W.taken writer.old) (W.taken writer.new) (text_of (replay_lines replay.now.outcomes.items (map gateway_of replay.now.books.items)))) }
-    ensures told { IfOk result (λ refused. refused ≡ has_refusal (replay_lines replay.now.outcomes.items (map gateway_of replay.now.books.items))) }
-    ensures err { OnErr result (WritesFront (W.taken writer.old) (W.taken writer.new) (text_of (replay_lines replay.now.outcomes.items (map gateway_of replay.now.books.items)))) }
+    ensures ok { OnOk result (Appends (W.taken writer.old) (W.taken writer.new)
+        (text_of (replay_lines replay.now.outcomes.items (map gateway_of replay.now.books.items)))) }
+    ensures told { IfOk result (λ refused. refused ≡ has_refusal
+        (replay_lines replay.now.outcomes.items (map gateway_of replay.now.books.items))) }
+    ensures err { OnErr result (WritesFront (W.taken writer.old) (W.taken writer.new)
+        (text_of (replay_lines replay.now.outcomes.items (map gateway_of replay.now.books.items)))) }
     ensures failed { CountsFailure (W.failed_calls writer.old) (W.failed_calls writer.new) result }
 {
     write_lines(replay.outcomes.as_slice(), replay.books.as_slice(), writer)

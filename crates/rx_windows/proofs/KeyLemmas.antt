@@ -1,5 +1,6 @@
 -- Sorting by the key of SNR, RSSI and gateway ranks copies of different gateways.
-use Rattle.std.proofs.Common.{◌≡◌, ℕ, nat_lt, int_lt, ◌⊎◌, inl, inr, Bool, true, false, true≢false, List, get_or, AllPairs, ℤ, refl, sym, ◌∙◌, arith, is_lt, int_cmp, nat_cmp, nat_eq, cond, Less, Equal, Greater, IsSortedBy}
+use Rattle.std.proofs.Common.{◌≡◌, ℕ, nat_lt, int_lt, ◌⊎◌, inl, inr, Bool, true, false, true≢false, List, get_or, AllPairs, ℤ}
+use Rattle.std.proofs.Common.{refl, sym, ◌∙◌, arith, is_lt, int_cmp, nat_cmp, nat_eq, cond, Less, Equal, Greater, IsSortedBy}
 use Rattle.std.specs.Cmp.{IsStrictWeakOrder}
 use Rattle.std.specs.Ordering.{ordering_then}
 use Rattle.std.specs.declared.cmp.Reverse.{Reverse}
@@ -20,11 +21,15 @@ key_lt c e = is_lt (ordering_then (ordering_then (int_cmp e.snr c.snr) (int_cmp 
 key_order : IsStrictWeakOrder key_lt
 key_order =
     ranks_by
-    (then_total (then_total (back_total (on_total (λ (c : HeardCopy). c.snr) int_cmp_total)) (back_total (on_total (λ (c : HeardCopy). c.rssi) int_cmp_total))) (on_total (λ (c : HeardCopy). c.gateway) nat_cmp_total))
+    (then_total (then_total (back_total (on_total (λ (c : HeardCopy). c.snr) int_cmp_total))
+    (back_total (on_total (λ (c : HeardCopy). c.rssi) int_cmp_total)))
+    (on_total (λ (c : HeardCopy). c.gateway) nat_cmp_total))
     (λ c. c)
 
 -- comparing in turn is the test of ranks, by what each comparison tests
-in_turn : (s t u v w x : Bool) → is_lt (ordering_then (ordering_then (cond s Less (cond t Greater Equal)) (cond u Less (cond v Greater Equal))) (cond w Less (cond x Equal Greater))) ≡ cond s true (cond t false (cond u true (cond v false w)))
+in_turn : (s t u v w x : Bool) → is_lt (ordering_then (ordering_then (cond s Less (cond t Greater Equal))
+    (cond u Less (cond v Greater Equal))) (cond w Less (cond x Equal Greater)))
+    ≡ cond s true (cond t false (cond u true (cond v false w)))
 in_turn true t u v w x = refl
 in_turn false true u v w x = refl
 in_turn false false true v w x = refl
@@ -35,7 +40,8 @@ in_turn false false false false false false = refl
 
 key_lt-is_before : (c e : HeardCopy) → key_lt c e ≡ is_before c e
 key_lt-is_before c e =
-    in_turn (int_lt e.snr c.snr) (int_lt c.snr e.snr) (int_lt e.rssi c.rssi) (int_lt c.rssi e.rssi) (nat_lt c.gateway e.gateway) (nat_eq c.gateway e.gateway)
+    in_turn (int_lt e.snr c.snr) (int_lt c.snr e.snr) (int_lt e.rssi c.rssi) (int_lt c.rssi e.rssi) (nat_lt c.gateway e.gateway)
+    (nat_eq c.gateway e.gateway)
 
 before_by : (c e : HeardCopy) → key_lt e c ≡ false → IsBefore c e ⊎ IsBefore e c → IsBefore c e
 before_by c e k (inl h) = h

@@ -1,11 +1,14 @@
-use Rattle.std.proofs.Common.{◌≡◌, ◌≢◌, ℕ, ◌<◌, nat_lt, nat_eq, ◌<ℤ◌, int_lt, ◌⊎◌, inl, inr, Bool, true, false, true≢false, List, [], ◌∷◌, map, All, AllPairs, Contains, IsPermutation, Ordering, Less, Equal, Greater, cond, refl, sym, ◌∙◌, subst, arith, zero, suc}
+use Rattle.std.proofs.Common.{◌≡◌, ◌≢◌, ℕ, ◌<◌, nat_lt, nat_eq, ◌<ℤ◌, int_lt, ◌⊎◌, inl, inr, Bool, true, false, true≢false, List}
+use Rattle.std.proofs.Common.{[], ◌∷◌, map, All, AllPairs, Contains, IsPermutation, Ordering, Less, Equal, Greater, cond, refl}
+use Rattle.std.proofs.Common.{sym, ◌∙◌, subst, arith, zero, suc}
 use Rattle.std.specs.List.{IsDistinct}
 use Rattle.std.specs.Ordering.{MatchOrdering, int_cmp}
 use Rattle.std.specs.Cmp.{int_ranks}
 use Rattle.std.proofs.lemmas.Bool.{cases_lt}
 use Rattle.std.proofs.lemmas.Bool.Decides.{nat_tests}
 use Rattle.std.proofs.lemmas.Int.{ints}
-use Rattle.std.proofs.lemmas.List.Elements.{All-cons, All-nil, All-weaker, All-contains, All-map, recursion_from_All, All-from_recursion}
+use Rattle.std.proofs.lemmas.List.Elements.{All-cons, All-nil, All-weaker, All-contains, All-map, recursion_from_All}
+use Rattle.std.proofs.lemmas.List.Elements.{All-from_recursion}
 use Rattle.std.proofs.lemmas.List.Kept.{AllPairs-cons}
 use Rattle.std.proofs.lemmas.List.Sorted.{IsPermutation-sym, IsPermutation-map, All-permutation, Contains-permutation}
 use Rattle.std.proofs.lemmas.Map.Keys.{IsDistinct-IsPermutation}
@@ -55,16 +58,19 @@ IsBefore-trans c e f (inr (inr (q, r, h))) (inr (inl (p, g))) = inr (inl (q ∙ 
 IsBefore-trans c e f (inr (inr (q, r, h))) (inr (inr (p, s, g))) = inr (inr (q ∙ p, r ∙ s, omega arith))
 
 -- of two gateways one has the better copy
-by_gateway : (c e : HeardCopy) → c.snr ≡ e.snr → c.rssi ≡ e.rssi → (c.gateway < e.gateway) ⊎ (e.gateway < c.gateway) → IsBefore c e ⊎ IsBefore e c
+by_gateway : (c e : HeardCopy) → c.snr ≡ e.snr → c.rssi ≡ e.rssi → (c.gateway < e.gateway) ⊎ (e.gateway < c.gateway)
+    → IsBefore c e ⊎ IsBefore e c
 by_gateway c e q r (inl h) = inl (inr (inr (q, r, h)))
 by_gateway c e q r (inr h) = inr (inr (inr (sym q, sym r, h)))
 
-by_rssi : (c e : HeardCopy) → c.gateway ≢ e.gateway → c.snr ≡ e.snr → (r : Ordering) → MatchOrdering r (c.rssi <ℤ e.rssi) (c.rssi ≡ e.rssi) (e.rssi <ℤ c.rssi) → IsBefore c e ⊎ IsBefore e c
+by_rssi : (c e : HeardCopy) → c.gateway ≢ e.gateway → c.snr ≡ e.snr → (r : Ordering)
+    → MatchOrdering r (c.rssi <ℤ e.rssi) (c.rssi ≡ e.rssi) (e.rssi <ℤ c.rssi) → IsBefore c e ⊎ IsBefore e c
 by_rssi c e n q Less h = inr (inr (inl (sym q, h)))
 by_rssi c e n q Equal h = by_gateway c e q h (elim (cases_lt c.gateway e.gateway) [ inl l ↦ inl l | inr l ↦ inr (omega arith) ])
 by_rssi c e n q Greater h = inl (inr (inl (q, h)))
 
-by_snr : (c e : HeardCopy) → c.gateway ≢ e.gateway → (r : Ordering) → MatchOrdering r (c.snr <ℤ e.snr) (c.snr ≡ e.snr) (e.snr <ℤ c.snr) → IsBefore c e ⊎ IsBefore e c
+by_snr : (c e : HeardCopy) → c.gateway ≢ e.gateway → (r : Ordering)
+    → MatchOrdering r (c.snr <ℤ e.snr) (c.snr ≡ e.snr) (e.snr <ℤ c.snr) → IsBefore c e ⊎ IsBefore e c
 by_snr c e n Less h = inr (inl h)
 by_snr c e n Equal h = by_rssi c e n h (int_cmp c.rssi e.rssi) (int_ranks c.rssi e.rssi)
 by_snr c e n Greater h = inl (inl h)
@@ -83,7 +89,8 @@ contains_rest x y xs (k, l, e) = (suc k, omega arith, e)
 
 -- two lists with the same members, each in that order, are equal
 module _ {X : Type 0} (R : X → X → Type 0) (asym : (x y : X) → R x y → R y x → ⊥) where
-  first_same : (x y : X) (xs ys : List X) → All (R x) xs → All (R y) ys → (y ≡ x) ⊎ Contains ys x → (x ≡ y) ⊎ Contains xs y → x ≡ y
+  first_same : (x y : X) (xs ys : List X) → All (R x) xs → All (R y) ys → (y ≡ x) ⊎ Contains ys x → (x ≡ y) ⊎ Contains xs y
+      → x ≡ y
   first_same x y xs ys p q (inl e) g = sym e
   first_same x y xs ys p q (inr f) (inl e) = e
   first_same x y xs ys p q (inr f) (inr g) = absurd (asym x y (All-contains (R x) xs y p g) (All-contains (R y) ys x q f))
@@ -96,14 +103,16 @@ module _ {X : Type 0} (R : X → X → Type 0) (asym : (x y : X) → R x y → R
       absurd (asym x x r r)
   in_rest x y z xs ys e p c (inr g) = g
 
-  pub same_order : (xs ys : List X) → AllPairs R xs → AllPairs R ys → ((z : X) → Contains xs z → Contains ys z) → ((z : X) → Contains ys z → Contains xs z) → xs ≡ ys
+  pub same_order : (xs ys : List X) → AllPairs R xs → AllPairs R ys → ((z : X) → Contains xs z → Contains ys z)
+      → ((z : X) → Contains ys z → Contains xs z) → xs ≡ ys
   same_order [] [] p q f g = refl
   same_order [] (y ∷ ys) p q f g = let c = g y (zero, omega arith, refl) in absurd (omega (arith, c.1))
   same_order (x ∷ xs) [] p q f g = let c = f x (zero, omega arith, refl) in absurd (omega (arith, c.1))
   same_order (x ∷ xs) (y ∷ ys) p q f g =
       let from_x = AllPairs-head R x xs p in
       let from_y = AllPairs-head R y ys q in
-      let e : x ≡ y = first_same x y xs ys from_x from_y (contains_cases y x ys (f x (zero, omega arith, refl))) (contains_cases x y xs (g y (zero, omega arith, refl))) in
+      let e : x ≡ y = first_same x y xs ys from_x from_y (contains_cases y x ys (f x (zero, omega arith, refl)))
+      (contains_cases x y xs (g y (zero, omega arith, refl))) in
       let rest : xs ≡ ys =
       same_order xs ys (AllPairs-tail R x xs p) (AllPairs-tail R y ys q)
       (λ z c. in_rest x y z xs ys e from_x c (contains_cases y z ys (f z (contains_rest x z xs c))))
@@ -113,21 +122,27 @@ module _ {X : Type 0} (R : X → X → Type 0) (asym : (x y : X) → R x y → R
 pub one_ranking : OneRanking
 one_ranking copies a b p q =
     same_order IsBefore IsBefore-asym a b p.each_before_later q.each_before_later
-    (λ z c. Contains-permutation copies b z q.permutation (Contains-permutation a copies z (IsPermutation-sym copies a p.permutation) c))
-    (λ z c. Contains-permutation copies a z p.permutation (Contains-permutation b copies z (IsPermutation-sym copies b q.permutation) c))
+    (λ z c. Contains-permutation copies b z q.permutation (Contains-permutation a copies z
+    (IsPermutation-sym copies a p.permutation) c))
+    (λ z c. Contains-permutation copies a z p.permutation (Contains-permutation b copies z
+    (IsPermutation-sym copies b q.permutation) c))
 
 -- a copy that is placed keeps each before all later ones
-pairs_by : (c e : HeardCopy) (es : List HeardCopy) (t : Bool) → is_before c e ≡ t → IsBefore c e ⊎ IsBefore e c → AllPairs IsBefore (e ∷ es) → AllPairs IsBefore (placed c es) → AllPairs IsBefore (cond t (c ∷ e ∷ es) (e ∷ placed c es))
+pairs_by : (c e : HeardCopy) (es : List HeardCopy) (t : Bool) → is_before c e ≡ t → IsBefore c e ⊎ IsBefore e c
+    → AllPairs IsBefore (e ∷ es) → AllPairs IsBefore (placed c es) → AllPairs IsBefore (cond t (c ∷ e ∷ es) (e ∷ placed c es))
 pairs_by c e es true t (inl h) p q =
     let from_e = AllPairs-head IsBefore e es p in
-    AllPairs-cons IsBefore c (e ∷ es) (All-cons (IsBefore c) e es h (All-weaker (IsBefore e) (IsBefore c) (λ f g. IsBefore-trans c e f h g) es from_e)) p
+    AllPairs-cons IsBefore c (e ∷ es) (All-cons (IsBefore c) e es h
+    (All-weaker (IsBefore e) (IsBefore c) (λ f g. IsBefore-trans c e f h g) es from_e)) p
 pairs_by c e es true t (inr h) p q = absurd (true≢false (sym t ∙ (is_before-passes e c h).1))
 pairs_by c e es false t (inl h) p q = absurd (true≢false (sym (is_before-passes c e h).0 ∙ t))
 pairs_by c e es false t (inr h) p q =
     let from_e = AllPairs-head IsBefore e es p in
-    AllPairs-cons IsBefore e (placed c es) (All-permutation (IsBefore e) (c ∷ es) (placed c es) (placed-permutation c es) (All-cons (IsBefore e) c es h from_e)) q
+    AllPairs-cons IsBefore e (placed c es) (All-permutation (IsBefore e) (c ∷ es) (placed c es) (placed-permutation c es)
+    (All-cons (IsBefore e) c es h from_e)) q
 
-placed-pairs : (c : HeardCopy) (es : List HeardCopy) → All (λ e. c.gateway ≢ e.gateway) es → AllPairs IsBefore es → AllPairs IsBefore (placed c es)
+placed-pairs : (c : HeardCopy) (es : List HeardCopy) → All (λ e. c.gateway ≢ e.gateway) es → AllPairs IsBefore es
+    → AllPairs IsBefore (placed c es)
 placed-pairs c [] n p = AllPairs-cons IsBefore c [] (All-nil (IsBefore c)) p
 placed-pairs c (e ∷ es) n p =
     pairs_by c e es (is_before c e) refl (IsBefore-either c e (n zero e (omega arith))) p
@@ -140,7 +155,8 @@ pub ranked-pairs : (copies : List HeardCopy) → HaveDistinctGateways copies →
 unfolding ranked
 ranked-pairs [] n = λ i j d l g. absurd (omega arith)
 ranked-pairs (c ∷ cs) n =
-    placed-pairs c (ranked cs) (All-ranked (apart c) cs (AllPairs-head apart c cs n)) (ranked-pairs cs (AllPairs-tail apart c cs n))
+    placed-pairs c (ranked cs) (All-ranked (apart c) cs (AllPairs-head apart c cs n))
+    (ranked-pairs cs (AllPairs-tail apart c cs n))
 
 -- copies of different gateways, by rank, are a ranking
 pub ranked-ranking : (copies : List HeardCopy) → HaveDistinctGateways copies → IsRanking copies (ranked copies)
@@ -155,7 +171,9 @@ distinct_from : (copies : List HeardCopy) → HaveDistinctGateways copies → Is
 unfolding IsDistinct
 distinct_from [] n = tt
 distinct_from (c ∷ cs) n = (
-  recursion_from_All (λ y. nat_eq c.gateway y ≡ false) (map heard_by cs) (All-map (λ y. nat_eq c.gateway y ≡ false) heard_by cs (λ k d l. let a = n zero (suc k) d (omega arith) (omega arith) in grind (arith, nat_tests))),
+  recursion_from_All (λ y. nat_eq c.gateway y ≡ false) (map heard_by cs)
+      (All-map (λ y. nat_eq c.gateway y ≡ false) heard_by cs
+      (λ k d l. let a = n zero (suc k) d (omega arith) (omega arith) in grind (arith, nat_tests))),
   distinct_from cs (AllPairs-tail apart c cs n),
 )
 
@@ -168,11 +186,14 @@ from_distinct : (copies : List HeardCopy) → IsDistinct nat_eq (map heard_by co
 unfolding IsDistinct
 from_distinct [] n = λ i j d l g. absurd (omega arith)
 from_distinct (c ∷ cs) n =
-    AllPairs-cons apart c cs (apart_from c cs (All-from_recursion (λ y. nat_eq c.gateway y ≡ false) (map heard_by cs) n.0)) (from_distinct cs n.1)
+    AllPairs-cons apart c cs (apart_from c cs (All-from_recursion (λ y. nat_eq c.gateway y ≡ false) (map heard_by cs) n.0))
+    (from_distinct cs n.1)
 
 flips : (x y : ℕ) → nat_eq x y ≡ nat_eq y x
 flips x y = grind (arith, nat_tests)
 
-pub HaveDistinctGateways-permutation : (a b : List HeardCopy) → IsPermutation a b → HaveDistinctGateways a → HaveDistinctGateways b
+pub HaveDistinctGateways-permutation : (a b : List HeardCopy) → IsPermutation a b → HaveDistinctGateways a
+    → HaveDistinctGateways b
 HaveDistinctGateways-permutation a b p n =
-    from_distinct b (IsDistinct-IsPermutation nat_eq flips (map heard_by a) (map heard_by b) (IsPermutation-map heard_by a b p) (distinct_from a n))
+    from_distinct b (IsDistinct-IsPermutation nat_eq flips (map heard_by a) (map heard_by b) (IsPermutation-map heard_by a b p)
+    (distinct_from a n))

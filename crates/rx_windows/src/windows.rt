@@ -1,7 +1,8 @@
 ghost use Rattle.std.specs.Prelude.{◌≡◌, ◌+◌, ◌-◌, ◌^◌, ◌≤◌, All, IfOk};
 ghost use Rattle.std.specs.Option.{ForSome};
 ghost use Rattle.radio_airtime.specs.DataRate.{number_of};
-ghost use Rattle.rx_windows.specs.Windows.{IsHeard, IsPlan, rx1_rate, is_carried, frame_len, rx1_start, rx1_of, rx2_of, candidates_of};
+ghost use Rattle.rx_windows.specs.Windows.{IsHeard, IsPlan, rx1_rate, is_carried, frame_len, rx1_start, rx1_of, rx2_of};
+ghost use Rattle.rx_windows.specs.Windows.{candidates_of};
 
 use crate::{Candidate, Plan, Window};
 use radio_airtime::DataRate;

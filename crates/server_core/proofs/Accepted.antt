@@ -1,5 +1,6 @@
 -- The candidates that are tried, and the world's try of one.
-use Rattle.std.specs.Prelude.{ℕ, zero, suc, ◌≡◌, ◌+◌, Bool, true, false, if◌then◌else◌, List, [], ◌∷◌, map, drop, slice_get, Option, Some, None, refl}
+use Rattle.std.specs.Prelude.{ℕ, zero, suc, ◌≡◌, ◌+◌, Bool, true, false, if◌then◌else◌, List, [], ◌∷◌, map, drop, slice_get}
+use Rattle.std.specs.Prelude.{Option, Some, None, refl}
 use Rattle.std.specs.Option.{option_map_or}
 use Rattle.std.proofs.Common.{ap, ◌∙◌, arith}
 use Rattle.gateway_book.specs.declared.refusal.Refusal.{Refusal}
@@ -41,28 +42,34 @@ module _ (w : World) (t : Standing) where
   abbrev n : ℕ
   n = t.job.number
 
-  module _ (stands : numbered n w.answers ≡ Some (Open t.at t.job)) (c : Candidate) (at : candidate_of t ≡ Some c) (i : ℕ) (book : Book)
+  module _ (stands : numbered n w.answers ≡ Some (Open t.at t.job)) (c : Candidate) (at : candidate_of t ≡ Some c) (i : ℕ)
+      (book : Book)
       (found : gateway_with c.gateway w.gateways ≡ Some (i, gateway_of book)) where
     -- the world's try asks the book
-    pub try_is : (o : Option Refusal) → refusal_by book t.job c ≡ o → step w (Try n) ≡ tried_by w n t.at t.job c (i, gateway_of book) o
+    pub try_is : (o : Option Refusal) → refusal_by book t.job c ≡ o
+        → step w (Try n) ≡ tried_by w n t.at t.job c (i, gateway_of book) o
     unfolding step
     try_is o e =
-        ap (try_of w n) stands ∙ ap (try_candidate w n t.at t.job) at ∙ ap (try_on w n t.at t.job c) found ∙ ap (tried_by w n t.at t.job c (i, gateway_of book)) e
+        ap (try_of w n) stands ∙ ap (try_candidate w n t.at t.job) at ∙ ap (try_on w n t.at t.job c) found
+        ∙ ap (tried_by w n t.at t.job c (i, gateway_of book)) e
 
     accepted_is : (o : Option Refusal) → refusal_by book t.job c ≡ o → is_accepted w t.job c ≡ is_none o
     accepted_is o e = ap (λ (x : Option (ℕ × Gateway)). option_map_or (λ p. accepts t.job c p.1) x false) found ∙ ap is_none e
 
     left : drop t.at (candidates t.job) ≡ c ∷ drop (t.at + 1) (candidates t.job)
-    left = let next : suc t.at ≡ t.at + 1 = omega arith in drop_at (candidates t.job) t.at c at ∙ ap (λ i. c ∷ drop i (candidates t.job)) next
+    left = let next : suc t.at ≡ t.at + 1 = omega arith in drop_at (candidates t.job) t.at c at
+        ∙ ap (λ i. c ∷ drop i (candidates t.job)) next
 
     abbrev tries : List Candidate → List Step
     tries cs = map (λ (x : Candidate). Try n) cs
 
     pub accepted_tries : refusal_by book t.job c ≡ None → tries_from w t ≡ Try n ∷ []
     accepted_tries e =
-        ap (λ l. tries (up_to_first (is_accepted w t.job) l)) left ∙ ap tries (ends_at (is_accepted w t.job) c (drop (t.at + 1) (candidates t.job)) (accepted_is None e))
+        ap (λ l. tries (up_to_first (is_accepted w t.job) l)) left
+        ∙ ap tries (ends_at (is_accepted w t.job) c (drop (t.at + 1) (candidates t.job)) (accepted_is None e))
 
-    pub refused_tries : (refusal : Refusal) → refusal_by book t.job c ≡ Some refusal → tries_from w t ≡ Try n ∷ tries (up_to_first (is_accepted w t.job) (drop (t.at + 1) (candidates t.job)))
+    pub refused_tries : (refusal : Refusal) → refusal_by book t.job c ≡ Some refusal
+        → tries_from w t ≡ Try n ∷ tries (up_to_first (is_accepted w t.job) (drop (t.at + 1) (candidates t.job)))
     refused_tries refusal e =
         ap (λ l. tries (up_to_first (is_accepted w t.job) l)) left
         ∙ ap tries (goes_past (is_accepted w t.job) c (drop (t.at + 1) (candidates t.job)) (accepted_is (Some refusal) e))

@@ -1,5 +1,6 @@
 -- An uplink is answered: a ticket is taken, tried and settled.
-use Rattle.std.specs.Prelude.{ℕ, ◌-◌, slice_set, ◌≡◌, ◌≢◌, ◌⊎◌, Bool, true, false, if◌then◌else◌, List, [], ◌∷◌, ◌++◌, map, Contains, IsTrue, Option, Some, None, Result, Ok, Err, MatchResult, IsOkUnless, refl}
+use Rattle.std.specs.Prelude.{ℕ, ◌-◌, slice_set, ◌≡◌, ◌≢◌, ◌⊎◌, Bool, true, false, if◌then◌else◌, List, [], ◌∷◌, ◌++◌, map}
+use Rattle.std.specs.Prelude.{Contains, IsTrue, Option, Some, None, Result, Ok, Err, MatchResult, IsOkUnless, refl}
 use Rattle.std.specs.Option.{option_map_or}
 use Rattle.std.proofs.lemmas.List.{set-set}
 use Rattle.std.proofs.Common.{inl, inr, ap, sym, ◌∙◌, subst, arith, append-nil}
@@ -26,7 +27,8 @@ use Rattle.server_core.specs.Steps.{Step, Take, After, step, take_by}
 use Rattle.server_core.specs.Steps as replies
 use Rattle.server_core.specs.Schedule.{given_steps, answer_steps}
 use Rattle.server_core.specs.Entries.{not_taken, lines_for, step_lines, entry_at, gateway_of}
-use Rattle.server_core.specs.Server.{Seen, IsAt, Goes, Makes, AreHere, AreHeard, IsReady, IsIdle, with_step, with_lines, is_among, ids_of}
+use Rattle.server_core.specs.Server.{Seen, IsAt, Goes, Makes, AreHere, AreHeard, IsReady, IsIdle, with_step, with_lines, is_among}
+use Rattle.server_core.specs.Server.{ids_of}
 use Rattle.server_core.specs.Turns.{IsGivenTo, IsAnswered}
 use Rattle.server_desk.specs.Places.{all_get}
 use Rattle.server_desk.specs.Numbers.{numbered-here, numbered_cases, rewritten-found}
@@ -40,20 +42,23 @@ taken_gathered : (o : Option Asked) (reg : Register) → (taken_from o reg).gath
 taken_gathered None reg = refl
 taken_gathered (Some asked) reg = refl
 
-settled_gathered : (carried : Bool) (o : Option Asked) (reg : Register) → (if carried then delivered o reg else reg).gathered ≡ reg.gathered
+settled_gathered : (carried : Bool) (o : Option Asked) (reg : Register)
+    → (if carried then delivered o reg else reg).gathered ≡ reg.gathered
 settled_gathered true None reg = refl
 settled_gathered true (Some asked) reg = refl
 settled_gathered false o reg = refl
 
 -- once it is settled, no ticket is out again
-rewritten_twice : (known : List Known) (n : ℕ) (k a b : Known) → numbered n known ≡ Some k → rewritten (λ x. b) n (rewritten (λ x. a) n known) ≡ rewritten (λ x. b) n known
+rewritten_twice : (known : List Known) (n : ℕ) (k a b : Known) → numbered n known ≡ Some k
+    → rewritten (λ x. b) n (rewritten (λ x. a) n known) ≡ rewritten (λ x. b) n known
 rewritten_twice known n k a b e =
     rewritten-found (λ x. b) n (rewritten (λ x. a) n known) a (numbered-here (λ x. a) n known k e)
     ∙ ap (λ (l : List Known). slice_set l (n - 1) b) (rewritten-found (λ x. a) n known k e)
     ∙ set-set known (n - 1) a b
     ∙ sym (rewritten-found (λ x. b) n known k e)
 
-idle_settled : (known : List Known) (n : ℕ) (k done : Known) → IsIdle known → numbered n known ≡ Some k → is_given done ≡ false → IsIdle (rewritten (λ x. done) n (rewritten (λ x. Given) n known))
+idle_settled : (known : List Known) (n : ℕ) (k done : Known) → IsIdle known → numbered n known ≡ Some k → is_given done ≡ false
+    → IsIdle (rewritten (λ x. done) n (rewritten (λ x. Given) n known))
 idle_settled known n k done idle e d =
     subst IsIdle (sym (rewritten_twice known n k Given done e)) (λ m z f. by m z (numbered_cases (λ x. done) n m known k z e f))
   where
@@ -62,16 +67,19 @@ idle_settled known n k done idle e d =
     by m z (inr g) = idle m z g
 
 -- each candidate of an uplink's job is on a gateway that heard it
-copies_heard : (ids : List ℕ) (l : List Gathering) (n : ℕ) (o : Option Gathering) → numbered n l ≡ o → AreHeard ids l → (copy : HeardCopy) → Contains (option_map_or (λ g. g.copies) o []) copy
+copies_heard : (ids : List ℕ) (l : List Gathering) (n : ℕ) (o : Option Gathering) → numbered n l ≡ o → AreHeard ids l
+    → (copy : HeardCopy) → Contains (option_map_or (λ g. g.copies) o []) copy
     → IsTrue (is_among ids copy.gateway)
 copies_heard ids l n None e h copy k = absurd (omega (arith, k.1))
 copies_heard ids l n (Some g) e h copy k = h n g copy e k
 
-job_here : (ids : List ℕ) (reg : Register) (n : ℕ) (asked : Asked) (device : Device) → AreHeard ids reg.gathered.list → AreHere ids (job_of reg n asked device)
+job_here : (ids : List ℕ) (reg : Register) (n : ℕ) (asked : Asked) (device : Device) → AreHeard ids reg.gathered.list
+    → AreHere ids (job_of reg n asked device)
 job_here ids reg n asked device h k c e =
     let job : Job = job_of reg n asked device in
     let copies : List HeardCopy = copies_of n reg.gathered.list in
-    let x = IsWindowOf-ranked job.plan copies c (all_get (IsWindowOf job.plan job.copies) (candidates_of job.copies job.plan) k c (on_gateways_that_heard job.plan job.copies) e) in
+    let x = IsWindowOf-ranked job.plan copies c (all_get (IsWindowOf job.plan job.copies) (candidates_of job.copies job.plan) k c
+    (on_gateways_that_heard job.plan job.copies) e) in
     ap (is_among ids) x.gateway ∙ copies_heard ids reg.gathered.list n (numbered n reg.gathered.list) refl h x.copy x.heard
 
 module _ {A : Type 0} (place n : ℕ) (old mid : Seen A) (noted : mid ≡ with_step (made.Take n) old) (ready : IsReady old) where
@@ -79,7 +87,8 @@ module _ {A : Type 0} (place n : ℕ) (old mid : Seen A) (noted : mid ≡ with_s
   mid_desk = ap (λ (s : Seen A). s.desk) noted
 
   -- a ticket was given
-  module _ (t : Standing) (d : DeskView) (given : take_answer mid.desk.reg mid.desk.known n ≡ Ok t.job) (stepped : d ≡ desk_take mid.desk n) where
+  module _ (t : Standing) (d : DeskView) (given : take_answer mid.desk.reg mid.desk.known n ≡ Ok t.job)
+      (stepped : d ≡ desk_take mid.desk n) where
     abbrev out : Seen A
     out = record mid { desk = d }
 
@@ -98,7 +107,8 @@ module _ {A : Type 0} (place n : ℕ) (old mid : Seen A) (noted : mid ≡ with_s
         let heard : AreHeard mid.desk.ids mid.desk.reg.gathered.list = subst P (sym mid_desk) ready.heard in
         let ids : mid.desk.ids ≡ d.ids = ap (λ (x : DeskView). x.ids) mid_desk ∙ sym (ap (λ (x : DeskView). x.ids) d_is) in
         let Q : List ℕ → Type 0 = λ l. AreHere l t.job in
-        subst Q ids (subst (AreHere mid.desk.ids) taken.made (job_here mid.desk.ids mid.desk.reg n taken.asked taken.device heard))
+        subst Q ids (subst (AreHere mid.desk.ids) taken.made
+        (job_here mid.desk.ids mid.desk.reg n taken.asked taken.device heard))
 
     pub taken_books : ids_of mid.books ≡ d.ids
     taken_books = ap (λ (s : Seen A). ids_of s.books) noted ∙ ready.books ∙ sym (ap (λ (x : DeskView). x.ids) d_is)
@@ -108,7 +118,8 @@ module _ {A : Type 0} (place n : ℕ) (old mid : Seen A) (noted : mid ≡ with_s
 
     pub taken_given : IsGivenTo d.known t.job.number
     taken_given =
-        ap (λ (x : DeskView). numbered t.job.number x.known) d_is ∙ ap (λ (i : ℕ). numbered i (rewritten (λ x. Given) n old.desk.known)) number
+        ap (λ (x : DeskView). numbered t.job.number x.known) d_is
+        ∙ ap (λ (i : ℕ). numbered i (rewritten (λ x. Given) n old.desk.known)) number
         ∙ numbered-here (λ x. Given) n old.desk.known taken.state stated
 
     module _ (new : Seen A) (a : IsAnswered place t.job out new) where
@@ -127,7 +138,8 @@ module _ {A : Type 0} (place n : ℕ) (old mid : Seen A) (noted : mid ≡ with_s
           let P : List ℕ → Gatherings → Type 0 = λ l s. AreHeard l s.list in
           record {
             books = a.books ∙ ap (λ (s : Seen A). ids_of s.books) noted ∙ ready.books ∙ sym ids;
-            heard = subst (P new.desk.ids) (sym answer_gathered) (subst (λ (l : List ℕ). P l old.desk.reg.gathered) (sym ids) ready.heard);
+            heard = subst (P new.desk.ids) (sym answer_gathered)
+                (subst (λ (l : List ℕ). P l old.desk.reg.gathered) (sym ids) ready.heard);
             idle = subst (λ (x : DeskView). IsIdle x.known) (sym new_desk)
                 (idle_settled old.desk.known n taken.state (Done (sent_of a.ending)) ready.idle stated refl);
           }
@@ -144,12 +156,14 @@ module _ {A : Type 0} (place n : ℕ) (old mid : Seen A) (noted : mid ≡ with_s
         at_out =
             record {
               desk = stepped ∙ ap (λ (x : DeskView). desk_take x n) (mid_desk ∙ at.desk) ∙ sym (desk_calls_are_steps.take w n);
-              gateways = ap (λ (s : Seen A). map gateway_of s.books) noted ∙ at.gateways ∙ sym (ap (λ (x : After). x.0.gateways) is_taken);
+              gateways = ap (λ (s : Seen A). map gateway_of s.books) noted ∙ at.gateways
+                  ∙ sym (ap (λ (x : After). x.0.gateways) is_taken);
             }
 
         stands : numbered t.job.number v.answers ≡ Some (Open 0 t.job)
         stands =
-            let k : numbered n (map known_of w.answers) ≡ Some taken.state = ap (λ (x : DeskView). numbered n x.known) (sym at.desk) ∙ stated in
+            let k : numbered n (map known_of w.answers) ≡ Some taken.state =
+            ap (λ (x : DeskView). numbered n x.known) (sym at.desk) ∙ stated in
             ap (λ (i : ℕ). numbered i v.answers) number ∙ ap (λ (x : After). numbered n x.0.answers) is_taken
             ∙ numbered-here (λ (x : Answer). Open 0 t.job) n w.answers Waiting (still_waits w.answers n taken.state k taken.waits)
 
@@ -157,22 +171,27 @@ module _ {A : Type 0} (place n : ℕ) (old mid : Seen A) (noted : mid ≡ with_s
         rest = given_steps v n (step w (Take n)).1
 
         rest_is : given_steps v t.job.number (replies.Given (Ok t.job)) ≡ rest
-        rest_is = ap (λ (i : ℕ). given_steps v i (replies.Given (Ok t.job))) number ∙ ap (λ (x : After). given_steps v n x.1) (sym is_taken)
+        rest_is = ap (λ (i : ℕ). given_steps v i (replies.Given (Ok t.job))) number
+            ∙ ap (λ (x : After). given_steps v n x.1) (sym is_taken)
 
         answer_goes : Goes w (answer_steps w n) (map (entry_at place) (step_lines w (answer_steps w n))) old new
         answer_goes =
             let first = one_step place w (Take n) (made.Take n) [] old out refl at_out (ap (λ (s : Seen A). s.steps) noted)
-            (ap (λ (s : Seen A). s.outcomes) noted ∙ sym (append-nil old.outcomes)) (ap (λ (x : After). lines_for w (Take n) x.1) is_taken) in
+            (ap (λ (s : Seen A). s.outcomes) noted ∙ sym (append-nil old.outcomes))
+            (ap (λ (x : After). lines_for w (Take n) x.1) is_taken) in
             let second : Goes v rest (map (entry_at place) (step_lines v rest)) out new =
-            subst (λ (ss : List Step). Goes v ss (map (entry_at place) (step_lines v ss)) out new) rest_is (a.goes v at_out stands) in
+            subst (λ (ss : List Step). Goes v ss (map (entry_at place) (step_lines v ss)) out new) rest_is
+            (a.goes v at_out stands) in
             goes_on_lines place w (Take n ∷ []) rest old out new first
-            (subst (λ (u : World). Goes u rest (map (entry_at place) (step_lines u rest)) out new) (sym (reached_one w (Take n))) second)
+            (subst (λ (u : World). Goes u rest (map (entry_at place) (step_lines u rest)) out new)
+            (sym (reached_one w (Take n))) second)
 
       pub answer_made : Makes place (λ w. answer_steps w n) old new
       answer_made w at = answer_goes w at
 
   -- none was given
-  module _ (fault : TakeFault) (d : DeskView) (line : Line A) (new : Seen A) (refused : take_answer mid.desk.reg mid.desk.known n ≡ Err fault) (same : d ≡ mid.desk)
+  module _ (fault : TakeFault) (d : DeskView) (line : Line A) (new : Seen A)
+      (refused : take_answer mid.desk.reg mid.desk.known n ≡ Err fault) (same : d ≡ mid.desk)
       (said : line ≡ not_taken n fault) (told : new ≡ with_lines place (line ∷ []) (record mid { desk = d })) where
     new_same : new.desk ≡ old.desk
     new_same = ap (λ (s : Seen A). s.desk) told ∙ same ∙ mid_desk
@@ -188,14 +207,16 @@ module _ {A : Type 0} (place n : ℕ) (old mid : Seen A) (noted : mid ≡ with_s
         (subst (λ (u : World). IsAt u new) (sym (ap (λ (x : After). x.0) is))
         (record {
           desk = new_same ∙ at.desk;
-          gateways = ap (λ (s : Seen A). map gateway_of s.books) told ∙ ap (λ (s : Seen A). map gateway_of s.books) noted ∙ at.gateways;
+          gateways = ap (λ (s : Seen A). map gateway_of s.books) told ∙ ap (λ (s : Seen A). map gateway_of s.books) noted
+              ∙ at.gateways;
         }))
         (ap (λ (s : Seen A). s.steps) told ∙ ap (λ (s : Seen A). s.steps) noted)
         (ap (λ (s : Seen A). s.outcomes) told ∙ ap (λ (s : Seen A). s.outcomes ++ map (entry_at place) (line ∷ [])) noted)
         (ap (λ (x : After). lines_for w (Take n) x.1) is ∙ ap (λ (l : Line A). l ∷ []) (sym said)))
 
 -- a refusal that is no want of memory is the answer
-pub refused_is : {X Y E : Type 0} (q : Result X E) (r : Result Y E) (fault none : E) → r ≡ Err fault → MatchResult q (λ _. IsOkUnless r none) (λ f. r ≡ Err f) → fault ≢ none → q ≡ Err fault
+pub refused_is : {X Y E : Type 0} (q : Result X E) (r : Result Y E) (fault none : E) → r ≡ Err fault
+    → MatchResult q (λ _. IsOkUnless r none) (λ f. r ≡ Err f) → fault ≢ none → q ≡ Err fault
 refused_is (Err f) r fault none e m n = cc
 refused_is (Ok x) (Err f) fault none e m n = absurd (n (cc))
 refused_is (Ok x) (Ok y) fault none e m n = absurd (cc (e))

@@ -1,5 +1,6 @@
 -- The calls of the desk are the world's steps on its part.
-use Rattle.std.specs.Prelude.{ℕ, ◌≡◌, ◌+◌, ◌==◌, Bool, true, false, ◌&&◌, if◌then◌else◌, List, [], ◌∷◌, map, slice_set, Option, Some, None, Result, Ok, Err, refl}
+use Rattle.std.specs.Prelude.{ℕ, ◌≡◌, ◌+◌, ◌==◌, Bool, true, false, ◌&&◌, if◌then◌else◌, List, [], ◌∷◌, map, slice_set, Option}
+use Rattle.std.specs.Prelude.{Some, None, Result, Ok, Err, refl}
 use Rattle.std.specs.Option.{option_map, option_map_or, option_and_then}
 use Rattle.std.proofs.Common.{sym, ap, ◌∙◌}
 use Rattle.std.proofs.lemmas.List.{map-append}
@@ -21,7 +22,8 @@ use Rattle.server_desk.specs.Airtime.{known_airtime, answer_airtime, answered_at
 use Rattle.server_desk.specs.Settling.{sent_of, after_settling, is_here, may_settle}
 use Rattle.server_desk.specs.Taking.{take_answer, after_taking}
 use Rattle.server_desk.specs.World.{World, Gateway, ids, known, gateway_with}
-use Rattle.server_core.specs.Steps.{step, ending_of, answers_after, refused, try_of, try_candidate, try_on, tried_by, cancel_of, cancel_sent, cancel_at, tick_at, take_by, settle_of, settle_as, sent_for, sent_by, terms}
+use Rattle.server_core.specs.Steps.{step, ending_of, answers_after, refused, try_of, try_candidate, try_on, tried_by, cancel_of}
+use Rattle.server_core.specs.Steps.{cancel_sent, cancel_at, tick_at, take_by, settle_of, settle_as, sent_for, sent_by, terms}
 use Rattle.server_core.specs.Steps as replies
 use Rattle.server_desk.specs.Desk.{desk_of, desk_taken, desk_settled, known_after}
 use Rattle.server_core.specs.DeskCalls.{DeskCallsAreSteps, told}
@@ -33,7 +35,8 @@ use Rattle.server_desk.specs.Numbers.{numbered-map, map-rewritten, same_rewritte
 same_known : (w v : World) → w.reg ≡ v.reg → ids w ≡ ids v → known w ≡ known v → desk_of w ≡ desk_of v
 same_known w v r i k = cc
 
-hear_known : (d : Decision) (answers : List Answer) → map known_of (answers_after d answers) ≡ known_after d (map known_of answers)
+hear_known : (d : Decision) (answers : List Answer) → map known_of (answers_after d answers)
+    ≡ known_after d (map known_of answers)
 hear_known (Refuse fault) answers = refl
 hear_known (Join n) answers = refl
 hear_known (hearing.Open o) answers = map-append known_of answers (Waiting ∷ [])
@@ -41,20 +44,23 @@ hear_known (hearing.Open o) answers = map-append known_of answers (Waiting ∷ [
 take_desk : (w : World) (n : ℕ) (r : Result Job TakeFault) → desk_of (take_by w n r).0 ≡ desk_taken r n (desk_of w)
 take_desk w n (Err fault) = refl
 take_desk w n (Ok job) =
-    ap (λ (l : List Known). record { ids = ids w; reg = after_taking (Ok job) n w.reg; known = l }) (map-rewritten known_of (λ a. Open 0 job) (λ k. Given) (λ x. refl) n w.answers)
+    ap (λ (l : List Known). record { ids = ids w; reg = after_taking (Ok job) n w.reg; known = l })
+    (map-rewritten known_of (λ a. Open 0 job) (λ k. Given) (λ x. refl) n w.answers)
 
 take_told : (w : World) (n : ℕ) (r : Result Job TakeFault) → (take_by w n r).1 ≡ replies.Given r
 take_told w n (Err fault) = refl
 take_told w n (Ok job) = refl
 
-pub settle_desk : (w : World) (n : ℕ) (o : Option Answer) (ending : Ending) → option_and_then ending_of o ≡ Some ending → desk_of (settle_of w n o).0 ≡ desk_settled ending n (desk_of w)
+pub settle_desk : (w : World) (n : ℕ) (o : Option Answer) (ending : Ending) → option_and_then ending_of o ≡ Some ending
+    → desk_of (settle_of w n o).0 ≡ desk_settled ending n (desk_of w)
 settle_desk w n None ending e = absurd (cc)
 settle_desk w n (Some answer) ending e =
     ap (λ (x : Option Ending). desk_of (settle_as w n x).0) e
     ∙ ap (λ (l : List Known). record { ids = ids w; reg = after_settling ending n w.reg; known = l })
     (map-rewritten known_of (λ a. Settled (sent_of ending)) (λ k. Done (sent_of ending)) (λ x. refl) n w.answers)
 
-settle_nothing : (w : World) (n : ℕ) (o : Option Answer) → option_and_then ending_of o ≡ None → desk_of (settle_of w n o).0 ≡ desk_of w
+settle_nothing : (w : World) (n : ℕ) (o : Option Answer) → option_and_then ending_of o ≡ None
+    → desk_of (settle_of w n o).0 ≡ desk_of w
 settle_nothing w n None e = refl
 settle_nothing w n (Some answer) e = ap (λ (x : Option Ending). desk_of (settle_as w n x).0) e
 
@@ -81,16 +87,19 @@ in_known (Booked sent window carried) e = absurd (cc)
 in_known (Out refusal) e = absurd (cc)
 in_known (Settled sent) e = refl
 
-given_by : (o : Option Answer) (ending : Ending) → option_and_then ending_of o ≡ Some ending → option_map_or is_given (option_map known_of o) false ≡ true
+given_by : (o : Option Answer) (ending : Ending) → option_and_then ending_of o ≡ Some ending
+    → option_map_or is_given (option_map known_of o) false ≡ true
 given_by None ending e = absurd (cc)
 given_by (Some answer) ending e = out_known answer ending e
 
-not_given_by : (o : Option Answer) → option_and_then ending_of o ≡ None → option_map_or is_given (option_map known_of o) false ≡ false
+not_given_by : (o : Option Answer) → option_and_then ending_of o ≡ None
+    → option_map_or is_given (option_map known_of o) false ≡ false
 not_given_by None e = refl
 not_given_by (Some answer) e = in_known answer e
 
 -- what is out and on a gateway of the settings may be settled
-may : (w : World) (n : ℕ) (ending : Ending) → told w n ≡ Some ending → is_here (ids w) ending ≡ true → may_settle (ids w) (known w) n ending ≡ true
+may : (w : World) (n : ℕ) (ending : Ending) → told w n ≡ Some ending → is_here (ids w) ending ≡ true
+    → may_settle (ids w) (known w) n ending ≡ true
 may w n ending e h = rw (numbered-map known_of n w.answers, given_by (numbered n w.answers) ending e) h
 
 may_not : (w : World) (n : ℕ) (ending : Ending) → told w n ≡ None → may_settle (ids w) (known w) n ending ≡ false
@@ -100,13 +109,15 @@ may_not w n ending e = rw (numbered-map known_of n w.answers, not_given_by (numb
 same_ids : (w : World) (id : ℕ) (found : ℕ × Gateway) (s : State) → gateway_with id w.gateways ≡ Some found
     → map (λ g. g.id) (slice_set w.gateways found.0 (record found.1 { state = s })) ≡ map (λ g. g.id) w.gateways
 same_ids w id found s e =
-    map_set (λ g. g.id) w.gateways found.0 found.1 (record found.1 { state = s }) (found_there (λ g. g.id == id) w.gateways found e).0 refl
+    map_set (λ g. g.id) w.gateways found.0 found.1 (record found.1 { state = s })
+    (found_there (λ g. g.id == id) w.gateways found e).0 refl
 
 refused_known : (k : ℕ) (job : Job) (refusal : Refusal) (o : Option Candidate) → known_of (refused k job refusal o) ≡ Given
 refused_known k job refusal None = refl
 refused_known k job refusal (Some c) = refl
 
-try_desk_by : (w : World) (n k : ℕ) (job : Job) (c : Candidate) (found : ℕ × Gateway) (o : Option Refusal) → numbered n w.answers ≡ Some (Open k job) → gateway_with c.gateway w.gateways ≡ Some found
+try_desk_by : (w : World) (n k : ℕ) (job : Job) (c : Candidate) (found : ℕ × Gateway) (o : Option Refusal)
+    → numbered n w.answers ≡ Some (Open k job) → gateway_with c.gateway w.gateways ≡ Some found
     → desk_of (tried_by w n k job c found o).0 ≡ desk_of w
 try_desk_by w n k job c found (Some refusal) e g =
     let answer : Answer = refused k job refusal (candidate_at job (k + 1)) in
@@ -117,13 +128,15 @@ try_desk_by w n k job c found None e g =
     (same_ids w c.gateway found (book_step found.1.rules found.1.state (ask_for job c)) g)
     (same_rewritten known_of (λ a. Booked (sent_by job c) c.window c.carries) n w.answers (Open k job) e refl)
 
-try_on_desk : (w : World) (n k : ℕ) (job : Job) (c : Candidate) (o : Option (ℕ × Gateway)) → numbered n w.answers ≡ Some (Open k job) → gateway_with c.gateway w.gateways ≡ o
+try_on_desk : (w : World) (n k : ℕ) (job : Job) (c : Candidate) (o : Option (ℕ × Gateway))
+    → numbered n w.answers ≡ Some (Open k job) → gateway_with c.gateway w.gateways ≡ o
     → desk_of (try_on w n k job c o).0 ≡ desk_of w
 try_on_desk w n k job c None e g = refl
 try_on_desk w n k job c (Some found) e g =
     try_desk_by w n k job c found (refusal_of (terms found.1) found.1.state.list (ask_for job c)) e g
 
-try_candidate_desk : (w : World) (n k : ℕ) (job : Job) (o : Option Candidate) → numbered n w.answers ≡ Some (Open k job) → desk_of (try_candidate w n k job o).0 ≡ desk_of w
+try_candidate_desk : (w : World) (n k : ℕ) (job : Job) (o : Option Candidate) → numbered n w.answers ≡ Some (Open k job)
+    → desk_of (try_candidate w n k job o).0 ≡ desk_of w
 try_candidate_desk w n k job None e = refl
 try_candidate_desk w n k job (Some c) e = try_on_desk w n k job c (gateway_with c.gateway w.gateways) e refl
 
@@ -135,10 +148,12 @@ try_desk w n (Some (Booked sent window carried)) e = refl
 try_desk w n (Some (Out refusal)) e = refl
 try_desk w n (Some (Settled sent)) e = refl
 
-cancel_at_desk : (w : World) (n : ℕ) (sent : Sent) (o : Option (ℕ × Gateway)) → gateway_with sent.gateway w.gateways ≡ o → desk_of (cancel_at w n sent o).0 ≡ desk_of w
+cancel_at_desk : (w : World) (n : ℕ) (sent : Sent) (o : Option (ℕ × Gateway)) → gateway_with sent.gateway w.gateways ≡ o
+    → desk_of (cancel_at w n sent o).0 ≡ desk_of w
 cancel_at_desk w n sent None g = refl
 cancel_at_desk w n sent (Some found) g =
-    same_known (cancel_at w n sent (Some found)).0 w refl (same_ids w sent.gateway found (cancel_step found.1.state n sent.start) g) refl
+    same_known (cancel_at w n sent (Some found)).0 w refl (same_ids w sent.gateway found
+    (cancel_step found.1.state n sent.start) g) refl
 
 cancel_sent_desk : (w : World) (n : ℕ) (o : Option Sent) → desk_of (cancel_sent w n o).0 ≡ desk_of w
 cancel_sent_desk w n None = refl
@@ -148,7 +163,8 @@ cancel_desk : (w : World) (n : ℕ) (o : Option Answer) → desk_of (cancel_of w
 cancel_desk w n None = refl
 cancel_desk w n (Some answer) = cancel_sent_desk w n (sent_for answer)
 
-tick_desk : (w : World) (id now : ℕ) (o : Option (ℕ × Gateway)) → gateway_with id w.gateways ≡ o → desk_of (tick_at w now o).0 ≡ desk_of w
+tick_desk : (w : World) (id now : ℕ) (o : Option (ℕ × Gateway)) → gateway_with id w.gateways ≡ o
+    → desk_of (tick_at w now o).0 ≡ desk_of w
 tick_desk w id now None g = refl
 tick_desk w id now (Some found) g =
     same_known (tick_at w now (Some found)).0 w refl (same_ids w id found (tick_step found.1.state now) g) refl
@@ -172,7 +188,8 @@ desk_calls_are_steps =
     record {
       queue = λ w addr payload. refl;
       hear = λ w bytes heard arrived.
-          ap (λ (l : List Known). record { ids = ids w; reg = register_after (ids w) w.reg bytes heard arrived; known = l }) (hear_known (decide (ids w) w.reg bytes heard arrived) w.answers);
+          ap (λ (l : List Known). record { ids = ids w; reg = register_after (ids w) w.reg bytes heard arrived; known = l })
+          (hear_known (decide (ids w) w.reg bytes heard arrived) w.answers);
       pass = λ w now. refl;
       take = λ w n. take_desk w n (take_answer w.reg (known w) n);
       settle = λ w n ending e h.

@@ -1,10 +1,13 @@
 -- Time passes for a gateway, a transmission is cancelled, a candidate is tried: what holds of the world holds then.
-use Rattle.std.specs.Prelude.{ℕ, ◌≡◌, ◌==◌, Option, Some, None, refl, nat_le, Bool, true, false, not, if◌then◌else◌, List, find, slice_get, Result, Ok, Err, ◌+◌, ◌⊎◌}
-use Rattle.gateway_book.specs.Step.{tick_step, is_named, found_or, cancel_answer, without_named, after_cancel, State, is_fit-IsFit, book_step}
+use Rattle.std.specs.Prelude.{ℕ, ◌≡◌, ◌==◌, Option, Some, None, refl, nat_le, Bool, true, false, not, if◌then◌else◌, List, find}
+use Rattle.std.specs.Prelude.{slice_get, Result, Ok, Err, ◌+◌, ◌⊎◌}
+use Rattle.gateway_book.specs.Step.{tick_step, is_named, found_or, cancel_answer, without_named, after_cancel, State}
+use Rattle.gateway_book.specs.Step.{is_fit-IsFit, book_step}
 use Rattle.answer_ticket.specs.Job.{Job, candidate_at, ask_for}
 use Rattle.server_desk.specs.Settings.{SettingLists}
 use Rattle.server_desk.specs.World.{Gateway, World, gateway_with}
-use Rattle.server_core.specs.Steps.{tick_at, tick, sent_for, cancel_at, cancel_sent, cancel_of, cancel, terms, sent_by, refused, tried_by, try_on, try_candidate, try_of, try}
+use Rattle.server_core.specs.Steps.{tick_at, tick, sent_for, cancel_at, cancel_sent, cancel_of, cancel, terms, sent_by, refused}
+use Rattle.server_core.specs.Steps.{tried_by, try_on, try_candidate, try_of, try}
 use Rattle.server_desk.specs.Found.{found_there}
 use Rattle.server_core.proofs.Holds.{IsInOrder, Holds, IsGoodStep, unchanged, AllStand, IsGood, IsJobFor, Stands, both_good}
 use Rattle.server_core.proofs.Written.{gateway_written, with_gateway, with_answer, answer_written}
@@ -55,8 +58,10 @@ module _ (settings : SettingLists) (T : Job → Type 0) (w : World) (h : Holds s
 -- A transmission is cancelled.
 
 -- the member that was found is the only one at its start
-module _ (number start : ℕ) (l : List Reservation) (r : Reservation) (o : IsByStart l) (f : find (is_named number start) l ≡ Some r) where
-  named_by : (m : Reservation) (t : Bool) → is_named number start m ≡ t → member_from start l ≡ Some m → without start l ≡ without_named l number start
+module _ (number start : ℕ) (l : List Reservation) (r : Reservation) (o : IsByStart l)
+    (f : find (is_named number start) l ≡ Some r) where
+  named_by : (m : Reservation) (t : Bool) → is_named number start m ≡ t → member_from start l ≡ Some m
+      → without start l ≡ without_named l number start
   named_by m true e i = sym (named_found number start l m true e o i).1
   named_by m false e i = absurd (cc (f, (named_found number start l m false e o i).0))
 
@@ -76,11 +81,17 @@ was_found (Some s) false r e = cc
 abbrev cancelled : Gateway → Result Reservation CancelFault → ℕ → ℕ → Gateway
 cancelled g r number start = record g { state = after_cancel r g.state number start }
 
-cancelled_in_order : (g : Gateway) (number start : ℕ) (r : Reservation) → IsInOrder g → find (is_named number start) g.state.list ≡ Some r → IsInOrder (cancelled g (Ok r) number start)
+cancelled_in_order : (g : Gateway) (number start : ℕ) (r : Reservation) → IsInOrder g
+    → find (is_named number start) g.state.list ≡ Some r → IsInOrder (cancelled g (Ok r) number start)
 cancelled_in_order g number start r o f =
     record {
       orderly = orderly_filter (λ m. not (is_named number start m)) g.state.list o.orderly;
-      balanced = omega (arith, net_named g.state.list number start r o.orderly.by_start f (same_without number start g.state.list r o.orderly.by_start f), o.balanced);
+      balanced = omega (
+        arith,
+        net_named g.state.list number start r o.orderly.by_start f
+            (same_without number start g.state.list r o.orderly.by_start f),
+        o.balanced,
+      );
     }
 
 module _ (settings : SettingLists) (T : Job → Type 0) (w : World) (h : Holds settings T w) (n : ℕ) where
@@ -98,11 +109,16 @@ module _ (settings : SettingLists) (T : Job → Type 0) (w : World) (h : Holds s
         gateway_written settings T w h i g (cancelled g (Ok r) n start) there refl
         (cancelled_in_order g n start r (h.in_order i g there) found) (cancelled_stand r)
 
-  at_by : (sent : Sent) (o : Option (ℕ × Gateway)) → gateway_with sent.gateway w.gateways ≡ o → IsGoodStep settings T w (cancel_at w n sent o)
+  at_by : (sent : Sent) (o : Option (ℕ × Gateway)) → gateway_with sent.gateway w.gateways ≡ o
+      → IsGoodStep settings T w (cancel_at w n sent o)
   at_by sent None e = record { good = unchanged w h; used = tt }
   at_by sent (Some found) e =
       let there = found_there (λ (g : Gateway). g.id == sent.gateway) w.gateways found e in
-      record { good = cancelled_by found.0 found.1 there.0 sent.start (cancel_answer found.1.state.floor found.1.state.list n sent.start) refl; used = tt }
+      record {
+        good = cancelled_by found.0 found.1 there.0 sent.start
+            (cancel_answer found.1.state.floor found.1.state.list n sent.start) refl;
+        used = tt;
+      }
 
   found_by : (o : Option Sent) → IsGoodStep settings T w (cancel_sent w n o)
   found_by None = record { good = unchanged w h; used = tt }
@@ -121,7 +137,8 @@ module _ (settings : SettingLists) (T : Job → Type 0) (w : World) (h : Holds s
 pub record IsBooking (g : Gateway) (ask : Ask) : Type 0 where
   pub made : Reservation
   pub asked : IsAsked ask made
-  pub state : book_step g.rules g.state ask ≡ record (g.state) { list = place made g.state.list; booked = g.state.booked + airtime_us made }
+  pub state : book_step g.rules g.state ask ≡ record (g.state)
+      { list = place made g.state.list; booked = g.state.booked + airtime_us made }
 
 module _ (g : Gateway) (ask : Ask) (e : refusal_of (terms g) g.state.list ask ≡ None) where
   pub booking : IsBooking g ask
@@ -150,15 +167,19 @@ module _ (g : Gateway) (ask : Ask) (e : refusal_of (terms g) g.state.list ask �
 
 -- A gateway is asked for the candidate at which an answer stands.
 
-module _ (settings : SettingLists) (T : Job → Type 0) (w : World) (h : Holds settings T w) (n k : ℕ) (job : Job) (at_job : numbered n w.answers ≡ Some (Open k job)) where
+module _ (settings : SettingLists) (T : Job → Type 0) (w : World) (h : Holds settings T w) (n k : ℕ) (job : Job)
+    (at_job : numbered n w.answers ≡ Some (Open k job)) where
   -- a refused answer goes on to the next candidate of its job
-  next_by : (refusal : Refusal) (o : Option Candidate) → IsGood settings T w (with_answer settings T w h n (refused k job refusal o))
-  next_by refusal None = answer_written settings T w h n (Open k job) (Out refusal) at_job (λ s q. absurd (cc (q))) refl (λ i j q. absurd (cc (q)))
+  next_by : (refusal : Refusal) (o : Option Candidate) → IsGood settings T w
+      (with_answer settings T w h n (refused k job refusal o))
+  next_by refusal None = answer_written settings T w h n (Open k job) (Out refusal) at_job (λ s q. absurd (cc (q))) refl
+      (λ i j q. absurd (cc (q)))
   next_by refusal (Some c) =
       answer_written settings T w h n (Open k job) (Open (k + 1) job) at_job (λ s q. absurd (cc (q))) refl
       (λ i j q. let same : job ≡ j = cc (q) in subst (IsJobFor settings T w.reg.gathered.list n) same (h.jobs n k job at_job))
 
-  module _ (c : Candidate) (at : candidate_at job k ≡ Some c) (i : ℕ) (g : Gateway) (there : slice_get w.gateways i ≡ Some g) (here : g.id ≡ c.gateway) where
+  module _ (c : Candidate) (at : candidate_at job k ≡ Some c) (i : ℕ) (g : Gateway) (there : slice_get w.gateways i ≡ Some g)
+      (here : g.id ≡ c.gateway) where
     abbrev new : Answer
     new = Booked (sent_by job c) c.window c.carries
 
@@ -177,7 +198,8 @@ module _ (settings : SettingLists) (T : Job → Type 0) (w : World) (h : Holds s
             sent = sent_by job c;
             kept = record {
               answer = new;
-              answered = subst (λ m. numbered m asked.answers ≡ Some new) number (numbered-here (λ a. new) n w.answers (Open k job) at_job);
+              answered = subst (λ m. numbered m asked.answers ≡ Some new) number
+                  (numbered-here (λ a. new) n w.answers (Open k job) at_job);
               kept = refl;
             };
             start = sym b.asked.start;
@@ -191,23 +213,27 @@ module _ (settings : SettingLists) (T : Job → Type 0) (w : World) (h : Holds s
             taken = record { start = b.asked.start; freq_hz = b.asked.freq_hz; rate = b.asked.rate; len = b.asked.len };
           }
 
-      member_by : (r : Reservation) → (r ≡ b.made) ⊎ IsIn g.state.list r → Stands settings T w.reg.gathered.list asked.answers g.id r
+      member_by : (r : Reservation) → (r ≡ b.made) ⊎ IsIn g.state.list r
+          → Stands settings T w.reg.gathered.list asked.answers g.id r
       member_by r (inl e) = subst (Stands settings T w.reg.gathered.list asked.answers g.id) (sym e) made_stands
       member_by r (inr e) = first.holds.stands i g there e.0 r e.1
 
-      booked_stand : AllStand settings T w.reg.gathered.list asked.answers (record g { state = book_step g.rules g.state (ask_for job c) })
+      booked_stand : AllStand settings T w.reg.gathered.list asked.answers
+          (record g { state = book_step g.rules g.state (ask_for job c) })
       booked_stand =
           let P : State → Type 0 = λ s. AllStand settings T w.reg.gathered.list asked.answers (record g { state = s }) in
           subst P (sym b.state) (λ m r e. member_by r (place_member start_of b.made g.state.list m r e))
 
-    tried_good : (o : Option Refusal) → refusal_of (terms g) g.state.list (ask_for job c) ≡ o → IsGoodStep settings T w (tried_by w n k job c (i, g) o)
+    tried_good : (o : Option Refusal) → refusal_of (terms g) g.state.list (ask_for job c) ≡ o
+        → IsGoodStep settings T w (tried_by w n k job c (i, g) o)
     tried_good (Some refusal) e = record { good = next_by refusal (candidate_at job (k + 1)); used = tt }
     tried_good None e =
         let b = booking g (ask_for job c) e in
         let v : Gateway = record g { state = book_step g.rules g.state (ask_for job c) } in
         record {
           good = both_good first
-              (gateway_written settings T asked first.holds i g v there refl (booked_in_order g (ask_for job c) e (h.in_order i g there) b) (booked_stand b));
+              (gateway_written settings T asked first.holds i g v there refl
+              (booked_in_order g (ask_for job c) e (h.in_order i g there) b) (booked_stand b));
           used = tt;
         }
 

@@ -34,11 +34,13 @@ pub lines_one : {A : Type 0} (w : World) (s : Step) → step_lines {A = A} w (s 
 unfolding step_lines
 lines_one w s = append-nil (lines_for w s (step w s).1)
 
-pub lines_next : {A : Type 0} (w : World) (s : Step) (ss : List Step) → step_lines {A = A} w (s ∷ ss) ≡ lines_for w s (step w s).1 ++ step_lines (step w s).0 ss
+pub lines_next : {A : Type 0} (w : World) (s : Step) (ss : List Step)
+    → step_lines {A = A} w (s ∷ ss) ≡ lines_for w s (step w s).1 ++ step_lines (step w s).0 ss
 unfolding step_lines
 lines_next w s ss = refl
 
-pub lines_append : {A : Type 0} (w : World) (ss ts : List Step) → step_lines {A = A} w (ss ++ ts) ≡ step_lines w ss ++ step_lines (reached w ss) ts
+pub lines_append : {A : Type 0} (w : World) (ss ts : List Step)
+    → step_lines {A = A} w (ss ++ ts) ≡ step_lines w ss ++ step_lines (reached w ss) ts
 unfolding run_from step_lines
 lines_append w [] ts = refl
 lines_append {A} w (s ∷ ss) ts =
@@ -53,7 +55,8 @@ on_ok (Ok x) f p = f p
 on_ok (Err e) f p = tt
 
 -- some steps, and then some more
-pub goes_on : {A : Type 0} (w : World) (ss ts : List Step) (ls ms : List (Entry A)) (old mid new : Seen A) → Goes w ss ls old mid → Goes (reached w ss) ts ms mid new
+pub goes_on : {A : Type 0} (w : World) (ss ts : List Step) (ls ms : List (Entry A)) (old mid new : Seen A) → Goes w ss ls old mid
+    → Goes (reached w ss) ts ms mid new
     → Goes w (ss ++ ts) (ls ++ ms) old new
 goes_on {A} w ss ts ls ms old mid new a b =
     record {
@@ -64,11 +67,14 @@ goes_on {A} w ss ts ls ms old mid new a b =
 
 -- and the lines for both
 pub goes_on_lines : {A : Type 0} (place : ℕ) (w : World) (ss ts : List Step) (old mid new : Seen A)
-    → Goes w ss (map (entry_at place) (step_lines w ss)) old mid → Goes (reached w ss) ts (map (entry_at place) (step_lines (reached w ss) ts)) mid new
+    → Goes w ss (map (entry_at place) (step_lines w ss)) old mid
+    → Goes (reached w ss) ts (map (entry_at place) (step_lines (reached w ss) ts)) mid new
     → Goes w (ss ++ ts) (map (entry_at place) (step_lines w (ss ++ ts))) old new
 goes_on_lines {A} place w ss ts old mid new a b =
-    let same : map (entry_at place) (step_lines w ss) ++ map (entry_at place) (step_lines (reached w ss) ts) ≡ map (entry_at place) (step_lines w (ss ++ ts)) =
-    sym (ap (map (entry_at {A = A} place)) (lines_append w ss ts) ∙ map-append (entry_at place) (step_lines w ss) (step_lines (reached w ss) ts)) in
+    let same : map (entry_at place) (step_lines w ss) ++ map (entry_at place) (step_lines (reached w ss) ts)
+    ≡ map (entry_at place) (step_lines w (ss ++ ts)) =
+    sym (ap (map (entry_at {A = A} place)) (lines_append w ss ts)
+    ∙ map-append (entry_at place) (step_lines w ss) (step_lines (reached w ss) ts)) in
     subst (λ l. Goes w (ss ++ ts) l old new) same (goes_on w ss ts _ _ old mid new a b)
 
 -- one step that was noted, and its lines
@@ -79,6 +85,7 @@ pub one_step : {A : Type 0} (place : ℕ) (w : World) (s : Step) (made : Made A)
 one_step {A} place w s made lines old new f at t o l =
     record {
       at = subst (λ v. IsAt v new) (sym (reached_one w s)) at;
-      steps = ap (map step_of) t ∙ map-append step_of old.steps (made ∷ []) ∙ ap (λ (x : Step). map step_of old.steps ++ x ∷ []) f;
+      steps = ap (map step_of) t ∙ map-append step_of old.steps (made ∷ [])
+          ∙ ap (λ (x : Step). map step_of old.steps ++ x ∷ []) f;
       outcomes = o ∙ ap (λ (ls : List (Line A)). old.outcomes ++ map (entry_at place) ls) (sym (lines_one w s ∙ l));
     }

@@ -46,7 +46,8 @@ pub record IsKept (answers : List Answer) (n : ℕ) (sent : Sent) : Type 0 where
   pub kept : sent_for answer ≡ Some sent
 
 -- a reservation on the gateway with this id stands for the candidate of its uplink's job that was booked
-pub record Stands (settings : SettingLists) (T : Job → Type 0) (l : List Gathering) (answers : List Answer) (id : ℕ) (r : Reservation) : Type 0 where
+pub record Stands (settings : SettingLists) (T : Job → Type 0) (l : List Gathering) (answers : List Answer) (id : ℕ)
+    (r : Reservation) : Type 0 where
   pub sent : Sent
   pub kept : IsKept answers r.number sent
   pub start : sent.start ≡ r.start
@@ -66,7 +67,8 @@ pub record IsInOrder (g : Gateway) : Type 0 where
 
 -- each reservation of the gateway stands for its uplink's answer
 abbrev pub AllStand : SettingLists → (Job → Type 0) → List Gathering → List Answer → Gateway → Type 0
-AllStand settings T l answers g = (k : ℕ) (r : Reservation) → slice_get g.state.list k ≡ Some r → Stands settings T l answers g.id r
+AllStand settings T l answers g = (k : ℕ) (r : Reservation) → slice_get g.state.list k ≡ Some r
+    → Stands settings T l answers g.id r
 
 pub record Holds (settings : SettingLists) (T : Job → Type 0) (w : World) : Type 0 where
   pub gateways : map setting_of w.gateways ≡ settings.gateways
@@ -147,7 +149,8 @@ pub Follows-refl : (w : World) → Follows w w
 Follows-refl w =
     record { given = λ n h. h; devices = λ p d e. record { device = d; there = e; addr = refl; counter = omega arith } }
 
-pub both_good : {settings : SettingLists} {T : Job → Type 0} {u v w : World} → IsGood settings T u v → IsGood settings T v w → IsGood settings T u w
+pub both_good : {settings : SettingLists} {T : Job → Type 0} {u v w : World} → IsGood settings T u v → IsGood settings T v w
+    → IsGood settings T u w
 both_good {settings} {T} {u} {v} {w} a b = record { holds = b.holds; follows = Follows-trans u v w a.follows b.follows }
 
 pub unchanged : {settings : SettingLists} {T : Job → Type 0} (w : World) → Holds settings T w → IsGood settings T w w
@@ -157,9 +160,18 @@ unchanged w h = record { holds = h; follows = Follows-refl w }
 module _ (settings : SettingLists) (T U : Job → Type 0) (more : (job : Job) → T job → U job) where
   job_weaker : (l : List Gathering) (n : ℕ) (job : Job) → IsJobFor settings T l n job → IsJobFor settings U l n job
   job_weaker l n job j =
-      record { number = j.number; given = more job j.given; place = j.place; uplink = j.uplink; addr = j.addr; plan = j.plan; windows = j.windows }
+      record {
+        number = j.number;
+        given = more job j.given;
+        place = j.place;
+        uplink = j.uplink;
+        addr = j.addr;
+        plan = j.plan;
+        windows = j.windows;
+      }
 
-  stand_weaker : (l : List Gathering) (answers : List Answer) (id : ℕ) (r : Reservation) → Stands settings T l answers id r → Stands settings U l answers id r
+  stand_weaker : (l : List Gathering) (answers : List Answer) (id : ℕ) (r : Reservation) → Stands settings T l answers id r
+      → Stands settings U l answers id r
   stand_weaker l answers id r s =
       record {
         sent = s.sent;

@@ -1,5 +1,6 @@
 -- A payload is queued, a copy is heard, time passes for the gatherings, an answer is settled: what holds of the world holds then.
-use Rattle.std.specs.Prelude.{ℕ, ◌≡◌, ◌==◌, Option, Some, None, Result, Ok, Err, refl, Bool, true, false, if◌then◌else◌, ◌+◌, List, [], ◌∷◌, ◌++◌, length, Contains, slice_get}
+use Rattle.std.specs.Prelude.{ℕ, ◌≡◌, ◌==◌, Option, Some, None, Result, Ok, Err, refl, Bool, true, false, if◌then◌else◌, ◌+◌}
+use Rattle.std.specs.Prelude.{List, [], ◌∷◌, ◌++◌, length, Contains, slice_get}
 use Rattle.std.proofs.Common.{arith, sym, ap, ◌∙◌, subst}
 use Rattle.answer_ticket.specs.Job.{Job, Payload}
 use Rattle.server_desk.specs.declared.faults.QueueFault.{QueueFault}
@@ -59,7 +60,12 @@ module _ (settings : SettingLists) (T : Job → Type 0) (w : World) (h : Holds s
 
   closed_by : (n : ℕ) (t : Bool)
       → IsGood settings T w
-      (record w { reg = record (w.reg) { gathered = if t then record (w.reg.gathered) { list = rewritten closed n w.reg.gathered.list } else w.reg.gathered } })
+      (record w {
+        reg = record (w.reg) {
+          gathered = if t then record (w.reg.gathered)
+              { list = rewritten closed n w.reg.gathered.list } else w.reg.gathered;
+        };
+      })
   closed_by n true =
       gathered_grown settings T w h (rewritten closed n w.reg.gathered.list) (sym (length-rewritten closed n w.reg.gathered.list))
       (Grow-rewritten closed (λ g. (refl, λ c k. k)) n w.reg.gathered.list)
@@ -75,23 +81,29 @@ module _ (settings : SettingLists) (T : Job → Type 0) (w : World) (h : Holds s
 -- A copy of an uplink is heard.
 
 -- what the gatherings are then
-joined : (s : Gatherings) (bytes : List ℕ) (copy : HeardCopy) (arrived n : ℕ) → place_of s bytes copy.gateway arrived ≡ Ok (Joins n)
+joined : (s : Gatherings) (bytes : List ℕ) (copy : HeardCopy) (arrived n : ℕ)
+    → place_of s bytes copy.gateway arrived ≡ Ok (Joins n)
     → record s { list = rewritten (with_copy copy) n s.list } ≡ hear_step s bytes copy arrived
-joined s bytes copy arrived n p = sym (ap (λ (r : Result Place HearFault). gathers.after_hearing (answer_at s r) s bytes copy arrived) p)
+joined s bytes copy arrived n p = sym (ap (λ (r : Result Place HearFault). gathers.after_hearing
+    (answer_at s r) s bytes copy arrived) p)
 
-opened : (s : Gatherings) (bytes : List ℕ) (copy : HeardCopy) (arrived : ℕ) → place_of s bytes copy.gateway arrived ≡ Ok Opens → is_crowded s ≡ false
+opened : (s : Gatherings) (bytes : List ℕ) (copy : HeardCopy) (arrived : ℕ) → place_of s bytes copy.gateway arrived ≡ Ok Opens
+    → is_crowded s ≡ false
     → record s { list = s.list ++ gathers.opening bytes copy arrived ∷ [] } ≡ hear_step s bytes copy arrived
 opened s bytes copy arrived p c =
     sym
     (ap (λ (r : Result Place HearFault). gathers.after_hearing (answer_at s r) s bytes copy arrived) p
-    ∙ ap (λ (t : Bool). gathers.after_hearing (if t then Err Crowded else Ok (Opened (length s.list + 1))) s bytes copy arrived) c)
+    ∙ ap (λ (t : Bool). gathers.after_hearing (if t then Err Crowded else Ok (Opened (length s.list + 1))) s bytes copy arrived)
+    c)
 
 -- a gathering with one copy more
 more_copies : (copy : HeardCopy) (g : Gathering) (c : HeardCopy) → Contains g.copies c → Contains (g.copies ++ copy ∷ []) c
 more_copies copy g c k = Contains-append_left g.copies (copy ∷ []) c k
 
-module _ (settings : SettingLists) (T : Job → Type 0) (w : World) (h : Holds settings T w) (bytes : List ℕ) (heard : Heard1) (arrived : ℕ) where
-  joined_good : (n : ℕ) → place_of w.reg.gathered bytes heard.gateway arrived ≡ Ok (Joins n) → IsGood settings T w (hear_by w bytes heard arrived (Join n)).0
+module _ (settings : SettingLists) (T : Job → Type 0) (w : World) (h : Holds settings T w) (bytes : List ℕ) (heard : Heard1)
+    (arrived : ℕ) where
+  joined_good : (n : ℕ) → place_of w.reg.gathered bytes heard.gateway arrived ≡ Ok (Joins n)
+      → IsGood settings T w (hear_by w bytes heard arrived (Join n)).0
   joined_good n p =
       let copy = copy_of heard in
       let l = rewritten (with_copy copy) n w.reg.gathered.list in
@@ -100,7 +112,8 @@ module _ (settings : SettingLists) (T : Job → Type 0) (w : World) (h : Holds s
       (gathered_grown settings T w h l (sym (length-rewritten (with_copy copy) n w.reg.gathered.list))
       (Grow-rewritten (with_copy copy) (λ g. (refl, more_copies copy g)) n w.reg.gathered.list))
 
-  opened_good : (o : Opening) → IsDecided w.reg bytes heard.gateway arrived (hearing.Open o) → IsGood settings T w (hear_by w bytes heard arrived (hearing.Open o)).0
+  opened_good : (o : Opening) → IsDecided w.reg bytes heard.gateway arrived (hearing.Open o)
+      → IsGood settings T w (hear_by w bytes heard arrived (hearing.Open o)).0
   opened_good o d =
       let copy = copy_of heard in
       let g : Gathering = gathers.opening bytes copy arrived in
@@ -122,15 +135,20 @@ module _ (settings : SettingLists) (T : Job → Type 0) (w : World) (h : Holds s
         reg = record { devices = v.reg.devices; gathered = s; asked = w.reg.asked ++ asked_by o bytes ∷ [] };
         answers = w.answers ++ Waiting ∷ [];
       }) in
-      subst P (opened w.reg.gathered bytes copy arrived d.0 d.1) (both_good first (uplink_gathered settings T v first.holds g (asked_by o bytes) own))
+      subst P (opened w.reg.gathered bytes copy arrived d.0 d.1)
+      (both_good first (uplink_gathered settings T v first.holds g (asked_by o bytes) own))
 
-  heard_good : (d : Decision) → IsDecided w.reg bytes heard.gateway arrived d → IsGood settings T w (hear_by w bytes heard arrived d).0
+  heard_good : (d : Decision) → IsDecided w.reg bytes heard.gateway arrived d
+      → IsGood settings T w (hear_by w bytes heard arrived d).0
   heard_good (Refuse fault) d = unchanged w h
   heard_good (Join n) d = joined_good n d
   heard_good (hearing.Open o) d = opened_good o d
 
   pub hear_good : IsGoodStep settings T w (hear w bytes heard arrived)
-  hear_good = record { good = heard_good (decide (ids w) w.reg bytes heard arrived) (decided (ids w) w.reg bytes heard arrived); used = tt }
+  hear_good = record {
+    good = heard_good (decide (ids w) w.reg bytes heard arrived) (decided (ids w) w.reg bytes heard arrived);
+    used = tt;
+  }
 
 -- An answer is settled.
 
@@ -158,7 +176,11 @@ module _ (settings : SettingLists) (T : Job → Type 0) (w : World) (h : Holds s
       let v = with_reg (after_settling ending n w.reg) in
       let first : IsGood settings T w v = carried_by (has_carried ending) in
       let new : Answer = Settled (sent_of ending) in
-      record { good = both_good first (answer_written settings T v first.holds n answer new e s refl (λ k job q. absurd (cc (q)))); used = tt }
+      record {
+        good = both_good first (answer_written settings T v first.holds n answer new e s refl
+            (λ k job q. absurd (cc (q))));
+        used = tt;
+      }
 
   ended_by : (answer : Answer) → numbered n w.answers ≡ Some answer → IsGoodStep settings T w (settle_of w n (Some answer))
   ended_by Waiting e = record { good = unchanged w h; used = tt }

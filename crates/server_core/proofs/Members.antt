@@ -1,5 +1,6 @@
 -- Members of lists that are filtered, sorted by a key, or of which no two share a key.
-use Rattle.std.specs.Prelude.{ℕ, zero, suc, ◌≡◌, ◌≢◌, ◌⊎◌, ◌+◌, ◌≤◌, nat_lt, Bool, true, false, cond, List, [], ◌∷◌, AllPairs, filter, slice_get, Some, refl}
+use Rattle.std.specs.Prelude.{ℕ, zero, suc, ◌≡◌, ◌≢◌, ◌⊎◌, ◌+◌, ◌≤◌, nat_lt, Bool, true, false, cond, List, [], ◌∷◌, AllPairs}
+use Rattle.std.specs.Prelude.{filter, slice_get, Some, refl}
 use Rattle.std.proofs.Common.{inl, inr, sym, ap, ◌∙◌, arith}
 use Rattle.resv_list.specs.Sorted.{RisesFrom, place_by}
 use Rattle.rx_windows.specs.RankLaws.{AllPairs-head, AllPairs-tail}
@@ -13,7 +14,8 @@ module _ {X : Type 0} where
   later : (y x : X) (ys : List X) → IsIn ys x → IsIn (y ∷ ys) x
   later y x ys h = (suc h.0, h.1)
 
-  filter_by : (test : X → Bool) (y : X) (ys : List X) (t : Bool) (k : ℕ) (x : X) → ((m : ℕ) → slice_get (filter test ys) m ≡ Some x → IsIn ys x)
+  filter_by : (test : X → Bool) (y : X) (ys : List X) (t : Bool) (k : ℕ) (x : X)
+      → ((m : ℕ) → slice_get (filter test ys) m ≡ Some x → IsIn ys x)
       → slice_get (cond t (y ∷ filter test ys) (filter test ys)) k ≡ Some x → IsIn (y ∷ ys) x
   filter_by test y ys true zero x rest e = (zero, e)
   filter_by test y ys true (suc k) x rest e = later y x ys (rest k e)
@@ -29,7 +31,8 @@ module _ {X : Type 0} (key : X → ℕ) where
   after x y z ys (inl h) = inl h
   after x y z ys (inr h) = inr (later y z ys h)
 
-  place_cases : (x y : X) (ys : List X) (t : Bool) (k : ℕ) (z : X) → ((m : ℕ) → slice_get (place_by key x ys) m ≡ Some z → (z ≡ x) ⊎ IsIn ys z)
+  place_cases : (x y : X) (ys : List X) (t : Bool) (k : ℕ) (z : X)
+      → ((m : ℕ) → slice_get (place_by key x ys) m ≡ Some z → (z ≡ x) ⊎ IsIn ys z)
       → slice_get (cond t (y ∷ place_by key x ys) (x ∷ y ∷ ys)) k ≡ Some z → (z ≡ x) ⊎ IsIn (y ∷ ys) z
   place_cases x y ys true zero z rest e = inr (zero, e)
   place_cases x y ys true (suc k) z rest e = after x y z ys (rest k e)
@@ -47,7 +50,8 @@ module _ {X : Type 0} (key : X → ℕ) where
   rises_above low (y ∷ ys) zero x r e = let same = ap key (some_inj e) in omega (arith, r.0)
   rises_above low (y ∷ ys) (suc k) x r e = omega (arith, r.0, rises_above (key y + 1) ys k x r.1 e)
 
-  pub rises_once : (low : ℕ) (xs : List X) (i j : ℕ) (a b : X) → RisesFrom key low xs → slice_get xs i ≡ Some a → slice_get xs j ≡ Some b → key a ≡ key b → i ≡ j
+  pub rises_once : (low : ℕ) (xs : List X) (i j : ℕ) (a b : X) → RisesFrom key low xs → slice_get xs i ≡ Some a
+      → slice_get xs j ≡ Some b → key a ≡ key b → i ≡ j
   rises_once low [] i j a b r e f q = absurd (cc)
   rises_once low (x ∷ xs) zero zero a b r e f q = refl
   rises_once low (x ∷ xs) zero (suc j) a b r e f q =
@@ -62,7 +66,8 @@ module _ {X : Type 0} (key : X → ℕ) where
   abbrev Differ : X → X → Type 0
   Differ a b = key a ≢ key b
 
-  pub apart_once : (xs : List X) (i j : ℕ) (a b : X) → AllPairs (λ x y. key x ≢ key y) xs → slice_get xs i ≡ Some a → slice_get xs j ≡ Some b → key a ≡ key b → i ≡ j
+  pub apart_once : (xs : List X) (i j : ℕ) (a b : X) → AllPairs (λ x y. key x ≢ key y) xs → slice_get xs i ≡ Some a
+      → slice_get xs j ≡ Some b → key a ≡ key b → i ≡ j
   apart_once [] i j a b r e f q = absurd (cc)
   apart_once (x ∷ xs) zero zero a b r e f q = refl
   apart_once (x ∷ xs) zero (suc j) a b r e f q =

@@ -1,5 +1,6 @@
 -- Time passes for the gatherings: all that are due are closed and answered.
-use Rattle.std.specs.Prelude.{ℕ, suc, ◌≡◌, ◌+◌, nat_lt, Bool, true, false, ◌&&◌, if◌then◌else◌, List, [], ◌∷◌, slice_get, slice_set, Option, Some, None, refl, ◌<◌, ◌++◌, map, length}
+use Rattle.std.specs.Prelude.{ℕ, suc, ◌≡◌, ◌+◌, nat_lt, Bool, true, false, ◌&&◌, if◌then◌else◌, List, [], ◌∷◌, slice_get}
+use Rattle.std.specs.Prelude.{slice_set, Option, Some, None, refl, ◌<◌, ◌++◌, map, length}
 use Rattle.std.specs.List.{position_from}
 use Rattle.std.specs.Option.{option_map_or}
 use Rattle.std.proofs.Common.{ap, sym, ◌∙◌, arith, subst, append-nil}
@@ -40,7 +41,8 @@ module _ (now : ℕ) where
       open_by false t e = absurd (cc (e))
 
   first_by : (k : ℕ) (g : Gathering) (gs : List Gathering) (m : ℕ) (t : Bool) → is_due now g ≡ t
-      → (if t then Some k else position_from (is_due now) (k + 1) gs) ≡ Some m → (position_from (is_due now) (k + 1) gs ≡ Some m → IsFirst (k + 1) gs m)
+      → (if t then Some k else position_from (is_due now) (k + 1) gs) ≡ Some m
+      → (position_from (is_due now) (k + 1) gs ≡ Some m → IsFirst (k + 1) gs m)
       → IsFirst k (g ∷ gs) m
   first_by k g gs m true e p rest =
       record {
@@ -49,7 +51,8 @@ module _ (now : ℕ) where
         number = sym (some_inj p) ∙ omega arith;
         there = refl;
         is_open = was_open g e;
-        rest = ap (λ (t : Bool). if t then k ∷ due_from (k + 1) now gs else due_from (k + 1) now gs) e ∙ ap (λ (i : ℕ). i ∷ due_from (k + 1) now gs) (some_inj p);
+        rest = ap (λ (t : Bool). if t then k ∷ due_from (k + 1) now gs else due_from (k + 1) now gs) e
+            ∙ ap (λ (i : ℕ). i ∷ due_from (k + 1) now gs) (some_inj p);
       }
   first_by k g gs m false e p rest =
       let r = rest p in
@@ -62,14 +65,16 @@ module _ (now : ℕ) where
         rest = ap (λ (t : Bool). if t then k ∷ due_from (k + 1) now gs else due_from (k + 1) now gs) e
             ∙ r.rest
             ∙ ap (λ (l : List ℕ). m ∷ l)
-            (sym (ap (λ (t : Bool). if t then k ∷ due_from (k + 1) now (slice_set gs r.place (closed r.gathering)) else due_from (k + 1) now (slice_set gs r.place (closed r.gathering))) e));
+            (sym (ap (λ (t : Bool). if t then k ∷ due_from (k + 1) now (slice_set gs r.place (closed r.gathering)) else due_from
+            (k + 1) now (slice_set gs r.place (closed r.gathering))) e));
       }
 
   first_due : (k : ℕ) (l : List Gathering) (m : ℕ) → position_from (is_due now) k l ≡ Some m → IsFirst k l m
   first_due k [] m e = absurd (cc (e))
   first_due k (g ∷ gs) m e = first_by k g gs m (is_due now g) refl e (first_due (k + 1) gs m)
 
-  none_by : (k : ℕ) (g : Gathering) (gs : List Gathering) (t : Bool) → is_due now g ≡ t → (if t then Some k else position_from (is_due now) (k + 1) gs) ≡ None
+  none_by : (k : ℕ) (g : Gathering) (gs : List Gathering) (t : Bool) → is_due now g ≡ t
+      → (if t then Some k else position_from (is_due now) (k + 1) gs) ≡ None
       → (position_from (is_due now) (k + 1) gs ≡ None → due_from (k + 1) now gs ≡ []) → due_from k now (g ∷ gs) ≡ []
   none_by k g gs true e p rest = absurd (cc (p))
   none_by k g gs false e p rest =
@@ -83,20 +88,25 @@ module _ (now : ℕ) where
   unfolding due_of
   due_none l e = none_due 1 l e
 
-  closed_at : (s : Gatherings) (i : ℕ) (g : Gathering) → slice_get s.list i ≡ Some g → is_open g ≡ true → (close_step s (suc i)).list ≡ slice_set s.list i (closed g)
+  closed_at : (s : Gatherings) (i : ℕ) (g : Gathering) → slice_get s.list i ≡ Some g → is_open g ≡ true
+      → (close_step s (suc i)).list ≡ slice_set s.list i (closed g)
   closed_at s i g e o =
-      ap (λ (t : Bool). (if t then record s { list = rewritten closed (suc i) s.list } else s).list) (ap (λ (x : Option Gathering). option_map_or is_open x false) e ∙ o)
+      ap (λ (t : Bool). (if t then record s { list = rewritten closed (suc i) s.list } else s).list)
+      (ap (λ (x : Option Gathering). option_map_or is_open x false) e ∙ o)
       ∙ rewritten-found closed (suc i) s.list g e
       ∙ ap (λ (j : ℕ). slice_set s.list j (closed g)) (omega arith)
 
-  closed_first : (s : Gatherings) (n : ℕ) → IsFirst 1 s.list n → due_numbers now s.list ≡ n ∷ due_numbers now (close_step s n).list
+  closed_first : (s : Gatherings) (n : ℕ) → IsFirst 1 s.list n
+      → due_numbers now s.list ≡ n ∷ due_numbers now (close_step s n).list
   closed_first s n f =
       let number : n ≡ suc f.place = omega (arith, f.number) in
-      let after : (close_step s n).list ≡ slice_set s.list f.place (closed f.gathering) = ap (λ (m : ℕ). (close_step s m).list) number ∙ closed_at s f.place f.gathering f.there f.is_open in
+      let after : (close_step s n).list ≡ slice_set s.list f.place (closed f.gathering) =
+      ap (λ (m : ℕ). (close_step s m).list) number ∙ closed_at s f.place f.gathering f.there f.is_open in
       f.rest ∙ ap (λ (l : List Gathering). n ∷ due_numbers now l) (sym after)
 
   -- the least number that is due, and those that are due when it is closed
-  pub due_some : (s : Gatherings) (n : ℕ) → due_of now s.list ≡ Some n → due_numbers now s.list ≡ n ∷ due_numbers now (close_step s n).list
+  pub due_some : (s : Gatherings) (n : ℕ) → due_of now s.list ≡ Some n
+      → due_numbers now s.list ≡ n ∷ due_numbers now (close_step s n).list
   unfolding due_of
   due_some s n e = closed_first s n (first_due 1 s.list n e)
 
@@ -109,7 +119,8 @@ due_now now d = due_numbers now d.reg.gathered.list
 pub record IsPassing {A : Type 0} (place now : ℕ) (w : World) (old s : Seen A) : Type 0 where
   pub world : World
   pub at : IsAt world s
-  pub back : (new : Seen A) → Goes world (pass_whole world now) (map (entry_at place) (step_lines world (pass_whole world now))) s new
+  pub back : (new : Seen A) → Goes world (pass_whole world now)
+      (map (entry_at place) (step_lines world (pass_whole world now))) s new
       → Goes w (pass_whole w now) (map (entry_at place) (step_lines w (pass_whole w now))) old new
 
 pub record ArePassing {A : Type 0} (place now : ℕ) (old s : Seen A) : Type 0 where
@@ -120,7 +131,8 @@ pub passing_first : {A : Type 0} (place now : ℕ) (s : Seen A) → IsReady s �
 passing_first place now s r = record { ready = r; passing = λ w at. record { world = w; at = at; back = λ new g. g } }
 
 -- time passes at the desk, once
-pass_goes : {A : Type 0} (place now : ℕ) (s new : Seen A) (d : DeskView) → d ≡ desk_pass s.desk now → new ≡ with_step (made.Pass now) (record s { desk = d }) → (w : World) → IsAt w s
+pass_goes : {A : Type 0} (place now : ℕ) (s new : Seen A) (d : DeskView) → d ≡ desk_pass s.desk now
+    → new ≡ with_step (made.Pass now) (record s { desk = d }) → (w : World) → IsAt w s
     → Goes w (Pass now ∷ []) (map (entry_at place) (step_lines w (Pass now ∷ []))) s new
 unfolding step
 pass_goes place now s new d stepped noted w at =
@@ -132,7 +144,8 @@ pass_goes place now s new d stepped noted w at =
     (ap (λ (x : Seen _). x.steps) noted) (ap (λ (x : Seen _). x.outcomes) noted ∙ sym (append-nil s.outcomes)) refl
 
 -- the next that is due is closed
-module _ {A : Type 0} (place now n : ℕ) (old s mid : Seen A) (d : DeskView) (closed : Some n ≡ pass_answer s.desk.reg now) (stepped : d ≡ desk_pass s.desk now)
+module _ {A : Type 0} (place now n : ℕ) (old s mid : Seen A) (d : DeskView) (closed : Some n ≡ pass_answer s.desk.reg now)
+    (stepped : d ≡ desk_pass s.desk now)
     (noted : mid ≡ with_step (made.Pass now) (record s { desk = d })) where
   d_is : d ≡ record (s.desk) { reg = closing (Some n) s.desk.reg }
   d_is = stepped ∙ ap (λ (o : Option ℕ). record (s.desk) { reg = closing o s.desk.reg }) (sym closed)
@@ -156,11 +169,13 @@ module _ {A : Type 0} (place now n : ℕ) (old s mid : Seen A) (d : DeskView) (c
       }
 
   -- and answered
-  module _ (next : Seen A) (ready : IsReady next) (same : next.desk.reg.gathered ≡ mid.desk.reg.gathered) (answers : Makes place (λ w. answer_steps w n) mid next) where
+  module _ (next : Seen A) (ready : IsReady next) (same : next.desk.reg.gathered ≡ mid.desk.reg.gathered)
+      (answers : Makes place (λ w. answer_steps w n) mid next) where
     -- fewer are due
     pub fewer_due : length (due_now now next.desk) < length (due_now now s.desk)
     fewer_due =
-        let same_due : length (due_now now next.desk) ≡ length (due_now now mid.desk) = ap (λ (x : Gatherings). length (due_numbers now x.list)) same in
+        let same_due : length (due_now now next.desk) ≡ length (due_now now mid.desk) =
+        ap (λ (x : Gatherings). length (due_numbers now x.list)) same in
         let one_more : length (due_now now s.desk) ≡ length (n ∷ due_now now mid.desk) = ap length due_is in
         omega (arith, same_due, one_more)
 
@@ -174,7 +189,8 @@ module _ {A : Type 0} (place now n : ℕ) (old s mid : Seen A) (d : DeskView) (c
       closing_goes : Goes w (closing_steps w now n) (map (entry_at place) (step_lines w (closing_steps w now n))) s next
       closing_goes =
           goes_on_lines place w (Pass now ∷ []) (answer_steps v n) s mid next (pass_goes place now s mid d stepped noted w at)
-          (subst (λ (u : World). Goes u (answer_steps v n) (map (entry_at place) (step_lines u (answer_steps v n))) mid next) (sym (reached_one w (Pass now))) (answers v mid_at))
+          (subst (λ (u : World). Goes u (answer_steps v n) (map (entry_at place) (step_lines u (answer_steps v n))) mid next)
+          (sym (reached_one w (Pass now))) (answers v mid_at))
 
       after : World
       after = reached w (closing_steps w now n)
@@ -199,12 +215,14 @@ module _ {A : Type 0} (place now n : ℕ) (old s mid : Seen A) (d : DeskView) (c
                 back = λ new g.
                     q.back new
                     (subst (λ (ss : List Step). Goes u ss (map (entry_at place) (step_lines u ss)) s new) (sym (whole_is u q.at))
-                    (goes_on_lines place u (closing_steps u now n) (pass_whole (reached u (closing_steps u now n)) now) s next new (closing_goes u q.at) g));
+                    (goes_on_lines place u (closing_steps u now n) (pass_whole (reached u (closing_steps u now n)) now) s next new
+                    (closing_goes u q.at) g));
               };
         }
 
 -- nothing more is due
-module _ {A : Type 0} (place now : ℕ) (old s new : Seen A) (d : DeskView) (none : None ≡ pass_answer s.desk.reg now) (stepped : d ≡ desk_pass s.desk now)
+module _ {A : Type 0} (place now : ℕ) (old s new : Seen A) (d : DeskView) (none : None ≡ pass_answer s.desk.reg now)
+    (stepped : d ≡ desk_pass s.desk now)
     (noted : new ≡ with_step (made.Pass now) (record s { desk = d })) where
   same_desk : d ≡ s.desk
   same_desk = stepped ∙ ap (λ (o : Option ℕ). record (s.desk) { reg = closing o s.desk.reg }) (sym none)
@@ -214,14 +232,17 @@ module _ {A : Type 0} (place now : ℕ) (old s new : Seen A) (d : DeskView) (non
 
   pub passed_ready : IsReady s → IsReady new
   passed_ready r =
-      ready_same s new r (ap (λ (x : Seen A). ids_of x.books) noted) (ap (λ (x : DeskView). x.ids) new_desk) (ap (λ (x : DeskView). x.reg.gathered) new_desk)
+      ready_same s new r (ap (λ (x : Seen A). ids_of x.books) noted) (ap (λ (x : DeskView). x.ids) new_desk)
+      (ap (λ (x : DeskView). x.reg.gathered) new_desk)
       (ap (λ (x : DeskView). x.known) new_desk)
 
   last_is : (w : World) → IsAt w s → pass_whole w now ≡ Pass now ∷ []
   unfolding pass_steps
-  last_is w at = ap (λ (x : DeskView). pass_steps w now (due_now now x)) (sym at.desk) ∙ ap (pass_steps w now) (due_none now s.desk.reg.gathered.list (sym none))
+  last_is w at = ap (λ (x : DeskView). pass_steps w now (due_now now x)) (sym at.desk)
+      ∙ ap (pass_steps w now) (due_none now s.desk.reg.gathered.list (sym none))
 
   pub passed_made : ArePassing place now old s → Makes place (λ w. pass_whole w now) old new
   passed_made p w at =
       let q = p.passing w at in
-      q.back new (subst (λ (ss : List Step). Goes q.world ss (map (entry_at place) (step_lines q.world ss)) s new) (sym (last_is q.world q.at)) (pass_goes place now s new d stepped noted q.world q.at))
+      q.back new (subst (λ (ss : List Step). Goes q.world ss (map (entry_at place) (step_lines q.world ss)) s new)
+      (sym (last_is q.world q.at)) (pass_goes place now s new d stepped noted q.world q.at))

@@ -1,5 +1,6 @@
 -- What a server on one thread keeps at every event.
-use Rattle.std.specs.Prelude.{ℕ, ◌≡◌, ◌⊎◌, ◌+◌, Bool, true, false, not, if◌then◌else◌, List, [], ◌∷◌, ◌++◌, length, Contains, IsTrue, ⊤, Option, Some, None, Result, Ok, Err, refl}
+use Rattle.std.specs.Prelude.{ℕ, ◌≡◌, ◌⊎◌, ◌+◌, Bool, true, false, not, if◌then◌else◌, List, [], ◌∷◌, ◌++◌, length, Contains}
+use Rattle.std.specs.Prelude.{IsTrue, ⊤, Option, Some, None, Result, Ok, Err, refl}
 use Rattle.std.proofs.Common.{inl, inr, ap, sym, ◌∙◌, subst, arith}
 use Rattle.std.proofs.lemmas.List.Elements.{Contains-push_cases}
 use Rattle.lora_frame.specs.declared.reading.Uplink.{Uplink}
@@ -15,7 +16,8 @@ use Rattle.server_desk.specs.declared.heard.Heard1.{Heard1}
 use Rattle.server_desk.specs.declared.faults.DeskFault.{DeskFault}
 use Rattle.server_desk.specs.declared.faults.DeskFault.TheVariants.{UnknownGateway}
 use Rattle.server_desk.specs.Register.{Register}
-use Rattle.server_desk.specs.Hearing.{Decision, Refuse, Join, Open, copy_of, copy_fault, decide, decide_place, decide_copy, decide_frame, register_after}
+use Rattle.server_desk.specs.Hearing.{Decision, Refuse, Join, Open, copy_of, copy_fault, decide, decide_place, decide_copy}
+use Rattle.server_desk.specs.Hearing.{decide_frame, register_after}
 use Rattle.server_desk.specs.Hearing as hearing
 use Rattle.server_desk.specs.declared.answers.Known.{Known}
 use Rattle.server_desk.specs.declared.answers.Known.TheVariants.{NotGiven}
@@ -25,12 +27,14 @@ use Rattle.server_core.specs.Server.{Seen, IsIdle, AreHeard, IsReady, is_among, 
 use Rattle.server_desk.specs.Numbers.{numbered-append_cases, numbered_cases, rewritten-none}
 
 -- it is ready still where its gateways, what was gathered and what is known of answers are the same
-pub ready_same : {A : Type 0} (s t : Seen A) → IsReady s → ids_of t.books ≡ ids_of s.books → t.desk.ids ≡ s.desk.ids → t.desk.reg.gathered ≡ s.desk.reg.gathered
+pub ready_same : {A : Type 0} (s t : Seen A) → IsReady s → ids_of t.books ≡ ids_of s.books → t.desk.ids ≡ s.desk.ids
+    → t.desk.reg.gathered ≡ s.desk.reg.gathered
     → t.desk.known ≡ s.desk.known → IsReady t
 ready_same s t r b i g k =
     record {
       books = b ∙ r.books ∙ sym i;
-      heard = subst (λ (x : Gatherings). AreHeard t.desk.ids x.list) (sym g) (subst (λ (l : List ℕ). AreHeard l s.desk.reg.gathered.list) (sym i) r.heard);
+      heard = subst (λ (x : Gatherings). AreHeard t.desk.ids x.list) (sym g)
+          (subst (λ (l : List ℕ). AreHeard l s.desk.reg.gathered.list) (sym i) r.heard);
       idle = subst IsIdle (sym k) r.idle;
     }
 
@@ -64,7 +68,8 @@ module _ (ids : List ℕ) (l : List Gathering) (h : AreHeard ids l) where
     rewritten_by None e = subst (AreHeard ids) (sym (rewritten-none f n l e)) h
     rewritten_by (Some x) e = λ m z c q k. by m z c k (numbered_cases f n m l x z e q)
       where
-        by : (m : ℕ) (z : Gathering) (c : HeardCopy) → Contains z.copies c → ((n ≡ m) × (z ≡ f x)) ⊎ (numbered m l ≡ Some z) → IsTrue (is_among ids c.gateway)
+        by : (m : ℕ) (z : Gathering) (c : HeardCopy) → Contains z.copies c → ((n ≡ m) × (z ≡ f x)) ⊎ (numbered m l ≡ Some z)
+            → IsTrue (is_among ids c.gateway)
         by m z c k (inl p) = keeps x e c (subst (λ (y : Gathering). Contains y.copies c) p.1 k)
         by m z c k (inr p) = h m z c p k
 
@@ -72,7 +77,8 @@ module _ (ids : List ℕ) (l : List Gathering) (h : AreHeard ids l) where
     heard_rewritten = rewritten_by (numbered n l) refl
 
   -- a gathering is closed
-  closed_by : (s : Gatherings) (n : ℕ) (t : Bool) → s.list ≡ l → AreHeard ids (if t then record s { list = rewritten (λ g. record g { closed = true }) n s.list } else s).list
+  closed_by : (s : Gatherings) (n : ℕ) (t : Bool) → s.list ≡ l
+      → AreHeard ids (if t then record s { list = rewritten (λ g. record g { closed = true }) n s.list } else s).list
   closed_by s n true e =
       subst (λ m. AreHeard ids (rewritten (λ g. record g { closed = true }) n m)) (sym e)
       (heard_rewritten (λ g. record g { closed = true }) n (λ x q c k. h n x c q k))
@@ -82,14 +88,17 @@ pub heard_closed : (ids : List ℕ) (s : Gatherings) (n : ℕ) → AreHeard ids 
 heard_closed ids s n h = closed_by ids s.list h s n (is_open_at n s.list) refl
 
 -- a copy that a gateway here heard
-one_heard : (ids : List ℕ) (copy c : HeardCopy) → IsTrue (is_among ids copy.gateway) → (⊥ ⊎ (copy ≡ c)) → IsTrue (is_among ids c.gateway)
+one_heard : (ids : List ℕ) (copy c : HeardCopy) → IsTrue (is_among ids copy.gateway) → (⊥ ⊎ (copy ≡ c))
+    → IsTrue (is_among ids c.gateway)
 one_heard ids copy c a (inl e) = absurd e
 one_heard ids copy c a (inr e) = subst (λ (x : HeardCopy). IsTrue (is_among ids x.gateway)) e a
 
-heard_copy : (ids : List ℕ) (s : Gatherings) (bytes : List ℕ) (copy : HeardCopy) (arrived : ℕ) (r : Result Heard HearFault) → AreHeard ids s.list
+heard_copy : (ids : List ℕ) (s : Gatherings) (bytes : List ℕ) (copy : HeardCopy) (arrived : ℕ) (r : Result Heard HearFault)
+    → AreHeard ids s.list
     → IsTrue (is_among ids copy.gateway) → AreHeard ids (after_hearing r s bytes copy arrived).list
 heard_copy ids s bytes copy arrived (Err fault) h a = h
-heard_copy ids s bytes copy arrived (Ok (Opened n)) h a = heard_append ids s.list h (opening bytes copy arrived) (λ c k. by c (Contains-push_cases [] copy c k))
+heard_copy ids s bytes copy arrived (Ok (Opened n)) h a = heard_append ids s.list h (opening bytes copy arrived)
+    (λ c k. by c (Contains-push_cases [] copy c k))
   where
     by : (c : HeardCopy) → Contains [] c ⊎ (copy ≡ c) → IsTrue (is_among ids c.gateway)
     by c (inl k) = absurd (omega (arith, k.1))
@@ -97,7 +106,8 @@ heard_copy ids s bytes copy arrived (Ok (Opened n)) h a = heard_append ids s.lis
 heard_copy ids s bytes copy arrived (Ok (Joined n copies)) h a =
     heard_rewritten ids s.list h (with_copy copy) n (λ x q c k. by x q c (Contains-push_cases x.copies copy c k))
   where
-    by : (x : Gathering) → numbered n s.list ≡ Some x → (c : HeardCopy) → Contains x.copies c ⊎ (copy ≡ c) → IsTrue (is_among ids c.gateway)
+    by : (x : Gathering) → numbered n s.list ≡ Some x → (c : HeardCopy) → Contains x.copies c ⊎ (copy ≡ c)
+        → IsTrue (is_among ids c.gateway)
     by x q c (inl k) = h n x c q k
     by x q c (inr e) = one_heard ids copy c a (inr e)
 
@@ -116,22 +126,27 @@ known_gateway : (t : Bool) (rest : Option DeskFault) → (if not t then Some Unk
 known_gateway true rest e = refl
 known_gateway false rest e = absurd (cc (e))
 
-copy_here : (ids : List ℕ) (reg : Register) (bytes : List ℕ) (heard : Heard1) (arrived : ℕ) (uplink : Uplink) (o : Option DeskFault) → copy_fault ids heard arrived ≡ o
+copy_here : (ids : List ℕ) (reg : Register) (bytes : List ℕ) (heard : Heard1) (arrived : ℕ) (uplink : Uplink)
+    (o : Option DeskFault) → copy_fault ids heard arrived ≡ o
     → IsHereIfTaken ids heard.gateway (decide_copy reg bytes heard arrived uplink o)
 copy_here ids reg bytes heard arrived uplink (Some fault) e = tt
 copy_here ids reg bytes heard arrived uplink None e =
-    here_for ids heard.gateway (decide_place reg bytes uplink (place_of reg.gathered bytes heard.gateway arrived)) (known_gateway (is_among ids heard.gateway) _ e)
+    here_for ids heard.gateway (decide_place reg bytes uplink (place_of reg.gathered bytes heard.gateway arrived))
+    (known_gateway (is_among ids heard.gateway) _ e)
 
 frame_here : (ids : List ℕ) (reg : Register) (bytes : List ℕ) (heard : Heard1) (arrived : ℕ) (r : Result Uplink FrameFault)
     → IsHereIfTaken ids heard.gateway (decide_frame ids reg bytes heard arrived r)
 frame_here ids reg bytes heard arrived (Err fault) = tt
-frame_here ids reg bytes heard arrived (Ok uplink) = copy_here ids reg bytes heard arrived uplink (copy_fault ids heard arrived) refl
+frame_here ids reg bytes heard arrived (Ok uplink) = copy_here ids reg bytes heard arrived uplink
+    (copy_fault ids heard arrived) refl
 
-here_if_taken : (ids : List ℕ) (reg : Register) (bytes : List ℕ) (heard : Heard1) (arrived : ℕ) → IsHereIfTaken ids heard.gateway (decide ids reg bytes heard arrived)
+here_if_taken : (ids : List ℕ) (reg : Register) (bytes : List ℕ) (heard : Heard1) (arrived : ℕ)
+    → IsHereIfTaken ids heard.gateway (decide ids reg bytes heard arrived)
 unfolding decide
 here_if_taken ids reg bytes heard arrived = frame_here ids reg bytes heard arrived (uplink_of bytes)
 
-heard_by : (ids : List ℕ) (reg : Register) (bytes : List ℕ) (heard : Heard1) (arrived : ℕ) (d : Decision) → IsHereIfTaken ids heard.gateway d → AreHeard ids reg.gathered.list
+heard_by : (ids : List ℕ) (reg : Register) (bytes : List ℕ) (heard : Heard1) (arrived : ℕ) (d : Decision)
+    → IsHereIfTaken ids heard.gateway d → AreHeard ids reg.gathered.list
     → AreHeard ids (hearing.after_hearing d reg bytes (copy_of heard) arrived).gathered.list
 heard_by ids reg bytes heard arrived (Refuse fault) a h = h
 heard_by ids reg bytes heard arrived (Join n) a h =

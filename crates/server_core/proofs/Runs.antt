@@ -12,10 +12,12 @@ use Rattle.server_desk.specs.Register.{opened_device}
 use Rattle.server_desk.specs.World.{Gateway, opened_gateway, opening, World}
 use Rattle.server_core.specs.Promise.{setting_of, HaveOwnCounters, with_given, jobs_given, IsSafe, EveryInterleavingIsSafe}
 use Rattle.server_desk.specs.Places.{from_map, all_get, get_contains}
-use Rattle.server_core.proofs.Holds.{IsInOrder, AllStand, Holds, IsGivenAt, Follows, IsGoodStep, IsNew, IsUsed, UsesUp, given_after, Holds-weaker}
+use Rattle.server_core.proofs.Holds.{IsInOrder, AllStand, Holds, IsGivenAt, Follows, IsGoodStep, IsNew, IsUsed, UsesUp}
+use Rattle.server_core.proofs.Holds.{given_after, Holds-weaker}
 use Rattle.std.proofs.lemmas.List.Elements.{All-nil, All-cons, All-weaker, Contains-append_right}
 use Rattle.std.proofs.lemmas.List.Kept.{AllPairs-cons}
-use Rattle.server_core.specs.Steps.{Step, Queue, Hear, Pass, Take, Settle, Try, Cancel, Tick, Reply, Given, Run, step, run_from, run}
+use Rattle.server_core.specs.Steps.{Step, Queue, Hear, Pass, Take, Settle, Try, Cancel, Tick, Reply, Given, Run, step, run_from}
+use Rattle.server_core.specs.Steps.{run}
 use Rattle.server_core.proofs.KnownSteps.{queue_good, hear_good, pass_good, settle_good}
 use Rattle.server_core.proofs.TakeStep.{take_good}
 use Rattle.server_core.proofs.GatewaySteps.{try_good, cancel_good, tick_good}
@@ -35,7 +37,8 @@ opened_in_order : (s : GatewaySetting) → IsInOrder (opened_gateway s)
 unfolding net
 opened_in_order s = record { orderly = orderly_nil; balanced = refl }
 
-module _ (settings : SettingLists) (are : AreSettings settings.gateways settings.devices) (T : Job → Type 0) (limits : Limits) where
+module _ (settings : SettingLists) (are : AreSettings settings.gateways settings.devices) (T : Job → Type 0)
+    (limits : Limits) where
   in_order_at : (i : ℕ) (g : Gateway) → slice_get (map opened_gateway settings.gateways) i ≡ Some g → IsInOrder g
   in_order_at i g e =
       let s = from_map opened_gateway settings.gateways i g e in
@@ -91,17 +94,24 @@ module _ (w v : World) (f : Follows w v) where
         new = All-cons (IsNew w) job jobs u.0 (All-weaker (IsNew v) (IsNew w) (still_new w v f) jobs t.new);
         tickets = AllPairs-cons (λ a b. a.number ≢ b.number) job jobs
             (All-weaker (IsNew v) (λ b. job.number ≢ b.number) (λ b x. own_number v job b u.1 x) jobs t.new) t.tickets;
-        counters = AllPairs-cons HaveOwnCounters job jobs (All-weaker (IsNew v) (HaveOwnCounters job) (λ b x. own_counter v job b u.1 x) jobs t.new) t.counters;
+        counters = AllPairs-cons HaveOwnCounters job jobs (All-weaker (IsNew v) (HaveOwnCounters job)
+            (λ b x. own_counter v job b u.1 x) jobs t.new) t.counters;
       }
-  one_more reply jobs u t = record { new = All-weaker (IsNew v) (IsNew w) (still_new w v f) jobs t.new; tickets = t.tickets; counters = t.counters }
+  one_more reply jobs u t = record {
+    new = All-weaker (IsNew v) (IsNew w) (still_new w v f) jobs t.new;
+    tickets = t.tickets;
+    counters = t.counters;
+  }
 
 -- a ticket was given for a job before, or it is among those for which one was given then
 abbrev pub WithGiven : (Job → Type 0) → List Job → Job → Type 0
 WithGiven T jobs = λ j. T j ⊎ Contains jobs j
 
-given_cases : (reply : Reply) (T : Job → Type 0) (jobs : List Job) (j : Job) → WithGiven (given_after reply T) jobs j → WithGiven T (with_given reply jobs) j
+given_cases : (reply : Reply) (T : Job → Type 0) (jobs : List Job) (j : Job) → WithGiven (given_after reply T) jobs j
+    → WithGiven T (with_given reply jobs) j
 given_cases (Given (Ok job)) T jobs j (inl (inl t)) = inl t
-given_cases (Given (Ok job)) T jobs j (inl (inr e)) = inr (subst (Contains (job ∷ jobs)) (sym e) (get_contains (job ∷ jobs) 0 job refl))
+given_cases (Given (Ok job)) T jobs j (inl (inr e)) = inr (subst (Contains (job ∷ jobs)) (sym e)
+    (get_contains (job ∷ jobs) 0 job refl))
 given_cases (Given (Ok job)) T jobs j (inr c) = inr (Contains-append_right (job ∷ []) jobs j c)
 given_cases reply T jobs j c = c
 
@@ -131,7 +141,12 @@ module _ (settings : SettingLists) (are : AreSettings settings.gateways settings
   run_good T w h [] =
       record {
         holds = Holds-weaker settings T (WithGiven T []) (λ j t. inl t) w h;
-        given = record { new = All-nil (IsNew w); tickets = λ i j d l g. absurd (omega arith); counters = λ i j d l g. absurd (omega arith) };
+        given = record {
+          new = All-nil (IsNew w);
+          tickets = λ i j d l g. absurd (omega arith);
+          counters =
+              λ i j d l g. absurd (omega arith);
+        };
       }
   run_good T w h (s ∷ ss) =
       let first = step_good T w h s in
@@ -140,14 +155,16 @@ module _ (settings : SettingLists) (are : AreSettings settings.gateways settings
       let jobs = jobs_given after.replies in
       let rest = run_good (given_after reply T) (step w s).0 first.good.holds ss in
       record {
-        holds = Holds-weaker settings (WithGiven (given_after reply T) jobs) (WithGiven T (with_given reply jobs)) (given_cases reply T jobs) after.world rest.holds;
+        holds = Holds-weaker settings (WithGiven (given_after reply T) jobs) (WithGiven T (with_given reply jobs))
+            (given_cases reply T jobs) after.world rest.holds;
         given = one_more w (step w s).0 first.good.follows reply jobs first.used rest.given;
       }
 
   safe_by : (w : World) (r : Run) → IsGoodRun (λ j. ⊥) w r → IsSafe settings r
   safe_by w r g =
       let T : Job → Type 0 = Contains (jobs_given r.replies) in
-      let h : Holds settings T r.world = Holds-weaker settings (WithGiven (λ j. ⊥) (jobs_given r.replies)) T (λ j. only_given) r.world g.holds in
+      let h : Holds settings T r.world = Holds-weaker settings (WithGiven (λ j. ⊥) (jobs_given r.replies)) T
+      (λ j. only_given) r.world g.holds in
       record {
         gateways = h.gateways;
         devices = h.devices;

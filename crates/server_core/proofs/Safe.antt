@@ -20,7 +20,8 @@ use Rattle.server_core.proofs.Members.{rises_once}
 use Rattle.server_core.proofs.Holds.{IsKept, Stands, Holds}
 use Rattle.server_core.proofs.Served.{one_gateway}
 
-module _ (settings : SettingLists) (are : AreSettings settings.gateways settings.devices) (T : Job → Type 0) (w : World) (h : Holds settings T w) where
+module _ (settings : SettingLists) (are : AreSettings settings.gateways settings.devices) (T : Job → Type 0) (w : World)
+    (h : Holds settings T w) where
   pub counted_at : (i : ℕ) (g : Gateway) → slice_get w.gateways i ≡ Some g → g.state.booked ≡ g.state.cancelled + net g.state.list
   counted_at i g e = (h.in_order i g e).balanced
 
@@ -37,7 +38,8 @@ module _ (settings : SettingLists) (are : AreSettings settings.gateways settings
         let p : i ≡ j = one_gateway settings T w h are i j g f m.gateway o.gateway d in
         let there : slice_get w.gateways j ≡ Some g = subst (λ x. slice_get w.gateways x ≡ Some g) p m.gateway in
         let same : f ≡ g = some_inj (sym o.gateway ∙ there) in
-        let other : slice_get g.state.list l ≡ Some b = subst (λ (x : Gateway). slice_get x.state.list l ≡ Some b) same o.member in
+        let other : slice_get g.state.list l ≡ Some b = subst
+        (λ (x : Gateway). slice_get x.state.list l ≡ Some b) same o.member in
         (p, rises_once start_of 0 g.state.list k l a b (h.in_order i g m.gateway).orderly.by_start m.member other s)
 
     pub once_by : a.number ≡ b.number → (i ≡ j) × (k ≡ l)
@@ -45,15 +47,19 @@ module _ (settings : SettingLists) (are : AreSettings settings.gateways settings
         let s = h.stands i g m.gateway k a m.member in
         let t = h.stands j f o.gateway l b o.member in
         let same = same_sent a.number b.number s.sent t.sent q s.kept t.kept in
-        place_by (sym s.gateway ∙ ap (λ (x : Sent). x.gateway) same ∙ t.gateway) (sym s.start ∙ ap (λ (x : Sent). x.start) same ∙ t.start)
+        place_by (sym s.gateway ∙ ap (λ (x : Sent). x.gateway) same ∙ t.gateway)
+        (sym s.start ∙ ap (λ (x : Sent). x.start) same ∙ t.start)
 
 module _ (settings : SettingLists) (r : Run) (h : Holds settings (Contains (jobs_given r.replies)) r.world) where
-  own_by : (g : Gateway) (a : Reservation) (s : Stands settings (Contains (jobs_given r.replies)) r.world.reg.gathered.list r.world.answers g.id a)
-      → (d : Device) × (slice_get r.world.reg.devices s.own.place ≡ Some d) × (d.setting ≡ s.own.uplink.setting) → IsOwnWindow r g a
+  own_by : (g : Gateway) (a : Reservation) (s : Stands settings
+      (Contains (jobs_given r.replies)) r.world.reg.gathered.list r.world.answers g.id a)
+      → (d : Device) × (slice_get r.world.reg.devices s.own.place ≡ Some d) × (d.setting ≡ s.own.uplink.setting)
+      → IsOwnWindow r g a
   own_by g a s d =
       let j = s.own in
       let x = j.windows s.place s.candidate s.tried in
-      let plan : s.job.plan ≡ plan_for d.0.setting s.job.body = j.plan ∙ ap (λ (t : DeviceSetting). plan_for t s.job.body) (sym d.2) in
+      let plan : s.job.plan ≡ plan_for d.0.setting s.job.body =
+      j.plan ∙ ap (λ (t : DeviceSetting). plan_for t s.job.body) (sym d.2) in
       let P : Plan → Type 0 = λ p. (s.candidate ≡ rx1_of p x.copy) ⊎ (s.candidate ≡ rx2_of p x.copy) in
       record {
         gathering = j.uplink.gathering;

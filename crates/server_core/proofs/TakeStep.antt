@@ -15,18 +15,22 @@ use Rattle.server_desk.specs.Settings.{SettingLists, AreSettings}
 use Rattle.server_desk.specs.declared.answers.Asked.{Asked}
 use Rattle.server_desk.specs.Register.{Device, Register}
 use Rattle.server_desk.specs.Answers.{Waiting, Open, known_of, is_not_given}
-use Rattle.server_desk.specs.Taking.{head, plan_for, job_of, take_answer, with_counter_given, counter_given, taken_from, after_taking}
+use Rattle.server_desk.specs.Taking.{head, plan_for, job_of, take_answer, with_counter_given, counter_given, taken_from}
+use Rattle.server_desk.specs.Taking.{after_taking}
 use Rattle.server_desk.specs.World.{World, known}
 use Rattle.server_core.specs.Steps.{take_by, take}
 use Rattle.server_desk.specs.Places.{some_inj, get_set_same, all_get}
 use Rattle.server_desk.specs.Numbers.{numbered-here}
 use Rattle.server_core.proofs.Tickets.{IsTicket, ticket, still_waits}
-use Rattle.server_core.proofs.Holds.{IsOfDevice, IsJobFor, Holds, IsGivenAt, IsGood, IsGoodStep, IsNew, IsUsed, Holds-weaker, unchanged, both_good}
+use Rattle.server_core.proofs.Holds.{IsOfDevice, IsJobFor, Holds, IsGivenAt, IsGood, IsGoodStep, IsNew, IsUsed, Holds-weaker}
+use Rattle.server_core.proofs.Holds.{unchanged, both_good}
 use Rattle.server_core.proofs.Served.{device_setting, one_device}
 use Rattle.server_core.proofs.Written.{with_device, device_written, with_answer, answer_written}
 
-module _ (settings : SettingLists) (are : AreSettings settings.gateways settings.devices) (T : Job → Type 0) (w : World) (h : Holds settings T w) (n : ℕ) where
-  module _ (asked : Asked) (there : numbered n w.reg.asked ≡ Some asked) (waits : numbered n w.answers ≡ Some Waiting) (device : Device) (served : slice_get w.reg.devices asked.device ≡ Some device)
+module _ (settings : SettingLists) (are : AreSettings settings.gateways settings.devices) (T : Job → Type 0) (w : World)
+    (h : Holds settings T w) (n : ℕ) where
+  module _ (asked : Asked) (there : numbered n w.reg.asked ≡ Some asked) (waits : numbered n w.answers ≡ Some Waiting)
+      (device : Device) (served : slice_get w.reg.devices asked.device ≡ Some device)
       (told : T (job_of w.reg n asked device)) where
     abbrev job : Job
     job = job_of w.reg n asked device
@@ -56,7 +60,8 @@ module _ (settings : SettingLists) (are : AreSettings settings.gateways settings
           addr = ap (λ (s : DeviceSetting). s.addr) (sym same_setting);
           plan = ap (λ (s : DeviceSetting). plan_for s (head device.queue)) (sym same_setting);
           windows = λ k c e.
-              window_of c (all_get (IsWindowOf job.plan job.copies) (candidates_of job.copies job.plan) k c (on_gateways_that_heard job.plan job.copies) e);
+              window_of c (all_get (IsWindowOf job.plan job.copies) (candidates_of job.copies job.plan) k c
+              (on_gateways_that_heard job.plan job.copies) e);
         }
 
     abbrev counted : World
@@ -87,12 +92,21 @@ module _ (settings : SettingLists) (are : AreSettings settings.gateways settings
         omega arith
 
     new : IsNew w job
-    new = record { number = not_given; counter = λ p d e a. same_down p d e (one_device settings T w h are p asked.device d device e served a) }
+    new = record {
+      number = not_given;
+      counter = λ p d e a. same_down p d e
+          (one_device settings T w h are p asked.device d device e served a);
+    }
 
     used : IsUsed given job
     used =
         record {
-          number = record { answer = Open 0 job; answered = numbered-here (λ a. Open 0 job) n w.answers Waiting waits; given = refl };
+          number = record {
+            answer = Open 0 job;
+            answered = numbered-here (λ a. Open 0 job) n w.answers Waiting waits;
+            given =
+                refl;
+          };
           place = asked.device;
           device = with_counter_given device;
           there = get_set_same w.reg.devices asked.device device (with_counter_given device) served;
@@ -112,14 +126,17 @@ module _ (settings : SettingLists) (are : AreSettings settings.gateways settings
     taken_good : IsGoodWith (after_taking (Ok job) n w.reg)
     taken_good = subst IsGoodWith same_reg (given_good, (new, used))
 
-module _ (settings : SettingLists) (are : AreSettings settings.gateways settings.devices) (T : Job → Type 0) (w : World) (h : Holds settings T w) (n : ℕ) where
+module _ (settings : SettingLists) (are : AreSettings settings.gateways settings.devices) (T : Job → Type 0) (w : World)
+    (h : Holds settings T w) (n : ℕ) where
   -- a ticket was given for one job more
   given_step : (asked : Asked) (device : Device) → numbered n w.reg.asked ≡ Some asked → numbered n w.answers ≡ Some Waiting
-      → slice_get w.reg.devices asked.device ≡ Some device → IsGoodStep settings T w (take_by w n (Ok (job_of w.reg n asked device)))
+      → slice_get w.reg.devices asked.device ≡ Some device → IsGoodStep settings T w
+      (take_by w n (Ok (job_of w.reg n asked device)))
   given_step asked device there waits served =
       let job = job_of w.reg n asked device in
       let U : Job → Type 0 = λ j. T j ⊎ (j ≡ job) in
-      let all = taken_good settings are U w (Holds-weaker settings T U (λ j t. inl t) w h) n asked there waits device served (inr refl) in
+      let all = taken_good settings are U w (Holds-weaker settings T U (λ j t. inl t) w h) n asked there waits device served
+      (inr refl) in
       record { good = all.0; used = all.1 }
 
   ticket_by : (made : Job) → IsTicket w.reg (known w) n made → IsGoodStep settings T w (take_by w n (Ok made))

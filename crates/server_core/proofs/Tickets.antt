@@ -1,5 +1,6 @@
 -- What is known of an uplink for which a ticket is given.
-use Rattle.std.specs.Prelude.{ℕ, zero, suc, ◌≡◌, Bool, true, false, if◌then◌else◌, List, map, slice_get, Option, Some, None, Ok, Err, refl}
+use Rattle.std.specs.Prelude.{ℕ, zero, suc, ◌≡◌, Bool, true, false, if◌then◌else◌, List, map, slice_get, Option, Some, None, Ok}
+use Rattle.std.specs.Prelude.{Err, refl}
 use Rattle.std.proofs.Common.{ap, ◌∙◌}
 use Rattle.uplink_gather.specs.Gatherings.{numbered, is_closed_at}
 use Rattle.answer_ticket.specs.Job.{Job}
@@ -24,28 +25,45 @@ pub record IsTicket (reg : Register) (known : List Known) (n : ℕ) (job : Job) 
   pub made : job_of reg n asked device ≡ job
 
 module _ (reg : Register) (known : List Known) (n : ℕ) (job : Job) where
-  module _ (asked : Asked) (there : numbered n reg.asked ≡ Some asked) (state : Known) (stated : numbered n known ≡ Some state) (waits : is_not_given state ≡ true) where
-    fault_by : (device : Device) → slice_get reg.devices asked.device ≡ Some device → (o : Option TakeFault) → given_or reg n asked device o ≡ Ok job → IsTicket reg known n job
+  module _ (asked : Asked) (there : numbered n reg.asked ≡ Some asked) (state : Known) (stated : numbered n known ≡ Some state)
+      (waits : is_not_given state ≡ true) where
+    fault_by : (device : Device) → slice_get reg.devices asked.device ≡ Some device → (o : Option TakeFault)
+        → given_or reg n asked device o ≡ Ok job → IsTicket reg known n job
     fault_by device d None e =
-        record { asked = asked; there = there; state = state; stated = stated; waits = waits; device = device; served = d; made = cc (e) }
+        record {
+          asked = asked;
+          there = there;
+          state = state;
+          stated = stated;
+          waits = waits;
+          device = device;
+          served = d;
+          made =
+              cc (e);
+        }
     fault_by device d (Some fault) e = absurd (cc (e))
 
-    device_by : (o : Option Device) → slice_get reg.devices asked.device ≡ o → take_by reg known n asked o ≡ Ok job → IsTicket reg known n job
+    device_by : (o : Option Device) → slice_get reg.devices asked.device ≡ o → take_by reg known n asked o ≡ Ok job
+        → IsTicket reg known n job
     device_by None d e = absurd (cc (e))
     device_by (Some device) d e = fault_by device d (take_fault reg known asked device) e
 
-  waits_by : (asked : Asked) (state : Known) (t : Bool) → numbered n reg.asked ≡ Some asked → numbered n known ≡ Some state → is_not_given state ≡ t
-      → (if t then take_by reg known n asked (slice_get reg.devices asked.device) else Err Taken) ≡ Ok job → IsTicket reg known n job
+  waits_by : (asked : Asked) (state : Known) (t : Bool) → numbered n reg.asked ≡ Some asked → numbered n known ≡ Some state
+      → is_not_given state ≡ t
+      → (if t then take_by reg known n asked (slice_get reg.devices asked.device) else Err Taken) ≡ Ok job
+      → IsTicket reg known n job
   waits_by asked state true a s t e = device_by asked a state s t (slice_get reg.devices asked.device) refl e
   waits_by asked state false a s t e = absurd (cc (e))
 
-  known_by : (o : Option Asked) (k : Option Known) → numbered n reg.asked ≡ o → numbered n known ≡ k → take_known reg known n o k ≡ Ok job → IsTicket reg known n job
+  known_by : (o : Option Asked) (k : Option Known) → numbered n reg.asked ≡ o → numbered n known ≡ k
+      → take_known reg known n o k ≡ Ok job → IsTicket reg known n job
   known_by (Some asked) (Some state) a s e = waits_by asked state (is_not_given state) a s refl e
   known_by (Some asked) None a s e = absurd (cc (e))
   known_by None (Some state) a s e = absurd (cc (e))
   known_by None None a s e = absurd (cc (e))
 
-  closed_by : (t : Bool) → (if t then take_known reg known n (numbered n reg.asked) (numbered n known) else Err NotReady) ≡ Ok job → IsTicket reg known n job
+  closed_by : (t : Bool) → (if t then take_known reg known n (numbered n reg.asked) (numbered n known) else Err NotReady) ≡ Ok job
+      → IsTicket reg known n job
   closed_by true e = known_by (numbered n reg.asked) (numbered n known) refl refl e
   closed_by false e = absurd (cc (e))
 
@@ -61,7 +79,8 @@ waits_only (Booked sent window carried) e = absurd (cc (e))
 waits_only (Out refusal) e = absurd (cc (e))
 waits_only (Settled sent) e = absurd (cc (e))
 
-pub still_waits : (answers : List Answer) (n : ℕ) (k : Known) → numbered n (map known_of answers) ≡ Some k → is_not_given k ≡ true → numbered n answers ≡ Some Waiting
+pub still_waits : (answers : List Answer) (n : ℕ) (k : Known) → numbered n (map known_of answers) ≡ Some k → is_not_given k ≡ true
+    → numbered n answers ≡ Some Waiting
 still_waits answers zero k e t = absurd (cc (e))
 still_waits answers (suc i) k e t =
     let a = from_map known_of answers i k e in

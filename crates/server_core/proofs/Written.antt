@@ -13,7 +13,8 @@ use Rattle.server_core.specs.Steps.{sent_for}
 use Rattle.server_core.specs.Promise.{setting_of}
 use Rattle.server_desk.specs.Places.{get_set_cases, get_set_after, map_set}
 use Rattle.server_desk.specs.Numbers.{length-rewritten, numbered_after, numbered_cases}
-use Rattle.server_core.proofs.Holds.{IsJobFor, IsKept, Stands, AllStand, IsInOrder, Holds, IsGivenAt, IsLater, IsGood, Follows-refl}
+use Rattle.server_core.proofs.Holds.{IsJobFor, IsKept, Stands, AllStand, IsInOrder, Holds, IsGivenAt, IsLater, IsGood}
+use Rattle.server_core.proofs.Holds.{Follows-refl}
 
 module _ (settings : SettingLists) (T : Job → Type 0) (w : World) (h : Holds settings T w) where
   -- a device, which keeps its setting and its counters that were given
@@ -22,7 +23,8 @@ module _ (settings : SettingLists) (T : Job → Type 0) (w : World) (h : Holds s
   with_device p e = record w { reg = record (w.reg) { devices = slice_set w.reg.devices p e } }
 
   later_by : (p q : ℕ) (d e f : Device) → e.setting ≡ d.setting → d.down ≤ e.down
-      → ((p ≡ q) × (f ≡ d) × (slice_get (slice_set w.reg.devices p e) q ≡ Some e)) ⊎ (slice_get (slice_set w.reg.devices p e) q ≡ Some f)
+      → ((p ≡ q) × (f ≡ d) × (slice_get (slice_set w.reg.devices p e) q ≡ Some e)) ⊎
+      (slice_get (slice_set w.reg.devices p e) q ≡ Some f)
       → IsLater (slice_set w.reg.devices p e) q f
   later_by p q d e f s c (inl g) =
       record {
@@ -60,17 +62,20 @@ module _ (settings : SettingLists) (T : Job → Type 0) (w : World) (h : Holds s
 
   module _ (n : ℕ) (old new : Answer) (there : numbered n w.answers ≡ Some old) where
     kept_by : (m : ℕ) (sent : Sent) (k : IsKept w.answers m sent) → ((s : Sent) → sent_for old ≡ Some s → sent_for new ≡ Some s)
-        → ((n ≡ m) × (k.answer ≡ old) × (numbered m (rewritten (λ a. new) n w.answers) ≡ Some new)) ⊎ (numbered m (rewritten (λ a. new) n w.answers) ≡ Some k.answer)
+        → ((n ≡ m) × (k.answer ≡ old) × (numbered m (rewritten (λ a. new) n w.answers) ≡ Some new)) ⊎
+        (numbered m (rewritten (λ a. new) n w.answers) ≡ Some k.answer)
         → IsKept (rewritten (λ a. new) n w.answers) m sent
     kept_by m sent k s (inl g) = record { answer = new; answered = g.2; kept = s sent (ap sent_for (sym g.1) ∙ k.kept) }
     kept_by m sent k s (inr g) = record { answer = k.answer; answered = g; kept = k.kept }
 
     stand_by : (id : ℕ) (r : Reservation) → ((s : Sent) → sent_for old ≡ Some s → sent_for new ≡ Some s)
-        → Stands settings T w.reg.gathered.list w.answers id r → Stands settings T w.reg.gathered.list (rewritten (λ a. new) n w.answers) id r
+        → Stands settings T w.reg.gathered.list w.answers id r
+        → Stands settings T w.reg.gathered.list (rewritten (λ a. new) n w.answers) id r
     stand_by id r s t =
         record {
           sent = t.sent;
-          kept = kept_by r.number t.sent t.kept s (numbered_after (λ a. new) n r.number w.answers old t.kept.answer there t.kept.answered);
+          kept = kept_by r.number t.sent t.kept s (numbered_after
+              (λ a. new) n r.number w.answers old t.kept.answer there t.kept.answered);
           start = t.start;
           gateway = t.gateway;
           job = t.job;
@@ -83,18 +88,21 @@ module _ (settings : SettingLists) (T : Job → Type 0) (w : World) (h : Holds s
         }
 
     job_by : (m k : ℕ) (job : Job) → ((k : ℕ) (job : Job) → new ≡ Open k job → IsJobFor settings T w.reg.gathered.list n job)
-        → ((n ≡ m) × (Open k job ≡ new)) ⊎ (numbered m w.answers ≡ Some (Open k job)) → IsJobFor settings T w.reg.gathered.list m job
+        → ((n ≡ m) × (Open k job ≡ new)) ⊎ (numbered m w.answers ≡ Some (Open k job))
+        → IsJobFor settings T w.reg.gathered.list m job
     job_by m k job o (inl g) = subst (λ i. IsJobFor settings T w.reg.gathered.list i job) g.0 (o k job (sym g.1))
     job_by m k job o (inr g) = h.jobs m k job g
 
     given_by : (m : ℕ) → is_not_given (known_of new) ≡ false → (g : IsGivenAt w.answers m)
-        → ((n ≡ m) × (g.answer ≡ old) × (numbered m (rewritten (λ a. new) n w.answers) ≡ Some new)) ⊎ (numbered m (rewritten (λ a. new) n w.answers) ≡ Some g.answer)
+        → ((n ≡ m) × (g.answer ≡ old) × (numbered m (rewritten (λ a. new) n w.answers) ≡ Some new)) ⊎
+        (numbered m (rewritten (λ a. new) n w.answers) ≡ Some g.answer)
         → IsGivenAt (rewritten (λ a. new) n w.answers) m
     given_by m i g (inl e) = record { answer = new; answered = e.2; given = i }
     given_by m i g (inr e) = record { answer = g.answer; answered = e; given = g.given }
 
     pub answer_written : ((s : Sent) → sent_for old ≡ Some s → sent_for new ≡ Some s) → is_not_given (known_of new) ≡ false
-        → ((k : ℕ) (job : Job) → new ≡ Open k job → IsJobFor settings T w.reg.gathered.list n job) → IsGood settings T w (with_answer n new)
+        → ((k : ℕ) (job : Job) → new ≡ Open k job → IsJobFor settings T w.reg.gathered.list n job)
+        → IsGood settings T w (with_answer n new)
     answer_written s i o =
         record {
           holds = record {
@@ -119,16 +127,19 @@ module _ (settings : SettingLists) (T : Job → Type 0) (w : World) (h : Holds s
   with_gateway i g = record w { gateways = slice_set w.gateways i g }
 
   module _ (i : ℕ) (old new : Gateway) (there : slice_get w.gateways i ≡ Some old) where
-    in_order_by : (j : ℕ) (g : Gateway) → IsInOrder new → ((i ≡ j) × (g ≡ new)) ⊎ ((i ≡ j → ⊥) × (slice_get w.gateways j ≡ Some g)) → IsInOrder g
+    in_order_by : (j : ℕ) (g : Gateway) → IsInOrder new → ((i ≡ j) × (g ≡ new)) ⊎
+        ((i ≡ j → ⊥) × (slice_get w.gateways j ≡ Some g)) → IsInOrder g
     in_order_by j g o (inl e) = subst IsInOrder (sym e.1) o
     in_order_by j g o (inr e) = h.in_order j g e.1
 
     all_by : (j : ℕ) (g : Gateway) → AllStand settings T w.reg.gathered.list w.answers new
-        → ((i ≡ j) × (g ≡ new)) ⊎ ((i ≡ j → ⊥) × (slice_get w.gateways j ≡ Some g)) → AllStand settings T w.reg.gathered.list w.answers g
+        → ((i ≡ j) × (g ≡ new)) ⊎ ((i ≡ j → ⊥) × (slice_get w.gateways j ≡ Some g))
+        → AllStand settings T w.reg.gathered.list w.answers g
     all_by j g a (inl e) = subst (AllStand settings T w.reg.gathered.list w.answers) (sym e.1) a
     all_by j g a (inr e) = h.stands j g e.1
 
-    pub gateway_written : setting_of new ≡ setting_of old → IsInOrder new → AllStand settings T w.reg.gathered.list w.answers new → IsGood settings T w (with_gateway i new)
+    pub gateway_written : setting_of new ≡ setting_of old → IsInOrder new → AllStand settings T w.reg.gathered.list w.answers new
+        → IsGood settings T w (with_gateway i new)
     gateway_written s o a =
         record {
           holds = record {

@@ -15,7 +15,8 @@ use Rattle.server_core.specs.declared.entry.Line.TheVariants as says
 use Rattle.server_desk.specs.Settings.{SettingLists}
 use Rattle.server_desk.specs.Answers.{Answer, Open}
 use Rattle.server_desk.specs.World.{World, Gateway, opening}
-use Rattle.server_core.specs.Steps.{Step, Queue, Hear, Take, Settle, Try, Cancel, Tick, Reply, Queued, Heard, Given, Ended, Tried, Cancelled, Ticked, step, run}
+use Rattle.server_core.specs.Steps.{Step, Queue, Hear, Take, Settle, Try, Cancel, Tick, Reply, Queued, Heard, Given, Ended, Tried}
+use Rattle.server_core.specs.Steps.{Cancelled, Ticked, step, run}
 use Rattle.server_core.specs.Schedule.{usual_limits, reached, event_steps, schedule}
 
 -- The lines that answer events, by the steps that one thread makes of them and the replies to these (docs/FORMATS.md,

@@ -64,7 +64,8 @@ pub record IsOwnWindow (r : Run) (g : Gateway) (a : Reservation) : Type 0 where
   pub plan : job.plan ≡ plan_for device.setting job.body
   pub candidate : Candidate
   pub tried : Contains (candidates job) candidate
-  pub window : (candidate ≡ rx1_of (plan_for device.setting job.body) copy) ⊎ (candidate ≡ rx2_of (plan_for device.setting job.body) copy)
+  pub window : (candidate ≡ rx1_of (plan_for device.setting job.body) copy) ⊎
+      (candidate ≡ rx2_of (plan_for device.setting job.body) copy)
   pub taken : IsTaken candidate a
 
 -- two tickets of one device have different downlink counters
@@ -81,9 +82,11 @@ pub record IsSafe (settings : SettingLists) (r : Run) : Type 0 where
   pub answered : length r.world.answers ≡ length r.world.reg.gathered.list
   -- every gateway's list is lawful, and its totals are those of its list
   pub lawful : (i : ℕ) (g : Gateway) → slice_get r.world.gateways i ≡ Some g → IsLawful g.state.list
-  pub counted : (i : ℕ) (g : Gateway) → slice_get r.world.gateways i ≡ Some g → g.state.booked ≡ g.state.cancelled + net g.state.list
+  pub counted : (i : ℕ) (g : Gateway) → slice_get r.world.gateways i ≡ Some g
+      → g.state.booked ≡ g.state.cancelled + net g.state.list
   -- a number stands at most once over all gateways
-  pub once : (i j k l : ℕ) (g h : Gateway) (a b : Reservation) → IsMember r.world i k g a → IsMember r.world j l h b → a.number ≡ b.number → (i ≡ j) × (k ≡ l)
+  pub once : (i j k l : ℕ) (g h : Gateway) (a b : Reservation) → IsMember r.world i k g a → IsMember r.world j l h b
+      → a.number ≡ b.number → (i ≡ j) × (k ≡ l)
   -- it stands for its uplink's own window, of the job that a ticket was given for, on a gateway that heard it
   pub own : (i k : ℕ) (g : Gateway) (a : Reservation) → IsMember r.world i k g a → IsOwnWindow r g a
   -- a number's ticket is given once, and a downlink counter to one number of its device

@@ -54,7 +54,8 @@ pub record EndsTries {A : Type 0} (w : World) (t : Standing) (old new : Seen A) 
   pub steps : map step_of new.steps ≡ map step_of old.steps ++ tries_from w t
   pub told : told (reached w (tries_from w t)) t.job.number ≡ Some ended.stub.result
   pub lines : step_lines w (tries_from w t)
-      ++ lines_for (reached w (tries_from w t)) (Settle t.job.number) (replies.Ended (Some ended.stub.result)) ≡ end_lines t.job.number ended.stub.result ended.receipt
+      ++ lines_for (reached w (tries_from w t)) (Settle t.job.number) (replies.Ended (Some ended.stub.result))
+      ≡ end_lines t.job.number ended.stub.result ended.receipt
 
 -- the candidate at which it stood was refused, and another follows
 pub record GoesOn {A : Type 0} (w : World) (t : Standing) (old new : Seen A) : Type 0 where
@@ -111,4 +112,5 @@ pub record IsAnswered {A : Type 0} (place : ℕ) (job : Job) (old new : Seen A) 
   pub ending : Ending
   pub desk : new.desk ≡ desk_settled ending job.number old.desk
   pub goes : (w : World) → IsAt w old → numbered job.number w.answers ≡ Some (Open 0 job)
-      → Goes w (given_steps w job.number (replies.Given (Ok job))) (map (entry_at place) (step_lines w (given_steps w job.number (replies.Given (Ok job))))) old new
+      → Goes w (given_steps w job.number (replies.Given (Ok job)))
+      (map (entry_at place) (step_lines w (given_steps w job.number (replies.Given (Ok job))))) old new

@@ -32,7 +32,16 @@ pub(crate) fn books_of<A: Allocator + Copy>(
 /// The empty book of a gateway with this setting, which is one of accepted settings. Takes no memory.
 pub fn empty_book<A: Allocator + Copy>(alloc: A, gateway: &GatewaySetting) -> Book<A>
     requires { IsGatewayInRange gateway.now }
-    ensures { result ≡ record { id = gateway.now.id; rules = rules_of gateway.now; floor = 0; list = []; booked = 0; cancelled = 0; retired = 0 } }
+    ensures { result ≡ record {
+      id = gateway.now.id;
+      rules = rules_of gateway.now;
+      floor = 0;
+      list = [];
+      booked = 0;
+      cancelled =
+          0;
+      retired = 0;
+    } }
 {
     // The cap of a setting is in range.
     let Ok(book) = Book::new(VecRoster::new(alloc), gateway.id, gateway.cap) else {

@@ -1,5 +1,6 @@
 -- Sums of airtimes over gateways and answers.
-use Rattle.std.specs.Prelude.{ℕ, zero, suc, ◌≡◌, ◌≢◌, ◌+◌, ◌*◌, ◌≤◌, ◌==◌, Bool, true, false, if◌then◌else◌, List, [], ◌∷◌, map, length, slice_get, slice_set, get_or, All, AllPairs, Option, Some, None, refl}
+use Rattle.std.specs.Prelude.{ℕ, zero, suc, ◌≡◌, ◌≢◌, ◌+◌, ◌*◌, ◌≤◌, ◌==◌, Bool, true, false, if◌then◌else◌, List, [], ◌∷◌, map}
+use Rattle.std.specs.Prelude.{length, slice_get, slice_set, get_or, All, AllPairs, Option, Some, None, refl}
 use Rattle.std.proofs.Common.{sym, ap, ◌∙◌, subst, arith}
 use Rattle.std.proofs.lemmas.Bool.{eq-eqb, ne_eqb}
 use Rattle.std.proofs.lemmas.Bool.Decides.{nat_tests}
@@ -56,21 +57,39 @@ module _ (f h : ℕ → ℕ) (gateway airtime : ℕ) (e : (id : ℕ) → h id �
       ap (λ x. x ∷ slice_set (map f ids) p (get_or (map f ids) p 0 + airtime)) here
       ∙ ap (λ l. h id ∷ l) (raised_there ids p (AllPairs-tail (λ a b. a ≢ b) id ids d) q)
 
-module _ (known more : List Known) (gateway airtime : ℕ) (e : (id : ℕ) → answered_at id more ≡ answered_at id known + share gateway airtime id) where
+module _ (known more : List Known) (gateway airtime : ℕ) (e : (id : ℕ)
+    → answered_at id more ≡ answered_at id known + share gateway airtime id) where
   total_stays : (ids : List ℕ) → All (λ id. gateway ≢ id) ids → total_at ids more ≡ total_at ids known
   total_stays [] a = refl
   total_stays (id ∷ ids) a =
-      omega (arith, e id, share_other gateway airtime id (All-head (λ y. gateway ≢ y) id ids a), total_stays ids (All-tail (λ y. gateway ≢ y) id ids a))
+      omega (
+        arith,
+        e id,
+        share_other gateway airtime id (All-head (λ y. gateway ≢ y) id ids a),
+        total_stays ids (All-tail (λ y. gateway ≢ y) id ids a),
+      )
 
   -- the total over different gateways is raised
-  pub total_raised : (ids : List ℕ) (p : ℕ) → AllPairs (λ a b. a ≢ b) ids → slice_get ids p ≡ Some gateway → total_at ids more ≡ total_at ids known + airtime
+  pub total_raised : (ids : List ℕ) (p : ℕ) → AllPairs (λ a b. a ≢ b) ids → slice_get ids p ≡ Some gateway
+      → total_at ids more ≡ total_at ids known + airtime
   total_raised [] p d q = absurd (cc)
   total_raised (id ∷ ids) zero d q =
       let same : id ≡ gateway = some_inj q in
-      omega (arith, e id, ap (share gateway airtime) same, share_own gateway airtime, total_stays ids (subst (λ x. All (λ y. x ≢ y) ids) same (AllPairs-head (λ a b. a ≢ b) id ids d)))
+      omega (
+        arith,
+        e id,
+        ap (share gateway airtime) same,
+        share_own gateway airtime,
+        total_stays ids (subst (λ x. All (λ y. x ≢ y) ids) same (AllPairs-head (λ a b. a ≢ b) id ids d)),
+      )
   total_raised (id ∷ ids) (suc p) d q =
       let other : id ≢ gateway = all_get (λ y. id ≢ y) ids p gateway (AllPairs-head (λ a b. a ≢ b) id ids d) q in
-      omega (arith, e id, share_other gateway airtime id (λ w. other (sym w)), total_raised ids p (AllPairs-tail (λ a b. a ≢ b) id ids d) q)
+      omega (
+        arith,
+        e id,
+        share_other gateway airtime id (λ w. other (sym w)),
+        total_raised ids p (AllPairs-tail (λ a b. a ≢ b) id ids d) q,
+      )
 
 -- no gateway was on air for longer than all answers
 share_short : (t : Bool) (airtime : ℕ) → (if t then airtime else 0) ≤ airtime
@@ -83,12 +102,19 @@ known_short id Given = omega arith
 known_short id (Done None) = omega arith
 known_short id (Done (Some sent)) = share_short (sent.gateway == id) sent.airtime
 
-pub answered_short : (id : ℕ) (known : List Known) → All (λ k. whole_airtime k ≤ longest_us) known → answered_at id known ≤ longest_us * length known
+pub answered_short : (id : ℕ) (known : List Known) → All (λ k. whole_airtime k ≤ longest_us) known
+    → answered_at id known ≤ longest_us * length known
 answered_short id [] a = omega arith
-answered_short id (k ∷ known) a = omega (arith, known_short id k, All-head (λ x. whole_airtime x ≤ longest_us) k known a, answered_short id known (All-tail (λ x. whole_airtime x ≤ longest_us) k known a))
+answered_short id (k ∷ known) a = omega (
+  arith,
+  known_short id k,
+  All-head (λ x. whole_airtime x ≤ longest_us) k known a,
+  answered_short id known (All-tail (λ x. whole_airtime x ≤ longest_us) k known a),
+)
 
 -- nor were they all
-total_cons : (ids : List ℕ) (k : Known) (known : List Known) → total_at ids (k ∷ known) ≡ total_at ids (k ∷ []) + total_at ids known
+total_cons : (ids : List ℕ) (k : Known) (known : List Known)
+    → total_at ids (k ∷ known) ≡ total_at ids (k ∷ []) + total_at ids known
 total_cons [] k known = refl
 total_cons (id ∷ ids) k known = omega (arith, total_cons ids k known)
 
@@ -99,20 +125,30 @@ total_none (id ∷ ids) k e = omega (arith, e id, total_none ids k e)
 total_elsewhere : (ids : List ℕ) (sent : Sent) → All (λ id. sent.gateway ≢ id) ids → total_at ids (Done (Some sent) ∷ []) ≡ 0
 total_elsewhere [] sent a = refl
 total_elsewhere (id ∷ ids) sent a =
-    omega (arith, share_other sent.gateway sent.airtime id (All-head (λ y. sent.gateway ≢ y) id ids a), total_elsewhere ids sent (All-tail (λ y. sent.gateway ≢ y) id ids a))
+    omega (
+      arith,
+      share_other sent.gateway sent.airtime id (All-head (λ y. sent.gateway ≢ y) id ids a),
+      total_elsewhere ids sent (All-tail (λ y. sent.gateway ≢ y) id ids a),
+    )
 
-sent_first : (id : ℕ) (ids : List ℕ) (sent : Sent) (t : Bool) → (sent.gateway == id) ≡ t → AllPairs (λ a b. a ≢ b) (id ∷ ids) → total_at ids (Done (Some sent) ∷ []) ≤ sent.airtime
+sent_first : (id : ℕ) (ids : List ℕ) (sent : Sent) (t : Bool) → (sent.gateway == id) ≡ t → AllPairs (λ a b. a ≢ b) (id ∷ ids)
+    → total_at ids (Done (Some sent) ∷ []) ≤ sent.airtime
     → total_at (id ∷ ids) (Done (Some sent) ∷ []) ≤ sent.airtime
 sent_first id ids sent true q d rest =
     let same : sent.gateway ≡ id = grind (arith, nat_tests, q) in
-    omega (arith, share_short (sent.gateway == id) sent.airtime, total_elsewhere ids sent (subst (λ x. All (λ y. x ≢ y) ids) (sym same) (AllPairs-head (λ a b. a ≢ b) id ids d)))
+    omega (
+      arith,
+      share_short (sent.gateway == id) sent.airtime,
+      total_elsewhere ids sent (subst (λ x. All (λ y. x ≢ y) ids) (sym same) (AllPairs-head (λ a b. a ≢ b) id ids d)),
+    )
 sent_first id ids sent false q d rest =
     let none : share sent.gateway sent.airtime id ≡ 0 = ap (λ (t : Bool). if t then sent.airtime else 0) q in
     omega (arith, none, rest)
 
 sent_short : (ids : List ℕ) (sent : Sent) → AllPairs (λ a b. a ≢ b) ids → total_at ids (Done (Some sent) ∷ []) ≤ sent.airtime
 sent_short [] sent d = omega arith
-sent_short (id ∷ ids) sent d = sent_first id ids sent (sent.gateway == id) refl d (sent_short ids sent (AllPairs-tail (λ a b. a ≢ b) id ids d))
+sent_short (id ∷ ids) sent d = sent_first id ids sent (sent.gateway == id) refl d
+    (sent_short ids sent (AllPairs-tail (λ a b. a ≢ b) id ids d))
 
 one_short : (ids : List ℕ) (k : Known) → AllPairs (λ a b. a ≢ b) ids → total_at ids (k ∷ []) ≤ whole_airtime k
 one_short ids NotGiven d = omega (arith, total_none ids NotGiven (λ id. refl))
@@ -120,10 +156,18 @@ one_short ids Given d = omega (arith, total_none ids Given (λ id. refl))
 one_short ids (Done None) d = omega (arith, total_none ids (Done None) (λ id. refl))
 one_short ids (Done (Some sent)) d = sent_short ids sent d
 
-total_short : (ids : List ℕ) (known : List Known) → AllPairs (λ a b. a ≢ b) ids → All (λ k. whole_airtime k ≤ longest_us) known → total_at ids known ≤ longest_us * length known
+total_short : (ids : List ℕ) (known : List Known) → AllPairs (λ a b. a ≢ b) ids → All (λ k. whole_airtime k ≤ longest_us) known
+    → total_at ids known ≤ longest_us * length known
 total_short ids [] d a = omega (arith, total_nil ids)
 total_short ids (k ∷ known) d a =
-    omega (arith, total_cons ids k known, one_short ids k d, All-head (λ x. whole_airtime x ≤ longest_us) k known a, total_short ids known d (All-tail (λ x. whole_airtime x ≤ longest_us) k known a))
+    omega (
+      arith,
+      total_cons ids k known,
+      one_short ids k d,
+      All-head (λ x. whole_airtime x ≤ longest_us) k known a,
+      total_short ids known d (All-tail (λ x. whole_airtime x ≤ longest_us) k known a),
+    )
 
-pub within_limit : (ids airtimes : List ℕ) (limit : ℕ) (known : List Known) → AreAirtimes ids airtimes limit known → total_at ids known ≤ total_limit
+pub within_limit : (ids airtimes : List ℕ) (limit : ℕ) (known : List Known) → AreAirtimes ids airtimes limit known
+    → total_at ids known ≤ total_limit
 within_limit ids airtimes limit known i = omega (arith, total_short ids known i.differ i.short, i.few, i.limited)

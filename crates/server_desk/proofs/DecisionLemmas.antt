@@ -1,5 +1,6 @@
 -- What is to be done with a copy of an uplink, as the desk finds it.
-use Rattle.std.specs.Prelude.{ℕ, ◌≡◌, ◌^◌, ◌<◌, ◌≤◌, nat_lt, nat_le, ◌==◌, Bool, true, false, not, ◌||◌, if◌then◌else◌, ⊤, is_some, List, length, Option, Some, None, Result, Ok, Err, refl}
+use Rattle.std.specs.Prelude.{ℕ, ◌≡◌, ◌^◌, ◌<◌, ◌≤◌, nat_lt, nat_le, ◌==◌, Bool, true, false, not, ◌||◌, if◌then◌else◌, ⊤}
+use Rattle.std.specs.Prelude.{is_some, List, length, Option, Some, None, Result, Ok, Err, refl}
 use Rattle.std.proofs.Common.{ap, ◌∙◌, arith}
 use Rattle.std.specs.List.{list_any}
 use Rattle.std.proofs.lemmas.Bool.Decides.{nat_tests}
@@ -18,9 +19,11 @@ use Rattle.server_desk.specs.declared.verdict.Verdict.{Verdict}
 use Rattle.server_desk.specs.declared.verdict.Verdict.TheVariants as says
 use Rattle.server_desk.specs.declared.heard.Heard1.{Heard1}
 use Rattle.server_desk.specs.declared.faults.DeskFault.{DeskFault}
-use Rattle.server_desk.specs.declared.faults.DeskFault.TheVariants.{Frame, UnknownGateway, NoRate, NoBand, Moment, BadMic, Crowded}
+use Rattle.server_desk.specs.declared.faults.DeskFault.TheVariants.{Frame, UnknownGateway, NoRate, NoBand, Moment, BadMic}
+use Rattle.server_desk.specs.declared.faults.DeskFault.TheVariants.{Crowded}
 use Rattle.server_desk.specs.Register.{Device, Register, device_with}
-use Rattle.server_desk.specs.Hearing.{last_moment, Decision, Refuse, Join, Open, Opening, copy_fault, decide_device, decide_place, decide_copy, decide_frame, decide, is_last, asked_by}
+use Rattle.server_desk.specs.Hearing.{last_moment, Decision, Refuse, Join, Open, Opening, copy_fault, decide_device, decide_place}
+use Rattle.server_desk.specs.Hearing.{decide_copy, decide_frame, decide, is_last, asked_by}
 use Rattle.server_desk.specs.Kept.{verdict_of}
 use Rattle.server_desk.specs.Desk.{DeskView}
 use Rattle.server_desk.specs.Decided.{read_same}
@@ -32,7 +35,8 @@ is_join bytes (Join n) e = (n, refl)
 is_join bytes (Open o) e = absurd (cc)
 
 -- where gatherings aren't crowded, fewer were opened than may be
-pub room_left : (g : Gatherings) (full ever : Bool) → (full || ever) ≡ false → nat_le g.limits.max_ever (length g.list) ≡ ever → length g.list < g.limits.max_ever
+pub room_left : (g : Gatherings) (full ever : Bool) → (full || ever) ≡ false → nat_le g.limits.max_ever (length g.list) ≡ ever
+    → length g.list < g.limits.max_ever
 room_left g true ever e q = absurd (cc)
 room_left g false true e q = absurd (cc)
 room_left g false false e q = grind (arith, nat_tests, q)
@@ -40,7 +44,8 @@ room_left g false false e q = grind (arith, nat_tests, q)
 pub record IsNew (bytes : List ℕ) (d : Decision) (new : NewUplink) : Type 0 where
   pub opening : Opening
   pub decided_so : d ≡ Open opening
-  pub is : record { counter = opening.counter; repeat = is_last opening.device opening.counter; asked = asked_by opening bytes } ≡ new
+  pub is : record { counter = opening.counter; repeat = is_last opening.device opening.counter; asked = asked_by opening bytes }
+      ≡ new
 
 open_same : (u v : NewUplink) → says.Open u ≡ says.Open v → u ≡ v
 open_same u v e = cc
@@ -56,7 +61,8 @@ IsTimely heard (Refuse fault) = ⊤
 IsTimely heard (Join n) = heard.at ≤ 2 ^ 60
 IsTimely heard (Open o) = heard.at ≤ 2 ^ 60
 
-in_time : (a b c late after : Bool) → (if a then Some UnknownGateway else if b then Some NoRate else if c then Some NoBand else if late || after then Some Moment else None) ≡ None → late ≡ false
+in_time : (a b c late after : Bool) → (if a then Some UnknownGateway else if b then Some NoRate else if c then Some NoBand else if
+    late || after then Some Moment else None) ≡ None → late ≡ false
 in_time true b c late after e = absurd (cc)
 in_time false true c late after e = absurd (cc)
 in_time false false true late after e = absurd (cc)
@@ -69,10 +75,13 @@ module _ (ids : List ℕ) (reg : Register) (bytes : List ℕ) (heard : Heard1) (
   timely_by (Join n) h = h
   timely_by (Open o) h = h
 
-  copy_timely : (uplink : Uplink) (o : Option DeskFault) → copy_fault ids heard arrived ≡ o → IsTimely heard (decide_copy reg bytes heard arrived uplink o)
+  copy_timely : (uplink : Uplink) (o : Option DeskFault) → copy_fault ids heard arrived ≡ o
+      → IsTimely heard (decide_copy reg bytes heard arrived uplink o)
   copy_timely uplink (Some fault) e = tt
   copy_timely uplink None e =
-      let early = in_time (not (list_any (λ id. id == heard.gateway) ids)) (nat_lt 6 heard.rate) (not (is_some (band_of heard.freq_hz (rate_numbered heard.rate)))) (nat_lt last_moment heard.at) (nat_lt last_moment arrived) e in
+      let early = in_time (not (list_any (λ id. id == heard.gateway) ids)) (nat_lt 6 heard.rate)
+      (not (is_some (band_of heard.freq_hz (rate_numbered heard.rate)))) (nat_lt last_moment heard.at)
+      (nat_lt last_moment arrived) e in
       timely_by (decide_copy reg bytes heard arrived uplink None) (grind (arith, nat_tests, early))
 
   frame_timely : (r : Result Uplink FrameFault) → IsTimely heard (decide_frame ids reg bytes heard arrived r)
@@ -87,7 +96,8 @@ abbrev pub decision : DeskView → List ℕ → Heard1 → ℕ → Decision
 decision d bytes heard arrived = decide d.ids d.reg bytes heard arrived
 
 -- what is to be done with an uplink that would open a gathering, by its device, its counter, its MIC and the room
-module _ (bytes : List ℕ) (uplink : Uplink) (crowded : Bool) (devices : List Device) (place : ℕ) (device : Device) (f : device_with uplink.addr devices ≡ Some (place, device)) where
+module _ (bytes : List ℕ) (uplink : Uplink) (crowded : Bool) (devices : List Device) (place : ℕ) (device : Device)
+    (f : device_with uplink.addr devices ≡ Some (place, device)) where
   abbrev decided_device : Verdict
   decided_device = verdict_of bytes (decide_device crowded bytes uplink (device_with uplink.addr devices))
 
@@ -101,27 +111,39 @@ module _ (bytes : List ℕ) (uplink : Uplink) (crowded : Bool) (devices : List D
     pub no_room : true ≡ has_mic bytes device.setting.nwk counter → true ≡ crowded → says.Refuse Crowded ≡ decided_device
     no_room m r = rw (f, ← e, ← m, ← r) refl
 
-    pub is_new : true ≡ has_mic bytes device.setting.nwk counter → false ≡ crowded → uplink_of bytes ≡ Ok uplink → (repeat : Bool) → repeat ≡ is_last device counter
-        → says.Open (record { counter = counter; repeat = repeat; asked = record { device = place; confirmed = uplink.confirmed; adr_ack_req = uplink.adr_ack_req } }) ≡ decided_device
+    pub is_new : true ≡ has_mic bytes device.setting.nwk counter → false ≡ crowded → uplink_of bytes ≡ Ok uplink → (repeat : Bool)
+        → repeat ≡ is_last device counter
+        → says.Open (record {
+          counter = counter;
+          repeat = repeat;
+          asked =
+              record { device = place; confirmed = uplink.confirmed; adr_ack_req = uplink.adr_ack_req };
+        }) ≡ decided_device
     is_new m r u repeat q = rw (f, ← e, ← m, ← r, q, ← read_same bytes uplink u) refl
 
 -- what is to be done with a copy, by its frame, its own numbers, and where it goes
 module _ (d : DeskView) (bytes : List ℕ) (heard : Heard1) (arrived : ℕ) where
-  pub no_frame : (fault : FrameFault) → Err fault ≡ uplink_of bytes → says.Refuse (Frame fault) ≡ verdict_of bytes (decide d.ids d.reg bytes heard arrived)
+  pub no_frame : (fault : FrameFault) → Err fault ≡ uplink_of bytes
+      → says.Refuse (Frame fault) ≡ verdict_of bytes (decide d.ids d.reg bytes heard arrived)
   unfolding decide
   no_frame fault e = rw (← e) refl
 
-  pub wrong_copy : (uplink : Uplink) (ids : List ℕ) (fault : DeskFault) → Ok uplink ≡ uplink_of bytes → ids ≡ d.ids → Some fault ≡ copy_fault ids heard arrived
+  pub wrong_copy : (uplink : Uplink) (ids : List ℕ) (fault : DeskFault) → Ok uplink ≡ uplink_of bytes → ids ≡ d.ids
+      → Some fault ≡ copy_fault ids heard arrived
       → says.Refuse fault ≡ verdict_of bytes (decide d.ids d.reg bytes heard arrived)
   unfolding decide
-  wrong_copy uplink ids fault e i q = ap (λ (x : Option DeskFault). verdict_of bytes (decide_copy d.reg bytes heard arrived uplink x)) (q ∙ ap (λ (l : List ℕ). copy_fault l heard arrived) i)
+  wrong_copy uplink ids fault e i q = ap (λ (x : Option DeskFault). verdict_of bytes
+      (decide_copy d.reg bytes heard arrived uplink x)) (q ∙ ap (λ (l : List ℕ). copy_fault l heard arrived) i)
       ∙ rw (← e) refl
 
-  pub by_place : (uplink : Uplink) (ids : List ℕ) (gathered : Gatherings) (p : Result Place HearFault) → Ok uplink ≡ uplink_of bytes → ids ≡ d.ids → None ≡ copy_fault ids heard arrived
+  pub by_place : (uplink : Uplink) (ids : List ℕ) (gathered : Gatherings) (p : Result Place HearFault)
+      → Ok uplink ≡ uplink_of bytes → ids ≡ d.ids → None ≡ copy_fault ids heard arrived
       → gathered ≡ d.reg.gathered → p ≡ place_of gathered bytes heard.gateway arrived
       → verdict_of bytes (decide_place d.reg bytes uplink p) ≡ verdict_of bytes (decide d.ids d.reg bytes heard arrived)
   unfolding decide
   by_place uplink ids gathered p e i q s r =
-      ap (λ (x : Result Place HearFault). verdict_of bytes (decide_place d.reg bytes uplink x)) (r ∙ ap (λ (x : Gatherings). place_of x bytes heard.gateway arrived) s)
-      ∙ ap (λ (x : Option DeskFault). verdict_of bytes (decide_copy d.reg bytes heard arrived uplink x)) (q ∙ ap (λ (l : List ℕ). copy_fault l heard arrived) i)
+      ap (λ (x : Result Place HearFault). verdict_of bytes (decide_place d.reg bytes uplink x))
+      (r ∙ ap (λ (x : Gatherings). place_of x bytes heard.gateway arrived) s)
+      ∙ ap (λ (x : Option DeskFault). verdict_of bytes (decide_copy d.reg bytes heard arrived uplink x))
+      (q ∙ ap (λ (l : List ℕ). copy_fault l heard arrived) i)
       ∙ rw (← e) refl

@@ -1,5 +1,6 @@
 -- A desk before anything was heard.
-use Rattle.std.specs.Prelude.{ℕ, suc, ◌≡◌, ◌≢◌, ◌+◌, ◌<◌, ◌==◌, nat_eq, Bool, false, ◌||◌, if◌then◌else◌, List, [], ◌∷◌, ◌++◌, map, length, take, get_or, All, AllPairs, refl}
+use Rattle.std.specs.Prelude.{ℕ, suc, ◌≡◌, ◌≢◌, ◌+◌, ◌<◌, ◌==◌, nat_eq, Bool, false, ◌||◌, if◌then◌else◌, List, [], ◌∷◌, ◌++◌}
+use Rattle.std.specs.Prelude.{map, length, take, get_or, All, AllPairs, refl}
 use Rattle.std.specs.List.{list_any}
 use Rattle.std.proofs.Common.{sym, ap, ◌∙◌, subst, arith}
 use Rattle.std.proofs.Math.Seq.{take-suc}
@@ -32,13 +33,15 @@ any_addr v (x ∷ xs) =
     ∙ ap (λ (t : Bool). (x.addr == v) || t) (any_addr v xs)
 
 -- an address that is put behind those of the devices before it is new
-pub addr_added : (devices : List DeviceSetting) (i : ℕ) (d : DeviceSetting) (keys after : List ℕ) → AllPairs (λ x y. x.addr ≢ y.addr) devices → i < length devices
+pub addr_added : (devices : List DeviceSetting) (i : ℕ) (d : DeviceSetting) (keys after : List ℕ)
+    → AllPairs (λ x y. x.addr ≢ y.addr) devices → i < length devices
     → keys ≡ map addr_of (take i devices)
     → after ≡ (if list_any (nat_eq (get_or devices i d).addr) keys then keys else keys ++ (get_or devices i d).addr ∷ [])
     → after ≡ map addr_of (take (i + 1) devices)
 addr_added devices i d keys after differ h e a =
     let v : ℕ = (get_or devices i d).addr in
-    let new : list_any (nat_eq v) (map addr_of (take i devices)) ≡ false = any_addr v (take i devices) ∙ IsNew-from_AllPairs addr_of devices differ i d h in
+    let new : list_any (nat_eq v) (map addr_of (take i devices)) ≡ false =
+    any_addr v (take i devices) ∙ IsNew-from_AllPairs addr_of devices differ i d h in
     let next : suc i ≡ i + 1 = omega arith in
     a
     ∙ ap (λ (ks : List ℕ). if list_any (nat_eq v) ks then ks else ks ++ v ∷ []) e
@@ -59,20 +62,25 @@ opened_servable : (d : DeviceSetting) → IsDeviceInRange d → IsServable (open
 opened_servable d i = record { setting = i; queue = All-nil IsSendable; down = i.down.1 }
 
 -- one device more is kept
-pub opened_more : {A : Type 0} (devices : List DeviceSetting) (i : ℕ) (d : DeviceSetting) (kepts more : List (Kept A)) (new : Kept A) → i < length devices
-    → (map shown kepts ≡ map opened_device (take i devices)) × All (λ k. k.out ≡ false) kepts → shown new ≡ opened_device (get_or devices i d) → new.out ≡ false → more ≡ kepts ++ new ∷ []
+pub opened_more : {A : Type 0} (devices : List DeviceSetting) (i : ℕ) (d : DeviceSetting) (kepts more : List (Kept A))
+    (new : Kept A) → i < length devices
+    → (map shown kepts ≡ map opened_device (take i devices)) × All (λ k. k.out ≡ false) kepts
+    → shown new ≡ opened_device (get_or devices i d) → new.out ≡ false → more ≡ kepts ++ new ∷ []
     → (map shown more ≡ map opened_device (take (i + 1) devices)) × All (λ k. k.out ≡ false) more
 opened_more devices i d kepts more new h both s o e = (
   ap (map shown) e
       ∙ map-append shown kepts (new ∷ [])
       ∙ ap (λ (l : List Device). l ++ shown new ∷ []) both.0
       ∙ ap (λ (x : Device). map opened_device (take i devices) ++ x ∷ []) s
-      ∙ sym (ap (map opened_device) (take_more devices i d h) ∙ map-append opened_device (take i devices) (get_or devices i d ∷ [])),
+      ∙ sym (ap (map opened_device) (take_more devices i d h)
+      ∙ map-append opened_device (take i devices) (get_or devices i d ∷ [])),
   subst (All (λ k. k.out ≡ false)) (sym e) (All-push (λ k. k.out ≡ false) kepts new both.1 o),
 )
 
-module _ {A : Type 0} (settings : SettingLists) (limits : Limits) (kepts : List (Kept A)) (devices : List DeviceSetting) (gathered : Gatherings) (asked : List Asked) (known : List Known)
-    (d : map shown kepts ≡ map opened_device devices) (s : devices ≡ settings.devices) (g : gathered ≡ record { list = []; limits = limits }) (a : asked ≡ []) (k : known ≡ []) where
+module _ {A : Type 0} (settings : SettingLists) (limits : Limits) (kepts : List (Kept A)) (devices : List DeviceSetting)
+    (gathered : Gatherings) (asked : List Asked) (known : List Known)
+    (d : map shown kepts ≡ map opened_device devices) (s : devices ≡ settings.devices)
+    (g : gathered ≡ record { list = []; limits = limits }) (a : asked ≡ []) (k : known ≡ []) where
   no_out : All (λ (x : Kept A). x.out ≡ false) kepts → AreOut (outs kepts) asked known
   no_out n place out e =
       let x = from_map (λ (x : Kept A). x.out) kepts place out e in
@@ -91,13 +99,16 @@ module _ {A : Type 0} (settings : SettingLists) (limits : Limits) (kepts : List 
         asked = ap length a ∙ sym (ap (λ (x : Gatherings). length x.list) g);
         told = ap length k ∙ sym (ap (λ (x : Gatherings). length x.list) g);
         placed = subst (All P) (sym a) (λ i x h. absurd (omega arith));
-        servable = subst (All IsServable) (sym (d ∙ ap (map opened_device) s)) (All-map IsServable opened_device settings.devices (All-weaker IsDeviceInRange _ opened_servable settings.devices are.devices_in_range));
+        servable = subst (All IsServable) (sym (d ∙ ap (map opened_device) s))
+            (All-map IsServable opened_device settings.devices
+            (All-weaker IsDeviceInRange _ opened_servable settings.devices are.devices_in_range));
         gathered = subst Q (sym g) (All-nil IsGathered);
         engaged = no_out n;
       }
 
   -- it is the desk's part of the whole system before the first step
-  pub opened_desk : (ids : List ℕ) (gateways : List GatewaySetting) → ids ≡ map (λ g. g.id) gateways → gateways ≡ settings.gateways
+  pub opened_desk : (ids : List ℕ) (gateways : List GatewaySetting) → ids ≡ map (λ g. g.id) gateways
+      → gateways ≡ settings.gateways
       → seen ids kepts gathered asked known ≡ desk_of (opening settings limits)
   opened_desk ids gateways e q =
       same_desk _ _ _ _ _ _ _ _ _ _

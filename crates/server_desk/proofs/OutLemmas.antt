@@ -1,5 +1,6 @@
 -- How many tickets and stubs of a device are out.
-use Rattle.std.specs.Prelude.{ℕ, ◌⊎◌, zero, suc, ◌≡◌, ◌≢◌, ◌+◌, ◌==◌, nat_lt, Bool, true, false, ◌&&◌, ◌||◌, if◌then◌else◌, List, [], ◌∷◌, ◌++◌, length, slice_get, slice_set, Option, Some, refl}
+use Rattle.std.specs.Prelude.{ℕ, ◌⊎◌, zero, suc, ◌≡◌, ◌≢◌, ◌+◌, ◌==◌, nat_lt, Bool, true, false, ◌&&◌, ◌||◌, if◌then◌else◌, List}
+use Rattle.std.specs.Prelude.{[], ◌∷◌, ◌++◌, length, slice_get, slice_set, Option, Some, refl}
 use Rattle.std.proofs.Common.{inl, inr, sym, ap, ◌∙◌, subst, arith, eq-eqb, ne_eqb}
 use Rattle.std.proofs.lemmas.Bool.Decides.{nat_tests}
 use Rattle.server_desk.specs.Register.{Asked}
@@ -13,7 +14,8 @@ as_count b = if b then 1 else 0
 
 module _ (place : ℕ) where
   -- an answer is written anew
-  count_set : (asked : List Asked) (known : List Known) (i : ℕ) (a : Asked) (k new : Known) → slice_get asked i ≡ Some a → slice_get known i ≡ Some k
+  count_set : (asked : List Asked) (known : List Known) (i : ℕ) (a : Asked) (k new : Known) → slice_get asked i ≡ Some a
+      → slice_get known i ≡ Some k
       → count_out place asked (slice_set known i new) + own_out place a k ≡ count_out place asked known + own_out place a new
   count_set [] known i a k new e f = absurd (cc)
   count_set (b ∷ asked) [] i a k new e f = absurd (cc)
@@ -38,17 +40,20 @@ module _ (place : ℕ) where
   engaged_by false e c h = h ∙ ap (nat_lt 0) (omega arith)
 
   -- a device is engaged where one is out
-  engaged_count : (asked : List Asked) (known : List Known) → is_engaged place asked known ≡ nat_lt 0 (count_out place asked known)
+  engaged_count : (asked : List Asked) (known : List Known) → is_engaged place asked known
+      ≡ nat_lt 0 (count_out place asked known)
   engaged_count [] known = refl
   engaged_count (a ∷ asked) [] = refl
-  engaged_count (a ∷ asked) (k ∷ known) = engaged_by (is_given k && (a.device == place)) (is_engaged place asked known) (count_out place asked known) (engaged_count asked known)
+  engaged_count (a ∷ asked) (k ∷ known) = engaged_by (is_given k && (a.device == place)) (is_engaged place asked known)
+      (count_out place asked known) (engaged_count asked known)
 
 as_counted : (b : Bool) → nat_lt 0 (as_count b) ≡ b
 as_counted true = refl
 as_counted false = refl
 
 -- a device is engaged as it says
-pub engaged_is : (outs : List Bool) (asked : List Asked) (known : List Known) (place : ℕ) (out : Bool) → AreOut outs asked known → slice_get outs place ≡ Some out
+pub engaged_is : (outs : List Bool) (asked : List Asked) (known : List Known) (place : ℕ) (out : Bool) → AreOut outs asked known
+    → slice_get outs place ≡ Some out
     → is_engaged place asked known ≡ out
 engaged_is outs asked known place out h e = engaged_count place asked known ∙ ap (nat_lt 0) (h place out e) ∙ as_counted out
 
@@ -64,11 +69,14 @@ own_given : (a : Asked) → own_out a.device a Given ≡ 1
 own_given a = ap as_count (eq-eqb a.device a.device refl)
 
 module _ (outs : List Bool) (asked : List Asked) (known : List Known) (i : ℕ) (a : Asked) (k new : Known) (old out : Bool)
-    (there : slice_get asked i ≡ Some a) (stated : slice_get known i ≡ Some k) (was : slice_get outs a.device ≡ Some old) (h : AreOut outs asked known)
+    (there : slice_get asked i ≡ Some a) (stated : slice_get known i ≡ Some k) (was : slice_get outs a.device ≡ Some old)
+    (h : AreOut outs asked known)
     (right : (c d : ℕ) → d + own_out a.device a k ≡ c + own_out a.device a new → c ≡ as_count old → d ≡ as_count out) where
-  out_at : (q : ℕ) (o : Bool) → ((a.device ≡ q) × (o ≡ out)) ⊎ ((a.device ≢ q) × (slice_get outs q ≡ Some o)) → count_out q asked (slice_set known i new) ≡ as_count o
+  out_at : (q : ℕ) (o : Bool) → ((a.device ≡ q) × (o ≡ out)) ⊎ ((a.device ≢ q) × (slice_get outs q ≡ Some o))
+      → count_out q asked (slice_set known i new) ≡ as_count o
   out_at q o (inl e) =
-      let here : count_out a.device asked (slice_set known i new) ≡ as_count out = right _ _ (count_set a.device asked known i a k new there stated) (h a.device old was) in
+      let here : count_out a.device asked (slice_set known i new) ≡ as_count out =
+      right _ _ (count_set a.device asked known i a k new there stated) (h a.device old was) in
       subst (λ p. count_out p asked (slice_set known i new) ≡ as_count o) e.0 (here ∙ ap as_count (sym e.1))
   out_at q o (inr e) =
       omega (arith, count_set q asked known i a k new there stated, own_other q a k e.0, own_other q a new e.0, h q o e.1)
@@ -76,9 +84,11 @@ module _ (outs : List Bool) (asked : List Asked) (known : List Known) (i : ℕ) 
   out_written : AreOut (slice_set outs a.device out) asked (slice_set known i new)
   out_written q o e = out_at q o (get_set_cases outs a.device q out o e)
 
-module _ (outs : List Bool) (asked : List Asked) (known : List Known) (i : ℕ) (a : Asked) (there : slice_get asked i ≡ Some a) (h : AreOut outs asked known) where
+module _ (outs : List Bool) (asked : List Asked) (known : List Known) (i : ℕ) (a : Asked) (there : slice_get asked i ≡ Some a)
+    (h : AreOut outs asked known) where
   -- a ticket is given of which none was out
-  pub out_given : slice_get known i ≡ Some NotGiven → slice_get outs a.device ≡ Some false → AreOut (slice_set outs a.device true) asked (slice_set known i Given)
+  pub out_given : slice_get known i ≡ Some NotGiven → slice_get outs a.device ≡ Some false
+      → AreOut (slice_set outs a.device true) asked (slice_set known i Given)
   out_given stated was =
       out_written outs asked known i a NotGiven Given false true there stated was h (λ c d e f. omega (arith, e, f, own_given a))
 

@@ -1,4 +1,6 @@
-use Rattle.std.proofs.Common.{◌≡◌, ◌≢◌, ℕ, zero, suc, ◌<◌, ◌==◌, Bool, true, false, not, if◌then◌else◌, List, [], ◌∷◌, ◌++◌, length, get_or, take, Option, Some, None, AllPairs, refl, sym, ◌∙◌, append_assoc, length-take, arith}
+use Rattle.std.proofs.Common.{◌≡◌, ◌≢◌, ℕ, zero, suc, ◌<◌, ◌==◌, Bool, true, false, not, if◌then◌else◌, List, [], ◌∷◌, ◌++◌}
+use Rattle.std.proofs.Common.{length, get_or, take, Option, Some, None, AllPairs, refl, sym, ◌∙◌, append_assoc, length-take}
+use Rattle.std.proofs.Common.{arith}
 use Rattle.std.specs.Option.{option_or}
 use Rattle.std.specs.List.{list_any}
 use Rattle.std.proofs.lemmas.Bool.{true≢false, eq-eqb, ne_eqb}
@@ -10,12 +12,14 @@ use Rattle.server_desk.specs.declared.setting.GatewaySetting.{GatewaySetting}
 use Rattle.server_desk.specs.declared.setting.DeviceSetting.{DeviceSetting}
 use Rattle.server_desk.specs.declared.settings_fault.SettingsFault.{SettingsFault}
 use Rattle.server_desk.specs.declared.settings_fault.SettingsFault.TheVariants.{Count, Range, DoubleGateway, NoBand, DoubleDevice}
-use Rattle.server_desk.specs.Settings.{IsGatewayInRange, is_gateway_in_range, IsDeviceInRange, is_device_in_range, has_rx2_band, AreSettings, are_counts_in_range, gateway_fault, device_fault, first_fault, settings_fault}
+use Rattle.server_desk.specs.Settings.{IsGatewayInRange, is_gateway_in_range, IsDeviceInRange, is_device_in_range, has_rx2_band}
+use Rattle.server_desk.specs.Settings.{AreSettings, are_counts_in_range, gateway_fault, device_fault, first_fault, settings_fault}
 
 -- Settings have no fault exactly where they are what `AreSettings` says.
 
 -- a test that gave no fault failed, and what comes after it gave none either
-passed : (test : Bool) (fault : SettingsFault) (rest : Option SettingsFault) → (if test then Some fault else rest) ≡ None → (test ≡ false) × (rest ≡ None)
+passed : (test : Bool) (fault : SettingsFault) (rest : Option SettingsFault) → (if test then Some fault else rest) ≡ None
+    → (test ≡ false) × (rest ≡ None)
 passed true fault rest h = absurd (none-some fault (sym h))
 passed false fault rest h = (refl, h)
 
@@ -27,7 +31,8 @@ both_none (Some fault) p h = absurd (none-some fault (sym h))
 abbrev pub FaultFree : {S : Type 0} → (List S → S → Option SettingsFault) → List S → List S → Type 0
 FaultFree {S} fault_of earlier xs = (k : ℕ) (d : S) → k < length xs → fault_of (earlier ++ take k xs) (get_or xs k d) ≡ None
 
-pub FaultFree-from_none : {S : Type 0} (fault_of : List S → S → Option SettingsFault) (earlier xs : List S) → first_fault fault_of earlier xs ≡ None → FaultFree fault_of earlier xs
+pub FaultFree-from_none : {S : Type 0} (fault_of : List S → S → Option SettingsFault) (earlier xs : List S)
+    → first_fault fault_of earlier xs ≡ None → FaultFree fault_of earlier xs
 FaultFree-from_none fault_of earlier [] h k d l = absurd (omega arith)
 FaultFree-from_none fault_of earlier (s ∷ more) h zero d l =
     let e = both_none (fault_of earlier s) (first_fault fault_of (earlier ++ s ∷ []) more) h in
@@ -37,7 +42,8 @@ FaultFree-from_none fault_of earlier (s ∷ more) h (suc k) d l =
     let ih = FaultFree-from_none fault_of (earlier ++ s ∷ []) more e.1 k d (omega arith) in
     rw append_assoc at ih
 
-pub first_fault-none : {S : Type 0} (fault_of : List S → S → Option SettingsFault) (earlier xs : List S) → FaultFree fault_of earlier xs → first_fault fault_of earlier xs ≡ None
+pub first_fault-none : {S : Type 0} (fault_of : List S → S → Option SettingsFault) (earlier xs : List S)
+    → FaultFree fault_of earlier xs → first_fault fault_of earlier xs ≡ None
 first_fault-none fault_of earlier [] h = refl
 first_fault-none fault_of earlier (s ∷ more) h =
     let here : fault_of earlier s ≡ None = rw (append-nil earlier) at (h 0 s (omega arith)) in
@@ -49,7 +55,8 @@ IsNew {S} key xs = (k : ℕ) (d : S) → k < length xs → list_any (λ e. key e
 
 pub AllPairs-from_IsNew : {S : Type 0} (key : S → ℕ) (xs : List S) → IsNew key xs → AllPairs (λ x y. key x ≢ key y) xs
 AllPairs-from_IsNew key xs h i j d i<j j<n same =
-    let there = list_any_at (λ e. key e == key (get_or xs j d)) (take j xs) i d (omega (arith, length-take j xs)) (rw (get_or-take j xs i d i<j) (eq-eqb _ _ same)) in
+    let there = list_any_at (λ e. key e == key (get_or xs j d)) (take j xs) i d (omega (arith, length-take j xs))
+    (rw (get_or-take j xs i d i<j) (eq-eqb _ _ same)) in
     true≢false (sym there ∙ h j d j<n)
 
 pub IsNew-from_AllPairs : {S : Type 0} (key : S → ℕ) (xs : List S) → AllPairs (λ x y. key x ≢ key y) xs → IsNew key xs
@@ -63,7 +70,11 @@ IsNew-from_AllPairs key xs h k d k<n =
 -- the tests say what the facts say
 IsGatewayInRange-test : (g : GatewaySetting) → is_gateway_in_range g ≡ true → IsGatewayInRange g
 IsGatewayInRange-test g h =
-    record { id = (grind (arith, nat_tests), grind (arith, nat_tests)); cap = (grind (arith, nat_tests), grind (arith, nat_tests)) }
+    record {
+      id = (grind (arith, nat_tests), grind (arith, nat_tests));
+      cap =
+          (grind (arith, nat_tests), grind (arith, nat_tests));
+    }
 
 is_gateway_in_range-true : (g : GatewaySetting) → IsGatewayInRange g → is_gateway_in_range g ≡ true
 is_gateway_in_range-true g h = grind (arith, nat_tests)
@@ -84,14 +95,16 @@ not_not true h = refl
 not_not false h = sym h
 
 -- a gateway without a fault is in range and new
-gateway_passed : (earlier : List GatewaySetting) (g : GatewaySetting) → gateway_fault earlier g ≡ None → (is_gateway_in_range g ≡ true) × (list_any (λ e. e.id == g.id) earlier ≡ false)
+gateway_passed : (earlier : List GatewaySetting) (g : GatewaySetting) → gateway_fault earlier g ≡ None
+    → (is_gateway_in_range g ≡ true) × (list_any (λ e. e.id == g.id) earlier ≡ false)
 gateway_passed earlier g h =
     let ranged = passed (not (is_gateway_in_range g)) Range _ h in
     let new = passed (list_any (λ e. e.id == g.id) earlier) DoubleGateway None ranged.1 in
     (not_not _ ranged.0, new.0)
 
 -- a device without a fault is in range and new, and the channel of its RX2 lies in a sub-band
-device_passed : (earlier : List DeviceSetting) (d : DeviceSetting) → device_fault earlier d ≡ None → (is_device_in_range d ≡ true) × (has_rx2_band d ≡ true) × (list_any (λ e. e.addr == d.addr) earlier ≡ false)
+device_passed : (earlier : List DeviceSetting) (d : DeviceSetting) → device_fault earlier d ≡ None
+    → (is_device_in_range d ≡ true) × (has_rx2_band d ≡ true) × (list_any (λ e. e.addr == d.addr) earlier ≡ false)
 device_passed earlier d h =
     let ranged = passed (not (is_device_in_range d)) Range _ h in
     let banded = passed (not (has_rx2_band d)) NoBand _ ranged.1 in
@@ -99,7 +112,8 @@ device_passed earlier d h =
     (not_not _ ranged.0, not_not _ banded.0, new.0)
 
 -- settings without a fault are what the type keeps
-pub AreSettings-from_none : (gateways : List GatewaySetting) (devices : List DeviceSetting) → settings_fault gateways devices ≡ None → AreSettings gateways devices
+pub AreSettings-from_none : (gateways : List GatewaySetting) (devices : List DeviceSetting)
+    → settings_fault gateways devices ≡ None → AreSettings gateways devices
 unfolding settings_fault
 AreSettings-from_none gateways devices h =
     let counted = passed (not (are_counts_in_range (length gateways) (length devices))) Count _ h in
@@ -107,8 +121,10 @@ AreSettings-from_none gateways devices h =
     let both = both_none (first_fault gateway_fault [] gateways) (first_fault device_fault [] devices) counted.1 in
     let gateway_free = FaultFree-from_none gateway_fault [] gateways both.0 in
     let device_free = FaultFree-from_none device_fault [] devices both.1 in
-    let gateway_at = λ (k : ℕ) (d : GatewaySetting) (l : k < length gateways). gateway_passed (take k gateways) (get_or gateways k d) (gateway_free k d l) in
-    let device_at = λ (k : ℕ) (d : DeviceSetting) (l : k < length devices). device_passed (take k devices) (get_or devices k d) (device_free k d l) in
+    let gateway_at = λ (k : ℕ) (d : GatewaySetting) (l : k < length gateways). gateway_passed (take k gateways)
+    (get_or gateways k d) (gateway_free k d l) in
+    let device_at = λ (k : ℕ) (d : DeviceSetting) (l : k < length devices). device_passed (take k devices) (get_or devices k d)
+    (device_free k d l) in
     record {
       gateway_count = (grind (arith, nat_tests), grind (arith, nat_tests));
       device_count = (grind (arith, nat_tests), grind (arith, nat_tests));
@@ -120,12 +136,15 @@ AreSettings-from_none gateways devices h =
     }
 
 -- what the type keeps has no fault
-pub none-from_AreSettings : (gateways : List GatewaySetting) (devices : List DeviceSetting) → AreSettings gateways devices → settings_fault gateways devices ≡ None
+pub none-from_AreSettings : (gateways : List GatewaySetting) (devices : List DeviceSetting) → AreSettings gateways devices
+    → settings_fault gateways devices ≡ None
 unfolding settings_fault
 none-from_AreSettings gateways devices h =
     let ids = IsNew-from_AllPairs (λ g. g.id) gateways h.ids_differ in
     let addrs = IsNew-from_AllPairs (λ d. d.addr) devices h.addrs_differ in
     let counts : are_counts_in_range (length gateways) (length devices) ≡ true = grind (arith, nat_tests) in
-    let gateway_none = first_fault-none gateway_fault [] gateways (λ k d l. rw (is_gateway_in_range-true _ (h.gateways_in_range k d l), ids k d l)) in
-    let device_none = first_fault-none device_fault [] devices (λ k d l. rw (is_device_in_range-true _ (h.devices_in_range k d l), h.rx2_in_bands k d l, addrs k d l)) in
+    let gateway_none = first_fault-none gateway_fault [] gateways
+    (λ k d l. rw (is_gateway_in_range-true _ (h.gateways_in_range k d l), ids k d l)) in
+    let device_none = first_fault-none device_fault [] devices
+    (λ k d l. rw (is_device_in_range-true _ (h.devices_in_range k d l), h.rx2_in_bands k d l, addrs k d l)) in
     rw (counts, gateway_none) device_none

@@ -1,4 +1,5 @@
-use Rattle.std.specs.Prelude.{ℕ, ◌+◌, ◌≤◌, ◌≢◌, ◌^◌, ◌*◌, ◌<◌, ◌==◌, ◌≡◌, if◌then◌else◌, List, [], ◌∷◌, map, length, slice_set, get_or, All, AllPairs, Option, Some, None}
+use Rattle.std.specs.Prelude.{ℕ, ◌+◌, ◌≤◌, ◌≢◌, ◌^◌, ◌*◌, ◌<◌, ◌==◌, ◌≡◌, if◌then◌else◌, List, [], ◌∷◌, map, length, slice_set}
+use Rattle.std.specs.Prelude.{get_or, All, AllPairs, Option, Some, None}
 use Rattle.std.specs.List.{list_any}
 use Rattle.answer_ticket.specs.declared.outcome.Ending.{Ending}
 use Rattle.answer_ticket.specs.Ended.{longest_us}

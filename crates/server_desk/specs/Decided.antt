@@ -1,5 +1,6 @@
 -- What is known of a copy that joins a gathering, or opens one.
-use Rattle.std.specs.Prelude.{ℕ, ◌≡◌, ◌%◌, ◌==◌, nat_lt, slice_index, Bool, true, false, not, ◌||◌, if◌then◌else◌, List, length, Option, Some, None, Result, Ok, Err, ⊤, refl}
+use Rattle.std.specs.Prelude.{ℕ, ◌≡◌, ◌%◌, ◌==◌, nat_lt, slice_index, Bool, true, false, not, ◌||◌, if◌then◌else◌, List, length}
+use Rattle.std.specs.Prelude.{Option, Some, None, Result, Ok, Err, ⊤, refl}
 use Rattle.std.proofs.Common.{sym, ap, subst}
 use Rattle.lora_frame.specs.declared.reading.Uplink.{Uplink}
 use Rattle.lora_frame.specs.declared.reading.FrameFault.{FrameFault}
@@ -14,7 +15,8 @@ use Rattle.server_desk.specs.declared.heard.Heard1.{Heard1}
 use Rattle.server_desk.specs.declared.faults.DeskFault.{DeskFault}
 use Rattle.server_desk.specs.declared.faults.DeskFault.TheVariants.{BadMic}
 use Rattle.server_desk.specs.Register.{Device, Register, device_with}
-use Rattle.server_desk.specs.Hearing.{Decision, Refuse, Join, Open, Opening, copy_fault, decide_room, decide_mic, decide_device, decide_place, decide_copy, decide_frame, decide}
+use Rattle.server_desk.specs.Hearing.{Decision, Refuse, Join, Open, Opening, copy_fault, decide_room, decide_mic, decide_device}
+use Rattle.server_desk.specs.Hearing.{decide_place, decide_copy, decide_frame, decide}
 
 -- the newest gathering of the bytes tells where the copy goes; one that opens a gathering has room, and is of a device
 abbrev pub IsDecided : Register → List ℕ → ℕ → ℕ → Decision → Type 0
@@ -33,33 +35,42 @@ module _ (reg : Register) (bytes : List ℕ) (gateway arrived : ℕ) (uplink : U
 
   mic_by : (t : Bool) (found : ℕ × Device) (counter : ℕ) → place_of reg.gathered bytes gateway arrived ≡ Ok Opens
       → device_with (addr_of bytes) reg.devices ≡ Some found
-      → IsDecided reg bytes gateway arrived (if t then decide_room (is_crowded reg.gathered) (record { place = found.0; device = found.1; counter = counter }) else Refuse BadMic)
-  mic_by true found counter p d = room_decided (is_crowded reg.gathered) (record { place = found.0; device = found.1; counter = counter }) refl p d
+      → IsDecided reg bytes gateway arrived (if t then decide_room (is_crowded reg.gathered)
+      (record { place = found.0; device = found.1; counter = counter }) else Refuse BadMic)
+  mic_by true found counter p d = room_decided (is_crowded reg.gathered)
+      (record { place = found.0; device = found.1; counter = counter }) refl p d
   mic_by false found counter p d = tt
 
   mic_decided : (found : ℕ × Device) (o : Option ℕ) → place_of reg.gathered bytes gateway arrived ≡ Ok Opens
-      → device_with (addr_of bytes) reg.devices ≡ Some found → IsDecided reg bytes gateway arrived (decide_mic (is_crowded reg.gathered) bytes found o)
+      → device_with (addr_of bytes) reg.devices ≡ Some found
+      → IsDecided reg bytes gateway arrived (decide_mic (is_crowded reg.gathered) bytes found o)
   mic_decided found None p d = tt
   mic_decided found (Some counter) p d = mic_by (has_mic bytes found.1.setting.nwk counter) found counter p d
 
-  device_decided : (o : Option (ℕ × Device)) → place_of reg.gathered bytes gateway arrived ≡ Ok Opens → device_with (addr_of bytes) reg.devices ≡ o
+  device_decided : (o : Option (ℕ × Device)) → place_of reg.gathered bytes gateway arrived ≡ Ok Opens
+      → device_with (addr_of bytes) reg.devices ≡ o
       → IsDecided reg bytes gateway arrived (decide_device (is_crowded reg.gathered) bytes uplink o)
   device_decided None p d = tt
   device_decided (Some found) p d = mic_decided found (inferred_counter found.1.up uplink.low) p d
 
-  place_decided : (r : Result Place HearFault) → place_of reg.gathered bytes gateway arrived ≡ r → IsDecided reg bytes gateway arrived (decide_place reg bytes uplink r)
+  place_decided : (r : Result Place HearFault) → place_of reg.gathered bytes gateway arrived ≡ r
+      → IsDecided reg bytes gateway arrived (decide_place reg bytes uplink r)
   place_decided (Err fault) p = tt
   place_decided (Ok (Joins n)) p = p
-  place_decided (Ok Opens) p = device_decided (device_with uplink.addr reg.devices) p (ap (λ a. device_with a reg.devices) (sym own))
+  place_decided (Ok Opens) p = device_decided (device_with uplink.addr reg.devices) p
+      (ap (λ a. device_with a reg.devices) (sym own))
 
-  copy_decided : (heard : Heard1) (o : Option DeskFault) → heard.gateway ≡ gateway → IsDecided reg bytes gateway arrived (decide_copy reg bytes heard arrived uplink o)
+  copy_decided : (heard : Heard1) (o : Option DeskFault) → heard.gateway ≡ gateway
+      → IsDecided reg bytes gateway arrived (decide_copy reg bytes heard arrived uplink o)
   copy_decided heard (Some fault) e = tt
   copy_decided heard None e =
-      subst (λ g. IsDecided reg bytes gateway arrived (decide_place reg bytes uplink (place_of reg.gathered bytes g arrived))) (sym e)
+      subst (λ g. IsDecided reg bytes gateway arrived (decide_place reg bytes uplink (place_of reg.gathered bytes g arrived)))
+      (sym e)
       (place_decided (place_of reg.gathered bytes gateway arrived) refl)
 
 -- what was read of the bytes is their record
-passed : (t : Bool) (fault : FrameFault) (rest : Result Uplink FrameFault) (u : Uplink) → (if t then Err fault else rest) ≡ Ok u → rest ≡ Ok u
+passed : (t : Bool) (fault : FrameFault) (rest : Result Uplink FrameFault) (u : Uplink) → (if t then Err fault else rest) ≡ Ok u
+    → rest ≡ Ok u
 passed true fault rest u e = absurd (cc)
 passed false fault rest u e = e
 
@@ -82,12 +93,15 @@ read_same bytes u e =
     (passed (not (frame_type bytes == 2 || frame_type bytes == 4)) NotData major u
     (passed (nat_lt 255 (length bytes)) Long data_ u (passed (nat_lt (length bytes) 12) Short long u e)))))
 
-frame_decided : (ids : List ℕ) (reg : Register) (bytes : List ℕ) (heard : Heard1) (arrived : ℕ) (r : Result Uplink FrameFault) → uplink_of bytes ≡ r
+frame_decided : (ids : List ℕ) (reg : Register) (bytes : List ℕ) (heard : Heard1) (arrived : ℕ) (r : Result Uplink FrameFault)
+    → uplink_of bytes ≡ r
     → IsDecided reg bytes heard.gateway arrived (decide_frame ids reg bytes heard arrived r)
 frame_decided ids reg bytes heard arrived (Err fault) e = tt
 frame_decided ids reg bytes heard arrived (Ok uplink) e =
-    copy_decided reg bytes heard.gateway arrived uplink (ap (λ (u : Uplink). u.addr) (sym (read_same bytes uplink e))) heard (copy_fault ids heard arrived) refl
+    copy_decided reg bytes heard.gateway arrived uplink (ap (λ (u : Uplink). u.addr) (sym (read_same bytes uplink e))) heard
+    (copy_fault ids heard arrived) refl
 
-pub decided : (ids : List ℕ) (reg : Register) (bytes : List ℕ) (heard : Heard1) (arrived : ℕ) → IsDecided reg bytes heard.gateway arrived (decide ids reg bytes heard arrived)
+pub decided : (ids : List ℕ) (reg : Register) (bytes : List ℕ) (heard : Heard1) (arrived : ℕ)
+    → IsDecided reg bytes heard.gateway arrived (decide ids reg bytes heard arrived)
 unfolding decide
 decided ids reg bytes heard arrived = frame_decided ids reg bytes heard arrived (uplink_of bytes) refl

@@ -1,4 +1,5 @@
-use Rattle.std.specs.Prelude.{ℕ, ◌+◌, ◌^◌, nat_lt, ◌==◌, Bool, false, not, ◌||◌, if◌then◌else◌, is_some, List, [], ◌∷◌, ◌++◌, length, slice_set, Option, Some, None, Result, Ok, Err}
+use Rattle.std.specs.Prelude.{ℕ, ◌+◌, ◌^◌, nat_lt, ◌==◌, Bool, false, not, ◌||◌, if◌then◌else◌, is_some, List, [], ◌∷◌, ◌++◌}
+use Rattle.std.specs.Prelude.{length, slice_set, Option, Some, None, Result, Ok, Err}
 use Rattle.std.specs.List.{list_any}
 use Rattle.std.specs.Option.{option_map_or}
 use Rattle.radio_bands.specs.Band.{band_of}
@@ -18,7 +19,8 @@ use Rattle.server_desk.specs.declared.heard.Heard1.{Heard1}
 use Rattle.server_desk.specs.declared.heard.DeskHeard.{DeskHeard}
 use Rattle.server_desk.specs.declared.heard.DeskHeard.TheVariants.{Opened, Joined}
 use Rattle.server_desk.specs.declared.faults.DeskFault.{DeskFault}
-use Rattle.server_desk.specs.declared.faults.DeskFault.TheVariants.{Frame, UnknownGateway, NoRate, NoBand, Moment, SameGateway, TooManyCopies, Late, UnknownDevice, BadMic, Crowded, NoMemory}
+use Rattle.server_desk.specs.declared.faults.DeskFault.TheVariants.{Frame, UnknownGateway, NoRate, NoBand, Moment, SameGateway}
+use Rattle.server_desk.specs.declared.faults.DeskFault.TheVariants.{TooManyCopies, Late, UnknownDevice, BadMic, Crowded, NoMemory}
 use Rattle.server_desk.specs.Register.{Device, Asked, Register, device_with}
 
 -- A copy of an uplink is heard. The order of the faults and the last moment are this project's profile.

@@ -1,4 +1,5 @@
-use Rattle.std.specs.Prelude.{ℕ, ◌≡◌, ◌+◌, ◌^◌, ◌<◌, ◌≤◌, ◌==◌, Bool, ◌&&◌, if◌then◌else◌, List, [], ◌∷◌, map, length, slice_get, All, Some, None, Result, Ok, Err}
+use Rattle.std.specs.Prelude.{ℕ, ◌≡◌, ◌+◌, ◌^◌, ◌<◌, ◌≤◌, ◌==◌, Bool, ◌&&◌, if◌then◌else◌, List, [], ◌∷◌, map, length, slice_get}
+use Rattle.std.specs.Prelude.{All, Some, None, Result, Ok, Err}
 use Rattle.uplink_gather.specs.Gatherings.{Gathering, numbered}
 use Rattle.rx_windows.specs.Rank.{HaveDistinctGateways}
 use Rattle.rx_windows.specs.Windows.{IsHeard}

@@ -1,5 +1,6 @@
 -- Members of a list by their places.
-use Rattle.std.specs.Prelude.{ℕ, zero, suc, ◌≡◌, ◌≢◌, ◌⊎◌, List, [], ◌∷◌, ◌++◌, map, length, All, Contains, slice_get, slice_set, Option, Some, unwrap_or, refl}
+use Rattle.std.specs.Prelude.{ℕ, zero, suc, ◌≡◌, ◌≢◌, ◌⊎◌, List, [], ◌∷◌, ◌++◌, map, length, All, Contains, slice_get, slice_set}
+use Rattle.std.specs.Prelude.{Option, Some, unwrap_or, refl}
 use Rattle.std.specs.Option.{option_map}
 use Rattle.std.proofs.Common.{inl, inr, sym, ap, ◌∙◌, subst, arith}
 use Rattle.std.proofs.lemmas.Option.{slice_get-map, slice_get_within, get_or_from_slice_get}
@@ -32,7 +33,8 @@ module _ {X : Type 0} where
   get_append_cases (x ∷ xs) y z zero e = inl e
   get_append_cases (x ∷ xs) y z (suc i) e = later (get_append_cases xs y z i e)
     where
-      later : (slice_get xs i ≡ Some z) ⊎ ((i ≡ length xs) × (z ≡ y)) → (slice_get xs i ≡ Some z) ⊎ ((suc i ≡ suc (length xs)) × (z ≡ y))
+      later : (slice_get xs i ≡ Some z) ⊎ ((i ≡ length xs) × (z ≡ y))
+          → (slice_get xs i ≡ Some z) ⊎ ((suc i ≡ suc (length xs)) × (z ≡ y))
       later (inl h) = inl h
       later (inr h) = inr (ap suc h.0, h.1)
 
@@ -45,7 +47,8 @@ module _ {X : Type 0} where
   get_set_cases (x ∷ xs) (suc i) zero y z e = inr (λ q. absurd (omega (arith, q)), e)
   get_set_cases (x ∷ xs) (suc i) (suc j) y z e = later (get_set_cases xs i j y z e)
     where
-      later : ((i ≡ j) × (z ≡ y)) ⊎ ((i ≢ j) × (slice_get xs j ≡ Some z)) → ((suc i ≡ suc j) × (z ≡ y)) ⊎ ((suc i ≢ suc j) × (slice_get xs j ≡ Some z))
+      later : ((i ≡ j) × (z ≡ y)) ⊎ ((i ≢ j) × (slice_get xs j ≡ Some z))
+          → ((suc i ≡ suc j) × (z ≡ y)) ⊎ ((suc i ≢ suc j) × (slice_get xs j ≡ Some z))
       later (inl h) = inl (ap suc h.0, h.1)
       later (inr h) = inr (λ q. h.0 (omega (arith, q)), h.1)
 

@@ -1,4 +1,5 @@
-use Rattle.std.specs.Prelude.{ℕ, ◌+◌, nat_lt, nat_le, ◌==◌, ◌||◌, if◌then◌else◌, [], ◌∷◌, ◌++◌, length, slice_set, Option, Some, None, Result, Ok, Err}
+use Rattle.std.specs.Prelude.{ℕ, ◌+◌, nat_lt, nat_le, ◌==◌, ◌||◌, if◌then◌else◌, [], ◌∷◌, ◌++◌, length, slice_set, Option, Some}
+use Rattle.std.specs.Prelude.{None, Result, Ok, Err}
 use Rattle.answer_ticket.specs.Job.{Payload}
 use Rattle.server_desk.specs.declared.faults.QueueFault.{QueueFault}
 use Rattle.server_desk.specs.declared.faults.QueueFault.TheVariants.{UnknownDevice, Port, Long, QueueFull}

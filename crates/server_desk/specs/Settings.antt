@@ -1,4 +1,5 @@
-use Rattle.std.specs.Prelude.{ℕ, ◌≢◌, ◌≤◌, ◌^◌, nat_le, ◌==◌, Bool, not, ◌&&◌, if◌then◌else◌, is_some, IsSome, List, [], ◌∷◌, ◌++◌, length, All, AllPairs, Option, Some, None}
+use Rattle.std.specs.Prelude.{ℕ, ◌≢◌, ◌≤◌, ◌^◌, nat_le, ◌==◌, Bool, not, ◌&&◌, if◌then◌else◌, is_some, IsSome, List, [], ◌∷◌}
+use Rattle.std.specs.Prelude.{◌++◌, length, All, AllPairs, Option, Some, None}
 use Rattle.std.specs.Option.{option_or}
 use Rattle.std.specs.List.{list_any}
 use Rattle.radio_bands.specs.Band.{band_of}

@@ -50,9 +50,16 @@ impl<S: BuildHasher, A: Allocator> Model for Desk<S, A> {
 
     ghost Value = { DeskView };
 
-    ghost view = { λ d. record { ids = d.gateways.items; reg = record { devices = map shown d.devices.items; gathered = d.gather; asked = d.asked.items }; known = d.known.items } };
+    ghost view = { λ d. record {
+      ids = d.gateways.items;
+      reg =
+          record { devices = map shown d.devices.items; gathered = d.gather; asked = d.asked.items };
+      known = d.known.items;
+    } };
 
-    ghost invariant = { λ d. IsDesk d.addrs.keys (outs d.devices.items) (record { devices = map shown d.devices.items; gathered = d.gather; asked = d.asked.items }) d.known.items × AreAirtimes d.gateways.items d.answered.items d.gather.limits.max_ever d.known.items };
+    ghost invariant = { λ d. IsDesk d.addrs.keys (outs d.devices.items)
+        (record { devices = map shown d.devices.items; gathered = d.gather; asked = d.asked.items }) d.known.items
+        × AreAirtimes d.gateways.items d.answered.items d.gather.limits.max_ever d.known.items };
 }
 
 impl<S: BuildHasher + Clone, A: Allocator + Copy> Desk<S, A> {
@@ -90,7 +97,8 @@ impl<S: BuildHasher, A: Allocator + Copy> Desk<S, A> {
     /// of 0 to 242 bytes, not encrypted, and answers how many wait then, at most 16, or the first fault that holds, in the
     /// order of `QueueFault`. A fault changes nothing; `NoMemory` comes only where a growth was refused.
     pub fn queue(&mut self, addr: u32, port: u8, payload: &[u8]) -> Result<usize, QueueFault>
-        ensures answer { MatchResult (queue_answer self.old.reg addr (port, payload.now)) (λ _. IsOkUnless result QueueFault.NoMemory) (λ fault. result ≡ Err fault) }
+        ensures answer { MatchResult (queue_answer self.old.reg addr (port, payload.now))
+            (λ _. IsOkUnless result QueueFault.NoMemory) (λ fault. result ≡ Err fault) }
         ensures told { IfOk result (λ count. queue_answer self.old.reg addr (port, payload.now) ≡ Ok count) }
         ensures step { OnOk result (self.new ≡ desk_queue self.old addr (port, payload.now)) }
         ensures refused { OnErr result (self.new ≡ self.old) }
@@ -111,8 +119,10 @@ impl<S: BuildHasher, A: Allocator + Copy> Desk<S, A> {
         heard: Heard1,
         arrived: u64,
     ) -> Result<DeskHeard, DeskFault>
-        ensures answer { MatchResult (answer_to (decide self.old.ids self.old.reg bytes.now heard arrived) self.old.reg) (λ _. IsOkUnless result DeskFault.NoMemory) (λ fault. result ≡ Err fault) }
-        ensures told { IfOk result (λ told. answer_to (decide self.old.ids self.old.reg bytes.now heard arrived) self.old.reg ≡ Ok told) }
+        ensures answer { MatchResult (answer_to (decide self.old.ids self.old.reg bytes.now heard arrived) self.old.reg)
+            (λ _. IsOkUnless result DeskFault.NoMemory) (λ fault. result ≡ Err fault) }
+        ensures told { IfOk result (λ told. answer_to (decide self.old.ids self.old.reg bytes.now heard arrived) self.old.reg
+            ≡ Ok told) }
         ensures step { OnOk result (self.new ≡ desk_hear self.old bytes.now heard arrived) }
         ensures refused { OnErr result (self.new ≡ self.old) }
     {
@@ -126,8 +136,10 @@ impl<S: BuildHasher, A: Allocator + Copy> Desk<S, A> {
     /// Puts a copy to those of its gathering.
     fn join(&mut self, bytes: &[u8], heard: &Heard1, arrived: u64) -> Result<DeskHeard, DeskFault>
         requires { verdict_of bytes.now (decide self.old.ids self.old.reg bytes.now heard.now arrived) ≡ Verdict.Join }
-        ensures answer { MatchResult (answer_to (decide self.old.ids self.old.reg bytes.now heard.now arrived) self.old.reg) (λ _. IsOkUnless result DeskFault.NoMemory) (λ fault. result ≡ Err fault) }
-        ensures told { IfOk result (λ told. answer_to (decide self.old.ids self.old.reg bytes.now heard.now arrived) self.old.reg ≡ Ok told) }
+        ensures answer { MatchResult (answer_to (decide self.old.ids self.old.reg bytes.now heard.now arrived) self.old.reg)
+            (λ _. IsOkUnless result DeskFault.NoMemory) (λ fault. result ≡ Err fault) }
+        ensures told { IfOk result (λ told. answer_to (decide self.old.ids self.old.reg bytes.now heard.now arrived) self.old.reg
+            ≡ Ok told) }
         ensures step { OnOk result (self.new ≡ desk_hear self.old bytes.now heard.now arrived) }
         ensures refused { OnErr result (self.new ≡ self.old) }
     {
@@ -144,8 +156,10 @@ impl<S: BuildHasher, A: Allocator + Copy> Desk<S, A> {
         arrived: u64,
     ) -> Result<DeskHeard, DeskFault>
         requires { verdict_of bytes.now (decide self.old.ids self.old.reg bytes.now heard.now arrived) ≡ Verdict.Open new }
-        ensures answer { MatchResult (answer_to (decide self.old.ids self.old.reg bytes.now heard.now arrived) self.old.reg) (λ _. IsOkUnless result DeskFault.NoMemory) (λ fault. result ≡ Err fault) }
-        ensures told { IfOk result (λ told. answer_to (decide self.old.ids self.old.reg bytes.now heard.now arrived) self.old.reg ≡ Ok told) }
+        ensures answer { MatchResult (answer_to (decide self.old.ids self.old.reg bytes.now heard.now arrived) self.old.reg)
+            (λ _. IsOkUnless result DeskFault.NoMemory) (λ fault. result ≡ Err fault) }
+        ensures told { IfOk result (λ told. answer_to (decide self.old.ids self.old.reg bytes.now heard.now arrived) self.old.reg
+            ≡ Ok told) }
         ensures step { OnOk result (self.new ≡ desk_hear self.old bytes.now heard.now arrived) }
         ensures refused { OnErr result (self.new ≡ self.old) }
     {
@@ -200,7 +214,8 @@ impl<S: BuildHasher, A: Allocator> Desk<S, A> {
     /// What is to be done with an uplink that would open a gathering.
     fn verdict_on(&self, bytes: &[u8], uplink: Uplink) -> Verdict
         requires { uplink_of bytes.now ≡ Ok uplink }
-        ensures { result ≡ verdict_of bytes.now (decide_device (is_crowded self.now.reg.gathered) bytes.now uplink (device_with uplink.addr self.now.reg.devices)) }
+        ensures { result ≡ verdict_of bytes.now (decide_device (is_crowded self.now.reg.gathered) bytes.now uplink
+            (device_with uplink.addr self.now.reg.devices)) }
     {
         let Some(place) = self.place_of(uplink.addr) else {
             return Verdict::Refuse(DeskFault::UnknownDevice);

@@ -1,4 +1,5 @@
-ghost use Rattle.std.specs.Prelude.{◌≡◌, ◌+◌, ◌^◌, ◌<◌, true, false, if◌then◌else◌, IfOk, OnOk, OnErr, MatchResult, IsOkUnless, length};
+ghost use Rattle.std.specs.Prelude.{◌≡◌, ◌+◌, ◌^◌, ◌<◌, true, false, if◌then◌else◌, IfOk, OnOk, OnErr, MatchResult, IsOkUnless};
+ghost use Rattle.std.specs.Prelude.{length};
 ghost use Rattle.server_desk.specs.Queueing.{queue_fault, queued_or, with_payload};
 ghost use Rattle.server_desk.specs.Taking.{head, plan_for, job_for, fault_of, with_counter_given};
 ghost use Rattle.server_desk.specs.Settling.{without_head};
@@ -46,8 +47,10 @@ impl<A: Allocator + Copy> Kept<A> {
 
     /// Puts a payload at the end of the queue, and answers how many wait then. The growths come first.
     pub(crate) fn push(&mut self, port: u8, payload: &[u8]) -> Result<usize, QueueFault>
-        ensures answer { MatchResult (queued_or (shown self.old) (queue_fault (shown self.old) (port, payload.now))) (λ _. IsOkUnless result QueueFault.NoMemory) (λ fault. result ≡ Err fault) }
-        ensures told { IfOk result (λ count. queued_or (shown self.old) (queue_fault (shown self.old) (port, payload.now)) ≡ Ok count) }
+        ensures answer { MatchResult (queued_or (shown self.old) (queue_fault (shown self.old) (port, payload.now)))
+            (λ _. IsOkUnless result QueueFault.NoMemory) (λ fault. result ≡ Err fault) }
+        ensures told { IfOk result (λ count. queued_or (shown self.old) (queue_fault (shown self.old) (port, payload.now))
+            ≡ Ok count) }
         ensures pushed { OnOk result (shown self.new ≡ with_payload (port, payload.now) (shown self.old)) }
         ensures refused { OnErr result (shown self.new ≡ shown self.old) }
         ensures setting { self.new.setting ≡ self.old.setting }

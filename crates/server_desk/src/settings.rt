@@ -2,7 +2,8 @@
 ghost use Rattle.std.specs.Prelude.{◌≡◌, ◌==◌, ◌↔◌, List, [], Option, MatchOption, IsOk, IsOkAnd};
 ghost use Rattle.server_desk.specs.declared.settings_fault.SettingsFault.{SettingsFault};
 ghost use Rattle.std.specs.List.{list_any};
-ghost use Rattle.server_desk.specs.Settings.{SettingLists, AreSettings, are_counts_in_range, gateway_fault, device_fault, first_fault, settings_fault, is_gateway_in_range, is_device_in_range};
+ghost use Rattle.server_desk.specs.Settings.{SettingLists, AreSettings, are_counts_in_range, gateway_fault, device_fault};
+ghost use Rattle.server_desk.specs.Settings.{first_fault, settings_fault, is_gateway_in_range, is_device_in_range};
 
 use crate::{DeviceSetting, GatewaySetting, SettingsFault};
 use radio_bands::Band;
@@ -40,7 +41,9 @@ impl<A: Allocator> Settings<A> {
         gateways: Vec<GatewaySetting, A>,
         devices: Vec<DeviceSetting, A>,
     ) -> Result<Self, SettingsFault>
-        ensures fault { MatchOption (settings_fault gateways.items devices.items) (IsOkAnd result (λ s. s ≡ record { gateways = gateways.items; devices = devices.items })) (λ fault. result ≡ Err fault) }
+        ensures fault { MatchOption (settings_fault gateways.items devices.items)
+            (IsOkAnd result (λ s. s ≡ record { gateways = gateways.items; devices = devices.items }))
+            (λ fault. result ≡ Err fault) }
         ensures accepted { IsOk result ↔ AreSettings gateways.items devices.items }
     {
         match fault_of(&gateways, &devices) {

@@ -20,10 +20,12 @@ impl<S: BuildHasher, A: Allocator> Desk<S, A> {
     /// where no ticket or stub of its number is out, or where the answer was booked on a gateway that isn't in the
     /// desk's settings. A payload that was booked is taken off its device's queue. Takes no memory.
     pub fn settle(&mut self, stub: Stub) -> Result<Outcome, Stub>
-        ensures answer { MatchBool (may_settle self.old.ids self.old.known stub.number stub.result) (result ≡ Ok stub) (result ≡ Err stub) }
+        ensures answer { MatchBool (may_settle self.old.ids self.old.known stub.number stub.result) (result ≡ Ok stub)
+            (result ≡ Err stub) }
         ensures step { self.new ≡ desk_settle self.old stub.number stub.result }
         ensures booked { IfOk result (λ outcome. IsOfCandidate outcome.result) }
-        ensures total { OnOk result (total_at self.new.ids self.new.known ≡ total_at self.old.ids self.old.known + airtime_of_ending stub.result) }
+        ensures total { OnOk result (total_at self.new.ids self.new.known
+            ≡ total_at self.old.ids self.old.known + airtime_of_ending stub.result) }
         ensures limit { OnOk result (total_at self.new.ids self.new.known ≤ total_limit) }
     {
         if !self.may_settle(&stub) {
@@ -63,7 +65,8 @@ impl<S: BuildHasher, A: Allocator> Desk<S, A> {
         requires out { may_settle self.old.ids self.old.known outcome.now.number outcome.now.result ≡ true }
         requires short { IsWithinLongest outcome.now.result }
         ensures step { self.new ≡ desk_settled outcome.now.result outcome.now.number self.old }
-        ensures total { total_at self.new.ids self.new.known ≡ total_at self.old.ids self.old.known + airtime_of_ending outcome.now.result }
+        ensures total { total_at self.new.ids self.new.known
+            ≡ total_at self.old.ids self.old.known + airtime_of_ending outcome.now.result }
         ensures limit { total_at self.new.ids self.new.known ≤ total_limit }
     {
         let place = outcome.number as usize - 1;

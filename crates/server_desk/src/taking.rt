@@ -19,7 +19,8 @@ impl<S: BuildHasher, A: Allocator + Copy> Desk<S, A> {
     /// the order of `TakeFault`. The ticket's downlink counter is used up, whatever becomes of the ticket. A fault changes
     /// nothing; `NoMemory` comes only where a growth was refused.
     pub fn take(&mut self, n: u64) -> Result<Ticket<A>, TakeFault>
-        ensures answer { MatchResult (take_answer self.old.reg self.old.known n) (λ _. IsOkUnless result TakeFault.NoMemory) (λ fault. result ≡ Err fault) }
+        ensures answer { MatchResult (take_answer self.old.reg self.old.known n) (λ _. IsOkUnless result TakeFault.NoMemory)
+            (λ fault. result ≡ Err fault) }
         ensures job { IfOk result (λ ticket. take_answer self.old.reg self.old.known n ≡ Ok ticket.job) }
         ensures first { IfOk result (λ ticket. ticket.at ≡ 0) }
         ensures step { OnOk result (self.new ≡ desk_take self.old n) }
@@ -61,7 +62,8 @@ impl<S: BuildHasher, A: Allocator + Copy> Desk<S, A> {
 impl<S: BuildHasher, A: Allocator> Desk<S, A> {
     /// What the uplink with this number says, where a ticket may be given for it, or why none is.
     fn owed(&self, n: u64) -> Result<Asked, TakeFault>
-        ensures { MatchResult result (λ asked. IsReady self.now.reg self.now.known n asked) (λ fault. take_answer self.now.reg self.now.known n ≡ Err fault) }
+        ensures { MatchResult result (λ asked. IsReady self.now.reg self.now.known n asked)
+            (λ fault. take_answer self.now.reg self.now.known n ≡ Err fault) }
     {
         if !self.gather.is_closed(n) {
             return Err(TakeFault::NotReady);

@@ -1,5 +1,6 @@
 -- Lemmas on what a crew does, and on room for it.
-use Rattle.std.proofs.Common.{ℕ, suc, ◌≡◌, ◌+◌, ◌-◌, ◌*◌, ◌^◌, ◌<◌, ◌≤◌, Bool, true, false, List, [], ◌∷◌, ◌++◌, reverse, Vec, vec_len, vec_capacity, refl, sym, ap, ◌∙◌, append_assoc, arith}
+use Rattle.std.proofs.Common.{ℕ, suc, ◌≡◌, ◌+◌, ◌-◌, ◌*◌, ◌^◌, ◌<◌, ◌≤◌, Bool, true, false, List, [], ◌∷◌, ◌++◌, reverse, Vec}
+use Rattle.std.proofs.Common.{vec_len, vec_capacity, refl, sym, ap, ◌∙◌, append_assoc, arith}
 use Rattle.std.specs.Prelude.{min, sum_by, Result, Ok, Err, IfOk, IfErr}
 use Rattle.std.specs.List.{flat_map}
 use Rattle.std.specs.Int.{from_bool}
@@ -23,47 +24,61 @@ less_room room left now e =
     ap (λ n. n * room) s ∙ suc-mul now room
 
 -- a worker's list fits where there is room for some workers more
-pub one_fits : {X Z : Type 0} (all own : Vec X Z) (room left now : ℕ) → Fits (left * room) all → now + 1 ≡ left → vec_capacity own ≤ room → vec_len all + vec_len own ≤ vec_capacity all
+pub one_fits : {X Z : Type 0} (all own : Vec X Z) (room left now : ℕ) → Fits (left * room) all → now + 1 ≡ left
+    → vec_capacity own ≤ room → vec_len all + vec_len own ≤ vec_capacity all
 one_fits all own room left now f e w =
     let p : left * room ≡ now * room + room = less_room room left now e in
     let n : vec_len own ≤ vec_capacity own = own.ok.1 in
     omega (arith, p, f, w, n)
 
 -- then the others' lists still fit
-pub others_fit : {X Z : Type 0} (all own new : Vec X Z) (room left now : ℕ) → Fits (left * room) all → now + 1 ≡ left → vec_capacity own ≤ room → IsJoined all own new → Fits (now * room) new
+pub others_fit : {X Z : Type 0} (all own new : Vec X Z) (room left now : ℕ) → Fits (left * room) all → now + 1 ≡ left
+    → vec_capacity own ≤ room → IsJoined all own new → Fits (now * room) new
 others_fit all own new room left now f e w j =
     let p : left * room ≡ now * room + room = less_room room left now e in
     let n : vec_len own ≤ vec_capacity own = own.ok.1 in
     omega (arith, p, f, w, n, j.length, j.fits)
 
 -- a worker's list is put behind what is there
-kept_on : {W X : Type 0} (kept : W → List X) (all old new : List X) (w : W) (left rest : List W) → left ≡ rest ++ w ∷ [] → new ≡ old ++ kept w → all ≡ old ++ flat_map kept (reverse left) → all ≡ new ++ flat_map kept (reverse rest)
+kept_on : {W X : Type 0} (kept : W → List X) (all old new : List X) (w : W) (left rest : List W) → left ≡ rest ++ w ∷ []
+    → new ≡ old ++ kept w → all ≡ old ++ flat_map kept (reverse left) → all ≡ new ++ flat_map kept (reverse rest)
 kept_on kept all old new w left rest cut joined e =
     e
     ∙ ap (λ l. old ++ flat_map kept l) (ap reverse cut ∙ reverse-append rest (w ∷ []))
     ∙ sym (append_assoc old (kept w) (flat_map kept (reverse rest)))
     ∙ ap (λ l. l ++ flat_map kept (reverse rest)) (sym joined)
 
-added_on : {W : Type 0} (count : W → ℕ) (all old new : ℕ) (w : W) (left rest : List W) → left ≡ rest ++ w ∷ [] → new ≡ added_up old (count w) → all ≡ added_up old (sum_by count left) → all ≡ added_up new (sum_by count rest)
+added_on : {W : Type 0} (count : W → ℕ) (all old new : ℕ) (w : W) (left rest : List W) → left ≡ rest ++ w ∷ []
+    → new ≡ added_up old (count w) → all ≡ added_up old (sum_by count left) → all ≡ added_up new (sum_by count rest)
 added_on count all old new w left rest cut added e =
-    let split : sum_by count left ≡ sum_by count rest + sum_by count (w ∷ []) = ap (sum_by count) cut ∙ sum_by-append count rest (w ∷ []) in
+    let split : sum_by count left ≡ sum_by count rest + sum_by count (w ∷ []) =
+    ap (sum_by count) cut ∙ sum_by-append count rest (w ∷ []) in
     let one : sum_by count (w ∷ []) ≡ count w + sum_by count [] = sum_by-cons count w [] in
     let none : sum_by count [] ≡ 0 = refl in
     omega (arith, e, added, split, one, none)
 
 -- with what is left of a crew, as much is to be added as with all of it
-pub record IsOwed {B A : Type 0} (all : Served B A) (crew : List (Worked B A)) (served : Served B A) (left : List (Worked B A)) : Type 0 where
-  pub receipts : all.receipts.items ++ flat_map (λ (w : Worked B A). w.receipts.items) (reverse crew) ≡ served.receipts.items ++ flat_map (λ (w : Worked B A). w.receipts.items) (reverse left)
-  pub outcomes : all.outcomes.items ++ flat_map (λ (w : Worked B A). w.outcomes.items) (reverse crew) ≡ served.outcomes.items ++ flat_map (λ (w : Worked B A). w.outcomes.items) (reverse left)
-  pub skipped : all.skipped.items ++ flat_map (λ (w : Worked B A). w.skipped.items) (reverse crew) ≡ served.skipped.items ++ flat_map (λ (w : Worked B A). w.skipped.items) (reverse left)
-  pub refused : all.refused.items ++ flat_map (λ (w : Worked B A). w.refused.items) (reverse crew) ≡ served.refused.items ++ flat_map (λ (w : Worked B A). w.refused.items) (reverse left)
-  pub strays : all.strays.items ++ flat_map (λ (w : Worked B A). w.strays.items) (reverse crew) ≡ served.strays.items ++ flat_map (λ (w : Worked B A). w.strays.items) (reverse left)
-  pub overrun : added_up all.overrun (sum_by (λ (w : Worked B A). w.overrun) crew) ≡ added_up served.overrun (sum_by (λ (w : Worked B A). w.overrun) left)
+pub record IsOwed {B A : Type 0} (all : Served B A) (crew : List (Worked B A)) (served : Served B A)
+    (left : List (Worked B A)) : Type 0 where
+  pub receipts : all.receipts.items ++ flat_map (λ (w : Worked B A). w.receipts.items) (reverse crew) ≡ served.receipts.items
+      ++ flat_map (λ (w : Worked B A). w.receipts.items) (reverse left)
+  pub outcomes : all.outcomes.items ++ flat_map (λ (w : Worked B A). w.outcomes.items) (reverse crew) ≡ served.outcomes.items
+      ++ flat_map (λ (w : Worked B A). w.outcomes.items) (reverse left)
+  pub skipped : all.skipped.items ++ flat_map (λ (w : Worked B A). w.skipped.items) (reverse crew) ≡ served.skipped.items
+      ++ flat_map (λ (w : Worked B A). w.skipped.items) (reverse left)
+  pub refused : all.refused.items ++ flat_map (λ (w : Worked B A). w.refused.items) (reverse crew) ≡ served.refused.items
+      ++ flat_map (λ (w : Worked B A). w.refused.items) (reverse left)
+  pub strays : all.strays.items ++ flat_map (λ (w : Worked B A). w.strays.items) (reverse crew) ≡ served.strays.items
+      ++ flat_map (λ (w : Worked B A). w.strays.items) (reverse left)
+  pub overrun : added_up all.overrun (sum_by (λ (w : Worked B A). w.overrun) crew)
+      ≡ added_up served.overrun (sum_by (λ (w : Worked B A). w.overrun) left)
 
 module _ {B A : Type 0} (all : Served B A) (crew : List (Worked B A)) where
   -- a worker is taken from the end of those that are left
   pub owed_on : (old new : Served B A) (w : Worked B A) (left rest : List (Worked B A)) → left ≡ rest ++ w ∷ []
-      → IsJoined old.receipts w.receipts new.receipts → IsJoined old.outcomes w.outcomes new.outcomes → IsJoined old.skipped w.skipped new.skipped → IsJoined old.refused w.refused new.refused → IsJoined old.strays w.strays new.strays
+      → IsJoined old.receipts w.receipts new.receipts → IsJoined old.outcomes w.outcomes new.outcomes
+      → IsJoined old.skipped w.skipped new.skipped → IsJoined old.refused w.refused new.refused
+      → IsJoined old.strays w.strays new.strays
       → new.overrun ≡ added_up old.overrun w.overrun → IsOwed all crew old left → IsOwed all crew new rest
   owed_on old new w left rest cut receipts outcomes skipped refused strays overrun owed =
       record {
@@ -76,16 +91,23 @@ module _ {B A : Type 0} (all : Served B A) (crew : List (Worked B A)) where
       }
 
   -- nobody is left
-  pub owed_none : (new : Served B A) (left : List (Worked B A)) → left ≡ [] → new.overrun ≤ 2 ^ 64 - 1 → IsOwed all crew new left → IsGathered all crew new
+  pub owed_none : (new : Served B A) (left : List (Worked B A)) → left ≡ [] → new.overrun ≤ 2 ^ 64 - 1 → IsOwed all crew new left
+      → IsGathered all crew new
   owed_none new left none most owed =
       record {
-        receipts = sym (owed.receipts ∙ ap (λ l. new.receipts.items ++ flat_map (λ (w : Worked B A). w.receipts.items) (reverse l)) none ∙ append-nil new.receipts.items);
-        outcomes = sym (owed.outcomes ∙ ap (λ l. new.outcomes.items ++ flat_map (λ (w : Worked B A). w.outcomes.items) (reverse l)) none ∙ append-nil new.outcomes.items);
-        skipped = sym (owed.skipped ∙ ap (λ l. new.skipped.items ++ flat_map (λ (w : Worked B A). w.skipped.items) (reverse l)) none ∙ append-nil new.skipped.items);
-        refused = sym (owed.refused ∙ ap (λ l. new.refused.items ++ flat_map (λ (w : Worked B A). w.refused.items) (reverse l)) none ∙ append-nil new.refused.items);
-        strays = sym (owed.strays ∙ ap (λ l. new.strays.items ++ flat_map (λ (w : Worked B A). w.strays.items) (reverse l)) none ∙ append-nil new.strays.items);
+        receipts = sym (owed.receipts ∙ ap (λ l. new.receipts.items
+            ++ flat_map (λ (w : Worked B A). w.receipts.items) (reverse l)) none ∙ append-nil new.receipts.items);
+        outcomes = sym (owed.outcomes ∙ ap (λ l. new.outcomes.items
+            ++ flat_map (λ (w : Worked B A). w.outcomes.items) (reverse l)) none ∙ append-nil new.outcomes.items);
+        skipped = sym (owed.skipped ∙ ap (λ l. new.skipped.items ++ flat_map (λ (w : Worked B A). w.skipped.items) (reverse l))
+            none ∙ append-nil new.skipped.items);
+        refused = sym (owed.refused ∙ ap (λ l. new.refused.items ++ flat_map (λ (w : Worked B A). w.refused.items) (reverse l))
+            none ∙ append-nil new.refused.items);
+        strays = sym (owed.strays ∙ ap (λ l. new.strays.items ++ flat_map (λ (w : Worked B A). w.strays.items) (reverse l)) none
+            ∙ append-nil new.strays.items);
         overrun =
-            let all_of : added_up all.overrun (sum_by (λ (w : Worked B A). w.overrun) crew) ≡ added_up new.overrun 0 = owed.overrun ∙ ap (λ l. added_up new.overrun (sum_by (λ (w : Worked B A). w.overrun) l)) none in
+            let all_of : added_up all.overrun (sum_by (λ (w : Worked B A). w.overrun) crew) ≡ added_up new.overrun 0 =
+            owed.overrun ∙ ap (λ l. added_up new.overrun (sum_by (λ (w : Worked B A). w.overrun) l)) none in
             omega (arith, all_of, most);
       }
 
@@ -95,14 +117,17 @@ one_at_most true = omega arith
 one_at_most false = omega arith
 
 -- where nobody has begun so far, nothing was settled
-pub none_on : {X : Type 0} (has_begun : Bool) (ran more : ℕ) (first old own new : List X) → more ≡ ran + from_bool has_begun → (has_begun ≡ false → own ≡ []) → (ran ≡ 0 → old ≡ first) → new ≡ old ++ own → more ≡ 0 → new ≡ first
+pub none_on : {X : Type 0} (has_begun : Bool) (ran more : ℕ) (first old own new : List X) → more ≡ ran + from_bool has_begun
+    → (has_begun ≡ false → own ≡ []) → (ran ≡ 0 → old ≡ first) → new ≡ old ++ own → more ≡ 0 → new ≡ first
 none_on true ran more first old own new e settled same joined none = absurd (omega (arith, e, none))
 none_on false ran more first old own new e settled same joined none =
     joined ∙ ap (λ l. old ++ l) (settled refl) ∙ append-nil old ∙ same (omega (arith, e, none))
 
 -- with the parts that a crew had, a till has the parts that it had before
-module _ {S F : Type 0} (given left : Holding) (n : ℕ) (parts : left.parts + n ≡ given.parts) (amount : left.amount ≡ given.amount) where
-  pub summed_ok : (till : S → Holding) (airtime : S → ℕ) (r : Result S F) → IfOk r (λ s. till s ≡ record { parts = left.parts + n; amount = left.amount + airtime s })
+module _ {S F : Type 0} (given left : Holding) (n : ℕ) (parts : left.parts + n ≡ given.parts)
+    (amount : left.amount ≡ given.amount) where
+  pub summed_ok : (till : S → Holding) (airtime : S → ℕ) (r : Result S F)
+      → IfOk r (λ s. till s ≡ record { parts = left.parts + n; amount = left.amount + airtime s })
       → IfOk r (λ s. till s ≡ record { parts = given.parts; amount = given.amount + airtime s })
   summed_ok till airtime (Ok s) e =
       e
@@ -110,7 +135,8 @@ module _ {S F : Type 0} (given left : Holding) (n : ℕ) (parts : left.parts + n
       ∙ ap (λ k. record { parts = given.parts; amount = k + airtime s }) amount
   summed_ok till airtime (Err f) e = tt
 
-  pub summed_err : (till : F → Holding) (r : Result S F) → IfErr r (λ f. till f ≡ record { parts = left.parts + n; amount = left.amount }) → IfErr r (λ f. till f ≡ given)
+  pub summed_err : (till : F → Holding) (r : Result S F) → IfErr r
+      (λ f. till f ≡ record { parts = left.parts + n; amount = left.amount }) → IfErr r (λ f. till f ≡ given)
   summed_err till (Ok s) e = tt
   summed_err till (Err f) e =
       e ∙ ap (λ k. record { parts = k; amount = left.amount }) parts ∙ ap (λ k. record { parts = given.parts; amount = k }) amount

@@ -14,7 +14,8 @@ use Rattle.server_core.specs.Airtime.{airtime_of_ending}
 pub is_on_air : (ending : Ending) → IsOfCandidate ending → IsSome (gateway_of ending) ↔ (0 < airtime_of_ending ending)
 is_on_air (Answered gateway window start airtime carried) booked =
     let c : Candidate = booked.0 in
-    let same : airtime_of_ending (Answered gateway window start airtime carried) ≡ airtime_of_ending (answered_as c) = ap airtime_of_ending booked.1 in
+    let same : airtime_of_ending (Answered gateway window start airtime carried) ≡ airtime_of_ending (answered_as c) =
+    ap airtime_of_ending booked.1 in
     let some : 0 < airtime = omega (arith, same, airtime_of-positive c.rate c.len) in
     (λ h. some, λ h. refl)
 is_on_air (Unanswered refusal) booked = (λ h. absurd (cc), λ h. absurd (omega (arith, h)))
@@ -31,12 +32,15 @@ module _ (stub : Outcome) (r : Result Outcome Outcome) where
   handed_back false e = subst (λ s. IfErr s (λ o. o ≡ stub)) (sym e) refl
 
 -- the amount rises exactly with an answer that was booked
-pub rises : (stub : Outcome) (r : Result Outcome Outcome) (old new : Holding) → IfOk r (λ o. o ≡ stub) → IfOk r (λ o. IsOfCandidate o.result)
-    → OnOk r (new ≡ record old { amount = old.amount + airtime_of_ending stub.result }) → IfOk r (λ o. IsSome (gateway_of o.result) ↔ (old.amount < new.amount))
+pub rises : (stub : Outcome) (r : Result Outcome Outcome) (old new : Holding) → IfOk r (λ o. o ≡ stub)
+    → IfOk r (λ o. IsOfCandidate o.result)
+    → OnOk r (new ≡ record old { amount = old.amount + airtime_of_ending stub.result })
+    → IfOk r (λ o. IsSome (gateway_of o.result) ↔ (old.amount < new.amount))
 rises stub (Err back) old new kept timed counted = tt
 rises stub (Ok o) old new kept timed counted =
     let on_air = is_on_air o.result timed in
-    let ending : airtime_of_ending o.result ≡ airtime_of_ending stub.result = ap (λ (x : Outcome). airtime_of_ending x.result) kept in
+    let ending : airtime_of_ending o.result ≡ airtime_of_ending stub.result =
+    ap (λ (x : Outcome). airtime_of_ending x.result) kept in
     let amount : new.amount ≡ old.amount + airtime_of_ending stub.result = ap (λ h. h.amount) counted in (
       λ h. let some : 0 < airtime_of_ending o.result = on_air.0 h in omega (arith, some, ending, amount),
       λ h. on_air.1 (omega (arith, h, ending, amount)),

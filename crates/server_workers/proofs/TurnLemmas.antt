@@ -19,7 +19,8 @@ module _ (d : DeskView) (n : ℕ) (job : Job) where
   by_device a None e = absurd (cc (e))
   by_device a (Some device) e = by_fault a device (take_fault d.reg d.known a device) e
 
-  by_state : (a : _) (t : Bool) → (if t then take_by d.reg d.known n a (slice_get d.reg.devices a.device) else Err Taken) ≡ Ok job → job.number ≡ n
+  by_state : (a : _) (t : Bool) → (if t then take_by d.reg d.known n a (slice_get d.reg.devices a.device) else Err Taken) ≡ Ok job
+      → job.number ≡ n
   by_state a true e = by_device a (slice_get d.reg.devices a.device) e
   by_state a false e = absurd (cc (e))
 
@@ -29,7 +30,8 @@ module _ (d : DeskView) (n : ℕ) (job : Job) where
   by_known None (Some k) e = absurd (cc (e))
   by_known None None e = absurd (cc (e))
 
-  by_closed : (t : Bool) → (if t then take_known d.reg d.known n (numbered n d.reg.asked) (numbered n d.known) else Err NotReady) ≡ Ok job → job.number ≡ n
+  by_closed : (t : Bool) → (if t then take_known d.reg d.known n (numbered n d.reg.asked) (numbered n d.known) else Err NotReady)
+      ≡ Ok job → job.number ≡ n
   by_closed true e = by_known (numbered n d.reg.asked) (numbered n d.known) e
   by_closed false e = absurd (cc (e))
 

@@ -18,8 +18,14 @@ holds a b n p e = ap (λ k. record { parts = k; amount = b.amount }) p ∙ ap (�
 
 -- a worker's till has risen by the airtime of the new outcomes
 pub risen : {B A : Type 0} (old new : Worked B A) → IsMore old new
-    → (more : List Outcome) × (new.outcomes.items ≡ old.outcomes.items ++ more) × (new.till ≡ record old.till { amount = old.till.amount + airtime_of more })
+    → (more : List Outcome) × (new.outcomes.items ≡ old.outcomes.items ++ more)
+    × (new.till ≡ record old.till { amount = old.till.amount + airtime_of more })
 risen old new m =
     let more = m.outcomes.begins.0 in
-    let all : airtime_of new.outcomes.items ≡ airtime_of old.outcomes.items + airtime_of more = ap airtime_of m.outcomes.begins.1 ∙ airtime_of-append old.outcomes.items more in
-    (more, m.outcomes.begins.1, holds old.till new.till (old.till.amount + airtime_of more) (new.one_part ∙ sym old.one_part) (omega (arith, all, old.counted, new.counted)))
+    let all : airtime_of new.outcomes.items ≡ airtime_of old.outcomes.items + airtime_of more =
+    ap airtime_of m.outcomes.begins.1 ∙ airtime_of-append old.outcomes.items more in (
+      more,
+      m.outcomes.begins.1,
+      holds old.till new.till (old.till.amount + airtime_of more) (new.one_part ∙ sym old.one_part)
+          (omega (arith, all, old.counted, new.counted)),
+    )

@@ -1,4 +1,5 @@
-use Rattle.std.specs.Prelude.{ℕ, ◌≡◌, ◌≢◌, ◌+◌, ◌<◌, ◌≤◌, ◌==◌, ◌⊎◌, ⊤, List, map, All, unwrap_or, Contains, count_by, length, get_or}
+use Rattle.std.specs.Prelude.{ℕ, ◌≡◌, ◌≢◌, ◌+◌, ◌<◌, ◌≤◌, ◌==◌, ◌⊎◌, ⊤, List, map, All, unwrap_or, Contains, count_by, length}
+use Rattle.std.specs.Prelude.{get_or}
 use Rattle.std.specs.List.{flat_map, zip}
 use Rattle.radio_bands.specs.Band.{hour}
 use Rattle.resv_list.specs.declared.reservation.Reservation.{Reservation}
@@ -44,8 +45,10 @@ EachStandsOnce numbers = (n : ℕ) → count_by (λ m. m == n) numbers ≤ 1
 -- a number stands twice in a list, one behind the other, on these gateways
 abbrev pub StandsTwice : List (ℕ × Reservation) → ℕ × ℕ × ℕ → Type 0
 StandsTwice held told =
-    (i : ℕ) × (i + 1 < length held) × ((d : ℕ × Reservation) → (get_or held i d).0 ≡ told.1) × ((d : ℕ × Reservation) → (get_or held i d).1.number ≡ told.0)
-    × ((d : ℕ × Reservation) → (get_or held (i + 1) d).0 ≡ told.2) × ((d : ℕ × Reservation) → (get_or held (i + 1) d).1.number ≡ told.0)
+    (i : ℕ) × (i + 1 < length held) × ((d : ℕ × Reservation) → (get_or held i d).0 ≡ told.1)
+    × ((d : ℕ × Reservation) → (get_or held i d).1.number ≡ told.0)
+    × ((d : ℕ × Reservation) → (get_or held (i + 1) d).0 ≡ told.2)
+    × ((d : ℕ × Reservation) → (get_or held (i + 1) d).1.number ≡ told.0)
 
 -- a book keeps the reservation, or its floor is more than an hour past the start
 abbrev pub IsKeptOrPast : Reservation → Book → Type 0

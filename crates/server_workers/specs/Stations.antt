@@ -1,4 +1,5 @@
-use Rattle.std.specs.Prelude.{ℕ, ◌≡◌, ◌<◌, ◌==◌, Bool, nat_lt, if◌then◌else◌, List, [], ◌∷◌, map, Result, ⊤, MatchResult, IsOkUnless, IfOk, Option, Ok, Err}
+use Rattle.std.specs.Prelude.{ℕ, ◌≡◌, ◌<◌, ◌==◌, Bool, nat_lt, if◌then◌else◌, List, [], ◌∷◌, map, Result, ⊤, MatchResult}
+use Rattle.std.specs.Prelude.{IsOkUnless, IfOk, Option, Ok, Err}
 use Rattle.std.specs.List.{list_any}
 use Rattle.std.specs.Option.{option_map_or}
 use Rattle.gateway_book.specs.declared.cancel.CancelFault.{CancelFault}

@@ -4,7 +4,8 @@ ghost use Rattle.std.specs.Prelude.{◌≡◌, ◌≢◌, ◌≤◌, [], map, Al
 ghost use Rattle.air_ledger.specs.Tills.{all_parts, parts_of, amount_of};
 ghost use Rattle.gateway_book.specs.Book.{totals_of};
 ghost use Rattle.server_core.specs.AirtimeLaws.{total_of};
-ghost use Rattle.server_workers.specs.Closings.{shelved, counted, airtime_at, kept_numbers, EachStandsOnce, IsAccountedFor, CauseTells};
+ghost use Rattle.server_workers.specs.Closings.{shelved, counted, airtime_at, kept_numbers, EachStandsOnce, IsAccountedFor};
+ghost use Rattle.server_workers.specs.Closings.{CauseTells};
 
 use crate::closing::{Closing, FinishCause, FinishFault};
 use crate::comparing::compare;
@@ -35,7 +36,8 @@ impl<B: Ledger, S: BuildHasher, A: Allocator + Copy> Station<B, S, A> {
         ensures totals { IfOk result (λ closing. map (λ t. t.1) closing.totals.items ≡ map totals_of closing.books.items) }
         ensures equal { IfOk result (λ closing. All (λ t. t.1.booked ≡ airtime_at closing.desk t.0) closing.totals.items) }
         ensures once { IfOk result (λ closing. EachStandsOnce (kept_numbers closing.books.items)) }
-        ensures accounted { IfOk result (λ closing. All (IsAccountedFor (shelved closing.totals.items closing.books.items)) receipts.now) }
+        ensures accounted { IfOk result (λ closing. All (IsAccountedFor (shelved closing.totals.items closing.books.items))
+            receipts.now) }
         ensures missing { parts_of tills.items ≢ all_parts → IsErrAnd result (λ fault. fault.cause ≡ FinishCause.TillMissing) }
         ensures cause { IfErr result (λ fault. CauseTells tills.items receipts.now fault.cause) }
         ensures station_back { IfErr result (λ fault. fault.station ≡ self) }

@@ -14,7 +14,8 @@ use std::sync::Wait;
 impl<B: Ledger, S: BuildHasher, A: Allocator + Clone> Station<B, S, A> {
     /// Tries a ticket once on the book of its gateway, as `Ticket::try_on`; `Wrong` where the station has no such gateway.
     pub fn try_once<R: Wait>(&self, rt: &R, ticket: Ticket<A>) -> Tried<A>
-        ensures { MatchBool (has_gateway self.now (gateway_to_try ticket)) (WasTried ticket result) (result ≡ Tried.Wrong ticket) }
+        ensures { MatchBool (has_gateway self.now (gateway_to_try ticket)) (WasTried ticket result)
+            (result ≡ Tried.Wrong ticket) }
     {
         let mut overrun = 0;
         self.try_through(rt, &NoGate, ticket, &mut overrun)
@@ -28,7 +29,8 @@ impl<B: Ledger, S: BuildHasher, A: Allocator + Clone> Station<B, S, A> {
         ticket: Ticket<A>,
         overrun: &mut u64,
     ) -> Tried<A>
-        ensures tried { MatchBool (has_gateway self.now (gateway_to_try ticket)) (WasTried ticket result) (result ≡ Tried.Wrong ticket) }
+        ensures tried { MatchBool (has_gateway self.now (gateway_to_try ticket)) (WasTried ticket result)
+            (result ≡ Tried.Wrong ticket) }
         ensures overrun { overrun.old ≤ overrun.new }
         ensures once { overrun.new ≤ overrun.old + 1 }
     {
@@ -51,7 +53,8 @@ impl<B: Ledger, S: BuildHasher, A: Allocator> Station<B, S, A> {
     /// Cancels what a receipt names, as the book's `cancel`, and answers its airtime in microseconds; `NotHere` where the
     /// station has no such gateway. Takes no memory.
     pub fn cancel<R: Wait>(&self, rt: &R, receipt: &Receipt<A>) -> Result<u64, CancelFault>
-        ensures { MatchBool (has_gateway self.now receipt.now.gateway) (WasAsked receipt.now.number receipt.now.reservation.start result) (result ≡ Err CancelFault.NotHere) }
+        ensures { MatchBool (has_gateway self.now receipt.now.gateway)
+            (WasAsked receipt.now.number receipt.now.reservation.start result) (result ≡ Err CancelFault.NotHere) }
     {
         match self.place_of(receipt.gateway) {
             Some(place) => place
@@ -96,7 +99,8 @@ impl<B: Ledger, S: BuildHasher, A: Allocator> Station<B, S, A> {
 
     /// The gateway with this number.
     fn place_of(&self, gateway: u16) -> Option<&Place<A>>
-        ensures { MatchOption result (has_gateway self.now gateway ≡ false) (λ place. (has_gateway self.now gateway ≡ true) × (place.now ≡ gateway)) }
+        ensures { MatchOption result (has_gateway self.now gateway ≡ false)
+            (λ place. (has_gateway self.now gateway ≡ true) × (place.now ≡ gateway)) }
     {
         place_numbered(&self.places, gateway)
     }

@@ -40,7 +40,8 @@ impl<B: Ledger, S: BuildHasher, A: Allocator> Model for Office<B, S, A> {
 impl<B: Ledger, S: BuildHasher, A: Allocator + Copy> Office<B, S, A> {
     /// Queues a payload, as the desk does.
     pub fn queue(&mut self, addr: u32, port: u8, payload: &[u8]) -> Result<usize, QueueFault>
-        ensures answer { MatchResult (queue_answer self.old.reg addr (port, payload.now)) (λ _. IsOkUnless result QueueFault.NoMemory) (λ fault. result ≡ Err fault) }
+        ensures answer { MatchResult (queue_answer self.old.reg addr (port, payload.now))
+            (λ _. IsOkUnless result QueueFault.NoMemory) (λ fault. result ≡ Err fault) }
         ensures told { IfOk result (λ count. queue_answer self.old.reg addr (port, payload.now) ≡ Ok count) }
         ensures step { OnOk result (self.new ≡ desk_queue self.old addr (port, payload.now)) }
         ensures refused { OnErr result (self.new ≡ self.old) }
@@ -55,8 +56,10 @@ impl<B: Ledger, S: BuildHasher, A: Allocator + Copy> Office<B, S, A> {
         heard: Heard1,
         arrived: u64,
     ) -> Result<DeskHeard, DeskFault>
-        ensures answer { MatchResult (answer_to (decide self.old.ids self.old.reg bytes.now heard arrived) self.old.reg) (λ _. IsOkUnless result DeskFault.NoMemory) (λ fault. result ≡ Err fault) }
-        ensures told { IfOk result (λ told. answer_to (decide self.old.ids self.old.reg bytes.now heard arrived) self.old.reg ≡ Ok told) }
+        ensures answer { MatchResult (answer_to (decide self.old.ids self.old.reg bytes.now heard arrived) self.old.reg)
+            (λ _. IsOkUnless result DeskFault.NoMemory) (λ fault. result ≡ Err fault) }
+        ensures told { IfOk result (λ told. answer_to (decide self.old.ids self.old.reg bytes.now heard arrived) self.old.reg
+            ≡ Ok told) }
         ensures step { OnOk result (self.new ≡ desk_hear self.old bytes.now heard arrived) }
         ensures refused { OnErr result (self.new ≡ self.old) }
     {
@@ -65,7 +68,8 @@ impl<B: Ledger, S: BuildHasher, A: Allocator + Copy> Office<B, S, A> {
 
     /// Gives a ticket, as the desk does.
     pub fn take(&mut self, n: u64) -> Result<Ticket<A>, TakeFault>
-        ensures answer { MatchResult (take_answer self.old.reg self.old.known n) (λ _. IsOkUnless result TakeFault.NoMemory) (λ fault. result ≡ Err fault) }
+        ensures answer { MatchResult (take_answer self.old.reg self.old.known n) (λ _. IsOkUnless result TakeFault.NoMemory)
+            (λ fault. result ≡ Err fault) }
         ensures job { IfOk result (λ ticket. take_answer self.old.reg self.old.known n ≡ Ok ticket.job) }
         ensures first { IfOk result (λ ticket. ticket.at ≡ 0) }
         ensures step { OnOk result (self.new ≡ desk_take self.old n) }
@@ -104,7 +108,8 @@ impl<B: Ledger, S: BuildHasher, A: Allocator> Office<B, S, A> {
     /// Settles an answer, as the desk does. The airtime of an answer that was booked is counted in the tally and with the
     /// till; else both stay as they are. Takes no memory.
     pub fn settle(&mut self, stub: Stub, till: &mut Till<B>) -> Result<Outcome, Stub>
-        ensures answer { MatchBool (may_settle self.old.ids self.old.known stub.number stub.result) (result ≡ Ok stub) (result ≡ Err stub) }
+        ensures answer { MatchBool (may_settle self.old.ids self.old.known stub.number stub.result) (result ≡ Ok stub)
+            (result ≡ Err stub) }
         ensures step { self.new ≡ desk_settle self.old stub.number stub.result }
         ensures booked { IfOk result (λ outcome. IsOfCandidate outcome.result) }
         ensures counted { OnOk result (till.new ≡ record till.old { amount = till.old.amount + airtime_of_ending stub.result }) }

@@ -1,5 +1,6 @@
 // Workers share out the numbers of a station.
-ghost use Rattle.std.specs.Prelude.{◌≡◌, ◌≢◌, ◌+◌, ◌-◌, ◌*◌, ◌<◌, ◌≤◌, ◌↔◌, All, IsErrAnd, IfOk, IfErr, length, map, ⊤, vec_len, vec_capacity};
+ghost use Rattle.std.specs.Prelude.{◌≡◌, ◌≢◌, ◌+◌, ◌-◌, ◌*◌, ◌<◌, ◌≤◌, ◌↔◌, All, IsErrAnd, IfOk, IfErr, length, map, ⊤, vec_len};
+ghost use Rattle.std.specs.Prelude.{vec_capacity};
 ghost use Rattle.air_ledger.specs.Tills.{all_parts};
 ghost use Rattle.server_workers.specs.Works.{airtime_of};
 ghost use Rattle.server_workers.specs.EmptyLists.{AreEmptyFor};
@@ -230,7 +231,8 @@ fn summed_up<K: Room, B: Ledger, A: Allocator>(
     requires room { AreEmptyFor (vec_len crew * K.room) all }
     requires parts { till.parts + vec_len crew ≤ all_parts }
     requires few { vec_len crew ≤ 16 }
-    ensures till { IfOk result (λ served. served.till ≡ record { parts = till.parts + vec_len crew; amount = till.amount + airtime_of served.outcomes.items }) }
+    ensures till { IfOk result (λ served. served.till ≡ record
+        { parts = till.parts + vec_len crew; amount = till.amount + airtime_of served.outcomes.items }) }
     ensures sorted { IfOk result (λ served. IsSortedByNumber served) }
     ensures ran { IfOk result (λ served. (1 ≤ served.ran) × (served.ran ≤ vec_len crew)) }
     ensures back { IfErr result (λ fault. fault.till ≡ record { parts = till.parts + vec_len crew; amount = till.amount }) }
@@ -255,7 +257,8 @@ fn gather<K: Room, B: Ledger, A: Allocator>(
     requires few { served.old.ran + vec_len crew ≤ 16 }
     ensures all { IsGathered served.old (map (λ m. m.worked) crew.items) served.new }
     ensures parts { served.new.till.parts ≡ served.old.till.parts + vec_len crew }
-    ensures amount { served.new.till.amount + airtime_of served.old.outcomes.items ≡ served.old.till.amount + airtime_of served.new.outcomes.items }
+    ensures amount { served.new.till.amount + airtime_of served.old.outcomes.items
+        ≡ served.old.till.amount + airtime_of served.new.outcomes.items }
     ensures ran { served.new.ran ≤ served.old.ran + vec_len crew }
     ensures nobody { served.new.ran ≡ 0 → served.new.outcomes.items ≡ served.old.outcomes.items }
 {

@@ -23,7 +23,8 @@ pub fn work<R: Wait, B: Ledger, S: BuildHasher, A: Allocator + Copy, G: Gate>(
     worked: Worked<B, A>,
 ) -> Worked<B, A>
     ensures more { IsMore worked result }
-    ensures till { (more : List Ends) × (result.outcomes.items ≡ worked.outcomes.items ++ more) × (result.till ≡ record worked.till { amount = worked.till.amount + airtime_of more }) }
+    ensures till { (more : List Ends) × (result.outcomes.items ≡ worked.outcomes.items ++ more)
+        × (result.till ≡ record worked.till { amount = worked.till.amount + airtime_of more }) }
 {
     let mut worked = worked;
     work_on(rt, station, numbers, gate, &mut worked);

@@ -8,7 +8,8 @@ use Rattle.server_desk.specs.declared.settings_fault.SettingsFault.{SettingsFaul
 use Rattle.server_desk.specs.Settings.{SettingLists, settings_fault}
 use Rattle.settings_text.specs.declared.settings_fault.ReadFault.{ReadFault}
 use Rattle.settings_text.specs.declared.settings_fault.ReadFault.TheVariants.{NotToml, Kind, Checked}
-use Rattle.settings_text.specs.SettingsFields.{said_or, id_of, cap_of, addr_of, nwk_of, app_of, delay_of, offset_of, rx2_freq_of, rx2_rate_of, up_of, down_of, ◌>>=◌}
+use Rattle.settings_text.specs.SettingsFields.{said_or, id_of, cap_of, addr_of, nwk_of, app_of, delay_of, offset_of, rx2_freq_of}
+use Rattle.settings_text.specs.SettingsFields.{rx2_rate_of, up_of, down_of, ◌>>=◌}
 
 -- The settings that a text gives (docs/FORMATS.md, "Settings"). Of several faults the first in the order
 -- of these definitions is named.
@@ -32,7 +33,18 @@ device_setting device = do
   rx2_rate ← rx2_rate_of device
   up ← up_of device
   down ← down_of device
-  Ok (record { addr = addr; nwk = nwk; app = app; delay = delay; offset = offset; rx2_freq = rx2_freq; rx2_rate = rx2_rate; up = up; down = down })
+  Ok (record {
+    addr = addr;
+    nwk = nwk;
+    app = app;
+    delay = delay;
+    offset = offset;
+    rx2_freq = rx2_freq;
+    rx2_rate = rx2_rate;
+    up =
+        up;
+    down = down;
+  })
 
 -- what a value says, which has to be a table
 abbrev pub setting_in : {T : Type 0} → (Members → Result T ReadFault) → Data → Result T ReadFault

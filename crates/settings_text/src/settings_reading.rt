@@ -93,7 +93,8 @@ fn list_at<S: FromTable>(alloc: Global, table: &Table, key: &str) -> Result<Vec<
 /// Reads a text as TOML.
 fn document_of(alloc: Global, text: &str) -> Result<Table, ReadFault>
     ensures given { IfOk result (λ table. parse_document text.now ≡ Some (table_view table)) }
-    ensures fault { IfErr result (λ fault. fault ≢ ReadFault.NoMemory → (fault ≡ ReadFault.NotToml) × (parse_document text.now ≡ None)) }
+    ensures fault { IfErr result (λ fault. fault ≢ ReadFault.NoMemory
+        → (fault ≡ ReadFault.NotToml) × (parse_document text.now ≡ None)) }
 {
     match toml::table_from_str(alloc, text) {
         Ok(table) => Ok(table),

@@ -1,5 +1,6 @@
 -- Lemmas on the numbers that words are.
-use Rattle.std.proofs.Common.{◌≡◌, ℕ, ◌^◌, ◌<◌, ◌≤◌, List, length, get_or, true, cond, ◌&&◌, ltb, leb, None, Some, Result, Ok, Err, sym, ap, ◌∙◌, ⊎_elim, arith, rules, decimal}
+use Rattle.std.proofs.Common.{◌≡◌, ℕ, ◌^◌, ◌<◌, ◌≤◌, List, length, get_or, true, cond, ◌&&◌, ltb, leb, None, Some, Result, Ok}
+use Rattle.std.proofs.Common.{Err, sym, ap, ◌∙◌, ⊎_elim, arith, rules, decimal}
 use Rattle.std.proofs.lemmas.Bool.{and_parts, and_from, leb-true, le-leb, lt-ltb, ltb-true, cases_Bool}
 use Rattle.std.proofs.lemmas.Fmt.{digits_decimal, digits_value-decimal, decimal_nonempty, length-decimal-le}
 use Rattle.std.proofs.lemmas.List.{get_or_default}
@@ -38,8 +39,10 @@ digits_are_text most word digits =
     let digit : is_digit (get_or word k d) ≡ true = AllPass-from_list_all is_digit word (digits_alone most word digits) k d h in
     omega (arith, leb-true (get_or word k d) 57 (and_parts (leb 48 (get_or word k d)) (leb (get_or word k d) 57) digit).1)))
 
-in_bound : (bound : ℕ) (word : List ℕ) → is_digits 20 word ≡ true → value_of word < bound → number_below bound word ≡ Some (value_of word)
-in_bound bound word digits small = ap (λ b. cond b (Some (value_of word)) None) (and_from _ _ digits (lt-ltb (value_of word) bound small))
+in_bound : (bound : ℕ) (word : List ℕ) → is_digits 20 word ≡ true → value_of word < bound
+    → number_below bound word ≡ Some (value_of word)
+in_bound bound word digits small = ap (λ b. cond b (Some (value_of word)) None)
+    (and_from _ _ digits (lt-ltb (value_of word) bound small))
 
 past_bound : (bound : ℕ) (word : List ℕ) → (value_of word < bound → ⊥) → number_below bound word ≡ None
 past_bound bound word large = ⊎_elim
@@ -47,13 +50,15 @@ past_bound bound word large = ⊎_elim
     (λ no. ap (λ b. cond b (Some (value_of word)) None) no)
     (cases_Bool (is_digits 20 word && ltb (value_of word) bound))
 
-parsed_ok : {E : Type 0} (k : ℕ) (word : List ℕ) (r : Result ℕ E) → is_digits 20 word ≡ true → OkIff r ((0 < length word) × (value_of word < 2 ^ k)) (value_of word)
+parsed_ok : {E : Type 0} (k : ℕ) (word : List ℕ) (r : Result ℕ E) → is_digits 20 word ≡ true
+    → OkIff r ((0 < length word) × (value_of word < 2 ^ k)) (value_of word)
     → result_ok r ≡ number_below (2 ^ k) word
 parsed_ok k word (Ok x) digits answer = ap Some answer.1 ∙ sym (in_bound (2 ^ k) word digits answer.0.1)
 parsed_ok k word (Err e) digits answer = sym (past_bound (2 ^ k) word (λ small. answer (some_digit 20 word digits, small)))
 
 -- what `parse` gives for digits
-pub parsed : {E : Type 0} (k : ℕ) (word : List ℕ) (r : Result ℕ E) → is_digits 20 word ≡ true → ParsesUnsigned k 10 word r → result_ok r ≡ number_below (2 ^ k) word
+pub parsed : {E : Type 0} (k : ℕ) (word : List ℕ) (r : Result ℕ E) → is_digits 20 word ≡ true → ParsesUnsigned k 10 word r
+    → result_ok r ≡ number_below (2 ^ k) word
 parsed k word r digits answer = parsed_ok k word r digits (parse_digits own k word r answer (digits_alone 20 word digits))
 
 -- what is written is read back

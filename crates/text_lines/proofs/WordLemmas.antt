@@ -1,5 +1,6 @@
 -- Lemmas on the words of a line.
-use Rattle.std.proofs.Common.{◌≡◌, ℕ, ◌+◌, ◌<◌, ◌≤◌, List, [], ◌∷◌, ◌++◌, length, take, drop, get_or, true, false, map, sym, ap, ◌∙◌, ◌⊎◌, ⊎_elim, arith, rules}
+use Rattle.std.proofs.Common.{◌≡◌, ℕ, ◌+◌, ◌<◌, ◌≤◌, List, [], ◌∷◌, ◌++◌, length, take, drop, get_or, true, false, map, sym, ap}
+use Rattle.std.proofs.Common.{◌∙◌, ◌⊎◌, ⊎_elim, arith, rules}
 use Rattle.std.proofs.lemmas.Bool.{cases_lt}
 use Rattle.std.proofs.lemmas.List.{drop_all, take_all, drop_more, take_at, length-take-le, length-map, append-nil, get_or_default}
 use Rattle.std.proofs.lemmas.List.Splits.{slice_split-cons_yes, slice_split_none, slice_split_first}
@@ -11,7 +12,8 @@ use Rattle.text_lines.specs.Words.{is_blank, has_bytes, words_of}
 pub words_of-blank : (byte : ℕ) (line : List ℕ) → is_blank byte ≡ true → words_of (byte ∷ line) ≡ words_of line
 words_of-blank byte line blank = ap (filter has_bytes) (slice_split-cons_yes is_blank byte line blank)
 
-filter-part : (part : List ℕ) (parts : List (List ℕ)) → 0 < length part → filter has_bytes (part ∷ parts) ≡ part ∷ filter has_bytes parts
+filter-part : (part : List ℕ) (parts : List (List ℕ)) → 0 < length part
+    → filter has_bytes (part ∷ parts) ≡ part ∷ filter has_bytes parts
 filter-part [] parts some = absurd (omega arith)
 filter-part (x ∷ part) parts some = grind (arith, rules)
 
@@ -29,20 +31,24 @@ words_of-first line end some within before at =
     slice_split_first is_blank line 0 first ∙ ap (λ n. take n line ∷ slice_split is_blank (drop (n + 1) line)) place in
     let rest : words_of (drop end line) ≡ words_of (drop (end + 1) line) =
     ap words_of (drop_more line end 0 inside) ∙ words_of-blank (get_or line end 0) (drop (end + 1) line) (at inside) in
-    ap (filter has_bytes) parts ∙ filter-part (take end line) (slice_split is_blank (drop (end + 1) line)) part ∙ ap (λ l. take end line ∷ l) (sym rest))
+    ap (filter has_bytes) parts ∙ filter-part (take end line) (slice_split is_blank (drop (end + 1) line)) part
+    ∙ ap (λ l. take end line ∷ l) (sym rest))
     (λ whole.
     let parts : slice_split is_blank line ≡ line ∷ [] =
     slice_split_none is_blank line (λ k d h. ap is_blank (get_or_default line k d 0 h) ∙ before k (omega arith)) in
     let rest : words_of (drop end line) ≡ [] = ap words_of (drop_all end line whole) in
-    ap (filter has_bytes) parts ∙ ap (λ l. filter has_bytes (l ∷ [])) (sym (take_all end line whole)) ∙ filter-part (take end line) [] part ∙ ap (λ l. take end line ∷ l) (sym rest))
+    ap (filter has_bytes) parts ∙ ap (λ l. filter has_bytes (l ∷ [])) (sym (take_all end line whole))
+    ∙ filter-part (take end line) [] part ∙ ap (λ l. take end line ∷ l) (sym rest))
     (cases_lt end (length line))
 
 -- as many words as there is room for, or all of them, are the first words
-pub first_words : (found rest all : List (List ℕ)) (room : ℕ) → all ≡ found ++ rest → length found ≤ room → (rest ≡ []) ⊎ (length found ≡ room) → found ≡ take room all
+pub first_words : (found rest all : List (List ℕ)) (room : ℕ) → all ≡ found ++ rest → length found ≤ room
+    → (rest ≡ []) ⊎ (length found ≡ room) → found ≡ take room all
 first_words found rest all room same within full = ⊎_elim
     (λ none. sym (ap (take room) (same ∙ ap (λ l. found ++ l) none ∙ append-nil found) ∙ take_all room found within))
     (λ many. sym (ap (take room) same ∙ take_at found rest room many))
     full
 
-pub map_take_length : {X : Type 0} (f : X → List ℕ) (words : List X) (count : ℕ) → count ≤ length words → length (map f (take count words)) ≡ count
+pub map_take_length : {X : Type 0} (f : X → List ℕ) (words : List X) (count : ℕ) → count ≤ length words
+    → length (map f (take count words)) ≡ count
 map_take_length f words count within = length-map (take count words) f ∙ length-take-le count words within

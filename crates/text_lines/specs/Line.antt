@@ -30,9 +30,11 @@ text_of (line ∷ more) = line ++ (10 ∷ text_of more)
 -- the text of some lines and then of others
 pub text_of-append : (front rest : List (List ℕ)) → text_of (front ++ rest) ≡ text_of front ++ text_of rest
 text_of-append [] rest = refl
-text_of-append (line ∷ more) rest = ap (λ l. line ++ (10 ∷ l)) (text_of-append more rest) ∙ sym (append_assoc line (10 ∷ text_of more) (text_of rest))
+text_of-append (line ∷ more) rest = ap (λ l. line ++ (10 ∷ l)) (text_of-append more rest)
+    ∙ sym (append_assoc line (10 ∷ text_of more) (text_of rest))
 
-parts_cons : (first : List ℕ) (parts : List (List ℕ)) → 0 < length parts → lines_of_parts (first ∷ parts) ≡ strip_carriage_return first ∷ lines_of_parts parts
+parts_cons : (first : List ℕ) (parts : List (List ℕ)) → 0 < length parts
+    → lines_of_parts (first ∷ parts) ≡ strip_carriage_return first ∷ lines_of_parts parts
 parts_cons first [] some = absurd (omega arith)
 parts_cons first (x ∷ more) some = refl
 

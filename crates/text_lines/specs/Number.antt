@@ -1,5 +1,6 @@
 -- The numbers that words are.
-use Rattle.std.specs.Prelude.{◌≡◌, ℕ, ◌+◌, ◌-◌, ◌*◌, ◌^◌, Bool, ◌==◌, ◌&&◌, ◌<◌, List, [], ◌∷◌, length, nat_lt, nat_le, Option, None, Some, if◌then◌else◌, ℤ, pos, neg_ℤ, decimal}
+use Rattle.std.specs.Prelude.{◌≡◌, ℕ, ◌+◌, ◌-◌, ◌*◌, ◌^◌, Bool, ◌==◌, ◌&&◌, ◌<◌, List, [], ◌∷◌, length, nat_lt, nat_le, Option}
+use Rattle.std.specs.Prelude.{None, Some, if◌then◌else◌, ℤ, pos, neg_ℤ, decimal}
 use Rattle.std.specs.List.{list_all}
 
 -- the byte is one of `0` to `9`
@@ -23,8 +24,10 @@ number_below bound word = if is_digits 20 word && nat_lt (value_of word) bound t
 abbrev pub number_signed : List ℕ → Option ℤ
 number_signed [] = None
 number_signed (first ∷ digits) =
-    if first == 45 then (if is_digits 5 digits && nat_le (value_of digits) 32768 then Some (neg_ℤ (pos (value_of digits))) else None)
-    else (if is_digits 5 (first ∷ digits) && nat_lt (value_of (first ∷ digits)) 32768 then Some (pos (value_of (first ∷ digits))) else None)
+    if first == 45 then (if is_digits 5 digits && nat_le (value_of digits) 32768 then Some
+    (neg_ℤ (pos (value_of digits))) else None)
+    else (if is_digits 5 (first ∷ digits) && nat_lt (value_of (first ∷ digits)) 32768 then Some
+    (pos (value_of (first ∷ digits))) else None)
 
 -- every number of 64 bits is read back from its decimal text
 abbrev pub NumbersReadBack : Type 0

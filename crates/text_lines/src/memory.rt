@@ -63,7 +63,8 @@ impl ByteIn for MemoryIn<'_> {
         ensures bytes { ReadConsumes (Some self.old.bytes.now) (Some self.new.bytes.now) result into.new }
         ensures failed { CountsFailure self.old.failed self.new.failed result }
         ensures fails { IsErr result ↔ (self.new.calls ≡ self.old.fails_at) }
-        ensures count { IfOk result (λ count. count ≡ min (min (max self.old.step 1) (length into.new)) (length self.old.bytes.now)) }
+        ensures count { IfOk result (λ count. count ≡ min (min (max self.old.step 1) (length into.new))
+            (length self.old.bytes.now)) }
         ensures calls { self.new.calls ≡ min (self.old.calls + 1) (2 ^ 64 - 1) }
         ensures step { self.new.step ≡ self.old.step }
         ensures fails_at { self.new.fails_at ≡ self.old.fails_at }

@@ -26,14 +26,16 @@ busiest_lines gateway l band = hour_lines gateway band (busiest_of l band)
 -- the busiest hours of all bands
 abbrev pub all_busiest_lines : Option ℕ → List Reservation → List (List ℕ)
 all_busiest_lines gateway l =
-    busiest_lines gateway l K ++ (busiest_lines gateway l L ++ (busiest_lines gateway l M ++ (busiest_lines gateway l N ++ (busiest_lines gateway l P ++ busiest_lines gateway l Q))))
+    busiest_lines gateway l K ++ (busiest_lines gateway l L ++
+    (busiest_lines gateway l M ++ (busiest_lines gateway l N ++ (busiest_lines gateway l P ++ busiest_lines gateway l Q))))
 
 hour_refuses_nothing : (gateway : Option ℕ) (band : Band) (o : Option (ℕ × ℕ)) → has_refusal (hour_lines gateway band o) ≡ false
 hour_refuses_nothing gateway band None = refl
 hour_refuses_nothing None band (Some (from, sum)) = refl
 hour_refuses_nothing (Some id) band (Some (from, sum)) = refl
 
-before_others : (gateway : Option ℕ) (l : List Reservation) (band : Band) (more : List (List ℕ)) → has_refusal more ≡ false → has_refusal (busiest_lines gateway l band ++ more) ≡ false
+before_others : (gateway : Option ℕ) (l : List Reservation) (band : Band) (more : List (List ℕ)) → has_refusal more ≡ false
+    → has_refusal (busiest_lines gateway l band ++ more) ≡ false
 before_others gateway l band more h =
     list_any-append is_refusal (busiest_lines gateway l band) more
     ∙ ap (λ t. t || has_refusal more) (hour_refuses_nothing gateway band (busiest_of l band))
@@ -42,4 +44,6 @@ before_others gateway l band more h =
 -- none of these lines begins with `no` or `bad`
 pub busiest-refuses_nothing : (gateway : Option ℕ) (l : List Reservation) → has_refusal (all_busiest_lines gateway l) ≡ false
 busiest-refuses_nothing gateway l =
-    before_others gateway l K _ (before_others gateway l L _ (before_others gateway l M _ (before_others gateway l N _ (before_others gateway l P _ (hour_refuses_nothing gateway Q (busiest_of l Q))))))
+    before_others gateway l K _ (before_others gateway l L _
+    (before_others gateway l M _ (before_others gateway l N _
+    (before_others gateway l P _ (hour_refuses_nothing gateway Q (busiest_of l Q))))))

@@ -1,4 +1,5 @@
-use Rattle.std.proofs.Common.{ℕ, zero, suc, ◌≡◌, ◌-◌, ◌<◌, ◌≤◌, List, [], ◌∷◌, length, slice_get, slice_set, map, Option, Some, None, refl, ap, arith}
+use Rattle.std.proofs.Common.{ℕ, zero, suc, ◌≡◌, ◌-◌, ◌<◌, ◌≤◌, List, [], ◌∷◌, length, slice_get, slice_set, map, Option, Some}
+use Rattle.std.proofs.Common.{None, refl, ap, arith}
 use Rattle.std.specs.Option.{option_map, option_map_or}
 use Rattle.std.proofs.lemmas.List.{length-set}
 use Rattle.uplink_gather.specs.Gatherings.{numbered, rewritten}
@@ -22,7 +23,8 @@ module _ {X : Type 0} where
   numbered_within (suc i) xs x e = let h = get_within xs i x e in (omega arith, omega arith)
 
   -- what a rewriting leaves: where there is something with that number, its place alone changes
-  pub rewritten_some : (f : X → X) (n : ℕ) (xs : List X) (x : X) → numbered n xs ≡ Some x → rewritten f n xs ≡ slice_set xs (n - 1) (f x)
+  pub rewritten_some : (f : X → X) (n : ℕ) (xs : List X) (x : X) → numbered n xs ≡ Some x
+      → rewritten f n xs ≡ slice_set xs (n - 1) (f x)
   rewritten_some f n xs x e = ap (λ o. option_map_or (λ y. slice_set xs (n - 1) (f y)) o xs) e
 
   pub length-rewritten : (f : X → X) (n : ℕ) (xs : List X) → length (rewritten f n xs) ≡ length xs

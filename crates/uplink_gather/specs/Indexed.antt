@@ -41,7 +41,8 @@ open_from n [] = []
 open_from n (g ∷ gs) = if g.closed then open_from (n + 1) gs else n ∷ open_from (n + 1) gs
 
 -- what is true of the fields at all times
-pub record IsWhole {A : Type 0} (limits : Limits) (index : Index) (stored : List (Stored A)) (open_numbers : List ℕ) : Type 0 where
+pub record IsWhole {A : Type 0} (limits : Limits) (index : Index) (stored : List (Stored A))
+    (open_numbers : List ℕ) : Type 0 where
   -- the bytes of each gathering stand in the index
   pub texts : (i : ℕ) (s : Stored A) → slice_get stored i ≡ Some s → s.text < length index
   -- the index leads from any bytes to the newest gathering that has them

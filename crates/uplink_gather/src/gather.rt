@@ -1,5 +1,7 @@
-ghost use Rattle.std.specs.Prelude.{◌≡◌, ◌+◌, ◌<◌, [], ◌∷◌, ◌++◌, length, Some, MatchResult, MatchBool, IfOk, IsOkAnd, IsSome, OnOk, OnErr, IsOkUnless};
-ghost use Rattle.uplink_gather.specs.Gatherings.{numbered, rewritten, due_of, is_open_at, is_closed_at, bytes_of, copies_of, close_step};
+ghost use Rattle.std.specs.Prelude.{◌≡◌, ◌+◌, ◌<◌, [], ◌∷◌, ◌++◌, length, Some, MatchResult, MatchBool, IfOk, IsOkAnd, IsSome};
+ghost use Rattle.std.specs.Prelude.{OnOk, OnErr, IsOkUnless};
+ghost use Rattle.uplink_gather.specs.Gatherings.{numbered, rewritten, due_of, is_open_at, is_closed_at, bytes_of, copies_of};
+ghost use Rattle.uplink_gather.specs.Gatherings.{close_step};
 ghost use Rattle.uplink_gather.specs.Hearing.{place_of, is_crowded, hear_answer, after_hearing, opening, with_copy};
 
 use crate::newest::Newest;
@@ -58,7 +60,8 @@ impl<S: BuildHasher, A: Allocator + Copy> Gather<S, A> {
     /// or answers the first fault that holds, in the order of `HearFault`. A fault changes nothing;
     /// `NoMemory` comes only where a growth was refused.
     pub fn hear(&mut self, bytes: &[u8], copy: HeardCopy, arrived: u64) -> Result<Heard, HearFault>
-        ensures answer { MatchResult (hear_answer self.old bytes.now copy.gateway arrived) (λ _. IsOkUnless result HearFault.NoMemory) (λ fault. result ≡ Err fault) }
+        ensures answer { MatchResult (hear_answer self.old bytes.now copy.gateway arrived)
+            (λ _. IsOkUnless result HearFault.NoMemory) (λ fault. result ≡ Err fault) }
         ensures told { IfOk result (λ heard. hear_answer self.old bytes.now copy.gateway arrived ≡ Ok heard) }
         ensures step { self.new ≡ after_hearing result self.old bytes.now copy arrived }
         ensures refused { OnErr result (self.new ≡ self.old) }
@@ -91,7 +94,8 @@ impl<S: BuildHasher, A: Allocator + Copy> Gather<S, A> {
 
     /// Opens a gathering, where there may be one more. All growths come before the first change.
     fn begin(&mut self, bytes: &[u8], copy: HeardCopy, arrived: u64) -> Result<Heard, HearFault>
-        ensures crowded { MatchBool (is_crowded self.old) (result ≡ Err HearFault.Crowded) (IsOkUnless result HearFault.NoMemory) }
+        ensures crowded { MatchBool (is_crowded self.old) (result ≡ Err HearFault.Crowded)
+            (IsOkUnless result HearFault.NoMemory) }
         ensures told { IfOk result (λ heard. heard ≡ Heard.Opened (length self.old.list + 1)) }
         ensures opened { OnOk result (self.new ≡ record self.old { list = self.old.list ++ opening bytes.now copy arrived ∷ [] }) }
         ensures refused { OnErr result (self.new ≡ self.old) }

@@ -7,7 +7,8 @@ rounds-init c = λ key is. state_after-none _ key _ _ _ is (omega arith) c.colum
 
 pub rounds-preserved : goal.rounds-preserved
 rounds-preserved c = λ key is.
-    state_after-more _ key _ _ _ c.rounds.round is (omega arith) (omega arith) (omega arith) (c.rounds.invariant key is) c.middle_round-next.ensures
+    state_after-more _ key _ _ _ c.rounds.round is (omega arith) (omega arith) (omega arith)
+    (c.rounds.invariant key is) c.middle_round-next.ensures
 
 pub returns : goal.returns
 returns c = λ key is.

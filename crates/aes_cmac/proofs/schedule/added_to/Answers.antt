@@ -6,4 +6,5 @@ pub returns-then-i-gt0 : goal.returns-then-i-gt0
 returns-then-i-gt0 c = added_word-same c.args.word c.args.i (omega arith)
 
 pub returns : goal.returns
-returns c = added_word-turned c.args.word _ c.args.i _ (omega arith) c.requires.low c.requires.high (omega arith) refl c.substituted.ensures
+returns c = added_word-turned c.args.word _ c.args.i _ (omega arith) c.requires.low c.requires.high
+    (omega arith) refl c.substituted.ensures

@@ -13,7 +13,8 @@ words-init c = (
 pub words-preserved : goal.words-preserved
 words-preserved c = (
   search rules,
-  key_words-more _ _ _ _ c.added_to.result c.words.invariant.0 (omega arith) (omega arith) c.words.invariant.1 refl c.added_to.ensures,
+  key_words-more _ _ _ _ c.added_to.result c.words.invariant.0 (omega arith)
+      (omega arith) c.words.invariant.1 refl c.added_to.ensures,
   set_fits _ _ _ (xor_of_32 _ _ (c.words.invariant.2 (c.words.i - 4)) (omega arith)) c.words.invariant.2,
 )
 

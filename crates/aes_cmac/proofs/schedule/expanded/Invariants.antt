@@ -5,4 +5,5 @@ use Rattle.aes_cmac.proofs.schedule.expanded.Given as goal
 
 abbrev pub invariant-words : goal.invariant-words
 invariant-words l =
-    (length l.words ≡ 44) × (map word_bytes (take l.i l.words) ≡ key_words l.key (l.i - 4)) × ((k : ℕ) → get_or l.words k 0 < 2 ^ 32)
+    (length l.words ≡ 44) × (map word_bytes (take l.i l.words) ≡ key_words l.key (l.i - 4))
+    × ((k : ℕ) → get_or l.words k 0 < 2 ^ 32)

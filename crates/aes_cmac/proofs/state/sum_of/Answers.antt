@@ -6,7 +6,8 @@ use Rattle.aes_cmac.proofs.state.sum_of.Goals as goal
 pub bytes-preserved : goal.bytes-preserved
 bytes-preserved c = (
   search rules,
-  same_more _ _ _ _ (omega (arith, c.bytes.invariant.0)) (sym (get_or-xor_bytes c.args.a.now c.args.b.now c.bytes.i (omega arith) (omega arith)))
+  same_more _ _ _ _ (omega (arith, c.bytes.invariant.0)) (sym
+      (get_or-xor_bytes c.args.a.now c.args.b.now c.bytes.i (omega arith) (omega arith)))
       c.bytes.invariant.1,
 )
 

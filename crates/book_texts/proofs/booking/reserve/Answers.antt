@@ -3,4 +3,5 @@ use Rattle.book_texts.proofs.booking.reserve.Goals as goal
 
 pub returns-in-Err : goal.returns-in-Err
 returns-in-Err g c =
-    carried_out-refused c.args.book.now c.book.new.self c.args.ask c.in-Err.refusal c.in-Err.ensures.answer c.in-Err.ensures.refused
+    carried_out-refused c.args.book.now c.book.new.self c.args.ask c.in-Err.refusal c.in-Err.ensures.answer
+    c.in-Err.ensures.refused

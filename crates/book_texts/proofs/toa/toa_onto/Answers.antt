@@ -11,7 +11,8 @@ use Rattle.book_texts.proofs.LineLemmas.{is_refusal-numeral}
 use Rattle.book_texts.proofs.toa.toa_onto.Goals as goal
 
 -- the line of a length that is not too long
-toa_line-fits : (number len : ℕ) (rate : DataRate) → rate_numbered number ≡ Some rate → len ≤ max_phy_of rate → toa_line number len ≡ decimal (airtime_of rate len)
+toa_line-fits : (number len : ℕ) (rate : DataRate) → rate_numbered number ≡ Some rate → len ≤ max_phy_of rate
+    → toa_line number len ≡ decimal (airtime_of rate len)
 toa_line-fits number len rate e h =
     let short : nat_lt (max_phy_of rate) len ≡ false = le-ltb (max_phy_of rate) len h in
     ap (λ o. spaced (toa_words o len)) e ∙ rw short refl
@@ -19,5 +20,6 @@ toa_line-fits number len rate e h =
 pub returns-in-Some-2-clause-refused : goal.returns-in-Some-2-clause-refused
 returns-in-Some-2-clause-refused c =
     let numeral = (decimal_is_IsNumeral c.airtime.result (omega (arith, c.airtime.ensures.short))).0 in
-    let line = toa_line-fits c.args.rate c.args.len c.in-Some.rate (sym c.in-Some.ensures) (omega (arith, c.if-len-max_phy.false, c.max_phy.ensures)) in
+    let line = toa_line-fits c.args.rate c.args.len c.in-Some.rate (sym c.in-Some.ensures)
+    (omega (arith, c.if-len-max_phy.false, c.max_phy.ensures)) in
     sym (ap is_refusal (line ∙ ap decimal (sym c.airtime.ensures.value)) ∙ is_refusal-numeral _ numeral)

@@ -11,14 +11,17 @@ loop-member-init g c =
 pub loop-member-smaller : goal.loop-member-smaller
 loop-member-smaller g c =
     let l = g.R.Roster.list c.args.roster.now in
-    let next = rest_from-Some start_of 0 c.loop-member.from c.in-Some.member l (g.met.R.Roster.by_start c.args.roster.now) (sym c.first_from.ensures ∙ c.in-Some.is) in
-    let shorter : length (rest_from start_of c.loop-member.from l) ≡ length (c.in-Some.member ∷ rest_from start_of (c.in-Some.member.start + 1) l) = ap length next.0 in
+    let next = rest_from-Some start_of 0 c.loop-member.from c.in-Some.member l (g.met.R.Roster.by_start c.args.roster.now)
+    (sym c.first_from.ensures ∙ c.in-Some.is) in
+    let shorter : length (rest_from start_of c.loop-member.from l)
+    ≡ length (c.in-Some.member ∷ rest_from start_of (c.in-Some.member.start + 1) l) = ap length next.0 in
     omega (arith, shorter)
 
 pub loop-member-preserved : goal.loop-member-preserved
 loop-member-preserved g c =
     let l = g.R.Roster.list c.args.roster.now in
-    let next = rest_from-Some start_of 0 c.loop-member.from c.in-Some.member l (g.met.R.Roster.by_start c.args.roster.now) (sym c.first_from.ensures ∙ c.in-Some.is) in
+    let next = rest_from-Some start_of 0 c.loop-member.from c.in-Some.member l (g.met.R.Roster.by_start c.args.roster.now)
+    (sym c.first_from.ensures ∙ c.in-Some.is) in
     rw (c.in_ok-push.ensures.items, append_assoc) (rw next.0 at c.loop-member.invariant)
 
 pub returns : goal.returns

@@ -7,7 +7,8 @@ use Rattle.gateway_book.proofs.duty.first_full.Given as goal
 
 abbrev pub invariant-loop-member : goal.invariant-loop-member
 invariant-loop-member g l =
-    (find (opens_full (g.R.Roster.list l.roster) l.band l.start l.airtime) (rest_from start_of l.from (g.R.Roster.list l.roster)) ≡ find (opens_full (g.R.Roster.list l.roster) l.band l.start l.airtime) (g.R.Roster.list l.roster))
+    (find (opens_full (g.R.Roster.list l.roster) l.band l.start l.airtime) (rest_from start_of l.from (g.R.Roster.list l.roster))
+    ≡ find (opens_full (g.R.Roster.list l.roster) l.band l.start l.airtime) (g.R.Roster.list l.roster))
     × (l.start + 1 ≤ l.from + hour)
 
 abbrev pub decreases-loop-member : goal.decreases-loop-member

@@ -15,10 +15,13 @@ blocks-2-preserved g c =
     let i = c.blocks-2.i in
     let held = c.blocks-2.invariant in
     let within : 16 * i ≤ length a.payload.now = omega arith in
-    let stream = key_stream-more a.key.now c.stream_block-block.result a.direction a.addr a.counter i c.stream_block-block.ensures in
-    let width = ap length stream ∙ length-append (key_stream a.key.now a.direction a.addr a.counter i) c.stream_block-block.result in (
+    let stream = key_stream-more a.key.now c.stream_block-block.result a.direction a.addr a.counter i c.stream_block-block.ensures
+    in
+    let width = ap length stream ∙ length-append (key_stream a.key.now a.direction a.addr a.counter i) c.stream_block-block.result
+    in (
       c.append_sum.ensures.items
-          ∙ crypted_more a.frame.now.items _ _ a.payload.now a.key.now _ a.direction a.addr a.counter i held.0 held.3 within c.stream_block-block.ensures
+          ∙ crypted_more a.frame.now.items _ _ a.payload.now a.key.now _ a.direction a.addr a.counter i held.0 held.3 within
+          c.stream_block-block.ensures
           (ap (λ (x : List ℕ). xor_bytes x c.stream_block-block.result) c.piece_at.ensures.piece),
       omega (arith, held.1, c.append_sum.ensures.len, c.piece_at.ensures.len),
       omega (arith, held.2, c.append_sum.ensures.room),
@@ -28,4 +31,5 @@ blocks-2-preserved g c =
 pub returns-clause-items : goal.returns-clause-items
 returns-clause-items g c =
     let a = c.args in
-    crypted_all a.frame.now.items _ a.payload.now a.key.now a.direction a.addr a.counter c.blocks-2.i (omega arith) c.blocks-2.invariant.0
+    crypted_all a.frame.now.items _ a.payload.now a.key.now a.direction a.addr a.counter c.blocks-2.i
+    (omega arith) c.blocks-2.invariant.0

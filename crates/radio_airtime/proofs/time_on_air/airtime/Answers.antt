@@ -18,8 +18,14 @@ airtime_of-short Dr6 len h = omega (arith, airtime_of-whole Dr6 len)
 
 pub returns-clause-value : goal.returns-clause-value
 returns-clause-value c =
-    rw
-    (c.quarter_symbol_us.ensures, c.div_ceil.ensures, c.saturating_sub-bits.ensures, c.bits_per_block.ensures, c.spreading_factor.ensures, c.from.ensures)
+    rw (
+      c.quarter_symbol_us.ensures,
+      c.div_ceil.ensures,
+      c.saturating_sub-bits.ensures,
+      c.bits_per_block.ensures,
+      c.spreading_factor.ensures,
+      c.from.ensures,
+    )
     (sym (airtime_of-whole c.args.rate c.args.len))
 
 pub returns-clause-positive : goal.returns-clause-positive

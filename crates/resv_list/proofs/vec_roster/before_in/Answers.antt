@@ -13,4 +13,5 @@ pub returns-in_default : goal.returns-in_default
 returns-in_default c =
     let e = filter-cut (λ r. nat_lt (start_of r) c.args.start) c.args.members.now c.place_of.result c.place_of.ensures.cut in
     let p : 0 < c.place_of.result = omega arith in
-    sym (ap last e ∙ last-take_before c.args.members.now c.place_of.result c.index-members-place.result p c.place_of.ensures.bound c.index-members-place.is)
+    sym (ap last e ∙ last-take_before c.args.members.now c.place_of.result c.index-members-place.result p c.place_of.ensures.bound
+    c.index-members-place.is)

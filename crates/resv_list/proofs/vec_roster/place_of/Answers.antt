@@ -12,7 +12,8 @@ returns-clause-cut c =
     c.args.members.now
     c.partition_point.result
     c.partition_point.ensures.partitioned
-    (IsPartitionedBy-ltb start_of c.args.members.now c.args.start (RisesFrom-IsNonDecreasingBy start_of 0 c.args.members.now c.requires))
+    (IsPartitionedBy-ltb start_of c.args.members.now c.args.start
+    (RisesFrom-IsNonDecreasingBy start_of 0 c.args.members.now c.requires))
     (search rules)
 
 pub returns-clause-placed : goal.returns-clause-placed
@@ -22,4 +23,5 @@ returns-clause-placed c r e =
     r
     c.args.members.now
     c.partition_point.result
-    (subst (λ (t : ℕ). IsCut (λ s. nat_lt (start_of s) t) c.args.members.now c.partition_point.result) (sym e) (returns-clause-cut c))
+    (subst (λ (t : ℕ). IsCut (λ s. nat_lt (start_of s) t) c.args.members.now c.partition_point.result) (sym e)
+    (returns-clause-cut c))

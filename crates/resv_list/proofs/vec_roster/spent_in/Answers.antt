@@ -11,7 +11,8 @@ pub begun_before-requires-clause-rising : goal.begun_before-requires-clause-risi
 begun_before-requires-clause-rising c =
     let l = c.args.members.now in
     let P : List Reservation → Type 0 = λ m. RisesFrom start_of c.args.from m in
-    subst P (sym (take_rest l c.place_of.result)) (RisesFrom-cut start_of 0 c.args.from l c.place_of.result c.place_of.ensures.cut c.requires.by_start)
+    subst P (sym (take_rest l c.place_of.result)) (RisesFrom-cut start_of 0 c.args.from l c.place_of.result c.place_of.ensures.cut
+    c.requires.by_start)
 
 pub returns : goal.returns
 returns c =

@@ -10,7 +10,8 @@ pub returns-in-Err-clause-err : goal.returns-in-Err-clause-err
 unfolding head
 returns-in-Err-clause-err g c =
     rw (frame-parts (decimal c.args.number) (hex_digits c.args.bytes.now))
-    (front-of_both (g.W.ByteOut.taken c.args.writer.now) (g.W.ByteOut.taken c.put_frame_number.new.writer) c.args.output.now (head c.args.number) (hex_digits c.args.bytes.now ++ (10 ∷ [])) c.in-Err.ensures.err)
+    (front-of_both (g.W.ByteOut.taken c.args.writer.now) (g.W.ByteOut.taken c.put_frame_number.new.writer) c.args.output.now
+    (head c.args.number) (hex_digits c.args.bytes.now ++ (10 ∷ [])) c.in-Err.ensures.err)
 
 pub returns-in-Err-put_hex-clause-err : goal.returns-in-Err-put_hex-clause-err
 unfolding head
@@ -18,8 +19,11 @@ returns-in-Err-put_hex-clause-err g c =
     let hex = hex_digits c.args.bytes.now in
     let mid = c.put_frame_number.new in
     rw (frame-parts (decimal c.args.number) hex)
-    (put-front (g.W.ByteOut.taken c.args.writer.now) (g.W.ByteOut.taken mid.writer) (g.W.ByteOut.taken c.put_hex.new.writer) c.args.output.now (head c.args.number) mid.output (hex ++ (10 ∷ [])) c.in-Ok.ensures.ok
-    (front-of_both (g.W.ByteOut.taken mid.writer) (g.W.ByteOut.taken c.put_hex.new.writer) mid.output hex (10 ∷ []) c.in-Err-put_hex.ensures.err))
+    (put-front (g.W.ByteOut.taken c.args.writer.now) (g.W.ByteOut.taken mid.writer)
+    (g.W.ByteOut.taken c.put_hex.new.writer) c.args.output.now (head c.args.number) mid.output
+    (hex ++ (10 ∷ [])) c.in-Ok.ensures.ok
+    (front-of_both (g.W.ByteOut.taken mid.writer) (g.W.ByteOut.taken c.put_hex.new.writer) mid.output hex
+    (10 ∷ []) c.in-Err-put_hex.ensures.err))
 
 pub returns-in-Ok-put_hex-clause-ok : goal.returns-in-Ok-put_hex-clause-ok
 unfolding head
@@ -28,8 +32,12 @@ returns-in-Ok-put_hex-clause-ok g c =
     let mid = c.put_frame_number.new in
     let last = c.put_hex.new in
     rw (frame-parts (decimal c.args.number) hex)
-    (OnOk-both c.put.result (g.W.ByteOut.taken c.args.writer.now) (g.W.ByteOut.taken mid.writer) (g.W.ByteOut.taken c.put.new.writer) c.args.output.now (head c.args.number) mid.output (hex ++ (10 ∷ [])) c.put.new.self c.in-Ok.ensures.ok
-    (OnOk-both c.put.result (g.W.ByteOut.taken mid.writer) (g.W.ByteOut.taken last.writer) (g.W.ByteOut.taken c.put.new.writer) mid.output hex last.output (10 ∷ []) c.put.new.self c.in-Ok-put_hex.ensures.ok c.put.ensures.ok))
+    (OnOk-both c.put.result (g.W.ByteOut.taken c.args.writer.now) (g.W.ByteOut.taken mid.writer)
+    (g.W.ByteOut.taken c.put.new.writer) c.args.output.now (head c.args.number) mid.output
+    (hex ++ (10 ∷ [])) c.put.new.self c.in-Ok.ensures.ok
+    (OnOk-both c.put.result (g.W.ByteOut.taken mid.writer) (g.W.ByteOut.taken last.writer)
+    (g.W.ByteOut.taken c.put.new.writer) mid.output hex last.output
+    (10 ∷ []) c.put.new.self c.in-Ok-put_hex.ensures.ok c.put.ensures.ok))
 
 pub returns-in-Ok-put_hex-clause-err : goal.returns-in-Ok-put_hex-clause-err
 unfolding head
@@ -38,5 +46,8 @@ returns-in-Ok-put_hex-clause-err g c =
     let mid = c.put_frame_number.new in
     let last = c.put_hex.new in
     rw (frame-parts (decimal c.args.number) hex)
-    (OnErr-both c.put.result (g.W.ByteOut.taken c.args.writer.now) (g.W.ByteOut.taken mid.writer) (g.W.ByteOut.taken c.put.new.writer) c.args.output.now (head c.args.number) mid.output (hex ++ (10 ∷ [])) c.in-Ok.ensures.ok
-    (OnErr-both c.put.result (g.W.ByteOut.taken mid.writer) (g.W.ByteOut.taken last.writer) (g.W.ByteOut.taken c.put.new.writer) mid.output hex last.output (10 ∷ []) c.in-Ok-put_hex.ensures.ok c.put.ensures.err))
+    (OnErr-both c.put.result (g.W.ByteOut.taken c.args.writer.now) (g.W.ByteOut.taken mid.writer)
+    (g.W.ByteOut.taken c.put.new.writer) c.args.output.now (head c.args.number) mid.output
+    (hex ++ (10 ∷ [])) c.in-Ok.ensures.ok
+    (OnErr-both c.put.result (g.W.ByteOut.taken mid.writer) (g.W.ByteOut.taken last.writer)
+    (g.W.ByteOut.taken c.put.new.writer) mid.output hex last.output (10 ∷ []) c.in-Ok-put_hex.ensures.ok c.put.ensures.err))

@@ -8,16 +8,21 @@ use Rattle.run_lines.proofs.replay_text.put_entries.Goals as goal
 pub returns-in-Err-clause-err : goal.returns-in-Err-clause-err
 returns-in-Err-clause-err g c =
     let l = c.loop-entry in
-    let F : Entry g.row.A.Denot → Type 0 = λ e. WritesFront (g.W.ByteOut.taken l.writer) (g.W.ByteOut.taken c.put_line.new.writer) (l.output ++ entries_text (e ∷ [])) in
-    put-stopped entries_text entries-append (g.W.ByteOut.taken c.args.writer.now) (g.W.ByteOut.taken l.writer) (g.W.ByteOut.taken c.put_line.new.writer) c.args.output.now l.output c.args.entries.now l.entry-index c.entry-item.result
+    let F : Entry g.row.A.Denot → Type 0 = λ e. WritesFront (g.W.ByteOut.taken l.writer) (g.W.ByteOut.taken c.put_line.new.writer)
+    (l.output ++ entries_text (e ∷ [])) in
+    put-stopped entries_text entries-append (g.W.ByteOut.taken c.args.writer.now) (g.W.ByteOut.taken l.writer)
+    (g.W.ByteOut.taken c.put_line.new.writer) c.args.output.now l.output c.args.entries.now l.entry-index c.entry-item.result
     c.loop-entry-test.true l.invariant.written (subst F c.entry-item.is c.in-Err.ensures.err)
 
 pub loop-entry-preserved : goal.loop-entry-preserved
 loop-entry-preserved g c =
     let l = c.loop-entry in
-    let F : Entry g.row.A.Denot → Type 0 = λ e. WritesAllBut (g.W.ByteOut.taken l.writer) (g.W.ByteOut.taken c.put_line.new.writer) (l.output ++ entries_text (e ∷ [])) c.put_line.new.output in
+    let F : Entry g.row.A.Denot → Type 0 = λ e. WritesAllBut (g.W.ByteOut.taken l.writer)
+    (g.W.ByteOut.taken c.put_line.new.writer) (l.output ++ entries_text (e ∷ [])) c.put_line.new.output in
     record {
-      written = put-more entries_text entries-append (g.W.ByteOut.taken c.args.writer.now) (g.W.ByteOut.taken l.writer) (g.W.ByteOut.taken c.put_line.new.writer) c.args.output.now l.output c.put_line.new.output c.args.entries.now l.entry-index c.entry-item.result
+      written = put-more entries_text entries-append (g.W.ByteOut.taken c.args.writer.now) (g.W.ByteOut.taken l.writer)
+          (g.W.ByteOut.taken c.put_line.new.writer) c.args.output.now l.output c.put_line.new.output c.args.entries.now
+          l.entry-index c.entry-item.result
           c.loop-entry-test.true l.invariant.written (subst F c.entry-item.is c.in-Ok.ensures.ok);
       calls = search rules;
     }

@@ -14,7 +14,8 @@ returns-in-Err-clause-err g c =
     let reports = gateways_text (by_id gateways) in
     let last = text_of (tally_line c.args.entries.now ∷ []) in
     rw (replay-parts c.args.entries.now gateways)
-    (front-of_both (g.W.ByteOut.taken c.args.writer.now) (g.W.ByteOut.taken c.put_entries.new.writer) c.args.output.now answers (reports ++ last) c.in-Err.ensures.err)
+    (front-of_both (g.W.ByteOut.taken c.args.writer.now) (g.W.ByteOut.taken c.put_entries.new.writer) c.args.output.now answers
+    (reports ++ last) c.in-Err.ensures.err)
 
 pub returns-in-Err-put_gateways-clause-err : goal.returns-in-Err-put_gateways-clause-err
 returns-in-Err-put_gateways-clause-err g c =
@@ -24,8 +25,10 @@ returns-in-Err-put_gateways-clause-err g c =
     let last = text_of (tally_line c.args.entries.now ∷ []) in
     let one = c.put_entries.new in
     rw (replay-parts c.args.entries.now gateways)
-    (put-front (g.W.ByteOut.taken c.args.writer.now) (g.W.ByteOut.taken one.writer) (g.W.ByteOut.taken c.put_gateways.new.writer) c.args.output.now answers one.output (reports ++ last) c.in-Ok.ensures.ok
-    (front-of_both (g.W.ByteOut.taken one.writer) (g.W.ByteOut.taken c.put_gateways.new.writer) one.output reports last c.in-Err-put_gateways.ensures.err))
+    (put-front (g.W.ByteOut.taken c.args.writer.now) (g.W.ByteOut.taken one.writer)
+    (g.W.ByteOut.taken c.put_gateways.new.writer) c.args.output.now answers one.output (reports ++ last) c.in-Ok.ensures.ok
+    (front-of_both (g.W.ByteOut.taken one.writer) (g.W.ByteOut.taken c.put_gateways.new.writer) one.output reports last
+    c.in-Err-put_gateways.ensures.err))
 
 pub returns-in-Ok-put_gateways-clause-ok : goal.returns-in-Ok-put_gateways-clause-ok
 returns-in-Ok-put_gateways-clause-ok g c =
@@ -37,8 +40,11 @@ returns-in-Ok-put_gateways-clause-ok g c =
     let two = c.put_gateways.new in
     let three = c.put_tally.new in
     rw (replay-parts c.args.entries.now gateways)
-    (OnOk-both c.put_tally.result (g.W.ByteOut.taken c.args.writer.now) (g.W.ByteOut.taken one.writer) (g.W.ByteOut.taken three.writer) c.args.output.now answers one.output (reports ++ last) three.output c.in-Ok.ensures.ok
-    (OnOk-both c.put_tally.result (g.W.ByteOut.taken one.writer) (g.W.ByteOut.taken two.writer) (g.W.ByteOut.taken three.writer) one.output reports two.output last three.output c.in-Ok-put_gateways.ensures.ok c.put_tally.ensures.ok))
+    (OnOk-both c.put_tally.result (g.W.ByteOut.taken c.args.writer.now) (g.W.ByteOut.taken one.writer)
+    (g.W.ByteOut.taken three.writer) c.args.output.now answers one.output (reports ++ last) three.output c.in-Ok.ensures.ok
+    (OnOk-both c.put_tally.result (g.W.ByteOut.taken one.writer) (g.W.ByteOut.taken two.writer)
+    (g.W.ByteOut.taken three.writer) one.output reports two.output last three.output c.in-Ok-put_gateways.ensures.ok
+    c.put_tally.ensures.ok))
 
 pub returns-in-Ok-put_gateways-clause-err : goal.returns-in-Ok-put_gateways-clause-err
 returns-in-Ok-put_gateways-clause-err g c =
@@ -50,5 +56,8 @@ returns-in-Ok-put_gateways-clause-err g c =
     let two = c.put_gateways.new in
     let three = c.put_tally.new in
     rw (replay-parts c.args.entries.now gateways)
-    (OnErr-both c.put_tally.result (g.W.ByteOut.taken c.args.writer.now) (g.W.ByteOut.taken one.writer) (g.W.ByteOut.taken three.writer) c.args.output.now answers one.output (reports ++ last) c.in-Ok.ensures.ok
-    (OnErr-both c.put_tally.result (g.W.ByteOut.taken one.writer) (g.W.ByteOut.taken two.writer) (g.W.ByteOut.taken three.writer) one.output reports two.output last c.in-Ok-put_gateways.ensures.ok c.put_tally.ensures.err))
+    (OnErr-both c.put_tally.result (g.W.ByteOut.taken c.args.writer.now) (g.W.ByteOut.taken one.writer)
+    (g.W.ByteOut.taken three.writer) c.args.output.now answers one.output (reports ++ last) c.in-Ok.ensures.ok
+    (OnErr-both c.put_tally.result (g.W.ByteOut.taken one.writer) (g.W.ByteOut.taken two.writer)
+    (g.W.ByteOut.taken three.writer) one.output reports two.output last c.in-Ok-put_gateways.ensures.ok
+    c.put_tally.ensures.err))

@@ -12,13 +12,15 @@ returns-in-Err-clause-err g c = rw (c.new-output.ensures) at c.in-Err.ensures.er
 pub returns-in-Err-flush-clause-err : goal.returns-in-Err-flush-clause-err
 returns-in-Err-flush-clause-err g c =
     let text : List ℕ = text_of (replay_lines c.args.entries.now (map gateway_of c.args.books.now)) in
-    WritesFront-after (g.W.ByteOut.taken c.args.writer.now) (g.W.ByteOut.taken c.put_lines.new.writer) (g.W.ByteOut.taken c.flush.new.writer) text c.put_lines.new.output
+    WritesFront-after (g.W.ByteOut.taken c.args.writer.now) (g.W.ByteOut.taken c.put_lines.new.writer)
+    (g.W.ByteOut.taken c.flush.new.writer) text c.put_lines.new.output
     (rw (c.new-output.ensures) at c.in-Ok.ensures.ok) c.in-Err-flush.ensures.err
 
 pub returns-in-Ok-flush-clause-ok : goal.returns-in-Ok-flush-clause-ok
 returns-in-Ok-flush-clause-ok g c =
     let text : List ℕ = text_of (replay_lines c.args.entries.now (map gateway_of c.args.books.now)) in
-    Appends-after (g.W.ByteOut.taken c.args.writer.now) (g.W.ByteOut.taken c.put_lines.new.writer) (g.W.ByteOut.taken c.flush.new.writer) text c.put_lines.new.output
+    Appends-after (g.W.ByteOut.taken c.args.writer.now) (g.W.ByteOut.taken c.put_lines.new.writer)
+    (g.W.ByteOut.taken c.flush.new.writer) text c.put_lines.new.output
     (rw (c.new-output.ensures) at c.in-Ok.ensures.ok) c.in-Ok-flush.ensures.ok
 
 pub returns-in-Ok-flush-clause-told : goal.returns-in-Ok-flush-clause-told

@@ -1,11 +1,13 @@
 use Rattle.std.proofs.Common.{sym, ◌∙◌}
 use Rattle.std.proofs.lemmas.List.{take_rest}
-use Rattle.run_lines.proofs.InputLemmas.{settings-on, events-on, within-line, settings-rule, events-at_rule, settings-end, events-end}
+use Rattle.run_lines.proofs.InputLemmas.{settings-on, events-on, within-line, settings-rule, events-at_rule, settings-end}
+use Rattle.run_lines.proofs.InputLemmas.{events-end}
 use Rattle.run_lines.proofs.run_input.parts_of.Goals as goal
 
 pub returns-then-is_rule-clause-settings : goal.returns-then-is_rule-clause-settings
 returns-then-is_rule-clause-settings c =
-    settings-rule _ _ c.in-Some.rest.now _ (rw take_rest at c.in-Some.ensures.line) (sym c.if-is_rule.ensures) c.loop-line.invariant.settings
+    settings-rule _ _ c.in-Some.rest.now _ (rw take_rest at c.in-Some.ensures.line)
+    (sym c.if-is_rule.ensures) c.loop-line.invariant.settings
 
 pub returns-then-is_rule-clause-events : goal.returns-then-is_rule-clause-events
 returns-then-is_rule-clause-events c =
@@ -23,7 +25,8 @@ loop-line-preserved c =
     }
 
 pub returns-clause-settings : goal.returns-clause-settings
-returns-clause-settings c = settings-end _ _ c.loop-line.invariant.within (rw take_rest at c.in_default.ensures.line) c.loop-line.invariant.settings
+returns-clause-settings c = settings-end _ _ c.loop-line.invariant.within
+    (rw take_rest at c.in_default.ensures.line) c.loop-line.invariant.settings
 
 pub returns-clause-events : goal.returns-clause-events
 returns-clause-events c = events-end _ _ (rw take_rest at c.in_default.ensures.line) c.loop-line.invariant.events

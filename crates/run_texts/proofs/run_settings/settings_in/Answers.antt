@@ -9,10 +9,12 @@ returns-in-Err-clause-fault c =
 
 pub returns-in-Ok-read_settings-clause-given : goal.returns-in-Ok-read_settings-clause-given
 returns-in-Ok-read_settings-clause-given c =
-    settings_in-text _ c.in-Ok.ensures.cases.1 ∙ ap settings_of (sym c.in-Ok.ensures.cases.0) ∙ c.in-Ok-read_settings.ensures.given
+    settings_in-text _ c.in-Ok.ensures.cases.1 ∙ ap settings_of (sym c.in-Ok.ensures.cases.0)
+    ∙ c.in-Ok-read_settings.ensures.given
 
 pub returns-in-Err-read_settings-clause-fault : goal.returns-in-Err-read_settings-clause-fault
 returns-in-Err-read_settings-clause-fault c =
     refused _ _ c.text_fault-in-Err-read_settings.result
-    (λ h. settings_in-text _ c.in-Ok.ensures.cases.1 ∙ ap settings_of (sym c.in-Ok.ensures.cases.0) ∙ c.in-Err-read_settings.ensures.fault h)
+    (λ h. settings_in-text _ c.in-Ok.ensures.cases.1 ∙ ap settings_of (sym c.in-Ok.ensures.cases.0)
+    ∙ c.in-Err-read_settings.ensures.fault h)
     c.text_fault-in-Err-read_settings.ensures

@@ -16,8 +16,10 @@ returns g c =
     c.extend.result
     c.extend.ensures.ran
     (YieldsList-from_chain
-    (YieldsList-from_map _ (rx1_of plan) (YieldsList-from_slice copies (cc)) (ap map_callee c.chain.ensures.first ∙ c.map-first.ensures.closure) (λ x r q k. search (rules, tests)))
-    (YieldsList-from_map _ (rx2_of plan) (YieldsList-from_slice copies (cc)) (ap map_callee c.chain.ensures.second ∙ c.map-second.ensures.closure) (λ x r q k. search (rules, tests)))
+    (YieldsList-from_map _ (rx1_of plan) (YieldsList-from_slice copies (cc))
+    (ap map_callee c.chain.ensures.first ∙ c.map-first.ensures.closure) (λ x r q k. search (rules, tests)))
+    (YieldsList-from_map _ (rx2_of plan) (YieldsList-from_slice copies (cc))
+    (ap map_callee c.chain.ensures.second ∙ c.map-second.ensures.closure) (λ x r q k. search (rules, tests)))
     c.chain.ensures.first_done
     c.chain.ensures.second_done) in
     search rules

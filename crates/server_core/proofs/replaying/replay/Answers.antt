@@ -7,14 +7,18 @@ loop-place-init g c = replaying_first c.args.settings.now c.args.events.now (see
 
 pub loop-place-preserved : goal.loop-place-preserved
 loop-place-preserved g c =
-    replaying_on c.args.settings.now c.args.events.now c.loop-place.place c.index-events-place.result (seen c.loop-place.server) (seen c.event.new.self) c.loop-place-test.true
+    replaying_on c.args.settings.now c.args.events.now c.loop-place.place c.index-events-place.result (seen c.loop-place.server)
+    (seen c.event.new.self) c.loop-place-test.true
     c.index-events-place.is c.in_ok-event.ensures.done c.in_ok-event.ensures.ready c.loop-place.invariant
 
 pub returns-clause-steps : goal.returns-clause-steps
-returns-clause-steps g c = replayed_steps c.args.settings.now c.args.events.now c.loop-place.place (seen c.loop-place.server) c.loop-place-test.false c.loop-place.invariant
+returns-clause-steps g c = replayed_steps c.args.settings.now c.args.events.now c.loop-place.place
+    (seen c.loop-place.server) c.loop-place-test.false c.loop-place.invariant
 
 pub returns-clause-outcomes : goal.returns-clause-outcomes
-returns-clause-outcomes g c = replayed_outcomes c.args.settings.now c.args.events.now c.loop-place.place (seen c.loop-place.server) c.loop-place-test.false c.loop-place.invariant
+returns-clause-outcomes g c = replayed_outcomes c.args.settings.now c.args.events.now c.loop-place.place
+    (seen c.loop-place.server) c.loop-place-test.false c.loop-place.invariant
 
 pub returns-clause-books : goal.returns-clause-books
-returns-clause-books g c = replayed_books c.args.settings.now c.args.events.now c.loop-place.place (seen c.loop-place.server) c.loop-place-test.false c.loop-place.invariant
+returns-clause-books g c = replayed_books c.args.settings.now c.args.events.now c.loop-place.place
+    (seen c.loop-place.server) c.loop-place-test.false c.loop-place.invariant

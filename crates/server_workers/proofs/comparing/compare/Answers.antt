@@ -15,5 +15,8 @@ pub returns-in-Some-first_doubled-clause-order : goal.returns-in-Some-first_doub
 returns-in-Some-first_doubled-clause-order g c = c.in_default-first_apart.ensures
 
 pub returns-in-Some-first_lost-clause-order : goal.returns-in-Some-first_lost-clause-order
-returns-in-Some-first_lost-clause-order g c =
-    (c.in_default-first_apart.ensures, once_kept c.args.shelf.now _ _ c.in-Ok.ensures.same c.deref.ensures.value (c.in_default-first_doubled.ensures.none refl))
+returns-in-Some-first_lost-clause-order g c = (
+  c.in_default-first_apart.ensures,
+  once_kept c.args.shelf.now _ _ c.in-Ok.ensures.same c.deref.ensures.value
+      (c.in_default-first_doubled.ensures.none refl),
+)

@@ -4,7 +4,8 @@ use Rattle.server_workers.proofs.HeldLemmas.{once-rising}
 use Rattle.server_workers.proofs.held.first_doubled.Goals as goal
 
 pub returns-clause-none : goal.returns-clause-none
-returns-clause-none c _ = once-rising (λ h. h.1.number) c.args.held.now c.requires (λ k p l d. c.loop-i.invariant k p (omega arith) d)
+returns-clause-none c _ = once-rising (λ h. h.1.number) c.args.held.now c.requires
+    (λ k p l d. c.loop-i.invariant k p (omega arith) d)
 
 later : {X : Type 0} (l : List X) (i : ℕ) (d e : X) → 1 ≤ i → i < length l → get_or l (i - 1 + 1) d ≡ get_or l i e
 later l i d e p h =

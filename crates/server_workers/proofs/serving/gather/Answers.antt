@@ -9,27 +9,32 @@ use Rattle.server_workers.proofs.serving.gather.Goals as goal
 pub take_in-requires-clause-receipts : goal.take_in-requires-clause-receipts
 take_in-requires-clause-receipts g c =
     let e : vec_len c.pop.new.self + 1 ≡ vec_len c.loop-member.crew = omega (arith, c.in-Some.ensures.len) in
-    one_fits c.loop-member.served.receipts c.parted-has_begun.result.1.receipts g.K.Room.room _ _ c.loop-member.invariant.room.receipts e c.parted-has_begun.ensures.within.receipts
+    one_fits c.loop-member.served.receipts c.parted-has_begun.result.1.receipts g.K.Room.room _ _
+    c.loop-member.invariant.room.receipts e c.parted-has_begun.ensures.within.receipts
 
 pub take_in-requires-clause-outcomes : goal.take_in-requires-clause-outcomes
 take_in-requires-clause-outcomes g c =
     let e : vec_len c.pop.new.self + 1 ≡ vec_len c.loop-member.crew = omega (arith, c.in-Some.ensures.len) in
-    one_fits c.loop-member.served.outcomes c.parted-has_begun.result.1.outcomes g.K.Room.room _ _ c.loop-member.invariant.room.outcomes e c.parted-has_begun.ensures.within.outcomes
+    one_fits c.loop-member.served.outcomes c.parted-has_begun.result.1.outcomes g.K.Room.room _ _
+    c.loop-member.invariant.room.outcomes e c.parted-has_begun.ensures.within.outcomes
 
 pub take_in-requires-clause-skipped : goal.take_in-requires-clause-skipped
 take_in-requires-clause-skipped g c =
     let e : vec_len c.pop.new.self + 1 ≡ vec_len c.loop-member.crew = omega (arith, c.in-Some.ensures.len) in
-    one_fits c.loop-member.served.skipped c.parted-has_begun.result.1.skipped g.K.Room.room _ _ c.loop-member.invariant.room.skipped e c.parted-has_begun.ensures.within.skipped
+    one_fits c.loop-member.served.skipped c.parted-has_begun.result.1.skipped g.K.Room.room _ _
+    c.loop-member.invariant.room.skipped e c.parted-has_begun.ensures.within.skipped
 
 pub take_in-requires-clause-refused : goal.take_in-requires-clause-refused
 take_in-requires-clause-refused g c =
     let e : vec_len c.pop.new.self + 1 ≡ vec_len c.loop-member.crew = omega (arith, c.in-Some.ensures.len) in
-    one_fits c.loop-member.served.refused c.parted-has_begun.result.1.refused g.K.Room.room _ _ c.loop-member.invariant.room.refused e c.parted-has_begun.ensures.within.refused
+    one_fits c.loop-member.served.refused c.parted-has_begun.result.1.refused g.K.Room.room _ _
+    c.loop-member.invariant.room.refused e c.parted-has_begun.ensures.within.refused
 
 pub take_in-requires-clause-strays : goal.take_in-requires-clause-strays
 take_in-requires-clause-strays g c =
     let e : vec_len c.pop.new.self + 1 ≡ vec_len c.loop-member.crew = omega (arith, c.in-Some.ensures.len) in
-    one_fits c.loop-member.served.strays c.parted-has_begun.result.1.strays g.K.Room.room _ _ c.loop-member.invariant.room.strays e c.parted-has_begun.ensures.within.strays
+    one_fits c.loop-member.served.strays c.parted-has_begun.result.1.strays g.K.Room.room _ _ c.loop-member.invariant.room.strays
+    e c.parted-has_begun.ensures.within.strays
 
 pub loop-member-preserved : goal.loop-member-preserved
 loop-member-preserved g c =
@@ -37,21 +42,27 @@ loop-member-preserved g c =
     let all = c.loop-member.served in
     let own = c.parted-has_begun.result.1 in
     let new = c.take_in.new.self in
-    let cut = ap (map (λ m. m.worked)) c.in-Some.ensures.items ∙ map-append (λ m. m.worked) c.pop.new.self.items (c.in-Some.member ∷ [])
+    let cut = ap (map (λ m. m.worked)) c.in-Some.ensures.items
+    ∙ map-append (λ m. m.worked) c.pop.new.self.items (c.in-Some.member ∷ [])
     ∙ ap (λ w. map (λ m. m.worked) c.pop.new.self.items ++ w ∷ []) (sym c.parted-has_begun.ensures.same) in
     let room = c.loop-member.invariant.room in
     let within = c.parted-has_begun.ensures.within in
     let joined = c.take_in.ensures in
     let parts : new.till.parts ≡ all.till.parts + own.till.parts = ap (λ t. t.parts) joined.till in
     let amount : new.till.amount ≡ all.till.amount + own.till.amount = ap (λ t. t.amount) joined.till in
-    let airtime : airtime_of new.outcomes.items ≡ airtime_of all.outcomes.items + airtime_of own.outcomes.items = ap airtime_of joined.outcomes.items ∙ airtime_of-append all.outcomes.items own.outcomes.items in
+    let airtime : airtime_of new.outcomes.items ≡ airtime_of all.outcomes.items + airtime_of own.outcomes.items =
+    ap airtime_of joined.outcomes.items ∙ airtime_of-append all.outcomes.items own.outcomes.items in
     record {
       room =
           record {
-            receipts = others_fit all.receipts own.receipts new.receipts g.K.Room.room _ _ room.receipts e within.receipts joined.receipts;
-            outcomes = others_fit all.outcomes own.outcomes new.outcomes g.K.Room.room _ _ room.outcomes e within.outcomes joined.outcomes;
-            skipped = others_fit all.skipped own.skipped new.skipped g.K.Room.room _ _ room.skipped e within.skipped joined.skipped;
-            refused = others_fit all.refused own.refused new.refused g.K.Room.room _ _ room.refused e within.refused joined.refused;
+            receipts = others_fit all.receipts own.receipts new.receipts g.K.Room.room _ _ room.receipts e within.receipts
+                joined.receipts;
+            outcomes = others_fit all.outcomes own.outcomes new.outcomes g.K.Room.room _ _ room.outcomes e within.outcomes
+                joined.outcomes;
+            skipped = others_fit all.skipped own.skipped new.skipped g.K.Room.room _ _ room.skipped e within.skipped
+                joined.skipped;
+            refused = others_fit all.refused own.refused new.refused g.K.Room.room _ _ room.refused e within.refused
+                joined.refused;
             strays = others_fit all.strays own.strays new.strays g.K.Room.room _ _ room.strays e within.strays joined.strays;
           };
       fits = omega (arith, joined.overrun);
@@ -61,7 +72,8 @@ loop-member-preserved g c =
       few = c.loop-member.invariant.few;
       ran = omega (arith, one_at_most c.parted-has_begun.result.0, c.from.ensures, joined.ran, e, c.loop-member.invariant.ran);
       nobody =
-          none_on c.parted-has_begun.result.0 all.ran _ _ all.outcomes.items own.outcomes.items new.outcomes.items (ap (λ n. n + c.from.result) joined.ran ∙ ap (λ n. all.ran + n) c.from.ensures)
+          none_on c.parted-has_begun.result.0 all.ran _ _ all.outcomes.items own.outcomes.items new.outcomes.items
+          (ap (λ n. n + c.from.result) joined.ran ∙ ap (λ n. all.ran + n) c.from.ensures)
           c.parted-has_begun.ensures.before c.loop-member.invariant.nobody joined.outcomes.items;
       owed =
           owed_on _ _ all _ own _ _ cut joined.receipts joined.outcomes joined.skipped joined.refused joined.strays joined.overrun
@@ -71,7 +83,15 @@ loop-member-preserved g c =
 pub overflow_add-served : goal.overflow_add-served
 overflow_add-served g c =
     let one = one_at_most c.parted-has_begun.result.0 in
-    omega (arith, one, c.from.ensures, c.take_in.ensures.ran, c.in-Some.ensures.len, c.loop-member.invariant.ran, c.loop-member.invariant.few)
+    omega (
+      arith,
+      one,
+      c.from.ensures,
+      c.take_in.ensures.ran,
+      c.in-Some.ensures.len,
+      c.loop-member.invariant.ran,
+      c.loop-member.invariant.few,
+    )
 
 pub returns-clause-all : goal.returns-clause-all
 returns-clause-all g c =

@@ -12,7 +12,8 @@ invariant-loop-member g l =
       fits : l.served.overrun ≤ 2 ^ 64 - 1;
       parts : l.served.till.parts + vec_len l.crew ≡ l.fn.served.till.parts + vec_len l.fn.crew;
       most : l.fn.served.till.parts + vec_len l.fn.crew ≤ 65536;
-      amount : l.served.till.amount + airtime_of l.fn.served.outcomes.items ≡ l.fn.served.till.amount + airtime_of l.served.outcomes.items;
+      amount : l.served.till.amount + airtime_of l.fn.served.outcomes.items
+          ≡ l.fn.served.till.amount + airtime_of l.served.outcomes.items;
       few : l.fn.served.ran + vec_len l.fn.crew ≤ 16;
       ran : l.served.ran + vec_len l.crew ≤ l.fn.served.ran + vec_len l.fn.crew;
       nobody : l.served.ran ≡ 0 → l.served.outcomes.items ≡ l.fn.served.outcomes.items;

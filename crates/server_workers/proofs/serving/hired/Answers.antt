@@ -5,12 +5,16 @@ use Rattle.server_workers.proofs.serving.hired.Goals as goal
 
 pub idle-requires-clause-outcomes : goal.idle-requires-clause-outcomes
 idle-requires-clause-outcomes g c =
-    let own : AreEmptyFor g.K.Room.room c.in-Some.own = (All-pop (λ own. AreEmptyFor g.K.Room.room own) c.loop-own.lists.items c.pop.new.self.items (Some c.in-Some.own) c.in-Some.ensures.items c.loop-own.invariant.empty).1 in
+    let own : AreEmptyFor g.K.Room.room c.in-Some.own = (All-pop
+    (λ own. AreEmptyFor g.K.Room.room own) c.loop-own.lists.items c.pop.new.self.items
+    (Some c.in-Some.own) c.in-Some.ensures.items c.loop-own.invariant.empty).1 in
     own.outcomes.none
 
 pub new-requires-clause-within : goal.new-requires-clause-within
 new-requires-clause-within g c =
-    let own : AreEmptyFor g.K.Room.room c.in-Some.own = (All-pop (λ own. AreEmptyFor g.K.Room.room own) c.loop-own.lists.items c.pop.new.self.items (Some c.in-Some.own) c.in-Some.ensures.items c.loop-own.invariant.empty).1 in
+    let own : AreEmptyFor g.K.Room.room c.in-Some.own = (All-pop
+    (λ own. AreEmptyFor g.K.Room.room own) c.loop-own.lists.items c.pop.new.self.items
+    (Some c.in-Some.own) c.in-Some.ensures.items c.loop-own.invariant.empty).1 in
     let made = c.idle.ensures in
     record {
       receipts = omega (arith, own.receipts.fits, ap (λ v. vec_capacity v) made.receipts);
@@ -22,7 +26,9 @@ new-requires-clause-within g c =
 
 pub new-requires-clause-none : goal.new-requires-clause-none
 new-requires-clause-none g c =
-    let own : AreEmptyFor g.K.Room.room c.in-Some.own = (All-pop (λ own. AreEmptyFor g.K.Room.room own) c.loop-own.lists.items c.pop.new.self.items (Some c.in-Some.own) c.in-Some.ensures.items c.loop-own.invariant.empty).1 in
+    let own : AreEmptyFor g.K.Room.room c.in-Some.own = (All-pop
+    (λ own. AreEmptyFor g.K.Room.room own) c.loop-own.lists.items c.pop.new.self.items
+    (Some c.in-Some.own) c.in-Some.ensures.items c.loop-own.invariant.empty).1 in
     ap (λ v. v.items) c.idle.ensures.outcomes ∙ own.outcomes.none
 
 pub loop-own-preserved : goal.loop-own-preserved
@@ -35,5 +41,6 @@ loop-own-preserved g c =
       some = before.some;
       count = omega (arith, before.count, c.in-Some.ensures.len, c.push_reserved.ensures.len);
       places = omega (arith, before.places, c.push_reserved.ensures.capacity);
-      empty = (All-pop (λ own. AreEmptyFor g.K.Room.room own) c.loop-own.lists.items c.pop.new.self.items (Some c.in-Some.own) c.in-Some.ensures.items before.empty).0;
+      empty = (All-pop (λ own. AreEmptyFor g.K.Room.room own) c.loop-own.lists.items c.pop.new.self.items
+          (Some c.in-Some.own) c.in-Some.ensures.items before.empty).0;
     }

@@ -10,5 +10,6 @@ loop-worker-preserved g c =
       places = c.push_reserved.ensures.capacity ∙ c.loop-worker.invariant.places;
       empty =
           subst (All (λ own. AreEmptyFor c.args.room own)) (sym c.push_reserved.ensures.items)
-          (All-push (λ own. AreEmptyFor c.args.room own) c.loop-worker.lists.items c.in_ok-new.field-0 c.loop-worker.invariant.empty c.in_ok-new.ensures);
+          (All-push (λ own. AreEmptyFor c.args.room own) c.loop-worker.lists.items c.in_ok-new.field-0
+          c.loop-worker.invariant.empty c.in_ok-new.ensures);
     }

@@ -7,17 +7,22 @@ use Rattle.server_workers.proofs.serving.serve_by.Goals as goal
 pub returns-clause-till : goal.returns-clause-till
 returns-clause-till g c =
     let left = ap (λ t. t.parts) c.hired-crew.ensures.till in
-    let parts : c.hired-crew.new.till.parts + vec_len c.hired-crew.result ≡ c.args.till.parts = omega (arith, left, c.hired-crew.ensures.count, c.in-Ok.ensures.count, c.requires.parts, c.requires.crew.2) in
+    let parts : c.hired-crew.new.till.parts + vec_len c.hired-crew.result ≡ c.args.till.parts =
+    omega (arith, left, c.hired-crew.ensures.count, c.in-Ok.ensures.count, c.requires.parts, c.requires.crew.2) in
     let amount = ap (λ t. t.amount) c.hired-crew.ensures.till in
-    summed_ok c.args.till c.hired-crew.new.till (vec_len c.hired-crew.result) parts amount (λ s. s.till) (λ s. airtime_of s.outcomes.items) c.summed_up.result c.summed_up.ensures.till
+    summed_ok c.args.till c.hired-crew.new.till (vec_len c.hired-crew.result) parts amount (λ s. s.till)
+    (λ s. airtime_of s.outcomes.items) c.summed_up.result c.summed_up.ensures.till
 
 pub returns-clause-back : goal.returns-clause-back
 returns-clause-back g c =
     let left = ap (λ t. t.parts) c.hired-crew.ensures.till in
-    let parts : c.hired-crew.new.till.parts + vec_len c.hired-crew.result ≡ c.args.till.parts = omega (arith, left, c.hired-crew.ensures.count, c.in-Ok.ensures.count, c.requires.parts, c.requires.crew.2) in
+    let parts : c.hired-crew.new.till.parts + vec_len c.hired-crew.result ≡ c.args.till.parts =
+    omega (arith, left, c.hired-crew.ensures.count, c.in-Ok.ensures.count, c.requires.parts, c.requires.crew.2) in
     let amount = ap (λ t. t.amount) c.hired-crew.ensures.till in
-    summed_err c.args.till c.hired-crew.new.till (vec_len c.hired-crew.result) parts amount (λ f. f.till) c.summed_up.result c.summed_up.ensures.back
+    summed_err c.args.till c.hired-crew.new.till (vec_len c.hired-crew.result) parts amount
+    (λ f. f.till) c.summed_up.result c.summed_up.ensures.back
 
 pub returns-clause-ran : goal.returns-clause-ran
 returns-clause-ran g c =
-    subst (λ n. IfOk c.summed_up.result (λ s. (1 ≤ s.ran) × (s.ran ≤ n))) (c.hired-crew.ensures.count ∙ c.in-Ok.ensures.count) c.summed_up.ensures.ran
+    subst (λ n. IfOk c.summed_up.result (λ s. (1 ≤ s.ran) × (s.ran ≤ n)))
+    (c.hired-crew.ensures.count ∙ c.in-Ok.ensures.count) c.summed_up.ensures.ran

@@ -8,4 +8,5 @@ use Rattle.settings_text.proofs.settings_reading.each_in.Given as goal
 abbrev pub invariant-loop-value : goal.invariant-loop-value
 invariant-loop-value g l =
     each_in g.S.FromTable.of (items_view l.values)
-    ≡ result_map_both (λ rest. l.settings.items ++ rest) (λ fault. fault) (each_in g.S.FromTable.of (items_view (drop l.value-index l.values)))
+    ≡ result_map_both (λ rest. l.settings.items ++ rest) (λ fault. fault)
+    (each_in g.S.FromTable.of (items_view (drop l.value-index l.values)))

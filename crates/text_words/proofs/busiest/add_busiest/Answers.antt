@@ -8,5 +8,13 @@ pub returns : goal.returns
 returns g c =
     let gateway = c.args.gateway in
     let l = c.args.book.now.list in
-    rw (c.add_hour-6.ensures.text, c.add_hour-5.ensures.text, c.add_hour-4.ensures.text, c.add_hour-3.ensures.text, c.add_hour-2.ensures.text, c.add_hour.ensures.text)
-    (sym (text_of-six _ (busiest_lines gateway l K) (busiest_lines gateway l L) (busiest_lines gateway l M) (busiest_lines gateway l N) (busiest_lines gateway l P) (busiest_lines gateway l Q)))
+    rw (
+      c.add_hour-6.ensures.text,
+      c.add_hour-5.ensures.text,
+      c.add_hour-4.ensures.text,
+      c.add_hour-3.ensures.text,
+      c.add_hour-2.ensures.text,
+      c.add_hour.ensures.text,
+    )
+    (sym (text_of-six _ (busiest_lines gateway l K) (busiest_lines gateway l L) (busiest_lines gateway l M)
+    (busiest_lines gateway l N) (busiest_lines gateway l P) (busiest_lines gateway l Q)))

@@ -24,7 +24,8 @@ blocks-2-preserved c = (
   λ key m held.
       let next : c.room-room.result + 16 * (c.blocks-2.i + 1) ≡ c.room-room.result + 16 * c.blocks-2.i + 16 = omega arith in
       rw (c.add.ensures, next)
-      (HasChained_block c.blocks-2.self key m c.args.bytes.now _ (c.room-room.result + 16 * c.blocks-2.i) (c.blocks-2.invariant.1 key m held) (omega arith) c.block_from.ensures),
+      (HasChained_block c.blocks-2.self key m c.args.bytes.now _ (c.room-room.result + 16 * c.blocks-2.i)
+      (c.blocks-2.invariant.1 key m held) (omega arith) c.block_from.ensures),
 )
 
 pub returns : goal.returns
@@ -33,5 +34,6 @@ returns c = λ key m held.
     let at : ℕ = c.room-room.result + 16 * ((length b - c.room-room.result - 1) / 16) in
     let same : at ≡ c.room-room.result + 16 * c.blocks-2.i = omega arith in
     rw c.hold-3.ensures
-    (HasTaken_rest c.blocks-2.self key m b _ (c.room-room.result + 16 * c.blocks-2.i) (c.blocks-2.invariant.1 key m held) (omega arith) (omega arith)
+    (HasTaken_rest c.blocks-2.self key m b _ (c.room-room.result + 16 * c.blocks-2.i) (c.blocks-2.invariant.1 key m held)
+    (omega arith) (omega arith)
     (take_rest b at ∙ ap (λ (k : ℕ). drop k b) same))

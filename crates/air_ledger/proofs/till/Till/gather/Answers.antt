@@ -4,10 +4,16 @@ use Rattle.air_ledger.proofs.TillLemmas.{within, gathered-last, gathered-on, fit
 use Rattle.air_ledger.proofs.till.Till.gather.Goals as goal
 
 pub loop-till-init : goal.loop-till-init
-loop-till-init g c = (gathered-last _ _ _ c.in-Some.ensures.items, within _ (ap (λ l. nat_lt all_parts (parts_of l)) (sym c.as_slice.ensures.value) ∙ sym c.if-are_too_many.ensures))
+loop-till-init g c = (
+  gathered-last _ _ _ c.in-Some.ensures.items,
+  within _ (ap (λ l. nat_lt all_parts (parts_of l)) (sym c.as_slice.ensures.value) ∙ sym c.if-are_too_many.ensures),
+)
 
 pub join-requires : goal.join-requires
 join-requires g c = fits-on _ _ _ _ _ c.loop-till.invariant.0 c.in-Some-pop.ensures.items c.loop-till.invariant.1
 
 pub loop-till-preserved : goal.loop-till-preserved
-loop-till-preserved g c = (gathered-on _ _ _ _ _ _ c.loop-till.invariant.0 c.in-Some-pop.ensures.items c.join.ensures, c.loop-till.invariant.1)
+loop-till-preserved g c = (
+  gathered-on _ _ _ _ _ _ c.loop-till.invariant.0 c.in-Some-pop.ensures.items c.join.ensures,
+  c.loop-till.invariant.1,
+)

@@ -16,4 +16,5 @@ returns-in-Some-duty_full g c =
     let ahead : P now = subst P c.self.view_is (le-ltb ask.start c.self.inside.floor c.if-ask-self.false) in
     let clear = overlap_asked now.list ask r told.1 (sym c.first_overlap.ensures ∙ c.in_default.is) in
     let full = duty_asked now.list ask r refusal told.1 (sym c.duty_full.ensures ∙ c.in-Some-duty_full.is) in
-    answer_match (refusal_of (terms_of now) now.list ask) refusal ask (answer_duty (terms_of now) now.list ask refusal told.0 ahead clear full)
+    answer_match (refusal_of (terms_of now) now.list ask) refusal ask
+    (answer_duty (terms_of now) now.list ask refusal told.0 ahead clear full)

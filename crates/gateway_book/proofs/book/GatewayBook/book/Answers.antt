@@ -19,7 +19,8 @@ invariant_of-self g c =
     let r = c.in_ok-reservation.reservation in
     let told = not_refused (refusal_of (terms_of now) now.list c.args.ask) r c.args.ask c.in_ok-reservation.ensures in
     let can = may_book_inside _ now c.args.ask r c.self.view_is c.self.invariant told.1 told.0 in
-    sound_after _ r (g.R.Roster.list c.insert.new.self) c.airtime.result c.self.invariant (g.met.R.Roster.by_start c.self.inside.roster) can c.in-Ok.ensures.placed c.airtime.ensures.value
+    sound_after _ r (g.R.Roster.list c.insert.new.self) c.airtime.result c.self.invariant
+    (g.met.R.Roster.by_start c.self.inside.roster) can c.in-Ok.ensures.placed c.airtime.ensures.value
 
 pub returns-in-Ok-clause-asked : goal.returns-in-Ok-clause-asked
 returns-in-Ok-clause-asked g c = (not_refused _ _ c.args.ask c.in_ok-reservation.ensures).1
@@ -29,4 +30,5 @@ returns-in-Ok-clause-step g c =
     let now = c.args.self.now in
     let r = c.in_ok-reservation.reservation in
     let told = not_refused (refusal_of (terms_of now) now.list c.args.ask) r c.args.ask c.in_ok-reservation.ensures in
-    stepped _ now c.args.ask r (g.R.Roster.list c.insert.new.self) c.airtime.result c.self.view_is c.in-Ok.ensures.placed c.airtime.ensures.value told.0 told.1
+    stepped _ now c.args.ask r (g.R.Roster.list c.insert.new.self) c.airtime.result c.self.view_is c.in-Ok.ensures.placed
+    c.airtime.ensures.value told.0 told.1

@@ -15,9 +15,11 @@ returns-in-Some g c =
     let l = g.R.Roster.list c.self.inside.roster in
     let found : keep_if (λ b. nat_lt r.start (end_of b)) (member_before r.start l) ≡ Some c.in-Some.before =
     ap (keep_if (λ b. nat_lt r.start (end_of b))) (sym c.before-2.ensures) ∙ sym c.ending_after.ensures ∙ c.in-Some.is in
-    let e = overlap-neighbours l r.start (end_of r) (g.met.R.Roster.by_start c.self.inside.roster) c.self.invariant.lawful.apart (ends_later r) in
+    let e = overlap-neighbours l r.start (end_of r) (g.met.R.Roster.by_start c.self.inside.roster) c.self.invariant.lawful.apart
+    (ends_later r) in
     let P : Book → Type 0 = λ b. Some c.in-Some.before.start ≡ overlap b.list r.start (end_of r) in
-    subst P c.self.view_is (sym (e ∙ ap (λ o. option_map start_of (or_else o (keep_if (λ n. nat_lt n.start (end_of r)) (member_from r.start l)))) found))
+    subst P c.self.view_is (sym (e ∙ ap (λ o. option_map start_of
+    (or_else o (keep_if (λ n. nat_lt n.start (end_of r)) (member_from r.start l)))) found))
 
 pub returns-in-None : goal.returns-in-None
 returns-in-None g c =
@@ -25,8 +27,11 @@ returns-in-None g c =
     let l = g.R.Roster.list c.self.inside.roster in
     let found : keep_if (λ b. nat_lt r.start (end_of b)) (member_before r.start l) ≡ None =
     ap (keep_if (λ b. nat_lt r.start (end_of b))) (sym c.before-2.ensures) ∙ sym c.ending_after.ensures ∙ c.in-None.is in
-    let e = overlap-neighbours l r.start (end_of r) (g.met.R.Roster.by_start c.self.inside.roster) c.self.invariant.lawful.apart (ends_later r) in
+    let e = overlap-neighbours l r.start (end_of r) (g.met.R.Roster.by_start c.self.inside.roster) c.self.invariant.lawful.apart
+    (ends_later r) in
     let P : Book → Type 0 = λ b. c.starting_before.result ≡ overlap b.list r.start (end_of r) in
-    let later : option_map start_of (keep_if (λ n. nat_lt n.start (end_of r)) (member_from r.start l)) ≡ c.starting_before.result =
+    let later : option_map start_of (keep_if (λ n. nat_lt n.start (end_of r)) (member_from r.start l))
+    ≡ c.starting_before.result =
     sym (rw (c.first_from.ensures, c.end.ensures) at c.starting_before.ensures) in
-    subst P c.self.view_is (sym (e ∙ ap (λ o. option_map start_of (or_else o (keep_if (λ n. nat_lt n.start (end_of r)) (member_from r.start l)))) found ∙ later))
+    subst P c.self.view_is (sym (e ∙ ap (λ o. option_map start_of
+    (or_else o (keep_if (λ n. nat_lt n.start (end_of r)) (member_from r.start l)))) found ∙ later))

@@ -5,7 +5,8 @@ use Rattle.resv_list.specs.Reservations.{start_of, place, IsByStart}
 use Rattle.resv_list.proofs.vec_roster.VecRosterRoster.insert.Goals as goal
 
 -- the members stay by start, whether one was put in its place or not
-by_start_kept : (t : Bool) (old new placed : List Reservation) → new ≡ (if t then placed else old) → IsByStart placed → IsByStart old → IsByStart new
+by_start_kept : (t : Bool) (old new placed : List Reservation) → new ≡ (if t then placed else old) → IsByStart placed
+    → IsByStart old → IsByStart new
 by_start_kept true old new placed e p o = let P : List Reservation → Type 0 = λ l. IsByStart l in subst P (sym e) p
 by_start_kept false old new placed e p o = let P : List Reservation → Type 0 = λ l. IsByStart l in subst P (sym e) o
 
@@ -29,6 +30,7 @@ invariant_of-self-clause-by_start g c =
 
 pub returns-in-Ok-clause-placed : goal.returns-in-Ok-clause-placed
 returns-in-Ok-clause-placed g c =
-    let placed : place c.args.reservation c.args.self.now.items.items ≡ insert c.args.self.now.items.items c.place_of-place.result c.args.reservation =
+    let placed : place c.args.reservation c.args.self.now.items.items
+    ≡ insert c.args.self.now.items.items c.place_of-place.result c.args.reservation =
     rw c.deref.ensures.value at (c.place_of-place.ensures.placed c.args.reservation refl) in
     c.in-Ok.ensures.items ∙ sym placed

@@ -8,7 +8,8 @@ use Rattle.resv_list.proofs.vec_roster.VecRosterRoster.remove.Goals as goal
 pub invariant_of-self-clause-by_start : goal.invariant_of-self-clause-by_start
 invariant_of-self-clause-by_start g c =
     let old = c.args.self.now.items.items in
-    let left : without c.args.start old ≡ remove old c.in_ok-place.place = rw c.deref.ensures.value at c.in_ok-place.ensures.left in
+    let left : without c.args.start old ≡ remove old c.in_ok-place.place =
+    rw c.deref.ensures.value at c.in_ok-place.ensures.left in
     let P : List Reservation → Type 0 = λ l. IsByStart l in
     subst P (left ∙ sym c.remove.ensures.items) (RisesFrom-filter start_of _ 0 old c.args.self.now.by_start)
 

@@ -3,7 +3,8 @@ use Rattle.server_desk.specs.declared.faults.TakeFault.TheVariants.{NoMemory}
 use Rattle.server_desk.specs.Taking.{take_answer}
 use Rattle.server_core.specs.Server.{seen}
 use Rattle.server_core.proofs.Going.{on_ok}
-use Rattle.server_core.proofs.Answered.{taken_here, taken_books, taken_given, answer_gathered, answer_ready, answer_made, refused_made, refused_is}
+use Rattle.server_core.proofs.Answered.{taken_here, taken_books, taken_given, answer_gathered, answer_ready, answer_made}
+use Rattle.server_core.proofs.Answered.{refused_made, refused_is}
 use Rattle.server_core.proofs.server.Server.answer.Goals as goal
 
 pub work-requires : goal.work-requires
@@ -12,9 +13,12 @@ work-requires g c =
     let mid = seen c.did.new.self in
     record {
       first = c.in-Ok.ensures.first;
-      here = taken_here c.args.place c.args.number old mid c.in_ok-did.ensures c.requires c.in-Ok.ticket c.take.new.self c.in-Ok.ensures.job c.in-Ok.ensures.step;
-      books = taken_books c.args.place c.args.number old mid c.in_ok-did.ensures c.requires c.in-Ok.ticket c.take.new.self c.in-Ok.ensures.job c.in-Ok.ensures.step;
-      given = taken_given c.args.place c.args.number old mid c.in_ok-did.ensures c.requires c.in-Ok.ticket c.take.new.self c.in-Ok.ensures.job c.in-Ok.ensures.step;
+      here = taken_here c.args.place c.args.number old mid c.in_ok-did.ensures c.requires c.in-Ok.ticket c.take.new.self
+          c.in-Ok.ensures.job c.in-Ok.ensures.step;
+      books = taken_books c.args.place c.args.number old mid c.in_ok-did.ensures c.requires c.in-Ok.ticket c.take.new.self
+          c.in-Ok.ensures.job c.in-Ok.ensures.step;
+      given = taken_given c.args.place c.args.number old mid c.in_ok-did.ensures c.requires c.in-Ok.ticket c.take.new.self
+          c.in-Ok.ensures.job c.in-Ok.ensures.step;
     }
 
 pub returns-in-Ok : goal.returns-in-Ok
@@ -24,11 +28,14 @@ returns-in-Ok g c =
     let new = seen c.work.new.self in
     record {
       ready = on_ok c.work.result
-          (λ a. answer_ready c.args.place c.args.number old mid c.in_ok-did.ensures c.requires c.in-Ok.ticket c.take.new.self c.in-Ok.ensures.job c.in-Ok.ensures.step new a) c.work.ensures;
+          (λ a. answer_ready c.args.place c.args.number old mid c.in_ok-did.ensures c.requires c.in-Ok.ticket c.take.new.self
+          c.in-Ok.ensures.job c.in-Ok.ensures.step new a) c.work.ensures;
       gathered = on_ok c.work.result
-          (λ a. answer_gathered c.args.place c.args.number old mid c.in_ok-did.ensures c.requires c.in-Ok.ticket c.take.new.self c.in-Ok.ensures.job c.in-Ok.ensures.step new a) c.work.ensures;
+          (λ a. answer_gathered c.args.place c.args.number old mid c.in_ok-did.ensures c.requires c.in-Ok.ticket c.take.new.self
+          c.in-Ok.ensures.job c.in-Ok.ensures.step new a) c.work.ensures;
       made = on_ok c.work.result
-          (λ a. answer_made c.args.place c.args.number old mid c.in_ok-did.ensures c.requires c.in-Ok.ticket c.take.new.self c.in-Ok.ensures.job c.in-Ok.ensures.step new a) c.work.ensures;
+          (λ a. answer_made c.args.place c.args.number old mid c.in_ok-did.ensures c.requires c.in-Ok.ticket c.take.new.self
+          c.in-Ok.ensures.job c.in-Ok.ensures.step new a) c.work.ensures;
     }
 
 pub returns-in_ok-not_taken_line-in-Err-clause-made : goal.returns-in_ok-not_taken_line-in-Err-clause-made
@@ -36,7 +43,9 @@ returns-in_ok-not_taken_line-in-Err-clause-made g c =
     let mid = seen c.did.new.self in
     on_ok c.told.result
     (λ told.
-    refused_made c.args.place c.args.number (seen c.args.self.now) mid c.in_ok-did.ensures c.requires c.in-Err.fault c.take.new.self _ (seen c.told.new.self)
-    (refused_is (take_answer mid.desk.reg mid.desk.known c.args.number) _ c.in-Err.fault NoMemory refl c.in-Err.ensures.answer c.in_ok-not_taken_line-in-Err.ensures.memory)
+    refused_made c.args.place c.args.number (seen c.args.self.now) mid c.in_ok-did.ensures c.requires c.in-Err.fault
+    c.take.new.self _ (seen c.told.new.self)
+    (refused_is (take_answer mid.desk.reg mid.desk.known c.args.number) _ c.in-Err.fault NoMemory refl c.in-Err.ensures.answer
+    c.in_ok-not_taken_line-in-Err.ensures.memory)
     c.in-Err.ensures.refused c.in_ok-not_taken_line-in-Err.ensures.line told)
     c.told.ensures

@@ -9,13 +9,21 @@ returns-in_default g c = nothing_sent c.args.number (seen c.args.self.now) _ c.r
 
 pub returns-in_default-place_of : goal.returns-in_default-place_of
 returns-in_default-place_of g c =
-    not_here c.args.number (seen c.args.self.now) _ c.requires c.in-Some.sent c.in-Some.ensures (rw c.deref.ensures.value at c.in_default-place_of.ensures) refl
+    not_here c.args.number (seen c.args.self.now) _ c.requires c.in-Some.sent c.in-Some.ensures
+    (rw c.deref.ensures.value at c.in_default-place_of.ensures) refl
 
 pub index_mut-requires : goal.index_mut-requires
 index_mut-requires g c =
-    omega (arith, book_within c.in-Some.sent.gateway c.args.self.now.books.items c.in-Some-place_of.at (rw c.deref.ensures.value at c.in-Some-place_of.ensures), c.args.self.now.books.ok.0)
+    omega (
+      arith,
+      book_within c.in-Some.sent.gateway c.args.self.now.books.items c.in-Some-place_of.at
+          (rw c.deref.ensures.value at c.in-Some-place_of.ensures),
+      c.args.self.now.books.ok.0,
+    )
 
 pub returns : goal.returns
 returns g c =
-    was_cancelled c.args.number (seen c.args.self.now) _ c.requires c.in-Some.sent c.in-Some.ensures c.in-Some-place_of.at c.index_mut.result.now c.cancel.new.self c.cancel.result
-    (rw c.deref.ensures.value at c.in-Some-place_of.ensures) c.index_mut.ensures.value c.cancel.ensures.answer c.cancel.ensures.step c.cancel.ensures.cancelled c.cancel.ensures.refused refl
+    was_cancelled c.args.number (seen c.args.self.now) _ c.requires c.in-Some.sent c.in-Some.ensures c.in-Some-place_of.at
+    c.index_mut.result.now c.cancel.new.self c.cancel.result
+    (rw c.deref.ensures.value at c.in-Some-place_of.ensures) c.index_mut.ensures.value c.cancel.ensures.answer
+    c.cancel.ensures.step c.cancel.ensures.cancelled c.cancel.ensures.refused refl

@@ -13,12 +13,14 @@ tried_once-requires g c =
 
 pub returns-in-Over : goal.returns-in-Over
 returns-in-Over g c =
-    tries_over c.args.ticket c.loop-ended.ticket (seen c.args.self.now) (seen c.loop-ended.self) (seen c.tried_once.new.self) c.in-Over.ended c.loop-ended.invariant
+    tries_over c.args.ticket c.loop-ended.ticket (seen c.args.self.now) (seen c.loop-ended.self)
+    (seen c.tried_once.new.self) c.in-Over.ended c.loop-ended.invariant
     (subst (TurnIs c.loop-ended.ticket (seen c.loop-ended.self) (seen c.tried_once.new.self)) c.in-Over.is c.in_ok-ended.ensures)
 
 pub loop-ended-preserved : goal.loop-ended-preserved
 loop-ended-preserved g c =
-    trying_next c.args.ticket c.loop-ended.ticket c.in-On.next (seen c.args.self.now) (seen c.loop-ended.self) (seen c.tried_once.new.self) c.loop-ended.invariant
+    trying_next c.args.ticket c.loop-ended.ticket c.in-On.next (seen c.args.self.now) (seen c.loop-ended.self)
+    (seen c.tried_once.new.self) c.loop-ended.invariant
     (subst (TurnIs c.loop-ended.ticket (seen c.loop-ended.self) (seen c.tried_once.new.self)) c.in-On.is c.in_ok-ended.ensures)
 
 pub loop-ended-smaller : goal.loop-ended-smaller

@@ -6,11 +6,18 @@ use Rattle.server_desk.proofs.desk.Desk.answered.Goals as goal
 
 pub index-requires : goal.index-requires
 index-requires g c =
-    omega (arith, c.in-Some.ensures.within, ap length c.deref.ensures.value, as_many _ _ _ _ c.self.invariant.1, c.self.inside.answered.ok.0)
+    omega (
+      arith,
+      c.in-Some.ensures.within,
+      ap length c.deref.ensures.value,
+      as_many _ _ _ _ c.self.invariant.1,
+      c.self.inside.answered.ok.0,
+    )
 
 pub returns : goal.returns
 returns g c =
-    answered_there _ _ _ _ c.self.invariant.1 c.args.gateway c.in-Some.place c.index.result.now c.deref.result.now c.deref.ensures.value c.in-Some.ensures.found c.index.ensures
+    answered_there _ _ _ _ c.self.invariant.1 c.args.gateway c.in-Some.place c.index.result.now c.deref.result.now
+    c.deref.ensures.value c.in-Some.ensures.found c.index.ensures
     ∙ ap (λ (v : DeskView). answered_for v.ids v.known c.args.gateway) c.self.view_is
 
 pub returns-in_default : goal.returns-in_default

@@ -7,7 +7,8 @@ use Rattle.server_desk.proofs.desk.Desk.new.Goals as goal
 
 pub invariant_of-result : goal.invariant_of-result
 invariant_of-result g c = (
-  opened_holds c.args.settings.now c.args.limits c.in_ok-devices.devices.items _ c.in_ok-gather.gather _ _ c.in_ok-devices.ensures.shown c.devices.ensures.list c.in_ok-gather.ensures c.new-2.ensures.items c.new-3.ensures.items
+  opened_holds c.args.settings.now c.args.limits c.in_ok-devices.devices.items _ c.in_ok-gather.gather _ _
+      c.in_ok-devices.ensures.shown c.devices.ensures.list c.in_ok-gather.ensures c.new-2.ensures.items c.new-3.ensures.items
       _ _ c.in_ok-addrs.ensures c.devices-2.ensures.list c.devices.ensures.kept c.in_ok-devices.ensures.none_out,
   first_airtimes c.args.settings.now.gateways _ _ c.args.limits.max_ever _ _ c.devices.ensures.kept.ids_differ
       (c.in_ok-gateways.ensures ∙ ap (map (λ (g : GatewaySetting). g.id)) c.gateways.ensures.list)
@@ -17,5 +18,6 @@ invariant_of-result g c = (
 
 pub returns : goal.returns
 returns g c =
-    opened_desk c.args.settings.now c.args.limits c.in_ok-devices.devices.items _ c.in_ok-gather.gather _ _ c.in_ok-devices.ensures.shown c.devices.ensures.list c.in_ok-gather.ensures c.new-2.ensures.items c.new-3.ensures.items
+    opened_desk c.args.settings.now c.args.limits c.in_ok-devices.devices.items _ c.in_ok-gather.gather _ _
+    c.in_ok-devices.ensures.shown c.devices.ensures.list c.in_ok-gather.ensures c.new-2.ensures.items c.new-3.ensures.items
     _ _ c.in_ok-gateways.ensures c.gateways.ensures.list

@@ -7,4 +7,5 @@ use Rattle.server_workers.proofs.office.Office.take.Goals as goal
 pub invariant_of-self : goal.invariant_of-self
 invariant_of-self g c =
     c.self.invariant
-    ∙ sym (same-total c.take.result c.self.inside.desk (desk_take c.self.inside.desk c.args.n) c.take.new.self (total-take c.self.inside.desk c.args.n) c.take.ensures.step c.take.ensures.refused)
+    ∙ sym (same-total c.take.result c.self.inside.desk (desk_take c.self.inside.desk c.args.n) c.take.new.self
+    (total-take c.self.inside.desk c.args.n) c.take.ensures.step c.take.ensures.refused)

@@ -7,4 +7,5 @@ pub returns-in-Ok-clause-turn : goal.returns-in-Ok-clause-turn
 returns-in-Ok-clause-turn g c =
     let given = c.in-Ok.ensures in
     let own : c.in-Ok.ticket.job.number ≡ c.args.number = own_number given.0 c.args.number c.in-Ok.ticket.job given.1.1.0 in
-    subst (λ n. IsTurn n c.args.till.now c.settled.new.till c.settled.result) (c.tried-ended.ensures.ended.number ∙ own) c.settled.ensures.turn
+    subst (λ n. IsTurn n c.args.till.now c.settled.new.till c.settled.result)
+    (c.tried-ended.ensures.ended.number ∙ own) c.settled.ensures.turn

@@ -6,7 +6,8 @@ returns-clause-kept g c = told c.args.stub c.settle.result _ c.settle.ensures.an
 
 pub returns-clause-rose : goal.returns-clause-rose
 returns-clause-rose g c =
-    rises c.args.stub c.settle.result _ _ (told c.args.stub c.settle.result _ c.settle.ensures.answer) c.settle.ensures.booked c.settle.ensures.counted
+    rises c.args.stub c.settle.result _ _ (told c.args.stub c.settle.result _ c.settle.ensures.answer) c.settle.ensures.booked
+    c.settle.ensures.counted
 
 pub returns-clause-back : goal.returns-clause-back
 returns-clause-back g c = handed_back c.args.stub c.settle.result _ c.settle.ensures.answer

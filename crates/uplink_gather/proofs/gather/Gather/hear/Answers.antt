@@ -5,10 +5,12 @@ use Rattle.uplink_gather.specs.Hearing.{place_of}
 use Rattle.uplink_gather.specs.HearingLaws.{joins_at}
 use Rattle.uplink_gather.proofs.gather.Gather.hear.Goals as goal
 
-joins_some : (s : Gatherings) (bytes : List ℕ) (gateway arrived n : ℕ) → place_of s bytes gateway arrived ≡ Ok (Joins n) → IsSome (numbered n s.list)
+joins_some : (s : Gatherings) (bytes : List ℕ) (gateway arrived n : ℕ) → place_of s bytes gateway arrived ≡ Ok (Joins n)
+    → IsSome (numbered n s.list)
 joins_some s bytes gateway arrived n e =
     let There : Option Gathering → Type 0 = λ o. IsSome o in subst There (sym (joins_at s bytes gateway arrived n e).there) refl
 
 pub join-requires : goal.join-requires
 join-requires g c =
-    joins_some c.args.self.now c.args.bytes.now c.args.copy.gateway c.args.arrived c.in-Ok-Joins.n (sym c.place.ensures ∙ c.in-Ok-Joins.is ∙ ap Ok c.in-Ok-Joins.field-0-is)
+    joins_some c.args.self.now c.args.bytes.now c.args.copy.gateway c.args.arrived c.in-Ok-Joins.n
+    (sym c.place.ensures ∙ c.in-Ok-Joins.is ∙ ap Ok c.in-Ok-Joins.field-0-is)

@@ -5,21 +5,34 @@ use Rattle.uplink_gather.proofs.gather.Gather.join.Goals as goal
 
 pub invariant_of-self : goal.invariant_of-self
 invariant_of-self g c =
-    whole_joining _ _ _ _ c.self.invariant _ c.self.view_is c.args.n c.requires c.index_mut-gathering.result.now c.index_mut-gathering.ensures.value c.reserve.new.self
+    whole_joining _ _ _ _ c.self.invariant _ c.self.view_is c.args.n c.requires c.index_mut-gathering.result.now
+    c.index_mut-gathering.ensures.value c.reserve.new.self
 
 pub returns-then-is_err-clause-refused : goal.returns-then-is_err-clause-refused
 returns-then-is_err-clause-refused g c =
-    joining_refused _ _ _ _ c.self.invariant _ c.self.view_is c.args.n c.requires c.index_mut-gathering.result.now c.index_mut-gathering.ensures.value c.reserve.new.self c.reserve.ensures.items
+    joining_refused _ _ _ _ c.self.invariant _ c.self.view_is c.args.n c.requires c.index_mut-gathering.result.now
+    c.index_mut-gathering.ensures.value c.reserve.new.self c.reserve.ensures.items
 
 pub invariant_of-self-2 : goal.invariant_of-self-2
 invariant_of-self-2 g c =
-    whole_joining _ _ _ _ c.self.invariant _ c.self.view_is c.args.n c.requires c.index_mut-gathering.result.now c.index_mut-gathering.ensures.value c.push_reserved.new.self
+    whole_joining _ _ _ _ c.self.invariant _ c.self.view_is c.args.n c.requires c.index_mut-gathering.result.now
+    c.index_mut-gathering.ensures.value c.push_reserved.new.self
 
 pub returns-clause-told : goal.returns-clause-told
 returns-clause-told g c =
-    let count : c.len.result ≡ length c.index_mut-gathering.result.now.copies.items + 1 = omega (arith, c.len.ensures, c.push_reserved.ensures.len, c.reserve.ensures.len, c.index_mut-gathering.result.now.copies.ok.0) in
-    ap (λ (m : ℕ). Joined c.args.n m) (joining_count _ _ _ _ c.self.invariant _ c.self.view_is c.args.n c.requires c.index_mut-gathering.result.now c.index_mut-gathering.ensures.value c.len.result count)
+    let count : c.len.result ≡ length c.index_mut-gathering.result.now.copies.items + 1 =
+    omega (
+      arith,
+      c.len.ensures,
+      c.push_reserved.ensures.len,
+      c.reserve.ensures.len,
+      c.index_mut-gathering.result.now.copies.ok.0,
+    ) in
+    ap (λ (m : ℕ). Joined c.args.n m) (joining_count _ _ _ _ c.self.invariant _ c.self.view_is c.args.n c.requires
+    c.index_mut-gathering.result.now c.index_mut-gathering.ensures.value c.len.result count)
 
 pub returns-clause-joined : goal.returns-clause-joined
 returns-clause-joined g c =
-    joining_looks _ _ _ _ c.self.invariant _ c.self.view_is c.args.n c.requires c.index_mut-gathering.result.now c.index_mut-gathering.ensures.value c.push_reserved.new.self c.args.copy (rw c.reserve.ensures.items at c.push_reserved.ensures.items)
+    joining_looks _ _ _ _ c.self.invariant _ c.self.view_is c.args.n c.requires c.index_mut-gathering.result.now
+    c.index_mut-gathering.ensures.value c.push_reserved.new.self c.args.copy
+    (rw c.reserve.ensures.items at c.push_reserved.ensures.items)

@@ -12,6 +12,7 @@ returns-clause-added g c =
     let bytes = c.args.bytes.now in
     let items = c.in_ok-text.ensures.items in
     let absent = key_absent (λ k. k.items) m.entries text bytes items (ap (number_of bytes) c.self.view_is ∙ c.requires) in
-    ap (as_index (λ k. k.items)) (c.in_ok-insert.ensures.entries ∙ insert_entry-new (λ a b. bytes_eq a.items b.items) m text c.args.number absent)
+    ap (as_index (λ k. k.items)) (c.in_ok-insert.ensures.entries
+    ∙ insert_entry-new (λ a b. bytes_eq a.items b.items) m text c.args.number absent)
     ∙ as_index-behind (λ k. k.items) m.entries text c.args.number bytes items
     ∙ ap (λ (index : Index). index ++ (bytes, c.args.number) ∷ []) c.self.view_is
