@@ -35,7 +35,7 @@ def texts_of(commit):
 
 def plain(text):
     """The text with its layout folded."""
-    return re.sub(r"\s+", " ", text).strip()
+    return re.sub(r"[;,]? ([})])", r" \1", re.sub(r"\s+", " ", text)).strip()
 
 
 def after_braces(text, at):
