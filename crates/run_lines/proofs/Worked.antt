@@ -6,6 +6,7 @@ use Rattle.radio_airtime.specs.declared.data_rate.DataRate.TheVariants.{Dr0, Dr5
 use Rattle.radio_airtime.specs.TimeOnAir.{airtime_of}
 use Rattle.radio_bands.specs.Band.{band_of}
 use Rattle.resv_list.specs.Reservations.{begun, net}
+use Rattle.gateway_book.specs.Kept.{kept}
 use Rattle.gateway_book.specs.Answer.{overlap}
 use Rattle.gateway_book.specs.Duty.{full_hour}
 use Rattle.gateway_book.specs.Busiest.{busiest_of}
@@ -45,13 +46,13 @@ worked_lines =
 
 -- two gateways that are not in order
 pub replay_of_two_gateways :
-    replay_lines (map (entry_at 0) worked_lines) (record { id = 10; cap = 4096; state = one_sent }
-    ∷ record { id = 2; cap = 1; state = none_sent } ∷ [])
+    replay_lines (map (entry_at 0) worked_lines) (record { id = 10; rules = record { cap = 4096 }; state = one_sent }
+    ∷ record { id = 2; rules = record { cap = 1 }; state = none_sent } ∷ [])
     ≡ codes "queued 26011bda 2" ∷ codes "opened 1" ∷ codes "opened 2 repeat" ∷ codes "joined 1 2" ∷ codes "no hear Short"
     ∷ codes "send 1 2 RX1 10000000 868100000 5 12" ∷ codes "frame 1 60da0a" ∷ codes "silent 2" ∷ codes "unanswered 3 Taken"
     ∷ codes "gateway 2 booked 0 cancelled 0 retired 0 kept 0" ∷ codes "gateway 10 booked 41216 cancelled 0 retired 0 kept 1"
     ∷ codes "busiest 10 M 10000000 41216" ∷ codes "answered 1 unanswered 1 silent 1" ∷ []
-unfolding none_sent one_sent worked_lines airtime_of band_of net begun overlap full_hour busiest_of digits encode_with
+unfolding none_sent one_sent worked_lines airtime_of band_of net kept begun overlap full_hour busiest_of digits encode_with
 replay_of_two_gateways = refl
 
 -- two transmissions, of which the second is in RX2's sub-band
@@ -72,8 +73,8 @@ each_form =
 
 -- a line of each form
 pub replay_of_each_form :
-    replay_lines (map (entry_at 0) each_form) (record { id = 2; cap = 4096; state = two_sent }
-    ∷ record { id = 1; cap = 4096; state = none_sent } ∷ [])
+    replay_lines (map (entry_at 0) each_form) (record { id = 2; rules = record { cap = 4096 }; state = two_sent }
+    ∷ record { id = 1; rules = record { cap = 4096 }; state = none_sent } ∷ [])
     ≡ codes "queued 0000000a 2" ∷ codes "no queue QueueFull" ∷ codes "opened 1" ∷ codes "opened 2 repeat" ∷ codes "joined 1 2"
     ∷ codes "no hear OptionsCut" ∷ codes "no hear UnknownGateway" ∷ codes "silent 2" ∷ codes "no 3 CounterSpent"
     ∷ codes "send 1 2 RX1 10000000 868100000 5 12" ∷ codes "frame 1 60da1b01ff" ∷ codes "send 4 1 RX2 11000000 869525000 0 12"
@@ -82,7 +83,7 @@ pub replay_of_each_form :
     ∷ codes "floor 1 18446744073709551615" ∷ codes "no tick UnknownGateway" ∷ codes "no 8 Stray" ∷ codes "bad 12 Syntax"
     ∷ codes "gateway 1 booked 0 cancelled 0 retired 0 kept 0" ∷ codes "gateway 2 booked 1032448 cancelled 0 retired 0 kept 2"
     ∷ codes "busiest 2 M 10000000 41216" ∷ codes "busiest 2 P 11000000 991232" ∷ codes "answered 2 unanswered 2 silent 1" ∷ []
-unfolding none_sent one_sent two_sent each_form airtime_of band_of net begun overlap full_hour busiest_of digits encode_with
+unfolding none_sent one_sent two_sent each_form airtime_of band_of net kept begun overlap full_hour busiest_of digits encode_with
 replay_of_each_form = refl
 
 -- one of them begins with `no`
