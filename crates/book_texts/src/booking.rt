@@ -65,7 +65,8 @@ pub fn book_text<A: Allocator, R: ByteIn, W: ByteOut>(
     }
 }
 
-/// Answers each line of the input, and says whether an answer begins with `no` or `bad`.
+/// Answers each line of the input, and says whether an answer begins with `no` or `bad`. A line has at least one byte, its
+/// end counted, so there are no more lines than the count goes up to.
 fn answer_lines<B: Roster, R: ByteIn, W: ByteOut>(
     book: &mut GatewayBook<B>,
     reader: &mut R,
@@ -76,8 +77,7 @@ fn answer_lines<B: Roster, R: ByteIn, W: ByteOut>(
     ensures ok { IfOk result (λ refused. AnswersLines book.old.rules (state_of book.old) (R.left reader.old) (R.left reader.new)
         (state_of book.new) refused (W.taken writer.old) (W.taken writer.new) output.new) }
     ensures same { SameBook book.old book.new }
-    ensures front { OnErr result (AnswersFront book.old.rules (state_of book.old) (R.left reader.old) (W.taken writer.old)
-        (W.taken writer.new)) }
+    ensures front { OnErr result (AnswersFront book.old.rules (state_of book.old) (R.left reader.old) (W.taken writer.old) (W.taken writer.new)) }
     ensures read_front { OnErr result (AnswersRead book.old.rules (state_of book.old) (R.left reader.old) (R.left reader.new)
         (W.taken writer.old) (W.taken writer.new)) }
     ensures limit { KeepsLimit (R.left reader.old) result }
@@ -88,7 +88,6 @@ fn answer_lines<B: Roster, R: ByteIn, W: ByteOut>(
     let mut input = ReadAhead::new();
     let mut line = HeldLine::new();
     let mut refused = false;
-    // A line has at least one byte, its end counted, so there are no more lines than this.
     for number in 1..INPUT_LIMIT + 2 {
         match input.next_line(reader, &mut line) {
             Err(InFault::Read) => return Err(TextFault::Read),
