@@ -20,6 +20,29 @@ TOP = pathlib.Path(__file__).resolve().parent.parent
 REFUSED = ": refused, as it must be"
 
 
+def below(folder):
+    """Each crate of crates.txt, with the crates of the repository that it stands on."""
+    lines = [line.split("#")[0].split(":") for line in (folder / "crates.txt").read_text().splitlines() if ":" in line.split("#")[0]]
+    named = {name.split()[0]: words.split() for name, words in lines}
+    return {name: [word for word in words if word in named] for name, words in named.items()}
+
+
+def build_below(folder, crates):
+    """Builds what these crates stand on, lowest first: two runs at a time would build the same library twice."""
+    stands_on, built = below(folder), []
+
+    def build(crate):
+        for other in stands_on[crate]:
+            build(other)
+        if crate not in built:
+            built.append(crate)
+            subprocess.run(["rt", "lib"], cwd=folder / "crates" / crate, stdin=subprocess.DEVNULL, capture_output=True, check=True)
+
+    for crate in crates:
+        for other in stands_on[crate]:
+            build(other)
+
+
 def tried(folder, crate):
     """How many edits of a crate there are, and what is said of each that wasn't refused."""
     edits = sorted((folder / "mutants" / crate).glob("*.edit"))
@@ -34,7 +57,7 @@ def tried(folder, crate):
         for edit in edits:
             if f"must-fail {crate}/{edit.name}:" in line:
                 said[edit.name] = line
-    return len(edits), [said.get(edit.name, f"{crate}/{edit.name}: it was not tried: {ran.stderr[-300:]}") for edit in edits if REFUSED not in said.get(edit.name, "")]
+    return len(edits), [said.get(edit.name, f"{crate}/{edit.name}: it was not tried: {(ran.stdout + ran.stderr)[-300:]}") for edit in edits if REFUSED not in said.get(edit.name, "")]
 
 
 def main():
@@ -50,6 +73,7 @@ def main():
         if set(crates) - set(known):
             print(f"mutants.py: no edits in mutants/ for {' '.join(sorted(set(crates) - set(known)))}", file=sys.stderr)
             return 2
+        build_below(folder, crates)
         with concurrent.futures.ThreadPoolExecutor(len(os.sched_getaffinity(0))) as pool:
             for count, faults in pool.map(lambda crate: tried(folder, crate), crates):
                 print("\n".join(faults), end="\n" if faults else "", flush=True)
