@@ -1,6 +1,6 @@
 use Rattle.std.specs.Prelude.{ℕ, ◌≡◌, ◌+◌, ◌-◌, ◌<◌, ◌≤◌, nat_lt, nat_le, min, Bool, true, false, ◌&&◌, List, [], ◌∷◌, Option}
-use Rattle.std.specs.Prelude.{Some, None, map, filter, find, cond, refl}
-use Rattle.std.specs.Option.{option_map}
+use Rattle.std.specs.Prelude.{Some, None, map, filter, find, cond, if◌then◌else◌, refl}
+use Rattle.std.specs.Option.{option_map, option_or}
 use Rattle.std.proofs.Common.{sym, ap, ◌∙◌, arith, subst}
 use Rattle.std.proofs.lemmas.Bool.{leb-true, leb-false, le-leb, lt-ltb}
 use Rattle.std.proofs.lemmas.Bool.Decides.{nat_tests}
@@ -14,8 +14,6 @@ use Rattle.resv_list.specs.Reservations.{start_of, is_in, begun, IsByStart, memb
 use Rattle.gateway_book.specs.Least.{least}
 use Rattle.gateway_book.specs.SpacedLaws.{least-find}
 use Rattle.gateway_book.specs.Duty.{is_within_hour, would_pass, is_overfull, starts_in, full_hour, opens_full}
-use Rattle.gateway_book.specs.Laws.{IsDutyAnswer, IsFirstFullHour}
-use Rattle.gateway_book.specs.DutyLaws.{full_hour_answers}
 use Rattle.gateway_book.proofs.DutyRow.{begun_wider, duty_row_is_exact}
 
 -- The search for a full hour, from one member of the last hour to the next.
@@ -176,33 +174,27 @@ found_later l band start airtime from m n h g e =
 
 -- What the whole search answers, by what it found.
 
-or_own_found : (own : Bool) (start from : ℕ) (o : Option Reservation) → option_map start_of o ≡ Some from
-    → or_own own start o ≡ Some from
-or_own_found own start from None e = absurd (cc)
-or_own_found own start from (Some m) e = e
+mapped : {X : Type 0} (f : ℕ → X) (own : Bool) (start : ℕ) (o : Option Reservation)
+    → option_map f (or_own own start o)
+    ≡ option_or (option_map (λ r. f r.start) o) (if own then Some (f start) else None)
+mapped f true start None = refl
+mapped f false start None = refl
+mapped f own start (Some m) = refl
 
-or_own_none : (own : Bool) (start : ℕ) (o : Option Reservation) → option_map start_of o ≡ None
-    → or_own own start o ≡ cond own (Some start) None
-or_own_none own start None e = refl
-or_own_none own start (Some m) e = absurd (cc)
+pub full_hour-mapped : {X : Type 0} (f : ℕ → X) (l : List Reservation) (band : Band) (start airtime : ℕ) → IsByStart l
+    → option_map f (full_hour l band start airtime)
+    ≡ option_or (option_map (λ r. f r.start) (find (opens_full l band start airtime) l))
+    (if would_pass l band airtime start then Some (f start) else None)
+full_hour-mapped f l band start airtime s =
+    ap (option_map f) (full_hour-search l band start airtime s)
+    ∙ mapped f (would_pass l band airtime start) start (find (opens_full l band start airtime) l)
 
-pub full_hour-found : (l : List Reservation) (band : Band) (start airtime from : ℕ) → IsByStart l
-    → option_map start_of (find (opens_full l band start airtime) l) ≡ Some from → full_hour l band start airtime ≡ Some from
-full_hour-found l band start airtime from s e =
-    full_hour-search l band start airtime s ∙ or_own_found (would_pass l band airtime start) start from
-    (find (opens_full l band start airtime) l) e
+-- what is given only where a test holds
 
-pub full_hour-own : (l : List Reservation) (band : Band) (start airtime : ℕ) (own : Bool) → IsByStart l
-    → option_map start_of (find (opens_full l band start airtime) l) ≡ None → would_pass l band airtime start ≡ own
-    → full_hour l band start airtime ≡ cond own (Some start) None
-full_hour-own l band start airtime own s e h =
-    full_hour-search l band start airtime s
-    ∙ or_own_none (would_pass l band airtime start) start (find (opens_full l band start airtime) l) e
-    ∙ ap (λ (b : Bool). cond b (Some start) None) h
+pub given : {X : Type 0} (test : Bool) (x y : X) → Some y ≡ (if test then Some x else None) → (test ≡ true) × (y ≡ x)
+given true x y e = (refl, cc)
+given false x y e = absurd (cc)
 
-pub full_hour-early : (l : List Reservation) (band : Band) (start airtime from : ℕ) → full_hour l band start airtime ≡ Some from
-    → from ≤ start
-full_hour-early l band start airtime from e =
-    let P : Option ℕ → Type 0 = λ o. IsDutyAnswer l band start airtime o in
-    let found : IsFirstFullHour l band start airtime from = subst P e (full_hour_answers l band start airtime) in
-    found.begins
+pub not_given : {X : Type 0} (test : Bool) (x : X) → None ≡ (if test then Some x else None) → test ≡ false
+not_given true x e = absurd (cc)
+not_given false x e = refl

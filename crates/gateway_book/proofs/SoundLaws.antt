@@ -1,25 +1,15 @@
-use Rattle.std.specs.Prelude.{ℕ, ◌≡◌, ◌+◌, ◌<◌, ◌≤◌, List, [], length, Option, Some, None, All, find, not}
-use Rattle.std.specs.Option.{option_map}
-use Rattle.std.proofs.Common.{refl, sym, ap, subst, ◌∙◌, arith, get_or}
-use Rattle.radio_bands.specs.Band.{hour, band_of}
+use Rattle.std.specs.Prelude.{ℕ, ◌≡◌, ◌+◌, ◌<◌, ◌≤◌, List, [], length, Some, None, find, not}
+use Rattle.std.proofs.Common.{refl, sym, ap, subst, ◌∙◌, arith}
 use Rattle.resv_list.specs.declared.reservation.Reservation.{Reservation}
-use Rattle.resv_list.specs.Fit.{IsFit}
-use Rattle.resv_list.specs.SortedLaws.{length-place_by, RisesFrom-place_by, RisesFrom-filter}
-use Rattle.resv_list.specs.Reservations.{start_of, end_of, IsByStart, IsFree, place, airtime_us, net, without}
-use Rattle.radio_bands.specs.declared.band.Band.{Band}
-use Rattle.resv_list.specs.Begun.{begun-nil}
-use Rattle.gateway_book.specs.Duty.{full_hour}
-use Rattle.gateway_book.specs.DutyKept.{duty_placed}
+use Rattle.resv_list.specs.SortedLaws.{length-place_by}
+use Rattle.resv_list.specs.Reservations.{start_of, IsByStart, place, airtime_us, net, without}
 use Rattle.gateway_book.specs.Kept.{kept}
 use Rattle.gateway_book.specs.KeptLaws.{kept-own, net-place}
 use Rattle.gateway_book.specs.declared.ask.Ask.{Ask}
-use Rattle.gateway_book.specs.Answer.{IsAsked, ask_airtime, overlap, total_limit, refusal_of}
+use Rattle.gateway_book.specs.Answer.{IsAsked, total_limit, refusal_of}
 use Rattle.gateway_book.specs.AnswerLaws.{accepted, book_step-accepted}
 use Rattle.gateway_book.specs.Step.{is_named, without_named, book_step}
-use Rattle.gateway_book.specs.CancelLaws.{SpacedFrom-filter, fewer, begun-filter, net-without, named_member, net_named}
-use Rattle.gateway_book.specs.Spaced.{overlaps}
-use Rattle.gateway_book.specs.SpacedLaws.{SpacedFrom-place_by, free_of_clear}
-use Rattle.gateway_book.specs.ApartLaws.{ends_later, first_has_least_start, apart_spaced, spaced_apart}
+use Rattle.gateway_book.specs.CancelLaws.{fewer, net_named}
 use Rattle.gateway_book.specs.Orderly.{IsOrderly, MayJoin}
 use Rattle.gateway_book.specs.OrderlyLaws.{orderly_nil, orderly_placed, orderly_filter, may_join}
 use Rattle.gateway_book.specs.Book.{Book, IsSound, terms_of, with_booked, with_cancelled, state_of}

@@ -3,6 +3,7 @@ use Rattle.radio_bands.specs.declared.band.Band.{Band}
 use Rattle.radio_bands.specs.Band.{hour, limit_of}
 use Rattle.resv_list.specs.declared.reservation.Reservation.{Reservation}
 use Rattle.resv_list.specs.Reservations.{start_of, is_in, spent}
+use Rattle.gateway_book.specs.declared.duty.FullHour.{FullHour}
 use Rattle.gateway_book.specs.Least.{least}
 
 -- Duty cycle over one hour (ETSI EN 300 220-2): within any hour, wherever it opens, the airtime of a
@@ -31,3 +32,7 @@ full_hour l band start airtime = least (filter (is_overfull l band start airtime
 -- whether a member of the band opens an hour that would be overfull
 abbrev pub opens_full : List Reservation → Band → ℕ → ℕ → Reservation → Bool
 opens_full l band start airtime r = is_in band r && is_overfull l band start airtime r.start
+
+-- the hour that opens at t, with the airtime of the band that begins in it
+abbrev pub hour_from : List Reservation → Band → ℕ → FullHour
+hour_from l band t = record { from = t; spent = spent l band t }

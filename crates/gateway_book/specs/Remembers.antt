@@ -1,14 +1,12 @@
-use Rattle.std.specs.Prelude.{ℕ, ◌≡◌, max, Option, Result, List}
-use Rattle.std.proofs.Common.{sym, ap, subst, ◌∙◌}
+use Rattle.std.specs.Prelude.{ℕ, ◌≡◌, List}
+use Rattle.std.proofs.Common.{sym, ap, ◌∙◌}
 use Rattle.resv_list.specs.declared.reservation.Reservation.{Reservation}
 use Rattle.resv_list.specs.Reservations.{IsByStart}
 use Rattle.gateway_book.specs.declared.ask.Ask.{Ask}
-use Rattle.gateway_book.specs.declared.refusal.Refusal.{Refusal}
-use Rattle.gateway_book.specs.declared.cancel.CancelFault.{CancelFault}
 use Rattle.gateway_book.specs.Answer.{refusal_of}
 use Rattle.gateway_book.specs.Kept.{kept}
 use Rattle.gateway_book.specs.KeptLaws.{kept-own}
-use Rattle.gateway_book.specs.Step.{State, terms_at, book_step, cancel_answer, cancel_step, tick_step}
+use Rattle.gateway_book.specs.Step.{State, terms_at, cancel_answer}
 use Rattle.gateway_book.specs.Book.{Book, terms_of, state_of}
 
 -- A book beside a state that forgets nothing: it has that state's floor and totals, and what is kept of its list.

@@ -12,7 +12,8 @@ ghost use Rattle.gateway_book.specs.Step.{book_step, cancel_answer, cancel_step,
 
 use crate::busiest::busiest_hour;
 use crate::cancel::named;
-use crate::duty::{HOUR, full_hour};
+use crate::duty::full_hour;
+use crate::listing::members_of;
 use crate::{Ask, CancelFault, Refusal, Totals};
 use radio_bands::Band;
 use resv_list::{Reservation, Roster};
@@ -188,9 +189,12 @@ impl<R: Roster> GatewayBook<R> {
             (band_of reservation.now.freq_hz reservation.now.rate) }
     {
         let band = reservation.band();
-        let from = full_hour(&self.roster, band, reservation.start, reservation.airtime())?;
-        let spent = self.roster.spent(band, from, from + HOUR);
-        Some(Refusal::DutyFull { band, from, spent })
+        let hour = full_hour(&self.roster, band, reservation.start, reservation.airtime())?;
+        Some(Refusal::DutyFull {
+            band,
+            from: hour.from,
+            spent: hour.spent,
+        })
     }
 
     /// Takes the transmission with this number and this start out of the book, and answers its airtime
@@ -256,22 +260,6 @@ impl<R: Roster> GatewayBook<R> {
     {
         members_of(alloc, &self.roster)
     }
-}
-
-/// The members of a roster, from one to the next.
-fn members_of<R: Roster, A: Allocator>(
-    alloc: A,
-    roster: &R,
-) -> Result<Vec<Reservation, A>, NoMemory>
-    ensures { IfOk result (λ members. members.items ≡ R.list roster.now) }
-{
-    let mut members = Vec::with_capacity(alloc, roster.len())?;
-    let mut from = 0;
-    while let Some(member) = roster.first_from(from) {
-        members.push(member)?;
-        from = member.start + 1;
-    }
-    Ok(members)
 }
 
 /// The reservation with the asked fields, or why they are not fit for one.

@@ -7,6 +7,7 @@ mod busiest;
 mod cancel;
 mod duty;
 mod laws;
+mod listing;
 mod refusal;
 mod totals;
 

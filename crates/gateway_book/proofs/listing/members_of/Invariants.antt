@@ -1,7 +1,7 @@
 use Rattle.std.proofs.Common.{◌≡◌, ◌++◌, length}
 use Rattle.resv_list.specs.Walk.{rest_from}
 use Rattle.resv_list.specs.Reservations.{start_of}
-use Rattle.gateway_book.proofs.book.members_of.Given as goal
+use Rattle.gateway_book.proofs.listing.members_of.Given as goal
 
 abbrev pub invariant-loop-member : goal.invariant-loop-member
 invariant-loop-member g l = l.members.items ++ rest_from start_of l.from (g.R.Roster.list l.roster) ≡ g.R.Roster.list l.roster
