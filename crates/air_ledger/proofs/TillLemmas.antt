@@ -1,11 +1,19 @@
 -- Lemmas on tills together.
-use Rattle.std.proofs.Common.{◌≡◌, ◌+◌, ◌≤◌, List, [], ◌∷◌, ◌++◌, refl, sym, ap, ◌∙◌, arith, false, nat_lt}
+use Rattle.std.proofs.Common.{ℕ, ◌≡◌, ◌+◌, ◌≤◌, Bool, true, false, List, [], ◌∷◌, ◌++◌, refl, sym, ap, subst, ◌∙◌, arith, nat_lt}
+use Rattle.std.specs.Prelude.{if◌then◌else◌, Option, Some, None}
+use Rattle.std.specs.Option.{is_some}
 use Rattle.std.proofs.lemmas.Bool.{ltb-false}
 use Rattle.air_ledger.specs.Tills.{Holding, all_parts, together, gathered, parts_of, amount_of}
 
 -- tills that are not too many
-pub within : (l : List Holding) → nat_lt all_parts (parts_of l) ≡ false → parts_of l ≤ all_parts
-within l e = ltb-false all_parts (parts_of l) e
+within_by : (k : ℕ) (b : Bool) → nat_lt all_parts k ≡ b → is_some (if b then None else Some k) ≡ true → k ≤ all_parts
+within_by k true e s = absurd (cc)
+within_by k false e s = ltb-false all_parts k e
+
+pub within : (l m : List Holding) (o : Option ℕ) → m ≡ l
+    → o ≡ (if nat_lt all_parts (parts_of m) then None else Some (parts_of m)) → is_some o ≡ true → parts_of l ≤ all_parts
+within l m o same e s = subst (λ x. parts_of x ≤ all_parts) same
+    (within_by (parts_of m) (nat_lt all_parts (parts_of m)) refl (sym (ap is_some e) ∙ s))
 
 parts_of-last : (l : List Holding) (h : Holding) → parts_of (l ++ h ∷ []) ≡ h.parts + parts_of l
 parts_of-last [] h = refl

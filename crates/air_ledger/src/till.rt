@@ -1,4 +1,4 @@
-ghost use Rattle.std.specs.Prelude.{◌≡◌, ◌+◌, ◌-◌, ◌<◌, ◌≤◌, nat_lt, Err, IfOk, IfErr, IsErr, ◌↔◌};
+ghost use Rattle.std.specs.Prelude.{◌≡◌, ◌+◌, ◌-◌, ◌<◌, ◌≤◌, nat_lt, if◌then◌else◌, Some, None, Err, IfOk, IfErr, IsErr, ◌↔◌};
 ghost use Rattle.air_ledger.specs.Tills.{all_parts, together, gathered, parts_of, IsOver};
 
 use crate::{Ledger, PARTS};
@@ -82,6 +82,20 @@ impl<B: Ledger> Till<B> {
         self.parts += parts;
     }
 
+    /// How many parts some tills have together; `None` where these are more than a ledger has. Takes no memory.
+    pub fn parts_together(tills: &[Till<B>]) -> Option<u32>
+        ensures { result ≡ (if nat_lt all_parts (parts_of tills.now) then None else Some (parts_of tills.now)) }
+    {
+        let mut parts = 0;
+        for till in tills {
+            parts += till.parts();
+            if parts > PARTS {
+                return None;
+            }
+        }
+        Some(parts)
+    }
+
     /// All tills as one. Err with the tills as they were where there are none, or where they have more than 65,536 parts.
     /// Takes no memory.
     pub fn gather<A: Allocator>(tills: Vec<Till<B>, A>) -> Result<Till<B>, Vec<Till<B>, A>>
@@ -89,7 +103,7 @@ impl<B: Ledger> Till<B> {
         ensures over { IsErr result ↔ IsOver tills.items }
         ensures back { IfErr result (λ back. back.items ≡ tills.items) }
     {
-        if are_too_many(tills.as_slice()) {
+        if Till::parts_together(tills.as_slice()).is_none() {
             return Err(tills);
         }
         let mut tills = tills;
@@ -101,18 +115,4 @@ impl<B: Ledger> Till<B> {
         }
         Ok(whole)
     }
-}
-
-/// Whether some tills have more parts than a ledger has.
-fn are_too_many<B: Ledger>(tills: &[Till<B>]) -> bool
-    ensures { result ≡ nat_lt all_parts (parts_of tills.now) }
-{
-    let mut parts = 0;
-    for till in tills {
-        parts += till.parts();
-        if parts > PARTS {
-            return true;
-        }
-    }
-    false
 }

@@ -11,8 +11,8 @@ use Rattle.server_core.specs.declared.entry.Line.{Line}
 use Rattle.server_core.specs.declared.entry.Line.TheVariants as lines
 use Rattle.server_desk.specs.declared.faults.TakeFault.{TakeFault}
 use Rattle.server_desk.specs.declared.faults.TakeFault.TheVariants.{Silent}
-use Rattle.server_workers.specs.declared.turn.Turn.{Turn}
-use Rattle.server_workers.specs.declared.turn.Turn.TheVariants.{NotTaken, Settled, Stray}
+use Rattle.server_station.specs.declared.turn.Turn.{Turn}
+use Rattle.server_station.specs.declared.turn.Turn.TheVariants.{NotTaken, Settled, Stray}
 use Rattle.run_texts.specs.declared.pass_answers.Answer.{Answer}
 
 -- What a run with workers answers to the uplinks that one `pass` closed (docs/FORMATS.md, "airbook run").

@@ -6,8 +6,8 @@ use Rattle.text_lines.specs.Writing.{WritesFront}
 use Rattle.server_core.specs.declared.event.Event.{Event}
 use Rattle.server_core.specs.Settings.{SettingLists}
 use Rattle.server_core.specs.Entries.{entries, gateways_after, kept_gateway}
-use Rattle.server_workers.specs.declared.closing.FinishCause.{FinishCause}
-use Rattle.server_workers.specs.declared.closing.FinishCause.TheVariants as causes
+use Rattle.book_audit.specs.declared.cause.FinishCause.{FinishCause}
+use Rattle.book_audit.specs.declared.cause.FinishCause.TheVariants as causes
 use Rattle.settings_text.specs.declared.settings_fault.ReadFault.{ReadFault}
 use Rattle.text_words.specs.declared.fault.TextFault.{TextFault}
 use Rattle.text_words.specs.declared.fault.TextFault.TheVariants.{Write, Settings, NoMemory}

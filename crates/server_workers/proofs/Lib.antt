@@ -1,10 +1,2 @@
-pub mod Tallied
-pub mod Numbered
-pub mod Ordered
-pub mod Settled
 pub mod CrewLemmas
 pub mod WorkLemmas
-pub mod TurnLemmas
-pub mod ShelfLemmas
-pub mod HeldLemmas
-pub mod ClosingLemmas

@@ -1,8 +1,9 @@
-pub mod Stations
 pub mod Works
-pub mod Turns
 pub mod EmptyLists
 pub mod Working
 pub mod Crew
 pub mod Serving
-pub mod Closings
+pub use Rattle.book_audit.specs.Audit
+pub use Rattle.server_station.specs.Stations
+pub use Rattle.server_station.specs.Turns
+pub use Rattle.server_station.specs.Closings

@@ -3,10 +3,10 @@ use Rattle.answer_ticket.specs.declared.outcome.Outcome.{Outcome}
 use Rattle.answer_ticket.specs.declared.tried.Receipt.{Receipt}
 use Rattle.server_desk.specs.declared.faults.TakeFault.{TakeFault}
 use Rattle.server_desk.specs.declared.faults.TakeFault.TheVariants as taking
-use Rattle.server_workers.specs.declared.turn.Turn.{Turn}
-use Rattle.server_workers.specs.declared.turn.Turn.TheVariants.{NotTaken, Settled, Stray}
+use Rattle.server_station.specs.declared.turn.Turn.{Turn}
+use Rattle.server_station.specs.declared.turn.Turn.TheVariants.{NotTaken, Settled, Stray}
 use Rattle.server_workers.specs.declared.worked.Worked.{Worked}
-use Rattle.server_workers.specs.Turns.{IsTurn, was_taken}
+use Rattle.server_station.specs.Turns.{IsTurn, was_taken}
 use Rattle.server_workers.specs.Works.{IsOpen, IsLonger}
 
 -- How a worker goes on.

@@ -1,12 +1,10 @@
-use Rattle.std.proofs.Common.{sym, ◌∙◌, ap, nat_lt}
-use Rattle.air_ledger.specs.Tills.{all_parts, parts_of}
 use Rattle.air_ledger.proofs.TillLemmas.{within, gathered-last, gathered-on, fits-on}
 use Rattle.air_ledger.proofs.till.Till.gather.Goals as goal
 
 pub loop-till-init : goal.loop-till-init
 loop-till-init g c = (
   gathered-last _ _ _ c.in-Some.ensures.items,
-  within _ (ap (λ l. nat_lt all_parts (parts_of l)) (sym c.as_slice.ensures.value) ∙ sym c.if-are_too_many.ensures),
+  within _ _ _ c.as_slice.ensures.value c.parts_together.ensures c.if-is_none.ensures,
 )
 
 pub join-requires : goal.join-requires

@@ -1,0 +1,131 @@
+-- Lemmas on what some books keep, one after another, and on numbers of which none stands twice.
+use Rattle.std.proofs.Common.{◌≡◌, ◌≢◌, ℕ, zero, suc, ◌+◌, ◌-◌, ◌<◌, ◌≤◌, Bool, true, false, cond, List, [], ◌∷◌, ◌++◌, inl, inr}
+use Rattle.std.proofs.Common.{map, length, get_or, take, refl, sym, ap, subst, ◌∙◌, arith}
+use Rattle.std.specs.Prelude.{◌==◌, Contains, count_by}
+use Rattle.std.specs.List.Sorted.{IsPermutation, IsNonDecreasingBy}
+use Rattle.std.proofs.lemmas.Bool.Decides.{nat_tests}
+use Rattle.std.proofs.lemmas.List.{take_more, append-nil, get_or-map, length-map, map-append}
+use Rattle.std.proofs.lemmas.Simd.{map-map}
+use Rattle.std.proofs.lemmas.Grind.{flat_map-append}
+use Rattle.std.proofs.lemmas.List.Elements.{Contains-append_cases}
+use Rattle.std.proofs.lemmas.List.Sorted.{IsPermutation-sym, IsPermutation-map, Contains-permutation, sum_by-IsPermutation}
+use Rattle.std.proofs.lemmas.List.Sums.{sum_by-cons}
+use Rattle.radio_bands.specs.Band.{hour}
+use Rattle.resv_list.specs.declared.reservation.Reservation.{Reservation}
+use Rattle.gateway_book.specs.Book.{Book}
+use Rattle.book_audit.specs.Audit.{Shelved, held_by, HasBook, IsKeptOrPast, kept_numbers, EachStandsOnce}
+
+counted-cons : (m v : ℕ) (l : List ℕ) (t : Bool) → (v == m) ≡ t
+    → count_by (λ k. k == m) (v ∷ l) ≡ cond t 1 0 + count_by (λ k. k == m) l
+counted-cons m v l t e =
+    sum_by-cons (λ k. cond (k == m) 1 0) v l ∙ ap (λ (b : Bool). cond b 1 0 + count_by (λ k. k == m) l) e
+
+-- none is a number below all
+above_none : {X : Type 0} (n : X → ℕ) (m : ℕ) (xs : List X) → ((k : ℕ) (d : X) → k < length xs → m < n (get_or xs k d))
+    → count_by (λ k. k == m) (map n xs) ≡ 0
+above_none n m [] a = refl
+above_none n m (x ∷ xs) a =
+    let first : m < n x = a 0 x (omega arith) in
+    let other : (n x == m) ≡ false = grind (arith, nat_tests) in
+    let rest : count_by (λ k. k == m) (map n xs) ≡ 0 = above_none n m xs (λ k d l. a (suc k) d (omega arith)) in
+    counted-cons m (n x) (map n xs) false other ∙ omega (arith, rest)
+
+counted_on : (m v : ℕ) (l : List ℕ) (t : Bool) → (v == m) ≡ t → (v ≡ m → count_by (λ k. k == m) l ≡ 0)
+    → count_by (λ k. k == m) l ≤ 1 → count_by (λ k. k == m) (v ∷ l) ≤ 1
+counted_on m v l true e none rest =
+    let same : v ≡ m = grind (arith, nat_tests) in
+    omega (arith, counted-cons m v l true e, none same)
+counted_on m v l false e none rest = omega (arith, counted-cons m v l false e, rest)
+
+-- numbers in rising order of which no neighbours are equal
+pub once-rising : {X : Type 0} (n : X → ℕ) (xs : List X) → IsNonDecreasingBy n xs
+    → ((k : ℕ) → 0 < k → k < length xs → (d : X) → n (get_or xs (k - 1) d) ≢ n (get_or xs k d)) → EachStandsOnce (map n xs)
+once-rising n [] s a m = omega arith
+once-rising n (x ∷ xs) s a m =
+    let above : (k : ℕ) (d : _) → k < length xs → n x < n (get_or xs k d) = λ k d l.
+    let differ : n x ≢ n (get_or xs 0 d) = a 1 (omega arith) (omega arith) d in
+    let first : n x ≤ n (get_or xs 0 d) = s 0 1 d (omega arith) (omega arith) in
+    let next : n (get_or xs 0 d) ≤ n (get_or xs k d) = s 1 (suc k) d (omega arith) (omega arith) in
+    omega arith in
+    counted_on m (n x) (map n xs) (n x == m) refl
+    (λ e. above_none n m xs (λ k d l. subst (λ v. v < n (get_or xs k d)) e (above k d l)))
+    (once-rising n xs
+    (λ i j d h l. s (suc i) (suc j) d (omega arith) (omega arith))
+    (λ k p l d.
+    let back : suc k - 1 ≡ suc (k - 1) = omega arith in
+    subst (λ i. n (get_or (x ∷ xs) i d) ≢ n (get_or xs k d)) back (a (suc k) (omega arith) (omega arith) d)) m)
+
+-- the same in another order
+pub once-permutation : {X : Type 0} (n : X → ℕ) (xs ys : List X) → IsPermutation xs ys → EachStandsOnce (map n ys)
+    → EachStandsOnce (map n xs)
+once-permutation n xs ys p once m =
+    let same = sum_by-IsPermutation (λ k. cond (k == m) 1 0) (map n xs) (map n ys) (IsPermutation-map n xs ys p) in
+    let rest = once m in
+    omega (arith, same, rest)
+
+-- with one more book
+pub held_more : (shelf : List Shelved) (i : ℕ) (s : Shelved) → i < length shelf → s ≡ get_or shelf i s
+    → held_by (take (i + 1) shelf) ≡ held_by (take i shelf) ++ map (λ (r : Reservation). (s.0, r)) s.1.list
+held_more shelf i s h e =
+    let own : Shelved → List (ℕ × Reservation) = λ p. map (λ (r : Reservation). (p.0, r)) p.1.list in
+    ap held_by (take_more shelf i s h ∙ ap (λ p. take i shelf ++ p ∷ []) (sym e))
+    ∙ flat_map-append own (take i shelf) (s ∷ [])
+    ∙ ap (λ l. held_by (take i shelf) ++ l) (append-nil (own s))
+
+-- what a book keeps stands among what its shelf keeps, and nothing else does
+held_here : (s : Shelved) (shelf : List Shelved) (g : ℕ) (r : Reservation)
+    → Contains {X = ℕ × Reservation} (map (λ (q : Reservation). (s.0, q)) s.1.list) (g, r)
+    → HasBook (s ∷ shelf) g (λ b. Contains b.list r)
+held_here s shelf g r found =
+    let own : Reservation → ℕ × Reservation = λ q. (s.0, q) in
+    let asked : ℕ × Reservation = (g, r) in
+    let within : found.0 < length s.1.list = omega (arith, found.1, length-map s.1.list own) in
+    let same : own (get_or s.1.list found.0 r) ≡ asked = sym (get_or-map own s.1.list found.0 r asked within) ∙ found.2 in (
+      s,
+      (zero, omega arith, refl),
+      ap (λ (h : ℕ × Reservation). h.0) same,
+      (found.0, within, ap (λ (h : ℕ × Reservation). h.1) same),
+    )
+
+further : (P : Book → Type 0) (s : Shelved) (shelf : List Shelved) (g : ℕ) → HasBook shelf g P → HasBook (s ∷ shelf) g P
+further P s shelf g h = (h.0, (suc h.1.0, omega (arith, h.1.1), h.1.2), h.2, h.3)
+
+pub held_found : (shelf : List Shelved) (g : ℕ) (r : Reservation) → Contains {X = ℕ × Reservation} (held_by shelf) (g, r)
+    → HasBook shelf g (λ b. Contains b.list r)
+held_found [] g r found = absurd (omega (arith, found.1))
+held_found (s ∷ shelf) g r found =
+    elim (Contains-append_cases (map (λ (q : Reservation). (s.0, q)) s.1.list) (held_by shelf) (g, r) found) [
+      | inl here ↦ held_here s shelf g r here
+      | inr later ↦ further (λ b. Contains b.list r) s shelf g (held_found shelf g r later)
+    ]
+
+-- a receipt whose reservation is held is accounted for, and so is one whose book is past it
+pub accounted_held : (shelf : List Shelved) (held : List (ℕ × Reservation)) (g : ℕ) (r : Reservation)
+    → IsPermutation (held_by shelf) held → Contains {X = ℕ × Reservation} held (g, r) → HasBook shelf g (IsKeptOrPast r)
+accounted_held shelf held g r p found =
+    let h = held_found shelf g r (Contains-permutation held (held_by shelf) (g, r)
+    (IsPermutation-sym (held_by shelf) held p) found) in
+    (h.0, h.1, h.2, inl h.3)
+
+pub accounted_past : (shelf : List Shelved) (g : ℕ) (r : Reservation) → HasBook shelf g (λ b. r.start + hour < b.floor)
+    → HasBook shelf g (IsKeptOrPast r)
+accounted_past shelf g r h = (h.0, h.1, h.2, inr h.3)
+
+-- the numbers of what the books keep
+numbers_held : (shelf : List Shelved) → map (λ (h : ℕ × Reservation). h.1.number) (held_by shelf)
+    ≡ kept_numbers (map (λ (s : Shelved). s.1) shelf)
+numbers_held [] = refl
+numbers_held (s ∷ shelf) =
+    let own : Reservation → ℕ × Reservation = λ q. (s.0, q) in
+    map-append (λ (h : ℕ × Reservation). h.1.number) (map own s.1.list) (held_by shelf)
+    ∙ ap (λ l. l ++ map (λ (h : ℕ × Reservation). h.1.number) (held_by shelf))
+    (map-map (λ (h : ℕ × Reservation). h.1.number) own s.1.list)
+    ∙ ap (λ l. map (λ (r : Reservation). r.number) s.1.list ++ l) (numbers_held shelf)
+
+pub once_kept : (shelf : List Shelved) (held seen : List (ℕ × Reservation)) → IsPermutation (held_by shelf) held → seen ≡ held
+    → EachStandsOnce (map (λ (h : ℕ × Reservation). h.1.number) seen)
+    → EachStandsOnce (kept_numbers (map (λ (s : Shelved). s.1) shelf))
+once_kept shelf held seen p e once =
+    subst EachStandsOnce (numbers_held shelf)
+    (once-permutation (λ (h : ℕ × Reservation). h.1.number) (held_by shelf) held p
+    (subst (λ l. EachStandsOnce (map (λ (h : ℕ × Reservation). h.1.number) l)) e once))

@@ -1,0 +1,51 @@
+// A station's books against its desk, against one another, and against receipts.
+
+ghost use Rattle.std.specs.Prelude.{◌≡◌, List, map, All, IfErr, OnOk};
+ghost use Rattle.air_ledger.specs.Tills.{Holding};
+ghost use Rattle.book_audit.specs.Audit.{airtime_at, kept_numbers, EachStandsOnce, IsAccountedFor, IsFirst, CauseTells};
+
+use crate::FinishCause;
+use crate::apart::first_apart;
+use crate::held::{first_doubled, held_by_number};
+use crate::lost::first_lost;
+use answer_ticket::Receipt;
+use server_core::{Book, Desk};
+use std::alloc::Allocator;
+use std::hash::BuildHasher;
+
+/// Tells the first fault that the books have, in the order of `FinishCause`. Where there is no memory for the list of what
+/// they keep, nothing is compared.
+pub fn compare<S: BuildHasher, A: Allocator + Copy>(
+    alloc: A,
+    desk: &Desk<S, A>,
+    shelf: &[(u16, Book<A>)],
+    receipts: &[Receipt<A>],
+) -> Result<(), FinishCause>
+    ensures equal { OnOk result (All (λ s. s.1.booked ≡ airtime_at desk.now s.0) shelf.now) }
+    ensures once { OnOk result (EachStandsOnce (kept_numbers (map (λ s. s.1) shelf.now))) }
+    ensures accounted { OnOk result (All (IsAccountedFor shelf.now) receipts.now) }
+    ensures order { IfErr result (IsFirst desk.now shelf.now) }
+    ensures cause { (tills : List Holding) → IfErr result (CauseTells tills receipts.now) }
+{
+    let Ok(held) = held_by_number(alloc, shelf) else {
+        return Err(FinishCause::NoMemory);
+    };
+    if let Some((gateway, booked, answered)) = first_apart(desk, shelf) {
+        return Err(FinishCause::Apart {
+            gateway,
+            booked,
+            answered,
+        });
+    }
+    if let Some((number, gateway, other)) = first_doubled(&held) {
+        return Err(FinishCause::Doubled {
+            number,
+            gateway,
+            other,
+        });
+    }
+    if let Some(number) = first_lost(shelf, &held, receipts) {
+        return Err(FinishCause::Lost { number });
+    }
+    Ok(())
+}

@@ -1,0 +1,12 @@
+use Rattle.std.proofs.Common.{sym, ◌∙◌}
+use Rattle.server_core.specs.AirtimeLaws.{total-hear}
+use Rattle.server_core.specs.Desk.{desk_hear}
+use Rattle.server_station.proofs.Tallied.{same-total}
+use Rattle.server_station.proofs.office.Office.hear.Goals as goal
+
+pub invariant_of-self : goal.invariant_of-self
+invariant_of-self g c =
+    c.self.invariant
+    ∙ sym (same-total c.hear.result c.self.inside.desk (desk_hear c.self.inside.desk c.args.bytes.now c.args.heard c.args.arrived)
+    c.hear.new.self (total-hear c.self.inside.desk c.args.bytes.now c.args.heard c.args.arrived) c.hear.ensures.step
+    c.hear.ensures.refused)

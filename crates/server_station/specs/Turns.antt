@@ -1,0 +1,61 @@
+use Rattle.std.specs.Prelude.{ℕ, ◌≡◌, ◌+◌, Bool, true, false, Option, None, IfSome}
+use Rattle.std.specs.Option.{IsSomeAnd}
+use Rattle.radio_airtime.specs.TimeOnAir.{airtime_of}
+use Rattle.rx_windows.specs.declared.candidate.Window.{Window}
+use Rattle.air_ledger.specs.Tills.{Holding}
+use Rattle.answer_ticket.specs.declared.outcome.Ending.{Ending}
+use Rattle.answer_ticket.specs.declared.outcome.Ending.TheVariants.{Answered, Unanswered, GivenUp}
+use Rattle.answer_ticket.specs.declared.outcome.Outcome.{Outcome}
+use Rattle.answer_ticket.specs.declared.tried.Receipt.{Receipt}
+use Rattle.answer_ticket.specs.Ended.{IsOfCandidate}
+use Rattle.server_core.specs.Airtime.{airtime_of_ending}
+use Rattle.server_station.specs.declared.turn.Ended.{Ended}
+use Rattle.server_station.specs.declared.turn.Turn.{Turn}
+use Rattle.server_station.specs.declared.turn.Turn.TheVariants.{NotTaken, Settled, Stray}
+
+-- What becomes of an uplink that is taken up once, after this project's profile.
+
+-- the receipt of an answer that was booked so: its reservation starts where the answer does, and is on air as long
+pub record IsReceiptOf {A : Type 0} (n id : ℕ) (rx : Window) (start airtime : ℕ) (r : Receipt A) : Type 0 where
+  pub number : r.number ≡ n
+  pub gateway : r.gateway ≡ id
+  pub window : r.window ≡ rx
+  pub reserved : r.reservation.number ≡ n
+  pub starts : r.reservation.start ≡ start
+  pub on_air : airtime_of r.reservation.rate r.reservation.len ≡ airtime
+
+-- an answer that was booked has a receipt, and no other has one
+abbrev pub GoesWith : {A : Type 0} → ℕ → Ending → Option (Receipt A) → Type 0
+GoesWith n (Answered gateway window start airtime carried) receipt =
+    IsSomeAnd receipt (λ r. IsReceiptOf n gateway window start airtime r)
+GoesWith n (Unanswered refusal) receipt = receipt ≡ None
+GoesWith n GivenUp receipt = receipt ≡ None
+
+-- what is left of the ticket for this number
+pub record IsEndOf {A : Type 0} (n : ℕ) (ended : Ended A) : Type 0 where
+  pub number : ended.stub.number ≡ n
+  pub receipt : GoesWith n ended.stub.result ended.receipt
+
+-- the answer to this number was settled, and its airtime counted with the till
+pub record IsSettled {A : Type 0} (n : ℕ) (old new : Holding) (outcome : Outcome) (booked : Option (Receipt A)) : Type 0 where
+  pub number : outcome.number ≡ n
+  pub timed : IsOfCandidate outcome.result
+  pub receipt : GoesWith n outcome.result booked
+  pub till : new ≡ record old { amount = old.amount + airtime_of_ending outcome.result }
+
+-- the stub of this number was handed back, and the till left as it was
+pub record IsStray {A : Type 0} (n : ℕ) (old new : Holding) (booked : Option (Receipt A)) : Type 0 where
+  pub receipt : IfSome booked (λ r. r.number ≡ n)
+  pub till : new ≡ old
+
+-- what became of the uplink with this number, and of the till
+abbrev pub IsTurn : {A : Type 0} → ℕ → Holding → Holding → Turn A → Type 0
+IsTurn n old new (NotTaken fault) = new ≡ old
+IsTurn n old new (Settled outcome receipt) = IsSettled n old new outcome receipt
+IsTurn n old new (Stray receipt) = IsStray n old new receipt
+
+-- whether a ticket was given
+abbrev pub was_taken : {A : Type 0} → Turn A → Bool
+was_taken (NotTaken fault) = false
+was_taken (Settled outcome receipt) = true
+was_taken (Stray receipt) = true

@@ -1,0 +1,129 @@
+ghost use Rattle.std.specs.Prelude.{◌≡◌, ◌+◌, ◌<◌, ◌↔◌, IfOk, IfErr, OnOk, OnErr};
+ghost use Rattle.answer_ticket.specs.Ended.{IsOfCandidate, gateway_of};
+ghost use Rattle.server_core.specs.Airtime.{airtime_of_ending};
+ghost use Rattle.server_core.specs.Desk.{desk_of};
+ghost use Rattle.server_core.specs.Schedule.{usual_limits};
+ghost use Rattle.server_core.specs.World.{opening};
+ghost use Rattle.server_station.specs.Stations.{ids_of, WasQueued, WasHeard, WasPassed, WasTaken};
+ghost use Rattle.std.specs.Prelude.{IsSome};
+
+use crate::place::{Place, places_of};
+use crate::{Blank, Ledger, NoMemory, Office, PARTS, Till};
+use air_ledger::begin;
+use answer_ticket::{Outcome, Stub, Ticket};
+use server_core::{
+    Desk, DeskFault, DeskHeard, Heard1, QueueFault, Settings, TakeFault, USUAL_LIMITS,
+};
+use std::alloc::{Allocator, Global};
+use std::hash::BuildHasher;
+use std::marker::Model;
+use std::sync::{Mutex, Wait};
+
+/// A server for several threads: the desk with the ledger's tally behind one lock, and each gateway's book behind its own.
+/// Each call takes one of these locks, and waits for it, but for `new` and `finish`. Seen as the numbers of its gateways,
+/// in rising order.
+#[derive(Drop)]
+pub struct Station<B: Ledger, S: BuildHasher, A: Allocator = Global> {
+    pub(crate) office: Mutex<Office<B, S, A>>,
+    /// By the gateways' numbers.
+    pub(crate) places: Vec<Place<A>, A>,
+}
+
+impl<B: Ledger, S: BuildHasher, A: Allocator> Model for Station<B, S, A> {
+    ghost use Rattle.std.specs.Prelude.{ℕ, List};
+
+    ghost Value = { List ℕ };
+
+    ghost view = { λ s. s.places.items };
+}
+
+impl<B: Ledger, S: BuildHasher + Clone, A: Allocator + Copy> Station<B, S, A> {
+    /// A station with these settings that has heard nothing, and the till with all parts of its ledger. It gathers at most
+    /// 4,096 uplinks at a time and 1,000,000 in all, of each at most 64 copies. The blank is this ledger's, and has 65,536
+    /// parts. Err(NoMemory) where a growth was refused.
+    pub fn new<C: Allocator>(
+        alloc: A,
+        hasher: S,
+        settings: &Settings<C>,
+        blank: Blank,
+    ) -> Result<(Self, Till<B>), NoMemory>
+        requires name { blank.name ≡ B.name }
+        requires parts { blank.parts ≡ B.parts }
+        requires all { blank.parts ≡ PARTS }
+        ensures gateways { IfOk result (λ made. made.0 ≡ ids_of settings.now.gateways) }
+        ensures till { IfOk result (λ made. made.1 ≡ record { parts = PARTS; amount = 0 }) }
+    {
+        let desk = opening_desk(alloc, hasher, settings)?;
+        let places = places_of(alloc, settings.gateways())?;
+        let (tally, till) = begin(blank);
+        let office = Mutex::new(Office::new(desk, tally));
+        Ok((Station { office, places }, till))
+    }
+}
+
+impl<B: Ledger, S: BuildHasher, A: Allocator + Copy> Station<B, S, A> {
+    /// Queues a payload, as the desk's `queue`.
+    pub fn queue<R: Wait>(
+        &self,
+        rt: &R,
+        addr: u32,
+        port: u8,
+        payload: &[u8],
+    ) -> Result<usize, QueueFault>
+        ensures { WasQueued addr (port, payload.now) result }
+    {
+        self.office.lock(rt).queue(addr, port, payload)
+    }
+
+    /// Takes in a copy of an uplink, as the desk's `hear`.
+    pub fn hear<R: Wait>(
+        &self,
+        rt: &R,
+        bytes: &[u8],
+        heard: Heard1,
+        arrived: u64,
+    ) -> Result<DeskHeard, DeskFault>
+        ensures { WasHeard bytes.now heard arrived result }
+    {
+        self.office.lock(rt).hear(bytes, heard, arrived)
+    }
+
+    /// Gives a ticket, as the desk's `take`.
+    pub fn take<R: Wait>(&self, rt: &R, n: u64) -> Result<Ticket<A>, TakeFault>
+        ensures { WasTaken n result }
+    {
+        self.office.lock(rt).take(n)
+    }
+}
+
+impl<B: Ledger, S: BuildHasher, A: Allocator> Station<B, S, A> {
+    /// Closes the least gathering that is due, as the desk's `pass`. Takes no memory.
+    pub fn pass<R: Wait>(&self, rt: &R, now: u64) -> Option<u64>
+        ensures { WasPassed now result }
+    {
+        self.office.lock(rt).pass(now)
+    }
+
+    /// Settles an answer, as the desk's `settle`, and counts its airtime with the till. Takes no memory.
+    pub fn settle<R: Wait>(&self, rt: &R, stub: Stub, till: &mut Till<B>) -> Result<Outcome, Stub>
+        ensures kept { IfOk result (λ outcome. outcome ≡ stub) }
+        ensures booked { IfOk result (λ outcome. IsOfCandidate outcome.result) }
+        ensures counted { OnOk result (till.new ≡ record till.old { amount = till.old.amount + airtime_of_ending stub.result }) }
+        ensures rose { IfOk result (λ outcome. IsSome (gateway_of outcome.result) ↔ (till.old.amount < till.new.amount)) }
+        ensures back { IfErr result (λ back. back ≡ stub) }
+        ensures refused { OnErr result (till.new ≡ till.old) }
+    {
+        self.office.lock(rt).settle(stub, till)
+    }
+}
+
+/// A desk of these settings, of which nothing was heard yet, with the usual limits.
+fn opening_desk<S: BuildHasher + Clone, A: Allocator + Copy, C: Allocator>(
+    alloc: A,
+    hasher: S,
+    settings: &Settings<C>,
+) -> Result<Desk<S, A>, NoMemory>
+    ensures { IfOk result (λ desk. desk ≡ desk_of (opening settings.now usual_limits)) }
+{
+    Desk::new(alloc, hasher, settings, USUAL_LIMITS)
+}
