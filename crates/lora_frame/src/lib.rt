@@ -15,4 +15,4 @@ pub use counting::{infer, law_infer_is_least};
 pub use laws::{law_device_decrypts, law_uplink_reads_back};
 pub use parts::{Body, Down, Keys, Up};
 pub use reading::{FrameFault, Uplink, check_mic, read_uplink};
-pub use writing::{DownFault, UpFault, downlink, uplink_bytes};
+pub use writing::{DownFault, UpFault, downlink, uplink_bytes, uplink_header};

@@ -205,6 +205,15 @@ pub fn downlink<A: Allocator>(alloc: A, down: &Down, keys: &Keys) -> Result<Vec<
     Ok(frame)
 }
 
+/// The first 8 bytes of an uplink with at most 15 bytes of FOpts: MHDR, and FHDR up to its FCnt (LoRaWAN L2 1.0.4 sections
+/// 4.2 and 4.3). No key has a part in them.
+pub fn uplink_header(up: &Up) -> [u8; 8]
+    requires { length up.now.options.now ≤ MAX_OPTIONS }
+    ensures { result ≡ header_bytes (if up.now.confirmed then 4 else 2) up.now.addr (up_control up.now) up.now.counter }
+{
+    header(up_kind(up), up.addr, up_control(up), up.counter)
+}
+
 /// The bytes that a device sends as an uplink, in one growth of their number (LoRaWAN L2 1.0.4 section 4).
 /// Err(Port) where the port is above 223, else Err(Long) where FOpts have more than 15 bytes or the frame
 /// more than 255, else Err(NoMemory) where that growth is refused.
@@ -221,10 +230,7 @@ pub fn uplink_bytes<A: Allocator>(alloc: A, up: &Up, keys: &Keys) -> Result<Vec<
     let Ok(mut frame) = Vec::with_capacity(alloc, size) else {
         return Err(UpFault::NoMemory);
     };
-    append(
-        &mut frame,
-        &header(up_kind(up), up.addr, up_control(up), up.counter),
-    );
+    append(&mut frame, &uplink_header(up));
     append(&mut frame, up.options);
     append_body(&mut frame, keys, UP, up.addr, up.counter, up.body);
     append_mic(&mut frame, keys, UP, up.addr, up.counter);

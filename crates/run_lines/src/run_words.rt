@@ -1,13 +1,13 @@
 // What the words of an event line say.
-ghost use Rattle.std.specs.Prelude.{◌≡◌, ◌^◌, ◌<◌, [], ◌∷◌, ◌++◌, length, IfOk};
+ghost use Rattle.std.specs.Prelude.{◌≡◌, ◌^◌, ◌<◌, [], ◌∷◌, ◌++◌, None, length, IfOk};
 ghost use Rattle.std.specs.Option.{option_map};
 ghost use Rattle.run_lines.specs.RunWords.{addr_word, hex_word, Kind, kind_of, keys_for, bare_message, bare_uplink, made_word};
 ghost use Rattle.run_lines.specs.RunWords.{uplink_word};
-ghost use Rattle.lora_frame.specs.Frame.{with_mic};
+ghost use Rattle.lora_frame.specs.Frame.{with_mic, bit_worth, up_control};
 
 use answer_ticket::Bytes;
 use hex::{FromHex, FromHexError};
-use lora_frame::{Key, Keys, Up, uplink_bytes};
+use lora_frame::{Key, Keys, Up, uplink_bytes, uplink_header};
 use server_core::DeviceSetting;
 use std::alloc::{AllocError, Global};
 use text_lines::number_u32;
@@ -76,6 +76,24 @@ fn bare_uplink(
     }
 }
 
+/// An uplink of a device without FOpts, FPort and FRMPayload.
+fn bare_up(kind: (bool, bool), addr: u32, counter: u32) -> Up<'static>
+    ensures fields { (result.confirmed ≡ kind.0) × (result.addr ≡ addr) × (result.counter ≡ counter) × (result.options.now ≡ []) }
+    ensures control { up_control result ≡ bit_worth kind.1 0x40 }
+    ensures body { result.body ≡ None }
+{
+    Up {
+        confirmed: kind.0,
+        addr,
+        counter,
+        adr: false,
+        adr_ack_req: kind.1,
+        ack: false,
+        options: &[],
+        body: None,
+    }
+}
+
 /// The uplink, made with these keys.
 #[tactic(auto, unfolding(lora_frame::specs::Frame::up_bytes))]
 fn made_uplink(
@@ -87,17 +105,7 @@ fn made_uplink(
 ) -> Result<Bytes<Global>, NoMemory>
     ensures { IfOk result (λ bytes. bytes ≡ with_mic keys.now 0 addr counter (bare_message kind addr counter)) }
 {
-    let up = Up {
-        confirmed: kind.0,
-        addr,
-        counter,
-        adr: false,
-        adr_ack_req: kind.1,
-        ack: false,
-        options: &[],
-        body: None,
-    };
-    match uplink_bytes(alloc, &up, keys) {
+    match uplink_bytes(alloc, &bare_up(kind, addr, counter), keys) {
         Ok(bytes) => Ok(Bytes::new(bytes)),
         Err(_) => Err(AllocError),
     }
@@ -112,14 +120,8 @@ fn unsigned_uplink(
 ) -> Result<Bytes<Global>, NoMemory>
     ensures { IfOk result (λ bytes. bytes ≡ bare_message kind addr counter ++ 0 ∷ 0 ∷ 0 ∷ 0 ∷ []) }
 {
-    let no_key = Key::new([0; 16]);
-    let keys = Keys {
-        nwk: no_key,
-        app: no_key,
-    };
-    let made = made_uplink(alloc, &keys, kind, addr, counter)?;
     let mut bytes = Vec::with_capacity(alloc, 12)?;
-    bytes.extend_from_slice(&made.as_slice()[..8])?;
+    bytes.extend_from_slice(&uplink_header(&bare_up(kind, addr, counter)))?;
     bytes.extend_from_slice(&[0; 4])?;
     Ok(Bytes::new(bytes))
 }

@@ -11,7 +11,5 @@ returns-clause-ok g c =
       c.append-2.ensures.items,
       c.append.ensures.items,
       c.in-Ok.ensures.items,
-      c.header.ensures,
-      c.up_kind.ensures.kind,
-      c.up_control.ensures,
+      c.uplink_header.ensures,
     ) refl
