@@ -4,17 +4,21 @@
 Usage: cases.py PROGRAM [NAME ..]      (NAME: a case; none: all of them)
 
 A case is a folder cases/NAME with
-    args     the arguments, one word a line; none: no arguments
+    args     the arguments, one word a line, in whatever bytes; none: no arguments
     stdin    the standard input; none: the null device
     stdout   what standard output must be, byte for byte; none: it is not compared
     stderr   the same of standard error
     status   the exit status that is wanted; none: 0
     also     more arguments, one set a line: with each set the case is run again, and the same is wanted
+    broken   what is wrong with the streams, a word a line: 'input' is a folder, so that the first read fails;
+             'output' is a full device, 'pipe' one that nobody reads, so that a write fails. What is written to
+             such an output isn't compared
 
 A failing case has a line, and under it what differs ('-' is wanted, '+' was written). The last line is
 'N passed, M failed'. The status is 0 where none failed, 1 where one did, 2 where nothing could be run.
 """
 import difflib
+import os
 import pathlib
 import subprocess
 import sys
@@ -42,26 +46,56 @@ def differences(name, want, got):
 
 
 def words_in(path):
-    return path.read_text().splitlines() if path.is_file() else []
+    return path.read_bytes().splitlines() if path.is_file() else []
 
 
 def runs_of(name):
     """The runs of a case: a name, and the arguments that come after the case's own."""
     more = words_in(CASES / name / "also")
-    return [(name, [])] + [(f"{name} {words}", words.split()) for words in more]
+    return [(name, [])] + [(f"{name} {words.decode()}", words.split()) for words in more]
+
+
+def input_of(case, broken, folder):
+    """What the program reads."""
+    given = case / "stdin"
+    path = folder if b"input" in broken else given if given.is_file() else os.devnull
+    return os.open(path, os.O_RDONLY)
+
+
+def output_of(broken):
+    """What the program writes to."""
+    if b"output" in broken:
+        return os.open("/dev/full", os.O_WRONLY)
+    if b"pipe" in broken:
+        read, write = os.pipe()
+        os.close(read)
+        return write
+    return subprocess.PIPE
+
+
+def run(program, case, more, folder):
+    """Runs the program on a case."""
+    args = words_in(case / "args") + more
+    broken = words_in(case / "broken")
+    opened = [input_of(case, broken, folder), output_of(broken)]
+    try:
+        return subprocess.run(
+            [program, *args], stdin=opened[0], stdout=opened[1], stderr=subprocess.PIPE, cwd=folder, timeout=SECONDS
+        )
+    finally:
+        for stream in opened:
+            if stream != subprocess.PIPE:
+                os.close(stream)
 
 
 def faults_of(program, case, more, folder):
     """What is wrong with a case; nothing where it passes."""
-    args = words_in(case / "args") + more
     status = int((case / "status").read_text()) if (case / "status").is_file() else 0
-    given = case / "stdin"
     try:
-        with open(given if given.is_file() else "/dev/null", "rb") as stdin:
-            ran = subprocess.run([program, *args], stdin=stdin, capture_output=True, cwd=folder, timeout=SECONDS)
+        ran = run(program, case, more, folder)
     except subprocess.TimeoutExpired:
         return [f"it did not end within {SECONDS} seconds"]
-    faults = differences("stdout", wanted(case, "stdout"), ran.stdout)
+    faults = [] if ran.stdout is None else differences("stdout", wanted(case, "stdout"), ran.stdout)
     faults += differences("stderr", wanted(case, "stderr"), ran.stderr)
     if ran.returncode != status:
         faults.append(f"wanted status {status}, ended with {ran.returncode}")

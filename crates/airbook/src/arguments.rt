@@ -21,7 +21,7 @@ pub fn program<'a>(alloc: Global) -> Result<Command<'a>, AllocError> {
             "Airtime of LoRaWAN downlinks in EU868: how long they last, and when a gateway may send them.",
         )
         .after_help(
-            "Examples:\n  airbook toa 5 12\n  airbook book < asks.txt\n  airbook run < examples/two-gateways.txt",
+            "Examples:\n  airbook toa 5 12\n  airbook book < examples/two-bookings.txt\n  airbook run < examples/two-gateways.txt",
         )
         .subcommand_required(true)
         .subcommand(toa(alloc)?)?
