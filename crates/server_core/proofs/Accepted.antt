@@ -1,22 +1,9 @@
 -- The candidates that are tried, and the world's try of one.
-use Rattle.std.specs.Prelude.{ℕ, zero, suc, ◌≡◌, ◌+◌, Bool, true, false, if◌then◌else◌, List, [], ◌∷◌, map, drop, slice_get}
-use Rattle.std.specs.Prelude.{Option, Some, None, refl}
-use Rattle.std.specs.Option.{option_map_or}
-use Rattle.std.proofs.Common.{ap, ◌∙◌, arith}
-use Rattle.gateway_book.specs.declared.refusal.Refusal.{Refusal}
-use Rattle.gateway_book.specs.Book.{Book}
-use Rattle.uplink_gather.specs.Gatherings.{numbered}
-use Rattle.rx_windows.specs.declared.candidate.Candidate.{Candidate}
-use Rattle.answer_ticket.specs.Job.{candidates}
-use Rattle.answer_ticket.specs.Ticket.{Standing, candidate_of}
-use Rattle.answer_ticket.specs.Tried.{refusal_by}
-use Rattle.server_desk.specs.Answers.{Open}
-use Rattle.server_desk.specs.World.{World, Gateway, gateway_with}
-use Rattle.server_core.specs.Steps.{Step, Try, step, tried_by, try_on, try_candidate, try_of}
-use Rattle.server_core.specs.Schedule.{up_to_first, is_none, accepts, is_accepted}
-use Rattle.server_core.specs.Entries.{gateway_of}
-use Rattle.server_core.specs.Turns.{tries_from}
-use Rattle.server_desk.specs.Places.{some_inj}
+use Rattle.server_core.proofs.Words.{ap, arith, ◌∙◌, option_map_or, Bool, List, None, Option, Some, [], drop, false}
+use Rattle.server_core.proofs.Words.{if◌then◌else◌, map, refl, slice_get, suc, true, zero, ℕ, ◌+◌, ◌∷◌, ◌≡◌, Book, Refusal}
+use Rattle.server_core.proofs.Words.{numbered, Candidate, candidates, Standing, candidate_of, refusal_by, Open, some_inj, Gateway}
+use Rattle.server_core.proofs.Words.{World, gateway_with, gateway_of, accepts, is_accepted, is_none, up_to_first, Step, Try, step}
+use Rattle.server_core.proofs.Words.{tried_by, try_candidate, try_of, try_on, tries_from}
 
 module _ {X : Type 0} where
   -- what is left from a place on

@@ -1,37 +1,18 @@
 -- An uplink is answered: a ticket is taken, tried and settled.
-use Rattle.std.specs.Prelude.{ℕ, ◌-◌, slice_set, ◌≡◌, ◌≢◌, ◌⊎◌, Bool, true, false, if◌then◌else◌, List, [], ◌∷◌, ◌++◌, map}
-use Rattle.std.specs.Prelude.{Contains, IsTrue, Option, Some, None, Result, Ok, Err, MatchResult, IsOkUnless, refl}
-use Rattle.std.specs.Option.{option_map_or}
-use Rattle.std.proofs.lemmas.List.{set-set}
-use Rattle.std.proofs.Common.{inl, inr, ap, sym, ◌∙◌, subst, arith, append-nil}
-use Rattle.uplink_gather.specs.declared.heard.HeardCopy.{HeardCopy}
-use Rattle.uplink_gather.specs.Gatherings.{Gathering, Gatherings, numbered, rewritten, copies_of}
-use Rattle.rx_windows.specs.Windows.{candidates_of}
-use Rattle.rx_windows.specs.Laws.{IsWindowOf}
-use Rattle.rx_windows.specs.WindowLaws.{on_gateways_that_heard, IsWindowOf-ranked}
-use Rattle.answer_ticket.specs.Job.{Job}
-use Rattle.answer_ticket.specs.Ticket.{Standing}
+use Rattle.server_core.proofs.Words.{ap, append-nil, arith, inl, inr, subst, sym, ◌∙◌, set-set, option_map_or, Bool, Contains}
+use Rattle.server_core.proofs.Words.{Err, IsOkUnless, IsTrue, List, MatchResult, None, Ok, Option, Result, Some, [], false}
+use Rattle.server_core.proofs.Words.{if◌then◌else◌, map, refl, slice_set, true, ℕ, ◌++◌, ◌-◌, ◌∷◌, ◌≡◌, ◌≢◌, ◌⊎◌, Gathering}
+use Rattle.server_core.proofs.Words.{Gatherings, copies_of, numbered, rewritten, HeardCopy, IsWindowOf, IsWindowOf-ranked}
+use Rattle.server_core.proofs.Words.{on_gateways_that_heard, candidates_of, Job, Standing, Answer, Open, Waiting, is_given}
+use Rattle.server_core.proofs.Words.{known_of, DeskView, desk_settled, desk_take, desk_taken, numbered-here, numbered_cases}
+use Rattle.server_core.proofs.Words.{rewritten-found, all_get, Device, Register, delivered, has_carried, sent_of, job_of}
+use Rattle.server_core.proofs.Words.{take_answer, taken_from, World, known, Asked, Known, Done, TakeFault, entry_at, gateway_of}
+use Rattle.server_core.proofs.Words.{lines_for, not_taken, step_lines, answer_steps, given_steps, AreHeard, AreHere, Goes, IsAt}
+use Rattle.server_core.proofs.Words.{IsIdle, IsReady, Makes, Seen, ids_of, is_among, with_lines, with_step, After, Step, Take}
+use Rattle.server_core.proofs.Words.{step, take_by, IsAnswered, IsGivenTo, Line}
+use Rattle.server_desk.specs.declared.answers.Known.TheVariants.{Given}
 use Rattle.server_core.specs.declared.event.Step.TheVariants as made
-use Rattle.server_core.specs.declared.entry.Line.{Line}
-use Rattle.server_desk.specs.declared.faults.TakeFault.{TakeFault}
-use Rattle.server_desk.specs.declared.answers.Asked.{Asked}
-use Rattle.server_desk.specs.Register.{Device, Register}
-use Rattle.server_desk.specs.declared.answers.Known.{Known}
-use Rattle.server_desk.specs.declared.answers.Known.TheVariants.{Given, Done}
-use Rattle.server_desk.specs.Answers.{Answer, Waiting, Open, known_of, is_given}
-use Rattle.server_desk.specs.Taking.{take_answer, job_of, taken_from}
-use Rattle.server_desk.specs.Settling.{delivered, has_carried, sent_of}
-use Rattle.server_desk.specs.Desk.{DeskView, desk_taken, desk_take, desk_settled}
-use Rattle.server_desk.specs.World.{World, known}
-use Rattle.server_core.specs.Steps.{Step, Take, After, step, take_by}
 use Rattle.server_core.specs.Steps as replies
-use Rattle.server_core.specs.Schedule.{given_steps, answer_steps}
-use Rattle.server_core.specs.Entries.{not_taken, lines_for, step_lines, entry_at, gateway_of}
-use Rattle.server_core.specs.Server.{Seen, IsAt, Goes, Makes, AreHere, AreHeard, IsReady, IsIdle, with_step, with_lines, is_among}
-use Rattle.server_core.specs.Server.{ids_of}
-use Rattle.server_core.specs.Turns.{IsGivenTo, IsAnswered}
-use Rattle.server_desk.specs.Places.{all_get}
-use Rattle.server_desk.specs.Numbers.{numbered-here, numbered_cases, rewritten-found}
 use Rattle.server_core.proofs.Tickets.{IsTicket, ticket, still_waits}
 use Rattle.server_core.proofs.DeskSteps.{desk_calls_are_steps}
 use Rattle.server_core.proofs.Going.{reached_one, one_step, goes_on_lines}

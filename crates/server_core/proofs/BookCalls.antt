@@ -1,31 +1,17 @@
 -- Time passes for a gateway, or what was sent for an answer is cancelled, by the gateway's book.
-use Rattle.std.specs.Prelude.{ℕ, ◌≡◌, false, List, [], ◌∷◌, map, slice_set, get_or, Option, Some, None, Result, Ok, Err, IfOk}
-use Rattle.std.specs.Prelude.{OnErr, refl, max}
-use Rattle.std.specs.Option.{option_map}
-use Rattle.std.proofs.Common.{ap, sym, ◌∙◌, subst}
-use Rattle.gateway_book.specs.declared.cancel.CancelFault.{CancelFault}
-use Rattle.gateway_book.specs.declared.cancel.CancelFault.TheVariants.{NotHere}
-use Rattle.gateway_book.specs.Book.{Book, state_of, with_cancelled, airtime_answer}
-use Rattle.gateway_book.specs.Step.{cancel_answer, cancel_step, tick_step}
-use Rattle.uplink_gather.specs.Gatherings.{numbered}
+use Rattle.server_core.proofs.Words.{ap, subst, sym, ◌∙◌, option_map, Err, IfOk, List, None, Ok, OnErr, Option, Result, Some, []}
+use Rattle.server_core.proofs.Words.{false, get_or, map, max, refl, slice_set, ℕ, ◌∷◌, ◌≡◌, Book, airtime_answer, state_of}
+use Rattle.server_core.proofs.Words.{with_cancelled, cancel_answer, cancel_step, tick_step, CancelFault, NotHere, numbered}
+use Rattle.server_core.proofs.Words.{Answer, Booked, Open, Out, Settled, Waiting, is_given, known_of, DeskView, numbered-map}
+use Rattle.server_core.proofs.Words.{map_set, kept_by, Gateway, World, gateway_with, known, Known, Sent, gateway_of, lines_for}
+use Rattle.server_core.proofs.Words.{IsAt, IsCancelled, IsIdle, IsReady, Seen, cancelled_line, ids_of, with_lines, with_step}
+use Rattle.server_core.proofs.Words.{After, Cancel, Tick, cancel_at, cancel_of, cancel_sent, sent_for, step, tick_at, Line}
 use Rattle.server_core.specs.declared.event.Step.TheVariants as made
-use Rattle.server_core.specs.declared.entry.Line.{Line}
-use Rattle.server_desk.specs.declared.answers.Sent.{Sent}
-use Rattle.server_desk.specs.declared.answers.Known.{Known}
-use Rattle.server_desk.specs.Answers.{Answer, Waiting, Open, Booked, Out, Settled, known_of, is_given}
-use Rattle.server_desk.specs.Desk.{DeskView}
-use Rattle.server_desk.specs.World.{World, Gateway, known, gateway_with}
-use Rattle.server_core.specs.Steps.{Cancel, After, step, sent_for, cancel_at, cancel_sent, cancel_of, Tick, tick_at}
 use Rattle.server_core.specs.Steps as replies
-use Rattle.server_core.specs.Entries.{lines_for, gateway_of}
-use Rattle.server_core.specs.Server.{Seen, IsAt, IsReady, IsIdle, IsCancelled, with_step, with_lines, ids_of, cancelled_line}
-use Rattle.server_desk.specs.Settling.{kept_by}
-use Rattle.server_desk.specs.Numbers.{numbered-map}
-use Rattle.server_desk.specs.Places.{map_set}
+use Rattle.server_core.specs.declared.entry.Line.TheVariants as says
 use Rattle.server_core.proofs.DeskSteps.{desk_calls_are_steps}
 use Rattle.server_core.proofs.Ready.{ready_same}
 use Rattle.server_core.proofs.BookFound.{IsBookOf, book_found, no_book, same_book, gateway_with_state, book_written}
-use Rattle.server_core.specs.declared.entry.Line.TheVariants as says
 use Rattle.server_core.proofs.Calls.{IsDone, done}
 
 -- the world's tick, by the gateway that was found

@@ -1,15 +1,7 @@
 -- A gateway's book, by the gateway's number.
-use Rattle.std.specs.Prelude.{ℕ, ◌≡◌, ◌==◌, ◌<◌, true, List, map, length, slice_get, slice_set, get_or, Option, Some, None, refl}
-use Rattle.std.specs.Option.{option_map}
-use Rattle.std.proofs.Common.{ap, sym, ◌∙◌, subst}
-use Rattle.std.proofs.lemmas.Option.{slice_get_within, get_or_from_slice_get}
-use Rattle.gateway_book.specs.Book.{Book, state_of}
-use Rattle.gateway_book.specs.Step.{State}
-use Rattle.server_desk.specs.World.{Gateway, gateway_with}
-use Rattle.server_core.specs.Entries.{gateway_of}
-use Rattle.server_desk.specs.Places.{some_inj, from_map}
-use Rattle.server_desk.specs.Found.{found_there}
-use Rattle.std.proofs.lemmas.List.{map-set}
+use Rattle.server_core.proofs.Words.{ap, subst, sym, ◌∙◌, map-set, get_or_from_slice_get, slice_get_within, option_map, List}
+use Rattle.server_core.proofs.Words.{None, Option, Some, get_or, length, map, refl, slice_get, slice_set, true, ℕ, ◌<◌, ◌==◌, ◌≡◌}
+use Rattle.server_core.proofs.Words.{Book, state_of, State, found_there, from_map, some_inj, Gateway, gateway_with, gateway_of}
 
 -- the book of a gateway, which was found by its number
 pub record IsBookOf (gateway at : ℕ) (books : List Book) : Type 0 where

@@ -1,15 +1,8 @@
 -- A call that is one step: one thread notes the step, makes it, and tells its line.
-use Rattle.std.specs.Prelude.{ℕ, ◌≡◌, ◌≢◌, List, [], ◌∷◌, ◌++◌, map, Result, Ok, Err, IfOk, OnOk, OnErr, MatchResult, IsOkUnless}
-use Rattle.std.specs.Prelude.{refl}
-use Rattle.std.proofs.Common.{ap, sym, ◌∙◌, subst}
+use Rattle.server_core.proofs.Words.{ap, subst, sym, ◌∙◌, Err, IfOk, IsOkUnless, List, MatchResult, Ok, OnErr, OnOk, Result, []}
+use Rattle.server_core.proofs.Words.{map, refl, ℕ, ◌++◌, ◌∷◌, ◌≡◌, ◌≢◌, DeskView, desk_of, World, entry_at, lines_for, step_of}
+use Rattle.server_core.proofs.Words.{AreHeard, IsAt, IsIdle, IsReady, Makes, Seen, with_lines, with_step, Reply, Step, step, Line}
 use Rattle.server_core.specs.declared.event.Step.{Step as Made}
-use Rattle.server_core.specs.declared.entry.Line.{Line}
-use Rattle.server_desk.specs.Desk.{DeskView, desk_of}
-use Rattle.server_desk.specs.World.{World}
-use Rattle.server_core.specs.Steps.{Step, Reply, step}
-use Rattle.server_core.specs.Schedule.{step_of}
-use Rattle.server_core.specs.Entries.{lines_for, entry_at}
-use Rattle.server_core.specs.Server.{Seen, IsAt, Makes, IsReady, IsIdle, AreHeard, with_step, with_lines}
 use Rattle.server_core.proofs.Going.{on_ok, one_step}
 
 -- what an event that is one step leaves

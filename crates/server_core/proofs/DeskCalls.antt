@@ -1,25 +1,14 @@
 -- A payload is queued, or a copy of an uplink is heard, at the desk.
-use Rattle.std.specs.Prelude.{ℕ, ◌≡◌, ◌≢◌, List, [], ◌∷◌, Option, Some, None, Result, Ok, Err, refl}
-use Rattle.std.proofs.Common.{ap, sym, subst}
-use Rattle.uplink_gather.specs.Gatherings.{Gatherings}
-use Rattle.answer_ticket.specs.Job.{Payload}
-use Rattle.server_desk.specs.declared.heard.Heard1.{Heard1}
-use Rattle.server_desk.specs.declared.heard.DeskHeard.{DeskHeard}
-use Rattle.server_desk.specs.declared.faults.DeskFault.{DeskFault}
+use Rattle.server_core.proofs.Words.{ap, subst, sym, Err, List, None, Ok, Option, Result, Some, [], refl, ℕ, ◌∷◌, ◌≡◌, ◌≢◌}
+use Rattle.server_core.proofs.Words.{Gatherings, Payload, DeskView, desk_hear, desk_queue, known_after, Decision, Join, Refuse}
+use Rattle.server_core.proofs.Words.{answer_to, copy_of, decide, after_queueing, queue_answer, Device, Register, device_with}
+use Rattle.server_core.proofs.Words.{World, DeskFault, QueueFault, DeskHeard, Heard1, lines_for, AreHeard, IsReady, Seen}
+use Rattle.server_core.proofs.Words.{heard_line, queued_line, with_lines, with_step, Hear, Heard, Queue, Queued, step, Line}
+use Rattle.server_desk.specs.Hearing.{after_hearing}
 use Rattle.server_desk.specs.declared.faults.DeskFault.TheVariants as hears
-use Rattle.server_desk.specs.declared.faults.QueueFault.{QueueFault}
 use Rattle.server_desk.specs.declared.faults.QueueFault.TheVariants as queues
 use Rattle.server_core.specs.declared.event.Step.TheVariants as made
-use Rattle.server_core.specs.declared.entry.Line.{Line}
-use Rattle.server_desk.specs.Register.{Device, Register, device_with}
-use Rattle.server_desk.specs.Queueing.{queue_answer, after_queueing}
-use Rattle.server_desk.specs.Hearing.{Decision, Refuse, Join, copy_of, decide, answer_to, after_hearing}
 use Rattle.server_desk.specs.Hearing as hearing
-use Rattle.server_desk.specs.Desk.{DeskView, desk_queue, desk_hear, known_after}
-use Rattle.server_desk.specs.World.{World}
-use Rattle.server_core.specs.Steps.{Queue, Hear, Queued, Heard, step}
-use Rattle.server_core.specs.Entries.{lines_for}
-use Rattle.server_core.specs.Server.{Seen, IsReady, AreHeard, with_step, with_lines, queued_line, heard_line}
 use Rattle.server_core.proofs.DeskSteps.{desk_calls_are_steps}
 use Rattle.server_core.proofs.Calls.{IsDone, IsCall, IsDeskStep, desk_made, done}
 use Rattle.server_core.proofs.Ready.{heard_after, idle_hear}

@@ -1,35 +1,18 @@
 -- The calls of the desk are the world's steps on its part.
-use Rattle.std.specs.Prelude.{ℕ, ◌≡◌, ◌+◌, ◌==◌, Bool, true, false, ◌&&◌, if◌then◌else◌, List, [], ◌∷◌, map, slice_set, Option}
-use Rattle.std.specs.Prelude.{Some, None, Result, Ok, Err, refl}
-use Rattle.std.specs.Option.{option_map, option_map_or, option_and_then}
-use Rattle.std.proofs.Common.{sym, ap, ◌∙◌}
-use Rattle.std.proofs.lemmas.List.{map-append}
-use Rattle.gateway_book.specs.declared.refusal.Refusal.{Refusal}
-use Rattle.gateway_book.specs.Answer.{refusal_of}
-use Rattle.gateway_book.specs.Step.{State, book_step, cancel_step, tick_step}
-use Rattle.uplink_gather.specs.Gatherings.{numbered}
-use Rattle.rx_windows.specs.declared.candidate.Candidate.{Candidate}
-use Rattle.answer_ticket.specs.declared.outcome.Ending.{Ending}
-use Rattle.answer_ticket.specs.Job.{Job, candidate_at, ask_for}
-use Rattle.server_desk.specs.declared.faults.TakeFault.{TakeFault}
-use Rattle.server_desk.specs.Hearing.{Decision, Refuse, Join, decide, register_after}
+use Rattle.server_core.proofs.Words.{ap, sym, ◌∙◌, map-append, option_and_then, option_map, option_map_or, Bool, Err, List, None}
+use Rattle.server_core.proofs.Words.{Ok, Option, Result, Some, [], false, if◌then◌else◌, map, refl, slice_set, true, ℕ, ◌+◌, ◌==◌}
+use Rattle.server_core.proofs.Words.{◌∷◌, ◌≡◌, refusal_of, State, book_step, cancel_step, tick_step, Refusal, numbered, Candidate}
+use Rattle.server_core.proofs.Words.{Job, ask_for, candidate_at, Ending, answer_airtime, answered_at, answered_in, known_airtime}
+use Rattle.server_core.proofs.Words.{Answer, Booked, Open, Out, Settled, Waiting, is_given, known_of, desk_of, desk_settled}
+use Rattle.server_core.proofs.Words.{desk_taken, known_after, found_there, Decision, Join, Refuse, decide, register_after}
+use Rattle.server_core.proofs.Words.{map-rewritten, numbered-map, same_rewritten, map_set, after_settling, is_here, may_settle}
+use Rattle.server_core.proofs.Words.{sent_of, after_taking, take_answer, Gateway, World, gateway_with, ids, known, Known, Done}
+use Rattle.server_core.proofs.Words.{Sent, TakeFault, DeskCallsAreSteps, told, answers_after, cancel_at, cancel_of, cancel_sent}
+use Rattle.server_core.proofs.Words.{ending_of, refused, sent_by, sent_for, settle_as, settle_of, step, take_by, terms, tick_at}
+use Rattle.server_core.proofs.Words.{tried_by, try_candidate, try_of, try_on}
+use Rattle.server_desk.specs.declared.answers.Known.TheVariants.{Given}
 use Rattle.server_desk.specs.Hearing as hearing
-use Rattle.server_desk.specs.declared.answers.Sent.{Sent}
-use Rattle.server_desk.specs.declared.answers.Known.{Known}
-use Rattle.server_desk.specs.declared.answers.Known.TheVariants.{Given, Done}
-use Rattle.server_desk.specs.Answers.{Answer, Waiting, Open, Booked, Out, Settled, known_of, is_given}
-use Rattle.server_desk.specs.Airtime.{known_airtime, answer_airtime, answered_at, answered_in}
-use Rattle.server_desk.specs.Settling.{sent_of, after_settling, is_here, may_settle}
-use Rattle.server_desk.specs.Taking.{take_answer, after_taking}
-use Rattle.server_desk.specs.World.{World, Gateway, ids, known, gateway_with}
-use Rattle.server_core.specs.Steps.{step, ending_of, answers_after, refused, try_of, try_candidate, try_on, tried_by, cancel_of}
-use Rattle.server_core.specs.Steps.{cancel_sent, cancel_at, tick_at, take_by, settle_of, settle_as, sent_for, sent_by, terms}
 use Rattle.server_core.specs.Steps as replies
-use Rattle.server_desk.specs.Desk.{desk_of, desk_taken, desk_settled, known_after}
-use Rattle.server_core.specs.DeskCalls.{DeskCallsAreSteps, told}
-use Rattle.server_desk.specs.Found.{found_there}
-use Rattle.server_desk.specs.Places.{map_set}
-use Rattle.server_desk.specs.Numbers.{numbered-map, map-rewritten, same_rewritten}
 
 -- the desk's part, by its parts
 same_known : (w v : World) → w.reg ≡ v.reg → ids w ≡ ids v → known w ≡ known v → desk_of w ≡ desk_of v

@@ -1,34 +1,17 @@
 -- Time passes for a gateway, a transmission is cancelled, a candidate is tried: what holds of the world holds then.
-use Rattle.std.specs.Prelude.{ℕ, ◌≡◌, ◌==◌, Option, Some, None, refl, nat_le, Bool, true, false, not, if◌then◌else◌, List, find}
-use Rattle.std.specs.Prelude.{slice_get, Result, Ok, Err, ◌+◌, ◌⊎◌}
-use Rattle.gateway_book.specs.Step.{tick_step, is_named, found_or, cancel_answer, without_named, after_cancel, State}
-use Rattle.gateway_book.specs.Step.{is_fit-IsFit, book_step}
-use Rattle.answer_ticket.specs.Job.{Job, candidate_at, ask_for}
-use Rattle.server_desk.specs.Settings.{SettingLists}
-use Rattle.server_desk.specs.World.{Gateway, World, gateway_with}
-use Rattle.server_core.specs.Steps.{tick_at, tick, sent_for, cancel_at, cancel_sent, cancel_of, cancel, terms, sent_by, refused}
-use Rattle.server_core.specs.Steps.{tried_by, try_on, try_candidate, try_of, try}
-use Rattle.server_desk.specs.Found.{found_there}
+use Rattle.server_core.proofs.Words.{arith, inl, inr, subst, sym, ◌∙◌, Bool, Err, List, None, Ok, Option, Result, Some, false}
+use Rattle.server_core.proofs.Words.{find, if◌then◌else◌, nat_le, not, refl, slice_get, true, ℕ, ◌+◌, ◌==◌, ◌≡◌, ◌⊎◌, IsByStart}
+use Rattle.server_core.proofs.Words.{airtime_us, member_from, place, start_of, without, Reservation, IsAsked, refusal_of}
+use Rattle.server_core.proofs.Words.{accepted, book_step-accepted, named_found, named_none, net_named, net-place, may_join}
+use Rattle.server_core.proofs.Words.{orderly_filter, orderly_placed, State, after_cancel, book_step, cancel_answer, found_or}
+use Rattle.server_core.proofs.Words.{is_fit-IsFit, is_named, tick_step, without_named, Ask, CancelFault, Begun, Refusal, numbered}
+use Rattle.server_core.proofs.Words.{Candidate, Job, ask_for, candidate_at, Answer, Booked, Open, Out, Settled, Waiting}
+use Rattle.server_core.proofs.Words.{found_there, numbered-here, SettingLists, Gateway, World, gateway_with, Sent, cancel}
+use Rattle.server_core.proofs.Words.{cancel_at, cancel_of, cancel_sent, refused, sent_by, sent_for, terms, tick, tick_at}
+use Rattle.server_core.proofs.Words.{tried_by, try, try_candidate, try_of, try_on}
 use Rattle.server_core.proofs.Holds.{IsInOrder, Holds, IsGoodStep, unchanged, AllStand, IsGood, IsJobFor, Stands, both_good}
 use Rattle.server_core.proofs.Written.{gateway_written, with_gateway, with_answer, answer_written}
-use Rattle.std.proofs.Common.{sym, subst, arith, inl, inr, ◌∙◌}
-use Rattle.resv_list.specs.declared.reservation.Reservation.{Reservation}
-use Rattle.resv_list.specs.Reservations.{start_of, IsByStart, member_from, without, airtime_us, place}
-use Rattle.gateway_book.specs.declared.cancel.CancelFault.{CancelFault}
-use Rattle.gateway_book.specs.declared.cancel.CancelFault.TheVariants.{Begun}
-use Rattle.gateway_book.specs.CancelLaws.{named_found, named_none, net_named}
-use Rattle.gateway_book.specs.KeptLaws.{net-place}
-use Rattle.gateway_book.specs.OrderlyLaws.{orderly_placed, orderly_filter, may_join}
-use Rattle.server_desk.specs.declared.answers.Sent.{Sent}
-use Rattle.server_desk.specs.Answers.{Answer, Waiting, Open, Booked, Out, Settled}
-use Rattle.uplink_gather.specs.Gatherings.{numbered}
 use Rattle.server_core.proofs.Members.{filter_member, IsIn, place_member}
-use Rattle.gateway_book.specs.declared.ask.Ask.{Ask}
-use Rattle.gateway_book.specs.Answer.{IsAsked, refusal_of}
-use Rattle.gateway_book.specs.AnswerLaws.{accepted, book_step-accepted}
-use Rattle.gateway_book.specs.declared.refusal.Refusal.{Refusal}
-use Rattle.rx_windows.specs.declared.candidate.Candidate.{Candidate}
-use Rattle.server_desk.specs.Numbers.{numbered-here}
 use Rattle.server_core.proofs.Served.{equal_where_tested}
 
 -- Time passes for a gateway.

@@ -1,20 +1,9 @@
 -- Gatherings grow, and uplinks are gathered anew.
-use Rattle.std.specs.Prelude.{ℕ, ◌≡◌, ◌⊎◌, ◌+◌, List, [], ◌∷◌, ◌++◌, length, Contains, Option, Some, None, refl}
-use Rattle.std.proofs.Common.{inl, inr, sym, ap, ◌∙◌, subst, arith, length-append}
-use Rattle.lora_frame.specs.Reading.{addr_of}
-use Rattle.resv_list.specs.declared.reservation.Reservation.{Reservation}
-use Rattle.uplink_gather.specs.declared.heard.HeardCopy.{HeardCopy}
-use Rattle.uplink_gather.specs.Gatherings.{Gathering, numbered, rewritten}
-use Rattle.rx_windows.specs.declared.plan.Plan.{Plan}
-use Rattle.rx_windows.specs.declared.candidate.Candidate.{Candidate}
-use Rattle.rx_windows.specs.Laws.{IsWindowOf}
-use Rattle.answer_ticket.specs.Job.{Job}
-use Rattle.server_desk.specs.Settings.{SettingLists}
-use Rattle.server_desk.specs.declared.answers.Asked.{Asked}
-use Rattle.server_desk.specs.declared.answers.Sent.{Sent}
-use Rattle.server_desk.specs.Answers.{Answer, Waiting, Open}
-use Rattle.server_desk.specs.World.{World}
-use Rattle.server_desk.specs.Numbers.{numbered-append, numbered-append_cases, numbered_after, rewritten-none}
+use Rattle.server_core.proofs.Words.{ap, arith, inl, inr, length-append, subst, sym, ◌∙◌, Contains, List, None, Option, Some, []}
+use Rattle.server_core.proofs.Words.{length, refl, ℕ, ◌++◌, ◌+◌, ◌∷◌, ◌≡◌, ◌⊎◌, Reservation, addr_of, Gathering, numbered}
+use Rattle.server_core.proofs.Words.{rewritten, HeardCopy, IsWindowOf, Candidate, Plan, Job, Answer, Open, Waiting}
+use Rattle.server_core.proofs.Words.{numbered-append, numbered-append_cases, numbered_after, rewritten-none, SettingLists, World}
+use Rattle.server_core.proofs.Words.{Asked, Sent}
 use Rattle.server_core.proofs.Holds.{IsOfDevice, IsJobFor, IsKept, Stands, Holds, IsGivenAt, IsGood, Follows-refl}
 
 -- a gathering keeps its bytes and its copies

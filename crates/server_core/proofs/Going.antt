@@ -1,15 +1,8 @@
 -- Steps one after another and the lines for them, and what a server on one thread does.
-use Rattle.std.specs.Prelude.{◌≡◌, List, [], ◌∷◌, ◌++◌, refl, ℕ, map, Result, Ok, Err, OnOk}
-use Rattle.std.proofs.Common.{ap, sym, ◌∙◌, append_assoc, append-nil, subst}
-use Rattle.server_core.specs.declared.entry.Line.{Line}
-use Rattle.server_desk.specs.World.{World}
-use Rattle.server_core.specs.Steps.{Step, step, run_from}
-use Rattle.server_core.specs.Schedule.{reached, step_of}
-use Rattle.server_core.specs.Entries.{lines_for, step_lines, entry_at}
-use Rattle.std.proofs.lemmas.List.{map-append}
+use Rattle.server_core.proofs.Words.{ap, append-nil, append_assoc, subst, sym, ◌∙◌, map-append, Err, List, Ok, OnOk, Result, []}
+use Rattle.server_core.proofs.Words.{map, refl, ℕ, ◌++◌, ◌∷◌, ◌≡◌, World, entry_at, lines_for, step_lines, reached, step_of, Goes}
+use Rattle.server_core.proofs.Words.{IsAt, Seen, Step, run_from, step, Entry, Line}
 use Rattle.server_core.specs.declared.event.Step.{Step as Made}
-use Rattle.server_core.specs.declared.entry.Entry.{Entry}
-use Rattle.server_core.specs.Server.{Seen, IsAt, Goes}
 
 -- Steps one after another, and the lines for them.
 

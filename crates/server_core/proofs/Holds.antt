@@ -1,24 +1,8 @@
 -- What the system keeps at every step.
-use Rattle.std.specs.Prelude.{ℕ, ◌≡◌, ◌+◌, ◌⊎◌, ◌≤◌, ◌<◌, false, List, map, length, slice_get, Some, Ok, ⊤, refl}
-use Rattle.std.proofs.Common.{◌∙◌, arith}
-use Rattle.lora_frame.specs.Reading.{addr_of}
-use Rattle.resv_list.specs.declared.reservation.Reservation.{Reservation}
-use Rattle.resv_list.specs.Reservations.{net}
-use Rattle.gateway_book.specs.Orderly.{IsOrderly}
-use Rattle.uplink_gather.specs.Gatherings.{Gathering, numbered}
-use Rattle.rx_windows.specs.declared.candidate.Candidate.{Candidate}
-use Rattle.rx_windows.specs.Laws.{IsWindowOf}
-use Rattle.answer_ticket.specs.Job.{Job, candidate_at}
-use Rattle.server_desk.specs.declared.setting.DeviceSetting.{DeviceSetting}
-use Rattle.server_desk.specs.Settings.{SettingLists}
-use Rattle.server_desk.specs.declared.answers.Asked.{Asked}
-use Rattle.server_desk.specs.Register.{Device}
-use Rattle.server_desk.specs.declared.answers.Sent.{Sent}
-use Rattle.server_desk.specs.Answers.{Answer, Open, known_of, is_not_given}
-use Rattle.server_desk.specs.Taking.{plan_for}
-use Rattle.server_desk.specs.World.{Gateway, World}
-use Rattle.server_core.specs.Steps.{Reply, Given, sent_for}
-use Rattle.server_core.specs.Promise.{IsTaken, setting_of}
+use Rattle.server_core.proofs.Words.{arith, ◌∙◌, List, Ok, Some, false, length, map, refl, slice_get, ℕ, ⊤, ◌+◌, ◌<◌, ◌≡◌, ◌≤◌}
+use Rattle.server_core.proofs.Words.{◌⊎◌, net, Reservation, IsOrderly, addr_of, Gathering, numbered, IsWindowOf, Candidate, Job}
+use Rattle.server_core.proofs.Words.{candidate_at, Answer, Open, is_not_given, known_of, Device, SettingLists, plan_for, Gateway}
+use Rattle.server_core.proofs.Words.{World, Asked, Sent, DeviceSetting, IsTaken, setting_of, Given, Reply, sent_for}
 
 -- a gathered uplink of the device with this place and setting: the address in its bytes is the device's
 pub record IsOfDevice (settings : SettingLists) (l : List Gathering) (n place : ℕ) : Type 0 where

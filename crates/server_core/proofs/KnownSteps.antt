@@ -1,42 +1,20 @@
 -- A payload is queued, a copy is heard, time passes for the gatherings, an answer is settled: what holds of the world holds then.
-use Rattle.std.specs.Prelude.{ℕ, ◌≡◌, ◌==◌, Option, Some, None, Result, Ok, Err, refl, Bool, true, false, if◌then◌else◌, ◌+◌}
-use Rattle.std.specs.Prelude.{List, [], ◌∷◌, ◌++◌, length, Contains, slice_get}
-use Rattle.std.proofs.Common.{arith, sym, ap, ◌∙◌, subst}
-use Rattle.answer_ticket.specs.Job.{Job, Payload}
-use Rattle.server_desk.specs.declared.faults.QueueFault.{QueueFault}
-use Rattle.server_desk.specs.Settings.{SettingLists}
-use Rattle.server_desk.specs.Register.{Device, device_with, Register}
-use Rattle.server_desk.specs.Queueing.{queue_answer, with_payload, after_queueing}
-use Rattle.server_desk.specs.World.{World, ids}
-use Rattle.server_core.specs.Steps.{queue, pass, hear_by, hear, sent_for, settle_as, settle_of, settle}
-use Rattle.server_desk.specs.Found.{found_there}
+use Rattle.server_core.proofs.Words.{ap, arith, subst, sym, ◌∙◌, Contains-append_left, Bool, Contains, Err, List, None, Ok}
+use Rattle.server_core.proofs.Words.{Option, Result, Some, [], false, if◌then◌else◌, length, refl, slice_get, true, ℕ, ◌++◌, ◌+◌}
+use Rattle.server_core.proofs.Words.{◌==◌, ◌∷◌, ◌≡◌, addr_of, Gathering, Gatherings, is_open_at, numbered, rewritten, answer_at}
+use Rattle.server_core.proofs.Words.{hear_step, is_crowded, place_of, with_copy, Opened, Place, Joins, Opens, HearFault, Crowded}
+use Rattle.server_core.proofs.Words.{HeardCopy, Job, Payload, Ending, Answered, GivenUp, Unanswered, Answer, Booked, Open, Out}
+use Rattle.server_core.proofs.Words.{Settled, Waiting, IsDecided, decided, found_there, Decision, Join, Opening, Refuse, asked_by}
+use Rattle.server_core.proofs.Words.{copy_of, decide, length-rewritten, numbered_next, closing, pass_answer, after_queueing}
+use Rattle.server_core.proofs.Words.{queue_answer, with_payload, Device, Register, device_with, SettingLists, after_settling}
+use Rattle.server_core.proofs.Words.{delivered, has_carried, head_taken, sent_of, without_head, World, ids, Asked, Sent}
+use Rattle.server_core.proofs.Words.{QueueFault, Heard1, hear, hear_by, pass, queue, sent_for, settle, settle_as, settle_of}
+use Rattle.uplink_gather.specs.Hearing as gathers
+use Rattle.server_desk.specs.Hearing as hearing
 use Rattle.server_core.proofs.Holds.{Holds, IsGood, IsGoodStep, unchanged, IsOfDevice, both_good}
 use Rattle.server_core.proofs.Written.{device_written, with_device, answer_written}
-use Rattle.uplink_gather.specs.Gatherings.{Gathering, rewritten, is_open_at, Gatherings, numbered}
-use Rattle.server_desk.specs.Passing.{pass_answer, closing}
-use Rattle.server_desk.specs.Numbers.{length-rewritten, numbered_next}
 use Rattle.server_core.proofs.Gathered.{Grow-rewritten, gathered_grown, uplink_gathered}
-use Rattle.std.proofs.lemmas.List.Elements.{Contains-append_left}
-use Rattle.lora_frame.specs.Reading.{addr_of}
-use Rattle.uplink_gather.specs.declared.heard.HeardCopy.{HeardCopy}
-use Rattle.uplink_gather.specs.declared.fault.HearFault.{HearFault}
-use Rattle.uplink_gather.specs.declared.fault.HearFault.TheVariants.{Crowded}
-use Rattle.uplink_gather.specs.declared.answers.Place.{Place}
-use Rattle.uplink_gather.specs.declared.answers.Place.TheVariants.{Joins, Opens}
-use Rattle.uplink_gather.specs.declared.answers.Heard.TheVariants.{Opened}
-use Rattle.uplink_gather.specs.Hearing.{place_of, is_crowded, answer_at, with_copy, hear_step}
-use Rattle.uplink_gather.specs.Hearing as gathers
-use Rattle.server_desk.specs.declared.heard.Heard1.{Heard1}
-use Rattle.server_desk.specs.Hearing.{Decision, Refuse, Join, Opening, copy_of, asked_by, decide}
-use Rattle.server_desk.specs.Hearing as hearing
-use Rattle.server_desk.specs.Answers.{Waiting, Answer, Open, Booked, Out, Settled}
-use Rattle.server_desk.specs.Decided.{IsDecided, decided}
 use Rattle.server_core.proofs.Served.{equal_where_tested, device_setting}
-use Rattle.answer_ticket.specs.declared.outcome.Ending.{Ending}
-use Rattle.answer_ticket.specs.declared.outcome.Ending.TheVariants.{Answered, Unanswered, GivenUp}
-use Rattle.server_desk.specs.declared.answers.Asked.{Asked}
-use Rattle.server_desk.specs.declared.answers.Sent.{Sent}
-use Rattle.server_desk.specs.Settling.{sent_of, has_carried, without_head, head_taken, delivered, after_settling}
 
 -- A payload is queued.
 

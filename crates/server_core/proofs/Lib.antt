@@ -1,3 +1,4 @@
+pub mod Words
 pub mod Members
 pub mod Holds
 pub mod Written

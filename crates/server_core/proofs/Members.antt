@@ -1,10 +1,7 @@
 -- Members of lists that are filtered, sorted by a key, or of which no two share a key.
-use Rattle.std.specs.Prelude.{ℕ, zero, suc, ◌≡◌, ◌≢◌, ◌⊎◌, ◌+◌, ◌≤◌, nat_lt, Bool, true, false, cond, List, [], ◌∷◌, AllPairs}
-use Rattle.std.specs.Prelude.{filter, slice_get, Some, refl}
-use Rattle.std.proofs.Common.{inl, inr, sym, ap, ◌∙◌, arith}
-use Rattle.resv_list.specs.Sorted.{RisesFrom, place_by}
-use Rattle.rx_windows.specs.RankLaws.{AllPairs-head, AllPairs-tail}
-use Rattle.server_desk.specs.Places.{some_inj, all_get}
+use Rattle.server_core.proofs.Words.{ap, arith, inl, inr, sym, ◌∙◌, AllPairs, Bool, List, Some, [], cond, false, filter, nat_lt}
+use Rattle.server_core.proofs.Words.{refl, slice_get, suc, true, zero, ℕ, ◌+◌, ◌∷◌, ◌≡◌, ◌≢◌, ◌≤◌, ◌⊎◌, RisesFrom, place_by}
+use Rattle.server_core.proofs.Words.{AllPairs-head, AllPairs-tail, all_get, some_inj}
 
 module _ {X : Type 0} where
   -- a member of what is left of a list is one of the list

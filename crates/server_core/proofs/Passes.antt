@@ -1,20 +1,12 @@
 -- Time passes for the gatherings: all that are due are closed and answered.
-use Rattle.std.specs.Prelude.{ℕ, suc, ◌≡◌, ◌+◌, nat_lt, Bool, true, false, ◌&&◌, if◌then◌else◌, List, [], ◌∷◌, slice_get}
-use Rattle.std.specs.Prelude.{slice_set, Option, Some, None, refl, ◌<◌, ◌++◌, map, length}
-use Rattle.std.specs.List.{position_from}
-use Rattle.std.specs.Option.{option_map_or}
-use Rattle.std.proofs.Common.{ap, sym, ◌∙◌, arith, subst, append-nil}
-use Rattle.uplink_gather.specs.Gatherings.{Gathering, Gatherings, rewritten, is_open, is_due, due_of, close_step, join_us}
-use Rattle.server_core.specs.Schedule.{due_from, due_numbers, reached, answer_steps, closing_steps, pass_steps}
-use Rattle.server_desk.specs.Places.{some_inj}
-use Rattle.server_desk.specs.Numbers.{rewritten-found}
+use Rattle.server_core.proofs.Words.{ap, append-nil, arith, subst, sym, ◌∙◌, position_from, option_map_or, Bool, List, None}
+use Rattle.server_core.proofs.Words.{Option, Some, [], false, if◌then◌else◌, length, map, nat_lt, refl, slice_get, slice_set, suc}
+use Rattle.server_core.proofs.Words.{true, ℕ, ◌&&◌, ◌++◌, ◌+◌, ◌<◌, ◌∷◌, ◌≡◌, Gathering, Gatherings, close_step, due_of, is_due}
+use Rattle.server_core.proofs.Words.{is_open, join_us, rewritten, DeskView, desk_pass, rewritten-found, closing, pass_answer}
+use Rattle.server_core.proofs.Words.{some_inj, World, entry_at, gateway_of, step_lines, answer_steps, closing_steps, due_from}
+use Rattle.server_core.proofs.Words.{due_numbers, pass_steps, reached, AreHeard, Goes, IsAt, IsIdle, IsReady, Makes, Seen, ids_of}
+use Rattle.server_core.proofs.Words.{pass_whole, with_step, Pass, Step, step}
 use Rattle.server_core.specs.declared.event.Step.TheVariants as made
-use Rattle.server_desk.specs.Passing.{pass_answer, closing}
-use Rattle.server_desk.specs.Desk.{DeskView, desk_pass}
-use Rattle.server_desk.specs.World.{World}
-use Rattle.server_core.specs.Steps.{Step, Pass, step}
-use Rattle.server_core.specs.Entries.{step_lines, entry_at, gateway_of}
-use Rattle.server_core.specs.Server.{Seen, IsAt, Goes, Makes, IsReady, IsIdle, AreHeard, with_step, ids_of, pass_whole}
 use Rattle.server_core.proofs.Going.{reached_one, one_step, goes_on_lines}
 use Rattle.server_core.proofs.Ready.{ready_same, heard_closed}
 

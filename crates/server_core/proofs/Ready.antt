@@ -1,30 +1,16 @@
 -- What a server on one thread keeps at every event.
-use Rattle.std.specs.Prelude.{ℕ, ◌≡◌, ◌⊎◌, ◌+◌, Bool, true, false, not, if◌then◌else◌, List, [], ◌∷◌, ◌++◌, length, Contains}
-use Rattle.std.specs.Prelude.{IsTrue, ⊤, Option, Some, None, Result, Ok, Err, refl}
-use Rattle.std.proofs.Common.{inl, inr, ap, sym, ◌∙◌, subst, arith}
-use Rattle.std.proofs.lemmas.List.Elements.{Contains-push_cases}
-use Rattle.lora_frame.specs.declared.reading.Uplink.{Uplink}
-use Rattle.lora_frame.specs.declared.reading.FrameFault.{FrameFault}
-use Rattle.lora_frame.specs.Reading.{uplink_of}
-use Rattle.uplink_gather.specs.declared.heard.HeardCopy.{HeardCopy}
-use Rattle.uplink_gather.specs.declared.fault.HearFault.{HearFault}
+use Rattle.server_core.proofs.Words.{ap, arith, inl, inr, subst, sym, ◌∙◌, Contains-push_cases, Bool, Contains, Err, IsTrue, List}
+use Rattle.server_core.proofs.Words.{None, Ok, Option, Result, Some, [], false, if◌then◌else◌, length, not, refl, true, ℕ, ⊤}
+use Rattle.server_core.proofs.Words.{◌++◌, ◌+◌, ◌∷◌, ◌≡◌, ◌⊎◌, uplink_of, FrameFault, Uplink, Gathering, Gatherings, close_step}
+use Rattle.server_core.proofs.Words.{is_open_at, numbered, rewritten, hear_answer, place_of, with_copy, Joined, Opened, HearFault}
+use Rattle.server_core.proofs.Words.{HeardCopy, is_given, known_after, Decision, Join, Refuse, copy_fault, copy_of, decide}
+use Rattle.server_core.proofs.Words.{decide_copy, decide_frame, decide_place, register_after, numbered-append_cases}
+use Rattle.server_core.proofs.Words.{numbered_cases, rewritten-none, Register, Known, NotGiven, DeskFault, UnknownGateway, Heard1}
+use Rattle.server_core.proofs.Words.{AreHeard, IsIdle, IsReady, Seen, ids_of, is_among}
 use Rattle.uplink_gather.specs.declared.answers.Heard.{Heard}
-use Rattle.uplink_gather.specs.declared.answers.Heard.TheVariants.{Opened, Joined}
-use Rattle.uplink_gather.specs.Gatherings.{Gathering, Gatherings, numbered, rewritten, is_open_at, close_step}
-use Rattle.uplink_gather.specs.Hearing.{opening, with_copy, after_hearing, hear_answer, place_of}
-use Rattle.server_desk.specs.declared.heard.Heard1.{Heard1}
-use Rattle.server_desk.specs.declared.faults.DeskFault.{DeskFault}
-use Rattle.server_desk.specs.declared.faults.DeskFault.TheVariants.{UnknownGateway}
-use Rattle.server_desk.specs.Register.{Register}
-use Rattle.server_desk.specs.Hearing.{Decision, Refuse, Join, Open, copy_of, copy_fault, decide, decide_place, decide_copy}
-use Rattle.server_desk.specs.Hearing.{decide_frame, register_after}
+use Rattle.uplink_gather.specs.Hearing.{opening, after_hearing}
+use Rattle.server_desk.specs.Hearing.{Open}
 use Rattle.server_desk.specs.Hearing as hearing
-use Rattle.server_desk.specs.declared.answers.Known.{Known}
-use Rattle.server_desk.specs.declared.answers.Known.TheVariants.{NotGiven}
-use Rattle.server_desk.specs.Answers.{is_given}
-use Rattle.server_desk.specs.Desk.{known_after}
-use Rattle.server_core.specs.Server.{Seen, IsIdle, AreHeard, IsReady, is_among, ids_of}
-use Rattle.server_desk.specs.Numbers.{numbered-append_cases, numbered_cases, rewritten-none}
 
 -- it is ready still where its gateways, what was gathered and what is known of answers are the same
 pub ready_same : {A : Type 0} (s t : Seen A) → IsReady s → ids_of t.books ≡ ids_of s.books → t.desk.ids ≡ s.desk.ids

@@ -1,26 +1,13 @@
 -- Events, one after another, from a server that has heard nothing.
-use Rattle.std.specs.Prelude.{ℕ, zero, suc, ◌≡◌, ◌+◌, ◌<◌, ◌≤◌, List, [], ◌∷◌, ◌++◌, map, drop, length, slice_get, get_or, Some}
-use Rattle.std.specs.Prelude.{refl}
-use Rattle.std.proofs.Common.{ap, sym, ◌∙◌, subst, arith, append_assoc, append-nil}
-use Rattle.std.proofs.Math.ListN.{drop_of_length-le}
-use Rattle.std.proofs.Math.Seq.{drop-cons}
-use Rattle.gateway_book.specs.Book.{Book}
-use Rattle.gateway_book.specs.Kept.{kept}
-use Rattle.resv_list.specs.declared.reservation.Reservation.{Reservation}
-use Rattle.uplink_gather.specs.Gatherings.{numbered}
-use Rattle.gateway_book.specs.KeptLaws.{kept-own}
-use Rattle.resv_list.specs.Reservations.{start_of}
-use Rattle.server_core.specs.declared.event.Event.{Event}
+use Rattle.server_core.proofs.Words.{ap, append-nil, append_assoc, arith, subst, sym, ◌∙◌, drop_of_length-le, drop-cons, List}
+use Rattle.server_core.proofs.Words.{Some, [], drop, get_or, length, map, refl, slice_get, suc, zero, ℕ, ◌++◌, ◌+◌, ◌<◌, ◌∷◌, ◌≡◌}
+use Rattle.server_core.proofs.Words.{◌≤◌, Reservation, Book, kept, kept-own, numbered, DeskView, desk_of, AreSettings}
+use Rattle.server_core.proofs.Words.{SettingLists, Gateway, World, opened_gateway, opening, entries, entries_from, entry_at}
+use Rattle.server_core.proofs.Words.{event_lines, gateway_of, gateways_after, kept_gateway, event_steps, reached, schedule}
+use Rattle.server_core.proofs.Words.{schedule_from, step_of, usual_limits, AreHeard, Does, IsAt, IsIdle, IsOpened, IsReady, Seen}
+use Rattle.server_core.proofs.Words.{ids_of, with_lines, Step, Entry, Event}
 use Rattle.server_core.specs.declared.event.Event.TheVariants as events
-use Rattle.server_core.specs.declared.entry.Entry.{Entry}
 use Rattle.server_core.specs.declared.entry.Line.TheVariants as says
-use Rattle.server_desk.specs.Settings.{SettingLists, AreSettings}
-use Rattle.server_desk.specs.Desk.{DeskView, desk_of}
-use Rattle.server_desk.specs.World.{World, Gateway, opened_gateway, opening}
-use Rattle.server_core.specs.Steps.{Step}
-use Rattle.server_core.specs.Schedule.{usual_limits, reached, event_steps, schedule_from, schedule, step_of}
-use Rattle.server_core.specs.Entries.{event_lines, entry_at, entries_from, entries, gateways_after, kept_gateway, gateway_of}
-use Rattle.server_core.specs.Server.{Seen, IsAt, Does, IsReady, IsIdle, AreHeard, IsOpened, with_lines, ids_of}
 use Rattle.server_core.proofs.Runs.{opened, run_good}
 use Rattle.server_core.proofs.Going.{reached_none, reached_append}
 

@@ -1,23 +1,13 @@
 -- The world before the first step, and after every list of steps.
-use Rattle.std.specs.Prelude.{ℕ, zero, suc, ◌≡◌, List, [], ◌∷◌, map, slice_get, Some, refl, ◌≢◌, ◌⊎◌, All, AllPairs, Contains, Ok}
-use Rattle.std.proofs.Common.{ap, ◌∙◌, subst, inl, inr, sym, arith}
-use Rattle.resv_list.specs.Reservations.{net}
-use Rattle.gateway_book.specs.OrderlyLaws.{orderly_nil}
-use Rattle.uplink_gather.specs.declared.limits.Limits.{Limits}
-use Rattle.uplink_gather.specs.Gatherings.{numbered}
-use Rattle.answer_ticket.specs.Job.{Job}
-use Rattle.server_desk.specs.declared.setting.GatewaySetting.{GatewaySetting}
-use Rattle.server_desk.specs.Settings.{SettingLists, AreSettings, IsGatewayInRange}
-use Rattle.server_desk.specs.Register.{opened_device}
-use Rattle.server_desk.specs.World.{Gateway, opened_gateway, opening, World}
-use Rattle.server_core.specs.Promise.{setting_of, HaveOwnCounters, with_given, jobs_given, IsSafe, EveryInterleavingIsSafe}
-use Rattle.server_desk.specs.Places.{from_map, all_get, get_contains}
+use Rattle.server_core.proofs.Words.{ap, arith, inl, inr, subst, sym, ◌∙◌, All-cons, All-nil, All-weaker, Contains-append_right}
+use Rattle.server_core.proofs.Words.{AllPairs-cons, All, AllPairs, Contains, List, Ok, Some, [], map, refl, slice_get, suc, zero}
+use Rattle.server_core.proofs.Words.{ℕ, ◌∷◌, ◌≡◌, ◌≢◌, ◌⊎◌, net, orderly_nil, numbered, Limits, Job, from_map, get_contains}
+use Rattle.server_core.proofs.Words.{opened_device, AreSettings, SettingLists, Gateway, World, opened_gateway, opening}
+use Rattle.server_core.proofs.Words.{GatewaySetting, EveryInterleavingIsSafe, HaveOwnCounters, IsSafe, jobs_given, setting_of}
+use Rattle.server_core.proofs.Words.{with_given, Cancel, Given, Hear, Pass, Queue, Reply, Run, Settle, Step, Take, Tick, Try, run}
+use Rattle.server_core.proofs.Words.{run_from, step}
 use Rattle.server_core.proofs.Holds.{IsInOrder, AllStand, Holds, IsGivenAt, Follows, IsGoodStep, IsNew, IsUsed, UsesUp}
 use Rattle.server_core.proofs.Holds.{given_after, Holds-weaker}
-use Rattle.std.proofs.lemmas.List.Elements.{All-nil, All-cons, All-weaker, Contains-append_right}
-use Rattle.std.proofs.lemmas.List.Kept.{AllPairs-cons}
-use Rattle.server_core.specs.Steps.{Step, Queue, Hear, Pass, Take, Settle, Try, Cancel, Tick, Reply, Given, Run, step, run_from}
-use Rattle.server_core.specs.Steps.{run}
 use Rattle.server_core.proofs.KnownSteps.{queue_good, hear_good, pass_good, settle_good}
 use Rattle.server_core.proofs.TakeStep.{take_good}
 use Rattle.server_core.proofs.GatewaySteps.{try_good, cancel_good, tick_good}

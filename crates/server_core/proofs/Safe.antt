@@ -1,21 +1,8 @@
 -- What holds at every step is what is promised of a run.
-use Rattle.std.specs.Prelude.{ℕ, ◌≡◌, ◌⊎◌, ◌+◌, slice_get, Contains, Some}
-use Rattle.std.proofs.Common.{sym, ap, ◌∙◌, subst, arith}
-use Rattle.resv_list.specs.declared.reservation.Reservation.{Reservation}
-use Rattle.resv_list.specs.Reservations.{start_of, net}
-use Rattle.uplink_gather.specs.Gatherings.{numbered}
-use Rattle.rx_windows.specs.declared.plan.Plan.{Plan}
-use Rattle.rx_windows.specs.Windows.{rx1_of, rx2_of}
-use Rattle.answer_ticket.specs.Job.{Job, candidates}
-use Rattle.server_desk.specs.declared.setting.DeviceSetting.{DeviceSetting}
-use Rattle.server_desk.specs.Settings.{SettingLists, AreSettings}
-use Rattle.server_desk.specs.Register.{Device}
-use Rattle.server_desk.specs.declared.answers.Sent.{Sent}
-use Rattle.server_desk.specs.Taking.{plan_for}
-use Rattle.server_desk.specs.World.{Gateway, World}
-use Rattle.server_core.specs.Steps.{Run, sent_for}
-use Rattle.server_core.specs.Promise.{IsMember, IsOwnWindow, jobs_given}
-use Rattle.server_desk.specs.Places.{some_inj, from_map, get_contains}
+use Rattle.server_core.proofs.Words.{ap, subst, sym, ◌∙◌, Contains, Some, slice_get, ℕ, ◌+◌, ◌≡◌, ◌⊎◌, net, start_of, Reservation}
+use Rattle.server_core.proofs.Words.{numbered, rx1_of, rx2_of, Plan, Job, candidates, from_map, get_contains, some_inj, Device}
+use Rattle.server_core.proofs.Words.{AreSettings, SettingLists, plan_for, Gateway, World, Sent, DeviceSetting, IsMember}
+use Rattle.server_core.proofs.Words.{IsOwnWindow, jobs_given, Run, sent_for}
 use Rattle.server_core.proofs.Members.{rises_once}
 use Rattle.server_core.proofs.Holds.{IsKept, Stands, Holds}
 use Rattle.server_core.proofs.Served.{one_gateway}

@@ -1,13 +1,6 @@
 -- Devices and gateways by their places and by their settings.
-use Rattle.std.specs.Prelude.{ℕ, ◌≡◌, ◌==◌, true, slice_get, Some}
-use Rattle.std.proofs.Common.{subst, arith}
-use Rattle.std.proofs.lemmas.Bool.Decides.{nat_tests}
-use Rattle.answer_ticket.specs.Job.{Job}
-use Rattle.server_desk.specs.Settings.{SettingLists, AreSettings}
-use Rattle.server_desk.specs.Register.{Device}
-use Rattle.server_desk.specs.World.{Gateway, World}
-use Rattle.server_core.specs.Promise.{setting_of}
-use Rattle.server_desk.specs.Places.{map_there}
+use Rattle.server_core.proofs.Words.{arith, subst, nat_tests, Some, slice_get, true, ℕ, ◌==◌, ◌≡◌, Job, map_there, Device}
+use Rattle.server_core.proofs.Words.{AreSettings, SettingLists, Gateway, World, setting_of}
 use Rattle.server_core.proofs.Members.{apart_once}
 use Rattle.server_core.proofs.Holds.{Holds}
 

@@ -1,33 +1,15 @@
 -- A ticket is tried until it is booked or out, and settled.
-use Rattle.std.specs.Prelude.{ℕ, ◌≡◌, ◌+◌, ◌<◌, ◌-◌, List, [], ◌∷◌, ◌++◌, map, length, slice_get, IsSome, IsTrue, Option, Some}
-use Rattle.std.specs.Prelude.{None, refl, ◌&&◌, true, false, drop, Ok}
-use Rattle.std.proofs.Common.{ap, sym, ◌∙◌, subst, arith, append_assoc}
-use Rattle.std.proofs.lemmas.Option.{slice_get_within}
-use Rattle.answer_ticket.specs.Job.{Job, candidates}
-use Rattle.answer_ticket.specs.Ticket.{Standing, candidate_of}
-use Rattle.answer_ticket.specs.Tried.{next_of}
-use Rattle.server_core.specs.declared.entry.Line.{Line}
-use Rattle.server_core.specs.declared.trying.Ended.{Ended}
-use Rattle.server_desk.specs.Settling.{is_here, may_settle}
-use Rattle.server_core.specs.DeskCalls.{told}
-use Rattle.server_desk.specs.World.{World, known}
-use Rattle.server_core.specs.Steps.{Step, Try, Settle, step, settle_as, settle_of, ending_of}
+use Rattle.server_core.proofs.Words.{ap, append_assoc, arith, subst, sym, ◌∙◌, slice_get_within, option_map_or, IsSome, IsTrue}
+use Rattle.server_core.proofs.Words.{List, None, Ok, Option, Some, [], drop, false, length, map, refl, slice_get, true, ℕ, ◌&&◌}
+use Rattle.server_core.proofs.Words.{◌++◌, ◌+◌, ◌-◌, ◌<◌, ◌∷◌, ◌≡◌, Book, numbered, Candidate, Job, candidates, Standing}
+use Rattle.server_core.proofs.Words.{candidate_of, next_of, Ending, Answer, Open, is_given, DeskView, desk_of, desk_settled}
+use Rattle.server_core.proofs.Words.{is_here, may_settle, World, known, Known, told, entry_at, gateway_of, lines_for, step_lines}
+use Rattle.server_core.proofs.Words.{given_steps, is_accepted, reached, step_of, up_to_first, AreHere, Goes, IsAt, Seen, ids_of}
+use Rattle.server_core.proofs.Words.{Settle, Step, Try, ending_of, settle_as, settle_of, step, AreTries, EndsTries, GoesOn}
+use Rattle.server_core.proofs.Words.{IsAnswered, IsGivenTo, IsNext, IsOut, IsSame, IsSettled, end_lines, tries_from, Entry, Line}
+use Rattle.server_core.proofs.Words.{Ended}
 use Rattle.server_core.specs.Steps as replies
-use Rattle.server_core.specs.Schedule.{reached, step_of, up_to_first, is_accepted, given_steps}
-use Rattle.server_core.specs.Entries.{lines_for, step_lines, entry_at, gateway_of}
-use Rattle.server_core.specs.Server.{Seen, AreHere, ids_of, IsAt, Goes}
-use Rattle.server_core.specs.Turns.{IsOut, EndsTries, GoesOn, IsSame, AreTries, IsNext, tries_from, IsGivenTo, IsSettled}
-use Rattle.server_core.specs.Turns.{IsAnswered, end_lines}
 use Rattle.server_core.proofs.Going.{reached_next, lines_next, reached_one, reached_append, lines_one, lines_append}
-use Rattle.std.specs.Option.{option_map_or}
-use Rattle.gateway_book.specs.Book.{Book}
-use Rattle.uplink_gather.specs.Gatherings.{numbered}
-use Rattle.rx_windows.specs.declared.candidate.Candidate.{Candidate}
-use Rattle.answer_ticket.specs.declared.outcome.Ending.{Ending}
-use Rattle.server_core.specs.declared.entry.Entry.{Entry}
-use Rattle.server_desk.specs.declared.answers.Known.{Known}
-use Rattle.server_desk.specs.Answers.{Answer, Open, is_given}
-use Rattle.server_desk.specs.Desk.{DeskView, desk_of, desk_settled}
 use Rattle.server_core.proofs.DeskSteps.{settle_desk, desk_calls_are_steps}
 
 -- A ticket is tried until it is booked or out.

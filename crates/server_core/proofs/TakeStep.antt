@@ -1,26 +1,11 @@
 -- A ticket is given.
-use Rattle.std.specs.Prelude.{ℕ, ◌≡◌, ◌⊎◌, ◌≤◌, List, [], slice_get, Option, Some, Result, Ok, Err, refl}
-use Rattle.std.proofs.Common.{inl, inr, sym, ap, ◌∙◌, subst, arith, true≢false}
-use Rattle.std.specs.Option.{option_map_or}
-use Rattle.uplink_gather.specs.declared.heard.HeardCopy.{HeardCopy}
-use Rattle.uplink_gather.specs.Gatherings.{Gathering, numbered, copies_of}
-use Rattle.rx_windows.specs.declared.candidate.Candidate.{Candidate}
-use Rattle.rx_windows.specs.Windows.{candidates_of}
-use Rattle.rx_windows.specs.Laws.{IsWindowOf}
-use Rattle.rx_windows.specs.WindowLaws.{on_gateways_that_heard, IsWindowOf-ranked}
-use Rattle.answer_ticket.specs.Job.{Job}
-use Rattle.server_desk.specs.declared.setting.DeviceSetting.{DeviceSetting}
-use Rattle.server_desk.specs.declared.faults.TakeFault.{TakeFault}
-use Rattle.server_desk.specs.Settings.{SettingLists, AreSettings}
-use Rattle.server_desk.specs.declared.answers.Asked.{Asked}
-use Rattle.server_desk.specs.Register.{Device, Register}
-use Rattle.server_desk.specs.Answers.{Waiting, Open, known_of, is_not_given}
-use Rattle.server_desk.specs.Taking.{head, plan_for, job_of, take_answer, with_counter_given, counter_given, taken_from}
-use Rattle.server_desk.specs.Taking.{after_taking}
-use Rattle.server_desk.specs.World.{World, known}
-use Rattle.server_core.specs.Steps.{take_by, take}
-use Rattle.server_desk.specs.Places.{some_inj, get_set_same, all_get}
-use Rattle.server_desk.specs.Numbers.{numbered-here}
+use Rattle.server_core.proofs.Words.{ap, arith, inl, inr, subst, sym, true≢false, ◌∙◌, option_map_or, Err, List, Ok, Option}
+use Rattle.server_core.proofs.Words.{Result, Some, [], refl, slice_get, ℕ, ◌≡◌, ◌≤◌, ◌⊎◌, Gathering, copies_of, numbered}
+use Rattle.server_core.proofs.Words.{HeardCopy, IsWindowOf, IsWindowOf-ranked, on_gateways_that_heard, candidates_of, Candidate}
+use Rattle.server_core.proofs.Words.{Job, Open, Waiting, is_not_given, known_of, numbered-here, all_get, get_set_same, some_inj}
+use Rattle.server_core.proofs.Words.{Device, Register, AreSettings, SettingLists, after_taking, counter_given, head, job_of}
+use Rattle.server_core.proofs.Words.{plan_for, take_answer, taken_from, with_counter_given, World, known, Asked, TakeFault}
+use Rattle.server_core.proofs.Words.{DeviceSetting, take, take_by}
 use Rattle.server_core.proofs.Tickets.{IsTicket, ticket, still_waits}
 use Rattle.server_core.proofs.Holds.{IsOfDevice, IsJobFor, Holds, IsGivenAt, IsGood, IsGoodStep, IsNew, IsUsed, Holds-weaker}
 use Rattle.server_core.proofs.Holds.{unchanged, both_good}

@@ -1,17 +1,9 @@
 -- What is known of an uplink for which a ticket is given.
-use Rattle.std.specs.Prelude.{ℕ, zero, suc, ◌≡◌, Bool, true, false, if◌then◌else◌, List, map, slice_get, Option, Some, None, Ok}
-use Rattle.std.specs.Prelude.{Err, refl}
-use Rattle.std.proofs.Common.{ap, ◌∙◌}
-use Rattle.uplink_gather.specs.Gatherings.{numbered, is_closed_at}
-use Rattle.answer_ticket.specs.Job.{Job}
-use Rattle.server_desk.specs.declared.faults.TakeFault.{TakeFault}
-use Rattle.server_desk.specs.declared.faults.TakeFault.TheVariants.{NotReady, Taken}
-use Rattle.server_desk.specs.declared.answers.Asked.{Asked}
-use Rattle.server_desk.specs.Register.{Device, Register}
-use Rattle.server_desk.specs.declared.answers.Known.{Known}
-use Rattle.server_desk.specs.Answers.{Answer, Waiting, Open, Booked, Out, Settled, known_of, is_not_given}
-use Rattle.server_desk.specs.Taking.{job_of, take_fault, given_or, take_by, take_known, take_answer}
-use Rattle.server_desk.specs.Places.{from_map}
+use Rattle.server_core.proofs.Words.{ap, ◌∙◌, Bool, Err, List, None, Ok, Option, Some, false, if◌then◌else◌, map, refl, slice_get}
+use Rattle.server_core.proofs.Words.{suc, true, zero, ℕ, ◌≡◌, is_closed_at, numbered, Job, Answer, Booked, Open, Out, Settled}
+use Rattle.server_core.proofs.Words.{Waiting, is_not_given, known_of, from_map, Device, Register, given_or, job_of, take_answer}
+use Rattle.server_core.proofs.Words.{take_fault, take_known, Asked, Known, TakeFault, NotReady, Taken}
+use Rattle.server_desk.specs.Taking.{take_by}
 
 -- no ticket was given for it before, and the job is made of what is known of it and of its device
 pub record IsTicket (reg : Register) (known : List Known) (n : ℕ) (job : Job) : Type 0 where

@@ -1,40 +1,17 @@
 -- A ticket is tried on the book of its gateway.
-use Rattle.std.specs.Prelude.{ℕ, ◌≡◌, ◌==◌, ◌+◌, Bool, true, false, ◌||◌, if◌then◌else◌, List, [], ◌∷◌, ◌++◌, map, slice_set}
-use Rattle.std.specs.Prelude.{get_or, IsSome, Option, Some, None, refl}
-use Rattle.std.specs.Option.{option_map, option_and_then, IsSomeAnd}
-use Rattle.std.proofs.Common.{ap, sym, ◌∙◌}
-use Rattle.std.proofs.lemmas.List.{map-append}
-use Rattle.gateway_book.specs.declared.refusal.Refusal.{Refusal}
-use Rattle.gateway_book.specs.Answer.{IsAsked}
-use Rattle.gateway_book.specs.AnswerLaws.{book_step-accepted}
-use Rattle.gateway_book.specs.Step.{State, book_step}
-use Rattle.gateway_book.specs.Book.{Book, state_of, with_booked}
-use Rattle.uplink_gather.specs.Gatherings.{numbered}
-use Rattle.rx_windows.specs.declared.candidate.Candidate.{Candidate}
-use Rattle.answer_ticket.specs.declared.outcome.Ending.{Ending}
-use Rattle.answer_ticket.specs.declared.outcome.Ending.TheVariants.{Unanswered}
-use Rattle.answer_ticket.specs.declared.outcome.Outcome.{Outcome}
-use Rattle.answer_ticket.specs.declared.tried.Receipt.{Receipt}
-use Rattle.answer_ticket.specs.Job.{candidates, candidate_at, ask_for, frame_for}
-use Rattle.answer_ticket.specs.Ticket.{Standing, candidate_of}
-use Rattle.answer_ticket.specs.Ended.{answered_as}
-use Rattle.answer_ticket.specs.Tried.{refusal_by, next_of, IsBooked, IsNext as IsRefused, IsOut as IsRefusedLast, IsWrong}
+use Rattle.server_core.proofs.Words.{ap, sym, ◌∙◌, map-append, IsSomeAnd, option_and_then, option_map, Bool, IsSome, List, None}
+use Rattle.server_core.proofs.Words.{Option, Some, [], false, get_or, if◌then◌else◌, map, refl, slice_set, true, ℕ, ◌++◌, ◌+◌}
+use Rattle.server_core.proofs.Words.{◌==◌, ◌||◌, ◌∷◌, ◌≡◌, IsAsked, book_step-accepted, Book, state_of, with_booked, State}
+use Rattle.server_core.proofs.Words.{book_step, Refusal, numbered, Candidate, answered_as, ask_for, candidate_at, candidates}
+use Rattle.server_core.proofs.Words.{frame_for, Standing, candidate_of, IsBooked, IsWrong, next_of, refusal_by, Ending}
+use Rattle.server_core.proofs.Words.{Unanswered, Outcome, Receipt, Answer, Booked, Open, numbered-here, map_set, some_inj}
+use Rattle.server_core.proofs.Words.{next_place, is_here, Gateway, World, gateway_with, told, gateway_of, lines_for, sent_as}
+use Rattle.server_core.proofs.Words.{sent_lines, step_lines, is_accepted, reached, step_of, up_to_first, AreHere, Seen, ids_of}
+use Rattle.server_core.proofs.Words.{is_among, with_step, After, Settle, Step, Try, ending_of, refused, sent_by, step, AreTries}
+use Rattle.server_core.proofs.Words.{EndsTries, GoesOn, IsNext, IsOut, IsSame, end_lines, tries_from, Line, Ended}
+use Rattle.answer_ticket.specs.Tried.{IsNext as IsRefused, IsOut as IsRefusedLast}
 use Rattle.server_core.specs.declared.event.Step.TheVariants as made
-use Rattle.server_core.specs.declared.entry.Line.{Line}
-use Rattle.server_core.specs.declared.trying.Ended.{Ended}
-use Rattle.server_desk.specs.Answers.{Answer, Open, Booked}
-use Rattle.server_desk.specs.Register.{next_place}
-use Rattle.server_desk.specs.Settling.{is_here}
-use Rattle.server_core.specs.DeskCalls.{told}
-use Rattle.server_desk.specs.World.{World, Gateway, gateway_with}
-use Rattle.server_core.specs.Steps.{Step, Try, Settle, After, step, ending_of, sent_by, refused}
 use Rattle.server_core.specs.Steps as replies
-use Rattle.server_core.specs.Schedule.{reached, up_to_first, is_accepted, step_of}
-use Rattle.server_core.specs.Entries.{sent_as, sent_lines, lines_for, step_lines, gateway_of}
-use Rattle.server_core.specs.Server.{Seen, AreHere, with_step, is_among, ids_of}
-use Rattle.server_core.specs.Turns.{IsOut, EndsTries, GoesOn, IsSame, AreTries, IsNext, tries_from, end_lines}
-use Rattle.server_desk.specs.Places.{some_inj, map_set}
-use Rattle.server_desk.specs.Numbers.{numbered-here}
 use Rattle.server_core.proofs.Going.{reached_one, lines_one}
 use Rattle.server_core.proofs.Served.{equal_where_tested}
 use Rattle.server_core.proofs.BookFound.{IsBookOf, book_found, same_book, book_written, no_book}

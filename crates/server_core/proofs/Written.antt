@@ -1,18 +1,8 @@
 -- A device, an answer or a gateway is written anew.
-use Rattle.std.specs.Prelude.{ℕ, ◌≡◌, ◌⊎◌, ◌≤◌, false, slice_get, slice_set, Some, refl}
-use Rattle.std.proofs.Common.{inl, inr, sym, ap, ◌∙◌, subst, arith}
-use Rattle.resv_list.specs.declared.reservation.Reservation.{Reservation}
-use Rattle.uplink_gather.specs.Gatherings.{numbered, rewritten}
-use Rattle.answer_ticket.specs.Job.{Job}
-use Rattle.server_desk.specs.Settings.{SettingLists}
-use Rattle.server_desk.specs.Register.{Device}
-use Rattle.server_desk.specs.declared.answers.Sent.{Sent}
-use Rattle.server_desk.specs.Answers.{Answer, Open, known_of, is_not_given}
-use Rattle.server_desk.specs.World.{Gateway, World}
-use Rattle.server_core.specs.Steps.{sent_for}
-use Rattle.server_core.specs.Promise.{setting_of}
-use Rattle.server_desk.specs.Places.{get_set_cases, get_set_after, map_set}
-use Rattle.server_desk.specs.Numbers.{length-rewritten, numbered_after, numbered_cases}
+use Rattle.server_core.proofs.Words.{ap, arith, inl, inr, subst, sym, ◌∙◌, Some, false, refl, slice_get, slice_set, ℕ, ◌≡◌, ◌≤◌}
+use Rattle.server_core.proofs.Words.{◌⊎◌, Reservation, numbered, rewritten, Job, Answer, Open, is_not_given, known_of}
+use Rattle.server_core.proofs.Words.{length-rewritten, numbered_after, numbered_cases, get_set_after, get_set_cases, map_set}
+use Rattle.server_core.proofs.Words.{Device, SettingLists, Gateway, World, Sent, setting_of, sent_for}
 use Rattle.server_core.proofs.Holds.{IsJobFor, IsKept, Stands, AllStand, IsInOrder, Holds, IsGivenAt, IsLater, IsGood}
 use Rattle.server_core.proofs.Holds.{Follows-refl}
 

@@ -1,6 +1,5 @@
-use Rattle.std.proofs.Common.{◌≡◌, map, take}
-use Rattle.server_desk.specs.World.{opened_gateway}
-use Rattle.server_core.specs.Entries.{gateway_of}
+use Rattle.server_core.proofs.Words.{map, ◌≡◌, opened_gateway, gateway_of}
+use Rattle.std.proofs.Common.{take}
 use Rattle.server_core.proofs.books.books_of.Given as goal
 
 abbrev pub invariant-loop-gateway : goal.invariant-loop-gateway

@@ -1,7 +1,4 @@
-use Rattle.std.proofs.Common.{◌≡◌, ◌+◌, map, drop}
-use Rattle.std.specs.Option.{option_map}
-use Rattle.server_desk.specs.World.{gateway_with}
-use Rattle.server_core.specs.Entries.{gateway_of}
+use Rattle.server_core.proofs.Words.{option_map, drop, map, ◌+◌, ◌≡◌, gateway_with, gateway_of}
 use Rattle.server_core.proofs.books.place_of.Given as goal
 
 abbrev pub invariant-loop-place : goal.invariant-loop-place

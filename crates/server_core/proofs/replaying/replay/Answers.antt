@@ -1,4 +1,4 @@
-use Rattle.server_core.specs.Server.{seen}
+use Rattle.server_core.proofs.Words.{seen}
 use Rattle.server_core.proofs.Replays.{replaying_first, replaying_on, replayed_steps, replayed_outcomes, replayed_books}
 use Rattle.server_core.proofs.replaying.replay.Goals as goal
 

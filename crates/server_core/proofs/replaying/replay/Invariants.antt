@@ -1,4 +1,4 @@
-use Rattle.server_core.specs.Server.{seen}
+use Rattle.server_core.proofs.Words.{seen}
 use Rattle.server_core.proofs.Replays.{IsReplaying}
 use Rattle.server_core.proofs.replaying.replay.Given as goal
 

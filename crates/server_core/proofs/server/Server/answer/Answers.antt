@@ -1,7 +1,4 @@
-use Rattle.std.proofs.Common.{refl}
-use Rattle.server_desk.specs.declared.faults.TakeFault.TheVariants.{NoMemory}
-use Rattle.server_desk.specs.Taking.{take_answer}
-use Rattle.server_core.specs.Server.{seen}
+use Rattle.server_core.proofs.Words.{refl, take_answer, NoMemory, seen}
 use Rattle.server_core.proofs.Going.{on_ok}
 use Rattle.server_core.proofs.Answered.{taken_here, taken_books, taken_given, answer_gathered, answer_ready, answer_made}
 use Rattle.server_core.proofs.Answered.{refused_made, refused_is}

@@ -1,4 +1,4 @@
-use Rattle.server_core.specs.Server.{seen}
+use Rattle.server_core.proofs.Words.{seen}
 use Rattle.server_core.proofs.Calls.{ready_noted, both_done}
 use Rattle.server_core.proofs.BookCalls.{cancel_done}
 use Rattle.server_core.proofs.server.Server.cancel.Goals as goal

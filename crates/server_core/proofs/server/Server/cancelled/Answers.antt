@@ -1,5 +1,4 @@
-use Rattle.std.proofs.Common.{arith, refl}
-use Rattle.server_core.specs.Server.{seen}
+use Rattle.server_core.proofs.Words.{arith, refl, seen}
 use Rattle.server_core.proofs.BookFound.{book_within}
 use Rattle.server_core.proofs.BookCalls.{nothing_sent, not_here, was_cancelled}
 use Rattle.server_core.proofs.server.Server.cancelled.Goals as goal

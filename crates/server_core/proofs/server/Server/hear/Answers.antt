@@ -1,5 +1,4 @@
-use Rattle.std.proofs.Common.{◌∙◌}
-use Rattle.server_core.specs.Server.{seen}
+use Rattle.server_core.proofs.Words.{◌∙◌, seen}
 use Rattle.server_core.proofs.Calls.{both_done}
 use Rattle.server_core.proofs.DeskCalls.{hear_done}
 use Rattle.server_core.proofs.server.Server.hear.Goals as goal

@@ -1,4 +1,4 @@
-use Rattle.server_core.specs.Server.{seen}
+use Rattle.server_core.proofs.Words.{seen}
 use Rattle.server_core.proofs.Going.{on_ok}
 use Rattle.server_core.proofs.Passes.{passing_first, closed_ready, fewer_due, passing_on, passed_ready, passed_made}
 use Rattle.server_core.proofs.server.Server.pass.Goals as goal

@@ -1,6 +1,4 @@
-use Rattle.std.proofs.Common.{length}
-use Rattle.server_core.specs.Schedule.{due_numbers}
-use Rattle.server_core.specs.Server.{seen}
+use Rattle.server_core.proofs.Words.{length, due_numbers, seen}
 use Rattle.server_core.proofs.Passes.{ArePassing}
 use Rattle.server_core.proofs.server.Server.pass.Given as goal
 

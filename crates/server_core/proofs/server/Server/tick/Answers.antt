@@ -1,6 +1,4 @@
-use Rattle.std.proofs.Common.{arith, ap}
-use Rattle.gateway_book.specs.declared.totals.Totals.{Totals}
-use Rattle.server_core.specs.Server.{seen}
+use Rattle.server_core.proofs.Words.{ap, arith, Totals, seen}
 use Rattle.server_core.proofs.Going.{on_ok}
 use Rattle.server_core.proofs.Calls.{both_done}
 use Rattle.server_core.proofs.BookFound.{book_within}

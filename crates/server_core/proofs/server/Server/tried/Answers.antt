@@ -1,6 +1,4 @@
-use Rattle.std.proofs.Common.{subst}
-use Rattle.server_core.specs.Server.{seen}
-use Rattle.server_core.specs.Turns.{TurnIs}
+use Rattle.server_core.proofs.Words.{subst, seen, TurnIs}
 use Rattle.server_core.proofs.Settled.{trying_first, here_still, trying_next, fewer_left, tries_over}
 use Rattle.server_core.proofs.server.Server.tried.Goals as goal
 

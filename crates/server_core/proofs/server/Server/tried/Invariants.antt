@@ -1,6 +1,4 @@
-use Rattle.std.proofs.Common.{◌-◌, length}
-use Rattle.answer_ticket.specs.Job.{candidates}
-use Rattle.server_core.specs.Server.{seen}
+use Rattle.server_core.proofs.Words.{length, ◌-◌, candidates, seen}
 use Rattle.server_core.proofs.Settled.{AreTrying}
 use Rattle.server_core.proofs.server.Server.tried.Given as goal
 

@@ -1,6 +1,5 @@
-use Rattle.std.proofs.Common.{arith, ap, ◌∙◌, ℕ}
+use Rattle.server_core.proofs.Words.{ap, arith, ◌∙◌, ℕ, seen, with_step}
 use Rattle.server_core.specs.declared.event.Step.TheVariants as made
-use Rattle.server_core.specs.Server.{seen, with_step}
 use Rattle.server_core.proofs.BookFound.{book_within}
 use Rattle.server_core.proofs.TrySteps.{has_book, not_wrong, next_turn, out_turn, booked_turn}
 use Rattle.server_core.proofs.server.Server.tried_once.Goals as goal
