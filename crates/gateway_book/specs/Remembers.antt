@@ -1,13 +1,18 @@
-use Rattle.std.specs.Prelude.{ℕ, ◌≡◌, List}
+use Rattle.std.specs.Prelude.{ℕ, ◌≡◌, ◌+◌, max, not, List, None, Result, Ok, Err}
 use Rattle.std.proofs.Common.{sym, ap, ◌∙◌}
 use Rattle.resv_list.specs.declared.reservation.Reservation.{Reservation}
-use Rattle.resv_list.specs.Reservations.{IsByStart}
+use Rattle.resv_list.specs.Reservations.{IsByStart, airtime_us, place}
 use Rattle.gateway_book.specs.declared.ask.Ask.{Ask}
-use Rattle.gateway_book.specs.Answer.{refusal_of}
+use Rattle.gateway_book.specs.declared.cancel.CancelFault.{CancelFault}
+use Rattle.gateway_book.specs.Answer.{IsAsked, refusal_of}
+use Rattle.gateway_book.specs.AnswerLaws.{book_step-accepted}
 use Rattle.gateway_book.specs.Kept.{kept}
 use Rattle.gateway_book.specs.KeptLaws.{kept-own}
-use Rattle.gateway_book.specs.Step.{State, terms_at, cancel_answer}
-use Rattle.gateway_book.specs.Book.{Book, terms_of, state_of}
+use Rattle.gateway_book.specs.Orderly.{IsOrderly}
+use Rattle.gateway_book.specs.OrderlyLaws.{may_join, orderly_placed, orderly_filter}
+use Rattle.gateway_book.specs.Step.{State, terms_at, book_step, cancel_answer, after_cancel, cancel_step, tick_step}
+use Rattle.gateway_book.specs.Step.{is_named}
+use Rattle.gateway_book.specs.Book.{Book, terms_of, state_of, with_booked}
 
 -- A book beside a state that forgets nothing: it has that state's floor and totals, and what is kept of its list.
 pub record Remembers (b : Book) (s : State) : Type 0 where
@@ -16,32 +21,53 @@ pub record Remembers (b : Book) (s : State) : Type 0 where
   pub booked : b.booked ≡ s.booked
   pub cancelled : b.cancelled ≡ s.cancelled
 
--- Of a list by start all is kept, so the book answers as the state does, and the next state is its own.
+-- a book remembers what it is equal to, if that is by start
+pub remembers_own : (b : Book) (s : State) → state_of b ≡ s → IsByStart s.list → Remembers b s
+remembers_own b s e o =
+    record { floor = cc; list = cc (kept-own s.list s.floor o); booked = cc; cancelled = cc }
 
-module _ (b : Book) (s : State) (o : IsByStart s.list) (r : Remembers b s) where
+-- Of an orderly list all is kept, so the book answers as the state does, and what it becomes remembers the next state, whose
+-- list is orderly too.
+
+module _ (b : Book) (s : State) (o : IsOrderly s.list) (r : Remembers b s) where
   same_list : b.list ≡ s.list
-  same_list = r.list ∙ kept-own s.list s.floor o
+  same_list = r.list ∙ kept-own s.list s.floor o.by_start
 
-  pub remembered : state_of b ≡ s
+  remembered : state_of b ≡ s
   remembered =
-      ap (λ (x : ℕ). record { floor = x; list = b.list; booked = b.booked; cancelled = b.cancelled }) r.floor
-      ∙ ap (λ (x : List Reservation). record { floor = s.floor; list = x; booked = b.booked; cancelled = b.cancelled }) same_list
-      ∙ ap (λ (x : ℕ). record { floor = s.floor; list = s.list; booked = x; cancelled = b.cancelled }) r.booked
-      ∙ ap (λ (x : ℕ). record { floor = s.floor; list = s.list; booked = s.booked; cancelled = x }) r.cancelled
+      let same : state_of b ≡ record { floor = s.floor; list = s.list; booked = s.booked; cancelled = s.cancelled } =
+      cc (r.floor, same_list, r.booked, r.cancelled) in
+      same
 
   pub remembers_answer : (ask : Ask) → refusal_of (terms_of b) b.list ask ≡ refusal_of (terms_at b.rules s) s.list ask
   remembers_answer ask = ap (λ (t : State). refusal_of (terms_at b.rules t) t.list ask) remembered
 
-  pub remembers_cancel : (number start : ℕ) → cancel_answer b.floor b.list number start
-      ≡ cancel_answer s.floor s.list number start
-  remembers_cancel number start = ap (λ (t : State). cancel_answer t.floor t.list number start) remembered
+  module _ (ask : Ask) (m : Reservation) (a : IsAsked ask m) (e : refusal_of (terms_of b) b.list ask ≡ None) where
+    accepted : book_step b.rules s ask ≡ record s { list = place m s.list; booked = s.booked + airtime_us m }
+    accepted = book_step-accepted b.rules s ask m (sym (remembers_answer ask) ∙ e) a
 
--- a book remembers its own state, and what it is equal to
-pub remembers_own : (b : Book) (s : State) → state_of b ≡ s → IsByStart b.list → Remembers b s
-remembers_own b s e o =
-    record {
-      floor = ap (λ (t : State). t.floor) e;
-      list = sym (kept-own b.list b.floor o) ∙ ap (λ (t : State). kept t.list t.floor) e;
-      booked = ap (λ (t : State). t.booked) e;
-      cancelled = ap (λ (t : State). t.cancelled) e;
-    }
+    pub orderly_booked : IsOrderly (book_step b.rules s ask).list
+    orderly_booked = rw accepted (orderly_placed s.list m o (may_join (terms_at b.rules s) s.list ask m a
+        (sym (remembers_answer ask) ∙ e)))
+
+    pub remembers_booked : Remembers (with_booked b m) (book_step b.rules s ask)
+    remembers_booked = remembers_own (with_booked b m) (book_step b.rules s ask) (cc (accepted, r.floor, same_list, r.booked, r.cancelled)) orderly_booked.by_start
+
+  module _ (number start : ℕ) where
+    pub remembers_cancel : cancel_answer b.floor b.list number start ≡ cancel_answer s.floor s.list number start
+    remembers_cancel = ap (λ (t : State). cancel_answer t.floor t.list number start) remembered
+
+    cancelled_orderly : (x : Result Reservation CancelFault) → IsOrderly (after_cancel x s number start).list
+    cancelled_orderly (Ok m) = orderly_filter (λ x. not (is_named number start x)) s.list o
+    cancelled_orderly (Err fault) = o
+
+    pub orderly_cancelled : IsOrderly (cancel_step s number start).list
+    orderly_cancelled = cancelled_orderly (cancel_answer s.floor s.list number start)
+
+    pub remembers_cancelled : (c : Book) → state_of c ≡ cancel_step (state_of b) number start
+        → Remembers c (cancel_step s number start)
+    remembers_cancelled c e = remembers_own c (cancel_step s number start)
+        (e ∙ ap (λ (t : State). cancel_step t number start) remembered) orderly_cancelled.by_start
+
+  pub remembers_ticked : (now : ℕ) → Remembers (record b { floor = max b.floor now }) (tick_step s now)
+  remembers_ticked now = remembers_own (record b { floor = max b.floor now }) (tick_step s now) (cc (r.floor, same_list, r.booked, r.cancelled)) o.by_start

@@ -1,21 +1,20 @@
 -- An uplink is answered: a ticket is taken, tried and settled.
 use Rattle.server_core.proofs.Words.{ap, append-nil, arith, inl, inr, subst, sym, ◌∙◌, set-set, option_map_or, Bool, Contains}
 use Rattle.server_core.proofs.Words.{Err, IsOkUnless, IsTrue, List, MatchResult, None, Ok, Option, Result, Some, [], false}
-use Rattle.server_core.proofs.Words.{if◌then◌else◌, map, refl, slice_set, true, ℕ, ◌++◌, ◌-◌, ◌∷◌, ◌≡◌, ◌≢◌, ◌⊎◌, Gathering}
-use Rattle.server_core.proofs.Words.{Gatherings, copies_of, numbered, rewritten, HeardCopy, IsWindowOf, IsWindowOf-ranked}
-use Rattle.server_core.proofs.Words.{on_gateways_that_heard, candidates_of, Job, Standing, Answer, Open, Waiting, is_given}
-use Rattle.server_core.proofs.Words.{known_of, DeskView, desk_settled, desk_take, desk_taken, numbered-here, numbered_cases}
-use Rattle.server_core.proofs.Words.{rewritten-found, all_get, Device, Register, delivered, has_carried, sent_of, job_of}
-use Rattle.server_core.proofs.Words.{take_answer, taken_from, World, known, Asked, Known, Done, TakeFault, entry_at, gateway_of}
-use Rattle.server_core.proofs.Words.{lines_for, not_taken, step_lines, answer_steps, given_steps, AreHeard, AreHere, Goes, IsAt}
-use Rattle.server_core.proofs.Words.{IsIdle, IsReady, Makes, Seen, ids_of, is_among, with_lines, with_step, After, Step, Take}
-use Rattle.server_core.proofs.Words.{step, take_by, IsAnswered, IsGivenTo, Line}
+use Rattle.server_core.proofs.Words.{if◌then◌else◌, refl, slice_set, true, ℕ, ◌-◌, ◌∷◌, ◌≡◌, ◌≢◌, ◌⊎◌, Gathering, copies_of}
+use Rattle.server_core.proofs.Words.{numbered, rewritten, HeardCopy, IsWindowOf, IsWindowOf-ranked, on_gateways_that_heard}
+use Rattle.server_core.proofs.Words.{candidates_of, Job, Standing, Answer, Open, Waiting, is_given, DeskView, desk_settled}
+use Rattle.server_core.proofs.Words.{desk_take, desk_taken, numbered-here, numbered_cases, rewritten-found, all_get, Device}
+use Rattle.server_core.proofs.Words.{Register, delivered, has_carried, sent_of, job_of, taken_from, take_answer, World, known}
+use Rattle.server_core.proofs.Words.{Asked, Known, Done, TakeFault, not_taken, answer_steps, given_steps, AreBooksOf, AreHeard}
+use Rattle.server_core.proofs.Words.{AreHere, IsAt, IsIdle, IsReady, Makes, Moves, Seen, ids_of, is_among, with_lines, with_step}
+use Rattle.server_core.proofs.Words.{After, Step, Take, take_by, run_from, step, IsAnswered, IsGivenTo, Line}
 use Rattle.server_desk.specs.declared.answers.Known.TheVariants.{Given}
 use Rattle.server_core.specs.declared.event.Step.TheVariants as made
 use Rattle.server_core.specs.Steps as replies
 use Rattle.server_core.proofs.Tickets.{IsTicket, ticket, still_waits}
 use Rattle.server_core.proofs.DeskSteps.{desk_calls_are_steps}
-use Rattle.server_core.proofs.Going.{reached_one, one_step, goes_on_lines}
+use Rattle.server_core.proofs.Going.{one_step, moves_on}
 
 -- the desk's part after a ticket was taken and settled
 
@@ -65,7 +64,7 @@ job_here ids reg n asked device h k c e =
 
 module _ {A : Type 0} (place n : ℕ) (old mid : Seen A) (noted : mid ≡ with_step (made.Take n) old) (ready : IsReady old) where
   mid_desk : mid.desk ≡ old.desk
-  mid_desk = ap (λ (s : Seen A). s.desk) noted
+  mid_desk = rw noted refl
 
   -- a ticket was given
   module _ (t : Standing) (d : DeskView) (given : take_answer mid.desk.reg mid.desk.known n ≡ Ok t.job)
@@ -77,51 +76,41 @@ module _ {A : Type 0} (place n : ℕ) (old mid : Seen A) (noted : mid ≡ with_s
     taken = ticket mid.desk.reg mid.desk.known n t.job given
 
     number : t.job.number ≡ n
-    number = sym (ap (λ (j : Job). j.number) taken.made)
+    number = rw (← taken.made) refl
 
     d_is : d ≡ desk_taken (Ok t.job) n old.desk
-    d_is = stepped ∙ ap (λ (r : Result Job TakeFault). desk_taken r n mid.desk) given ∙ ap (desk_taken (Ok t.job) n) mid_desk
+    d_is = rw (stepped, given, mid_desk) refl
 
     pub taken_here : AreHere d.ids t.job
-    taken_here =
-        let P : DeskView → Type 0 = λ x. AreHeard x.ids x.reg.gathered.list in
-        let heard : AreHeard mid.desk.ids mid.desk.reg.gathered.list = subst P (sym mid_desk) ready.heard in
-        let ids : mid.desk.ids ≡ d.ids = ap (λ (x : DeskView). x.ids) mid_desk ∙ sym (ap (λ (x : DeskView). x.ids) d_is) in
-        let Q : List ℕ → Type 0 = λ l. AreHere l t.job in
-        subst Q ids (subst (AreHere mid.desk.ids) taken.made
-        (job_here mid.desk.ids mid.desk.reg n taken.asked taken.device heard))
+    taken_here = rw (d_is, ← mid_desk, ← taken.made)
+        (job_here mid.desk.ids mid.desk.reg n taken.asked taken.device (rw mid_desk ready.heard))
 
     pub taken_books : ids_of mid.books ≡ d.ids
-    taken_books = ap (λ (s : Seen A). ids_of s.books) noted ∙ ready.books ∙ sym (ap (λ (x : DeskView). x.ids) d_is)
+    taken_books = rw (d_is, noted) ready.books
 
     stated : numbered n old.desk.known ≡ Some taken.state
     stated = ap (λ (x : DeskView). numbered n x.known) (sym mid_desk) ∙ taken.stated
 
     pub taken_given : IsGivenTo d.known t.job.number
-    taken_given =
-        ap (λ (x : DeskView). numbered t.job.number x.known) d_is
-        ∙ ap (λ (i : ℕ). numbered i (rewritten (λ x. Given) n old.desk.known)) number
-        ∙ numbered-here (λ x. Given) n old.desk.known taken.state stated
+    taken_given = rw (d_is, number) (numbered-here (λ x. Given) n old.desk.known taken.state stated)
 
     module _ (new : Seen A) (a : IsAnswered place t.job out new) where
       new_desk : new.desk ≡ desk_settled a.ending n (desk_taken (Ok t.job) n old.desk)
-      new_desk = a.desk ∙ ap (λ (i : ℕ). desk_settled a.ending i d) number ∙ ap (desk_settled a.ending n) d_is
+      new_desk = rw (a.desk, number, d_is) refl
 
       pub answer_gathered : new.desk.reg.gathered ≡ old.desk.reg.gathered
       answer_gathered =
-          ap (λ (x : DeskView). x.reg.gathered) new_desk
-          ∙ settled_gathered (has_carried a.ending) _ (taken_from (numbered n old.desk.reg.asked) old.desk.reg)
-          ∙ taken_gathered (numbered n old.desk.reg.asked) old.desk.reg
+          rw new_desk
+          (settled_gathered (has_carried a.ending) _ (taken_from (numbered n old.desk.reg.asked) old.desk.reg)
+          ∙ taken_gathered (numbered n old.desk.reg.asked) old.desk.reg)
 
       pub answer_ready : IsReady new
       answer_ready =
-          let ids : new.desk.ids ≡ old.desk.ids = ap (λ (x : DeskView). x.ids) new_desk in
-          let P : List ℕ → Gatherings → Type 0 = λ l s. AreHeard l s.list in
+          let ids : new.desk.ids ≡ old.desk.ids = rw new_desk refl in
           record {
-            books = a.books ∙ ap (λ (s : Seen A). ids_of s.books) noted ∙ ready.books ∙ sym ids;
-            heard = subst (P new.desk.ids) (sym answer_gathered)
-                (subst (λ (l : List ℕ). P l old.desk.reg.gathered) (sym ids) ready.heard);
-            idle = subst (λ (x : DeskView). IsIdle x.known) (sym new_desk)
+            books = rw (a.books, noted, ids) ready.books;
+            heard = rw (ids, answer_gathered) ready.heard;
+            idle = rw new_desk
                 (idle_settled old.desk.known n taken.state (Done (sent_of a.ending)) ready.idle stated refl);
           }
 
@@ -131,41 +120,34 @@ module _ {A : Type 0} (place n : ℕ) (old mid : Seen A) (noted : mid ≡ with_s
 
         is_taken : step w (Take n) ≡ take_by w n (Ok t.job)
         unfolding step
-        is_taken = ap (take_by w n) (ap (λ (x : DeskView). take_answer x.reg x.known n) (sym (mid_desk ∙ at.desk)) ∙ given)
+        is_taken = ap (take_by w n) (rw (mid_desk, at.desk) at given)
 
         at_out : IsAt v out
         at_out =
             record {
-              desk = stepped ∙ ap (λ (x : DeskView). desk_take x n) (mid_desk ∙ at.desk) ∙ sym (desk_calls_are_steps.take w n);
-              gateways = ap (λ (s : Seen A). map gateway_of s.books) noted ∙ at.gateways
-                  ∙ sym (ap (λ (x : After). x.0.gateways) is_taken);
+              desk = rw (stepped, mid_desk, at.desk) (sym (desk_calls_are_steps.take w n));
+              books = subst (AreBooksOf mid.books) (sym (ap (λ (x : After). x.0.gateways) is_taken)) (rw noted at.books);
             }
 
         stands : numbered t.job.number v.answers ≡ Some (Open 0 t.job)
         stands =
-            let k : numbered n (map known_of w.answers) ≡ Some taken.state =
-            ap (λ (x : DeskView). numbered n x.known) (sym at.desk) ∙ stated in
+            let k = ap (λ (x : DeskView). numbered n x.known) (sym at.desk) ∙ stated in
+            let waits = still_waits w.answers n taken.state k taken.waits in
             ap (λ (i : ℕ). numbered i v.answers) number ∙ ap (λ (x : After). numbered n x.0.answers) is_taken
-            ∙ numbered-here (λ (x : Answer). Open 0 t.job) n w.answers Waiting (still_waits w.answers n taken.state k taken.waits)
+            ∙ numbered-here (λ (x : Answer). Open 0 t.job) n w.answers Waiting waits
 
         abbrev rest : List Step
         rest = given_steps v n (step w (Take n)).1
 
         rest_is : given_steps v t.job.number (replies.Given (Ok t.job)) ≡ rest
-        rest_is = ap (λ (i : ℕ). given_steps v i (replies.Given (Ok t.job))) number
-            ∙ ap (λ (x : After). given_steps v n x.1) (sym is_taken)
+        rest_is = rw (number, is_taken) refl
 
-        answer_goes : Goes w (answer_steps w n) (map (entry_at place) (step_lines w (answer_steps w n))) old new
+        answer_goes : Moves place w (answer_steps w n) old new
+        unfolding run_from
         answer_goes =
-            let first = one_step place w (Take n) (made.Take n) [] old out refl at_out (ap (λ (s : Seen A). s.steps) noted)
-            (ap (λ (s : Seen A). s.outcomes) noted ∙ sym (append-nil old.outcomes))
-            (ap (λ (x : After). lines_for w (Take n) x.1) is_taken) in
-            let second : Goes v rest (map (entry_at place) (step_lines v rest)) out new =
-            subst (λ (ss : List Step). Goes v ss (map (entry_at place) (step_lines v ss)) out new) rest_is
-            (a.goes v at_out stands) in
-            goes_on_lines place w (Take n ∷ []) rest old out new first
-            (subst (λ (u : World). Goes u rest (map (entry_at place) (step_lines u rest)) out new)
-            (sym (reached_one w (Take n))) second)
+            moves_on place w (Take n ∷ []) rest old out new
+            (one_step place w (Take n) (made.Take n) [] old out refl at_out (rw noted refl) (rw (noted, append-nil) refl)
+            (rw is_taken refl)) (rw rest_is at (a.goes v at_out stands))
 
       pub answer_made : Makes place (λ w. answer_steps w n) old new
       answer_made w at = answer_goes w at
@@ -174,26 +156,13 @@ module _ {A : Type 0} (place n : ℕ) (old mid : Seen A) (noted : mid ≡ with_s
   module _ (fault : TakeFault) (d : DeskView) (line : Line A) (new : Seen A)
       (refused : take_answer mid.desk.reg mid.desk.known n ≡ Err fault) (same : d ≡ mid.desk)
       (said : line ≡ not_taken n fault) (told : new ≡ with_lines place (line ∷ []) (record mid { desk = d })) where
-    new_same : new.desk ≡ old.desk
-    new_same = ap (λ (s : Seen A). s.desk) told ∙ same ∙ mid_desk
-
     pub refused_made : Makes place (λ w. answer_steps w n) old new
     unfolding step
     refused_made w at =
-        let is : step w (Take n) ≡ (w, replies.Given (Err fault)) =
-        ap (take_by w n) (ap (λ (x : DeskView). take_answer x.reg x.known n) (sym (mid_desk ∙ at.desk)) ∙ refused) in
-        let one : Take n ∷ [] ≡ answer_steps w n = ap (λ (x : After). Take n ∷ given_steps x.0 n x.1) (sym is) in
-        subst (λ (ss : List Step). Goes w ss (map (entry_at place) (step_lines w ss)) old new) one
-        (one_step place w (Take n) (made.Take n) (line ∷ []) old new refl
-        (subst (λ (u : World). IsAt u new) (sym (ap (λ (x : After). x.0) is))
-        (record {
-          desk = new_same ∙ at.desk;
-          gateways = ap (λ (s : Seen A). map gateway_of s.books) told ∙ ap (λ (s : Seen A). map gateway_of s.books) noted
-              ∙ at.gateways;
-        }))
-        (ap (λ (s : Seen A). s.steps) told ∙ ap (λ (s : Seen A). s.steps) noted)
-        (ap (λ (s : Seen A). s.outcomes) told ∙ ap (λ (s : Seen A). s.outcomes ++ map (entry_at place) (line ∷ [])) noted)
-        (ap (λ (x : After). lines_for w (Take n) x.1) is ∙ ap (λ (l : Line A). l ∷ []) (sym said)))
+        let is : step w (Take n) ≡ (w, replies.Given (Err fault)) = ap (take_by w n) (rw (mid_desk, at.desk) at refused) in
+        let one : Take n ∷ [] ≡ answer_steps w n = rw is refl in
+        rw one at (one_step place w (Take n) (made.Take n) (line ∷ []) old new refl (rw (is, told, same, noted) at)
+        (rw (told, noted) refl) (rw (told, noted) refl) (rw (is, said) refl))
 
 -- a refusal that is no want of memory is the answer
 pub refused_is : {X Y E : Type 0} (q : Result X E) (r : Result Y E) (fault none : E) → r ≡ Err fault

@@ -1,57 +1,115 @@
--- A gateway's book, by the gateway's number.
-use Rattle.server_core.proofs.Words.{ap, subst, sym, ◌∙◌, map-set, get_or_from_slice_get, slice_get_within, option_map, List}
-use Rattle.server_core.proofs.Words.{None, Option, Some, get_or, length, map, refl, slice_get, slice_set, true, ℕ, ◌<◌, ◌==◌, ◌≡◌}
-use Rattle.server_core.proofs.Words.{Book, state_of, State, found_there, from_map, some_inj, Gateway, gateway_with, gateway_of}
+-- The books and the gateways that they are of, place by place, and one of them found by its gateway's id.
+use Rattle.server_core.proofs.Words.{ap, sym, ◌∙◌, get_or_from_slice_get, slice_get_within, AllZip, option_map, Bool, List, None}
+use Rattle.server_core.proofs.Words.{Option, Some, [], false, get_or, if◌then◌else◌, length, map, refl, slice_get, slice_set, suc}
+use Rattle.server_core.proofs.Words.{true, zero, ℕ, ◌<◌, ◌==◌, ◌||◌, ◌∷◌, ◌≡◌, Book, found_there, from_map, some_inj, next_place}
+use Rattle.server_core.proofs.Words.{Gateway, gateway_with, gateway_of, AreBooksOf, IsBookOf, ids_of, is_among}
+use Rattle.server_core.proofs.Served.{equal_where_tested}
 
--- the book of a gateway, which was found by its number
-pub record IsBookOf (gateway at : ℕ) (books : List Book) : Type 0 where
-  pub book : Book
+module _ {X Y : Type 0} (R : X → Y → Type 0) where
+  pub zip_at : (xs : List X) (ys : List Y) (i : ℕ) (x : X) (y : Y) → AllZip R xs ys → slice_get xs i ≡ Some x
+      → slice_get ys i ≡ Some y → R x y
+  zip_at [] ys i x y z e f = absurd (cc (e))
+  zip_at (a ∷ u) [] i x y z e f = absurd z
+  zip_at (a ∷ u) (b ∷ v) zero x y z e f = rw (some_inj e, some_inj f) at z.0
+  zip_at (a ∷ u) (b ∷ v) (suc i) x y z e f = zip_at u v i x y z.1 e f
+
+  -- one member of each is written anew, or the one that stands there again
+  pub zip_set : (xs : List X) (ys : List Y) (i : ℕ) (x : X) (y : Y) → AllZip R xs ys → R x y
+      → AllZip R (slice_set xs i x) (slice_set ys i y)
+  zip_set [] [] i x y z r = z
+  zip_set [] (b ∷ v) i x y z r = absurd z
+  zip_set (a ∷ u) [] i x y z r = absurd z
+  zip_set (a ∷ u) (b ∷ v) zero x y z r = (r, z.1)
+  zip_set (a ∷ u) (b ∷ v) (suc i) x y z r = (z.0, zip_set u v i x y z.1 r)
+
+  pub zip_same : (xs : List X) (ys : List Y) (i : ℕ) (x : X) → AllZip R xs ys → slice_get xs i ≡ Some x
+      → AllZip R (slice_set xs i x) ys
+  zip_same [] ys i x z e = z
+  zip_same (a ∷ u) [] i x z e = absurd z
+  zip_same (a ∷ u) (b ∷ v) zero x z e = (rw (some_inj e) at z.0, z.1)
+  zip_same (a ∷ u) (b ∷ v) (suc i) x z e = (z.0, zip_same u v i x z.1 e)
+
+-- the place of a member, and the member there
+place_next : {X : Type 0} (t : Bool) (x : X) (o : Option (ℕ × X)) → option_map (λ p. p.0)
+    (if t then Some (0, x) else option_map next_place o) ≡ (if t then Some 0 else option_map suc (option_map (λ p. p.0) o))
+place_next true x o = refl
+place_next false x None = refl
+place_next false x (Some p) = refl
+
+found_at : {X : Type 0} (o : Option (ℕ × X)) (i : ℕ) → Some i ≡ option_map (λ p. p.0) o → (x : X) × (o ≡ Some (i, x))
+found_at None i e = absurd (cc (e))
+found_at (Some p) i e = (p.1, ap (λ (j : ℕ). Some (j, p.1)) (sym (some_inj e)))
+
+none_found : {X : Type 0} (o : Option (ℕ × X)) → None ≡ option_map (λ p. p.0) o → o ≡ None
+none_found None e = refl
+none_found (Some p) e = absurd (cc (e))
+
+-- the book that was found
+pub record IsFound (id at : ℕ) (books : List Book) (book : Book) : Type 0 where
   pub there : slice_get books at ≡ Some book
-  pub found : gateway_with gateway (map gateway_of books) ≡ Some (at, gateway_of book)
-  pub own : (book.id == gateway) ≡ true
+  pub own : book.id ≡ id
 
-module _ (gateway : ℕ) (books : List Book) where
-  found_by : (at : ℕ) (o : Option (ℕ × Gateway)) → gateway_with gateway (map gateway_of books) ≡ o
-      → Some at ≡ option_map (λ found. found.0) o → IsBookOf gateway at books
-  found_by at None e p = absurd (cc (p))
-  found_by at (Some found) e p =
-      let q : found.0 ≡ at = sym (some_inj p) in
-      let there = found_there (λ (g : Gateway). g.id == gateway) (map gateway_of books) found e in
-      let b = from_map gateway_of books found.0 found.1 there.0 in
-      record {
-        book = b.0;
-        there = subst (λ i. slice_get books i ≡ Some b.0) q b.1;
-        found = e ∙ ap (λ (g : Gateway). Some (found.0, g)) (sym b.2) ∙ ap (λ i. Some (i, gateway_of b.0)) q;
-        own = ap (λ (g : Gateway). g.id == gateway) b.2 ∙ there.1;
-      }
+-- its gateway
+pub record IsFoundIn (id at : ℕ) (gateways : List Gateway) (book : Book) : Type 0 where
+  pub gateway : Gateway
+  pub found : gateway_with id gateways ≡ Some (at, gateway)
+  pub keeps : IsBookOf book gateway
 
-  pub book_found : (at : ℕ) → Some at ≡ option_map (λ found. found.0) (gateway_with gateway (map gateway_of books))
-      → IsBookOf gateway at books
-  book_found at p = found_by at (gateway_with gateway (map gateway_of books)) refl p
+-- its place
+abbrev pub place_of : ℕ → List Book → Option ℕ
+place_of id books = option_map (λ p. p.0) (gateway_with id (map gateway_of books))
 
-  none_by : (o : Option (ℕ × Gateway)) → None ≡ option_map (λ found. found.0) o → o ≡ None
-  none_by None p = refl
-  none_by (Some found) p = absurd (cc (p))
+module _ (id : ℕ) (books : List Book) where
+  abbrev test : Gateway → Bool
+  test g = g.id == id
 
-  pub no_book : None ≡ option_map (λ found. found.0) (gateway_with gateway (map gateway_of books))
-      → gateway_with gateway (map gateway_of books) ≡ None
-  no_book p = none_by (gateway_with gateway (map gateway_of books)) p
+  pub book_within : (at : ℕ) → Some at ≡ place_of id books → at < length books
+  book_within at f =
+      let g = found_at (gateway_with id (map gateway_of books)) at f in
+      let b = from_map gateway_of books at g.0 (found_there test (map gateway_of books) (at, g.0) g.1).0 in
+      slice_get_within books at b.0 b.1
 
-  pub book_within : (at : ℕ) → Some at ≡ option_map (λ found. found.0) (gateway_with gateway (map gateway_of books))
-      → at < length books
-  book_within at p = let b = book_found at p in slice_get_within books at b.book b.there
+  pub book_found : (at : ℕ) (book : Book) → Some at ≡ place_of id books → book ≡ get_or books at book → IsFound id at books book
+  book_found at book f was =
+      let g = found_at (gateway_with id (map gateway_of books)) at f in
+      let there = found_there test (map gateway_of books) (at, g.0) g.1 in
+      let b = from_map gateway_of books at g.0 there.0 in
+      let same : book ≡ b.0 = was ∙ get_or_from_slice_get books at b.0 book b.1 in
+      record { there = rw same b.1; own = equal_where_tested book.id id (cc (same, b.2, there.1)) }
 
-  pub same_book : (at : ℕ) (b : IsBookOf gateway at books) (book : Book) → book ≡ get_or books at book → book ≡ b.book
-  same_book at b book e = e ∙ get_or_from_slice_get books at b.book book b.there
+same_place : (id : ℕ) (books : List Book) (gateways : List Gateway) → AreBooksOf books gateways
+    → option_map (λ p. p.0) (gateway_with id gateways) ≡ place_of id books
+same_place id [] [] z = refl
+same_place id [] (g ∷ gs) z = absurd z
+same_place id (b ∷ v) [] z = absurd z
+same_place id (b ∷ v) (g ∷ gs) z =
+    cc (
+      z.0.id,
+      same_place id v gs z.1,
+      place_next (g.id == id) g (gateway_with id gs),
+      place_next (b.id == id) (gateway_of b) (gateway_with id (map gateway_of v)),
+    )
 
--- a book whose gateway has another state
-pub gateway_with_state : (b c : Book) (s : State) → c.id ≡ b.id → c.rules ≡ b.rules → state_of c ≡ s
-    → gateway_of c ≡ record (gateway_of b) { state = s }
-gateway_with_state b c s i k e = cc
+module _ (id : ℕ) (books : List Book) (gateways : List Gateway) (are : AreBooksOf books gateways) where
+  pub gateway_found : (at : ℕ) (book : Book) → Some at ≡ place_of id books → IsFound id at books book
+      → IsFoundIn id at gateways book
+  gateway_found at book f b =
+      let g = found_at (gateway_with id gateways) at (f ∙ sym (same_place id books gateways are)) in
+      let there = found_there (λ (x : Gateway). x.id == id) gateways (at, g.0) g.1 in
+      record { gateway = g.0; found = g.1; keeps = zip_at IsBookOf books gateways at book g.0 are b.there there.0 }
 
-pub book_written : (books : List Book) (gateways : List Gateway) (at : ℕ) (c : Book) (g : Gateway)
-    → map gateway_of books ≡ gateways → gateway_of c ≡ g
-    → map gateway_of (slice_set books at c) ≡ slice_set gateways at g
-book_written books gateways at c g e f =
-    map-set gateway_of books at c ∙ ap (λ (l : List Gateway). slice_set l at (gateway_of c)) e
-    ∙ ap (λ (x : Gateway). slice_set gateways at x) f
+  pub no_gateway : None ≡ place_of id books → gateway_with id gateways ≡ None
+  no_gateway f = none_found (gateway_with id gateways) (f ∙ sym (same_place id books gateways are))
+
+-- a gateway that is among these has a book
+among_by : {X : Type 0} (t r : Bool) (x : X) (o : Option (ℕ × X)) → (t || r) ≡ true
+    → None ≡ option_map (λ p. p.0) (if t then Some (0, x) else option_map next_place o)
+    → (r ≡ true → None ≡ option_map (λ p. p.0) o → ⊥) → ⊥
+among_by true r x o a f rest = cc (f)
+among_by false r x None a f rest = rest a refl
+among_by false r x (Some p) a f rest = cc (f)
+
+pub has_place : (id : ℕ) (books : List Book) → is_among (ids_of books) id ≡ true → None ≡ place_of id books → ⊥
+has_place id [] a f = cc (a)
+has_place id (b ∷ v) a f =
+    among_by (b.id == id) (is_among (ids_of v) id) (gateway_of b) (gateway_with id (map gateway_of v)) a f (has_place id v)

@@ -1,7 +1,7 @@
 -- A call that is one step: one thread notes the step, makes it, and tells its line.
-use Rattle.server_core.proofs.Words.{ap, subst, sym, ◌∙◌, Err, IfOk, IsOkUnless, List, MatchResult, Ok, OnErr, OnOk, Result, []}
-use Rattle.server_core.proofs.Words.{map, refl, ℕ, ◌++◌, ◌∷◌, ◌≡◌, ◌≢◌, DeskView, desk_of, World, entry_at, lines_for, step_of}
-use Rattle.server_core.proofs.Words.{AreHeard, IsAt, IsIdle, IsReady, Makes, Seen, with_lines, with_step, Reply, Step, step, Line}
+use Rattle.server_core.proofs.Words.{ap, sym, ◌∙◌, Err, IfOk, IsOkUnless, MatchResult, Ok, OnErr, OnOk, Result, [], refl, ℕ, ◌∷◌}
+use Rattle.server_core.proofs.Words.{◌≡◌, ◌≢◌, DeskView, desk_of, World, lines_for, step_of, AreHeard, IsAt, IsIdle, IsReady}
+use Rattle.server_core.proofs.Words.{Makes, Seen, with_lines, with_step, Reply, Step, step, Line}
 use Rattle.server_core.specs.declared.event.Step.{Step as Made}
 use Rattle.server_core.proofs.Going.{on_ok, one_step}
 
@@ -18,41 +18,27 @@ pub record IsMade {A : Type 0} (s : Step) (line : Line A) (mid next : Seen A) : 
   pub at : (w : World) → IsAt w mid → IsAt (step w s).0 next
   pub lines : (w : World) → IsAt w mid → lines_for w s (step w s).1 ≡ line ∷ []
 
--- what is noted and what is told leave the rest as it is
+-- a note leaves it ready
 pub ready_noted : {A : Type 0} (made : Made A) (old mid : Seen A) → mid ≡ with_step made old → IsReady old → IsReady mid
-ready_noted made old mid noted r = subst IsReady (sym noted) (record { books = r.books; heard = r.heard; idle = r.idle })
-
-pub at_noted : {A : Type 0} (made : Made A) (old mid : Seen A) (w : World) → mid ≡ with_step made old → IsAt w old → IsAt w mid
-at_noted made old mid w noted a = subst (IsAt w) (sym noted) (record { desk = a.desk; gateways = a.gateways })
-
-ready_told : {A : Type 0} (place : ℕ) (line : Line A) (next new : Seen A) → new ≡ with_lines place (line ∷ []) next → IsReady next
-    → IsReady new
-ready_told place line next new told r = subst IsReady (sym told) (record { books = r.books; heard = r.heard; idle = r.idle })
-
-at_told : {A : Type 0} (place : ℕ) (line : Line A) (next new : Seen A) (w : World) → new ≡ with_lines place (line ∷ []) next
-    → IsAt w next → IsAt w new
-at_told place line next new w told a = subst (IsAt w) (sym told) (record { desk = a.desk; gateways = a.gateways })
+ready_noted made old mid noted r = rw noted r
 
 pub done : {A : Type 0} (place : ℕ) (s : Step) (made : Made A) (line : Line A) (old mid next new : Seen A) → step_of made ≡ s
-    → mid ≡ with_step made old
-    → IsMade s line mid next → new ≡ with_lines place (line ∷ []) next → IsReady old → IsDone place s old new
+    → mid ≡ with_step made old → IsMade s line mid next → new ≡ with_lines place (line ∷ []) next → IsReady old
+    → IsDone place s old new
 done {A} place s made line old mid next new same noted call told ready =
     record {
-      ready = ready_told place line next new told (call.ready (ready_noted made old mid noted ready));
+      ready = rw told (call.ready (rw noted ready));
       made = λ w at.
-          one_step place w s made (line ∷ []) old new same (at_told place line next new (step w s).0 told
-          (call.at w (at_noted made old mid w noted at)))
-          (ap (λ (x : Seen A). x.steps) told ∙ call.steps ∙ ap (λ (x : Seen A). x.steps) noted)
-          (ap (λ (x : Seen A). x.outcomes) told ∙ ap (λ (l : List _). l ++ map (entry_at place) (line ∷ []))
-          (call.outcomes ∙ ap (λ (x : Seen A). x.outcomes) noted))
-          (call.lines w (at_noted made old mid w noted at));
+          let a : IsAt w mid = rw noted at in
+          one_step place w s made (line ∷ []) old new same (rw told (call.at w a)) (rw (told, call.steps, noted) refl)
+          (rw (told, call.outcomes, noted) refl) (call.lines w a);
     }
 
 -- the two clauses of a call that found memory to tell its line
 pub both_done : {A X E : Type 0} (place : ℕ) (s : Step) (old new : Seen A) (r : Result X E) {P : Type 0}
     → (P → IsDone place s old new) → OnOk r P
-    → OnOk r (IsReady new) × OnOk r (Makes place (λ w. s ∷ []) old new)
-both_done place s old new r f told = (on_ok r (λ p. (f p).ready) told, on_ok r (λ p. (f p).made) told)
+    → record { ready : OnOk r (IsReady new); made : OnOk r (Makes place (λ w. s ∷ []) old new) }
+both_done place s old new r f told = record { ready = on_ok r (λ p. (f p).ready) told; made = on_ok r (λ p. (f p).made) told }
 
 -- a call of the desk answers `q` and leaves `after`, unless it found no memory; a fault changes nothing
 pub record IsCall {X E : Type 0} (none : E) (q : Result X E) (before after : DeskView) (r : Result X E)
@@ -96,18 +82,14 @@ module _ {X E : Type 0} (none : E) where
       let same : q mid.desk ≡ r = answer_is (q mid.desk) r call.answer call.told memory in
       let e : d ≡ after mid.desk = left (q mid.desk) r mid.desk (after mid.desk) d same
       (is.refusal mid.desk) call.step call.refused in
-      let P : DeskView → Type 0 = λ x. AreHeard x.ids x.reg.gathered.list in
-      let Q : DeskView → Type 0 = λ x. IsIdle x.known in
       record {
         steps = refl;
         outcomes = refl;
-        ready = λ old.
-            record {
-              books = old.books ∙ sym (ap (λ (x : DeskView). x.ids) e ∙ is.ids mid.desk);
-              heard = subst P (sym e) (is.heard mid.desk old.heard);
-              idle = subst Q (sym e) (is.idle mid.desk old.idle);
-            };
-        at = λ w at. record { desk = e ∙ ap after at.desk ∙ sym (is.desk w); gateways = at.gateways ∙ sym (is.gateways w) };
-        lines = λ w at. ap (lines_for w s) (is.replied w ∙ ap reply (ap q (sym at.desk) ∙ same)) ∙ is.lines w r
-            ∙ ap (λ (l : Line A). l ∷ []) (sym said);
+        ready = λ old. rw e (record {
+          books = old.books ∙ sym (is.ids mid.desk);
+          heard = is.heard mid.desk old.heard;
+          idle = is.idle mid.desk old.idle;
+        });
+        at = λ w at. record { desk = e ∙ ap after at.desk ∙ sym (is.desk w); books = rw is.gateways at.books };
+        lines = λ w at. rw (is.replied, ← at.desk, same, is.lines, said) refl;
       }

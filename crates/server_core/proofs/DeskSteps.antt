@@ -4,12 +4,12 @@ use Rattle.server_core.proofs.Words.{Ok, Option, Result, Some, [], false, if◌t
 use Rattle.server_core.proofs.Words.{◌∷◌, ◌≡◌, refusal_of, State, book_step, cancel_step, tick_step, Refusal, numbered, Candidate}
 use Rattle.server_core.proofs.Words.{Job, ask_for, candidate_at, Ending, answer_airtime, answered_at, answered_in, known_airtime}
 use Rattle.server_core.proofs.Words.{Answer, Booked, Open, Out, Settled, Waiting, is_given, known_of, desk_of, desk_settled}
-use Rattle.server_core.proofs.Words.{desk_taken, known_after, found_there, Decision, Join, Refuse, decide, register_after}
+use Rattle.server_core.proofs.Words.{desk_taken, known_after, found_there, Decision, Join, Refuse, register_after, decide}
 use Rattle.server_core.proofs.Words.{map-rewritten, numbered-map, same_rewritten, map_set, after_settling, is_here, may_settle}
 use Rattle.server_core.proofs.Words.{sent_of, after_taking, take_answer, Gateway, World, gateway_with, ids, known, Known, Done}
 use Rattle.server_core.proofs.Words.{Sent, TakeFault, DeskCallsAreSteps, told, answers_after, cancel_at, cancel_of, cancel_sent}
-use Rattle.server_core.proofs.Words.{ending_of, refused, sent_by, sent_for, settle_as, settle_of, step, take_by, terms, tick_at}
-use Rattle.server_core.proofs.Words.{tried_by, try_candidate, try_of, try_on}
+use Rattle.server_core.proofs.Words.{ending_of, refused, sent_by, sent_for, settle_as, settle_of, take_by, terms, tick_at}
+use Rattle.server_core.proofs.Words.{tried_by, try_candidate, try_of, try_on, step}
 use Rattle.server_desk.specs.declared.answers.Known.TheVariants.{Given}
 use Rattle.server_desk.specs.Hearing as hearing
 use Rattle.server_core.specs.Steps as replies

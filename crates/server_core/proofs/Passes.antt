@@ -1,14 +1,13 @@
 -- Time passes for the gatherings: all that are due are closed and answered.
-use Rattle.server_core.proofs.Words.{ap, append-nil, arith, subst, sym, ◌∙◌, position_from, option_map_or, Bool, List, None}
-use Rattle.server_core.proofs.Words.{Option, Some, [], false, if◌then◌else◌, length, map, nat_lt, refl, slice_get, slice_set, suc}
-use Rattle.server_core.proofs.Words.{true, ℕ, ◌&&◌, ◌++◌, ◌+◌, ◌<◌, ◌∷◌, ◌≡◌, Gathering, Gatherings, close_step, due_of, is_due}
-use Rattle.server_core.proofs.Words.{is_open, join_us, rewritten, DeskView, desk_pass, rewritten-found, closing, pass_answer}
-use Rattle.server_core.proofs.Words.{some_inj, World, entry_at, gateway_of, step_lines, answer_steps, closing_steps, due_from}
-use Rattle.server_core.proofs.Words.{due_numbers, pass_steps, reached, AreHeard, Goes, IsAt, IsIdle, IsReady, Makes, Seen, ids_of}
-use Rattle.server_core.proofs.Words.{pass_whole, with_step, Pass, Step, step}
+use Rattle.server_core.proofs.Words.{ap, append-nil, arith, sym, ◌∙◌, position_from, Bool, List, None, Some, [], false}
+use Rattle.server_core.proofs.Words.{if◌then◌else◌, length, nat_lt, refl, slice_get, slice_set, suc, true, ℕ, ◌&&◌, ◌++◌, ◌+◌}
+use Rattle.server_core.proofs.Words.{◌<◌, ◌∷◌, ◌≡◌, Gathering, Gatherings, close_step, is_due, is_open, join_us, due_of, DeskView}
+use Rattle.server_core.proofs.Words.{desk_pass, closing, pass_answer, some_inj, World, answer_steps, closing_steps, due_from}
+use Rattle.server_core.proofs.Words.{due_numbers, reached, pass_steps, IsAt, IsReady, Makes, Moves, Seen, pass_whole, with_step}
+use Rattle.server_core.proofs.Words.{Pass, run_from, step}
 use Rattle.server_core.specs.declared.event.Step.TheVariants as made
-use Rattle.server_core.proofs.Going.{reached_one, one_step, goes_on_lines}
-use Rattle.server_core.proofs.Ready.{ready_same, heard_closed}
+use Rattle.server_core.proofs.Going.{one_step, moves_on}
+use Rattle.server_core.proofs.Ready.{heard_closed}
 
 -- The gatherings that are due, one after another.
 
@@ -43,8 +42,7 @@ module _ (now : ℕ) where
         number = sym (some_inj p) ∙ omega arith;
         there = refl;
         is_open = was_open g e;
-        rest = ap (λ (t : Bool). if t then k ∷ due_from (k + 1) now gs else due_from (k + 1) now gs) e
-            ∙ ap (λ (i : ℕ). i ∷ due_from (k + 1) now gs) (some_inj p);
+        rest = rw (e, some_inj p) refl;
       }
   first_by k g gs m false e p rest =
       let r = rest p in
@@ -54,11 +52,7 @@ module _ (now : ℕ) where
         number = omega (arith, r.number);
         there = r.there;
         is_open = r.is_open;
-        rest = ap (λ (t : Bool). if t then k ∷ due_from (k + 1) now gs else due_from (k + 1) now gs) e
-            ∙ r.rest
-            ∙ ap (λ (l : List ℕ). m ∷ l)
-            (sym (ap (λ (t : Bool). if t then k ∷ due_from (k + 1) now (slice_set gs r.place (closed r.gathering)) else due_from
-            (k + 1) now (slice_set gs r.place (closed r.gathering))) e));
+        rest = rw (e, r.rest) refl;
       }
 
   first_due : (k : ℕ) (l : List Gathering) (m : ℕ) → position_from (is_due now) k l ≡ Some m → IsFirst k l m
@@ -69,8 +63,7 @@ module _ (now : ℕ) where
       → (if t then Some k else position_from (is_due now) (k + 1) gs) ≡ None
       → (position_from (is_due now) (k + 1) gs ≡ None → due_from (k + 1) now gs ≡ []) → due_from k now (g ∷ gs) ≡ []
   none_by k g gs true e p rest = absurd (cc (p))
-  none_by k g gs false e p rest =
-      ap (λ (t : Bool). if t then k ∷ due_from (k + 1) now gs else due_from (k + 1) now gs) e ∙ rest p
+  none_by k g gs false e p rest = rw e (rest p)
 
   none_due : (k : ℕ) (l : List Gathering) → position_from (is_due now) k l ≡ None → due_from k now l ≡ []
   none_due k [] e = refl
@@ -82,11 +75,7 @@ module _ (now : ℕ) where
 
   closed_at : (s : Gatherings) (i : ℕ) (g : Gathering) → slice_get s.list i ≡ Some g → is_open g ≡ true
       → (close_step s (suc i)).list ≡ slice_set s.list i (closed g)
-  closed_at s i g e o =
-      ap (λ (t : Bool). (if t then record s { list = rewritten closed (suc i) s.list } else s).list)
-      (ap (λ (x : Option Gathering). option_map_or is_open x false) e ∙ o)
-      ∙ rewritten-found closed (suc i) s.list g e
-      ∙ ap (λ (j : ℕ). slice_set s.list j (closed g)) (omega arith)
+  closed_at s i g e o = rw (e, o) (ap (λ (j : ℕ). slice_set s.list j (closed g)) (omega arith))
 
   closed_first : (s : Gatherings) (n : ℕ) → IsFirst 1 s.list n
       → due_numbers now s.list ≡ n ∷ due_numbers now (close_step s n).list
@@ -111,9 +100,7 @@ due_now now d = due_numbers now d.reg.gathered.list
 pub record IsPassing {A : Type 0} (place now : ℕ) (w : World) (old s : Seen A) : Type 0 where
   pub world : World
   pub at : IsAt world s
-  pub back : (new : Seen A) → Goes world (pass_whole world now)
-      (map (entry_at place) (step_lines world (pass_whole world now))) s new
-      → Goes w (pass_whole w now) (map (entry_at place) (step_lines w (pass_whole w now))) old new
+  pub back : (new : Seen A) → Moves place world (pass_whole world now) s new → Moves place w (pass_whole w now) old new
 
 pub record ArePassing {A : Type 0} (place now : ℕ) (old s : Seen A) : Type 0 where
   pub ready : IsReady s
@@ -124,75 +111,54 @@ passing_first place now s r = record { ready = r; passing = λ w at. record { wo
 
 -- time passes at the desk, once
 pass_goes : {A : Type 0} (place now : ℕ) (s new : Seen A) (d : DeskView) → d ≡ desk_pass s.desk now
-    → new ≡ with_step (made.Pass now) (record s { desk = d }) → (w : World) → IsAt w s
-    → Goes w (Pass now ∷ []) (map (entry_at place) (step_lines w (Pass now ∷ []))) s new
+    → new ≡ with_step (made.Pass now) (record s { desk = d }) → (w : World) → IsAt w s → Moves place w (Pass now ∷ []) s new
 unfolding step
 pass_goes place now s new d stepped noted w at =
     one_step place w (Pass now) (made.Pass now) [] s new refl
-    (record {
-      desk = ap (λ (x : Seen _). x.desk) noted ∙ stepped ∙ ap (λ (x : DeskView). desk_pass x now) at.desk;
-      gateways = ap (λ (x : Seen _). map gateway_of x.books) noted ∙ at.gateways;
-    })
-    (ap (λ (x : Seen _). x.steps) noted) (ap (λ (x : Seen _). x.outcomes) noted ∙ sym (append-nil s.outcomes)) refl
+    (rw (noted, stepped) (record { desk = ap (λ (x : DeskView). desk_pass x now) at.desk; books = at.books }))
+    (rw noted refl) (rw (noted, append-nil) refl) refl
 
 -- the next that is due is closed
 module _ {A : Type 0} (place now n : ℕ) (old s mid : Seen A) (d : DeskView) (closed : Some n ≡ pass_answer s.desk.reg now)
     (stepped : d ≡ desk_pass s.desk now)
     (noted : mid ≡ with_step (made.Pass now) (record s { desk = d })) where
   d_is : d ≡ record (s.desk) { reg = closing (Some n) s.desk.reg }
-  d_is = stepped ∙ ap (λ (o : Option ℕ). record (s.desk) { reg = closing o s.desk.reg }) (sym closed)
-
-  mid_is : mid.desk ≡ record (s.desk) { reg = closing (Some n) s.desk.reg }
-  mid_is = ap (λ (x : Seen A). x.desk) noted ∙ d_is
-
-  gathered_is : mid.desk.reg.gathered ≡ close_step s.desk.reg.gathered n
-  gathered_is = ap (λ (x : DeskView). x.reg.gathered) mid_is
+  d_is = rw (stepped, ← closed) refl
 
   due_is : due_now now s.desk ≡ n ∷ due_now now mid.desk
-  due_is = due_some now s.desk.reg.gathered n (sym closed) ∙ ap (λ (x : Gatherings). n ∷ due_numbers now x.list) (sym gathered_is)
+  due_is = due_some now s.desk.reg.gathered n (sym closed) ∙ rw (noted, d_is) refl
 
   pub closed_ready : IsReady s → IsReady mid
   closed_ready r =
-      let P : DeskView → Type 0 = λ x. AreHeard x.ids x.reg.gathered.list in
-      record {
-        books = ap (λ (x : Seen A). ids_of x.books) noted ∙ r.books ∙ sym (ap (λ (x : DeskView). x.ids) mid_is);
-        heard = subst P (sym mid_is) (heard_closed s.desk.ids s.desk.reg.gathered n r.heard);
-        idle = subst (λ (x : DeskView). IsIdle x.known) (sym mid_is) r.idle;
-      }
+      rw (noted, d_is) (record {
+        books = r.books;
+        heard = heard_closed s.desk.ids s.desk.reg.gathered n r.heard;
+        idle = r.idle;
+      })
 
   -- and answered
   module _ (next : Seen A) (ready : IsReady next) (same : next.desk.reg.gathered ≡ mid.desk.reg.gathered)
       (answers : Makes place (λ w. answer_steps w n) mid next) where
     -- fewer are due
     pub fewer_due : length (due_now now next.desk) < length (due_now now s.desk)
-    fewer_due =
-        let same_due : length (due_now now next.desk) ≡ length (due_now now mid.desk) =
-        ap (λ (x : Gatherings). length (due_numbers now x.list)) same in
-        let one_more : length (due_now now s.desk) ≡ length (n ∷ due_now now mid.desk) = ap length due_is in
-        omega (arith, same_due, one_more)
+    fewer_due = rw (due_is, same) (omega arith)
 
     module _ (w : World) (at : IsAt w s) where
-      abbrev v : World
-      v = (step w (Pass now)).0
-
-      mid_at : IsAt v mid
-      mid_at = subst (λ (u : World). IsAt u mid) (reached_one w (Pass now)) (pass_goes place now s mid d stepped noted w at).at
-
-      closing_goes : Goes w (closing_steps w now n) (map (entry_at place) (step_lines w (closing_steps w now n))) s next
+      closing_goes : Moves place w (closing_steps w now n) s next
+      unfolding run_from
       closing_goes =
-          goes_on_lines place w (Pass now ∷ []) (answer_steps v n) s mid next (pass_goes place now s mid d stepped noted w at)
-          (subst (λ (u : World). Goes u (answer_steps v n) (map (entry_at place) (step_lines u (answer_steps v n))) mid next)
-          (sym (reached_one w (Pass now))) (answers v mid_at))
-
-      after : World
-      after = reached w (closing_steps w now n)
+          let first = pass_goes place now s mid d stepped noted w at in
+          moves_on place w (Pass now ∷ []) (answer_steps (step w (Pass now)).0 n) s mid next first
+          (answers (step w (Pass now)).0 first.at)
 
       whole_is : pass_whole w now ≡ closing_steps w now n ++ pass_whole (reached w (closing_steps w now n)) now
       unfolding pass_steps
       whole_is =
-          ap (λ (x : DeskView). pass_steps w now (due_now now x)) (sym at.desk) ∙ ap (pass_steps w now) due_is
-          ∙ ap (λ (l : List ℕ). closing_steps w now n ++ pass_steps (reached w (closing_steps w now n)) now l)
-          (ap (λ (x : Gatherings). due_numbers now x.list) (sym same) ∙ ap (due_now now) closing_goes.at.desk)
+          let due : due_numbers now w.reg.gathered.list
+          ≡ n ∷ due_numbers now (reached w (closing_steps w now n)).reg.gathered.list =
+          ap (due_now now) (sym at.desk) ∙ due_is ∙ ap (λ (x : Gatherings). n ∷ due_numbers now x.list) (sym same)
+          ∙ ap (λ (x : DeskView). n ∷ due_now now x) closing_goes.at.desk in
+          rw due refl
 
     pub passing_on : ArePassing place now old s → ArePassing place now old next
     passing_on p =
@@ -200,15 +166,13 @@ module _ {A : Type 0} (place now n : ℕ) (old s mid : Seen A) (d : DeskView) (c
           ready = ready;
           passing = λ w at.
               let q = p.passing w at in
-              let u : World = q.world in
+              let ss = closing_steps q.world now n in
+              let c = closing_goes q.world q.at in
               record {
-                world = reached u (closing_steps u now n);
-                at = (closing_goes u q.at).at;
-                back = λ new g.
-                    q.back new
-                    (subst (λ (ss : List Step). Goes u ss (map (entry_at place) (step_lines u ss)) s new) (sym (whole_is u q.at))
-                    (goes_on_lines place u (closing_steps u now n) (pass_whole (reached u (closing_steps u now n)) now) s next new
-                    (closing_goes u q.at) g));
+                world = reached q.world ss;
+                at = c.at;
+                back = λ new g. q.back new (rw (whole_is q.world q.at)
+                    (moves_on place q.world ss (pass_whole (reached q.world ss) now) s next new c g));
               };
         }
 
@@ -217,24 +181,19 @@ module _ {A : Type 0} (place now : ℕ) (old s new : Seen A) (d : DeskView) (non
     (stepped : d ≡ desk_pass s.desk now)
     (noted : new ≡ with_step (made.Pass now) (record s { desk = d })) where
   same_desk : d ≡ s.desk
-  same_desk = stepped ∙ ap (λ (o : Option ℕ). record (s.desk) { reg = closing o s.desk.reg }) (sym none)
-
-  new_desk : new.desk ≡ s.desk
-  new_desk = ap (λ (x : Seen A). x.desk) noted ∙ same_desk
+  same_desk = rw (stepped, ← none) refl
 
   pub passed_ready : IsReady s → IsReady new
-  passed_ready r =
-      ready_same s new r (ap (λ (x : Seen A). ids_of x.books) noted) (ap (λ (x : DeskView). x.ids) new_desk)
-      (ap (λ (x : DeskView). x.reg.gathered) new_desk)
-      (ap (λ (x : DeskView). x.known) new_desk)
+  passed_ready r = rw (noted, same_desk) r
 
   last_is : (w : World) → IsAt w s → pass_whole w now ≡ Pass now ∷ []
   unfolding pass_steps
-  last_is w at = ap (λ (x : DeskView). pass_steps w now (due_now now x)) (sym at.desk)
-      ∙ ap (pass_steps w now) (due_none now s.desk.reg.gathered.list (sym none))
+  last_is w at =
+      let due : due_numbers now w.reg.gathered.list ≡ [] =
+      ap (due_now now) (sym at.desk) ∙ due_none now s.desk.reg.gathered.list (sym none) in
+      rw due refl
 
   pub passed_made : ArePassing place now old s → Makes place (λ w. pass_whole w now) old new
   passed_made p w at =
       let q = p.passing w at in
-      q.back new (subst (λ (ss : List Step). Goes q.world ss (map (entry_at place) (step_lines q.world ss)) s new)
-      (sym (last_is q.world q.at)) (pass_goes place now s new d stepped noted q.world q.at))
+      q.back new (rw (last_is q.world q.at) (pass_goes place now s new d stepped noted q.world q.at))

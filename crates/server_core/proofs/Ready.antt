@@ -3,10 +3,10 @@ use Rattle.server_core.proofs.Words.{ap, arith, inl, inr, subst, sym, ◌∙◌,
 use Rattle.server_core.proofs.Words.{None, Ok, Option, Result, Some, [], false, if◌then◌else◌, length, not, refl, true, ℕ, ⊤}
 use Rattle.server_core.proofs.Words.{◌++◌, ◌+◌, ◌∷◌, ◌≡◌, ◌⊎◌, uplink_of, FrameFault, Uplink, Gathering, Gatherings, close_step}
 use Rattle.server_core.proofs.Words.{is_open_at, numbered, rewritten, hear_answer, place_of, with_copy, Joined, Opened, HearFault}
-use Rattle.server_core.proofs.Words.{HeardCopy, is_given, known_after, Decision, Join, Refuse, copy_fault, copy_of, decide}
-use Rattle.server_core.proofs.Words.{decide_copy, decide_frame, decide_place, register_after, numbered-append_cases}
-use Rattle.server_core.proofs.Words.{numbered_cases, rewritten-none, Register, Known, NotGiven, DeskFault, UnknownGateway, Heard1}
-use Rattle.server_core.proofs.Words.{AreHeard, IsIdle, IsReady, Seen, ids_of, is_among}
+use Rattle.server_core.proofs.Words.{HeardCopy, is_given, known_after, Decision, Join, Refuse, copy_fault, copy_of, decide_copy}
+use Rattle.server_core.proofs.Words.{decide_frame, decide_place, register_after, decide, numbered-append_cases, numbered_cases}
+use Rattle.server_core.proofs.Words.{rewritten-none, Register, Known, NotGiven, DeskFault, UnknownGateway, Heard1, AreHeard}
+use Rattle.server_core.proofs.Words.{IsIdle, IsReady, Seen, ids_of, is_among}
 use Rattle.uplink_gather.specs.declared.answers.Heard.{Heard}
 use Rattle.uplink_gather.specs.Hearing.{opening, after_hearing}
 use Rattle.server_desk.specs.Hearing.{Open}

@@ -1,5 +1,5 @@
 -- What holds at every step is what is promised of a run.
-use Rattle.server_core.proofs.Words.{ap, subst, sym, ◌∙◌, Contains, Some, slice_get, ℕ, ◌+◌, ◌≡◌, ◌⊎◌, net, start_of, Reservation}
+use Rattle.server_core.proofs.Words.{ap, subst, sym, ◌∙◌, Contains, Some, slice_get, ℕ, ◌+◌, ◌≡◌, ◌⊎◌, start_of, net, Reservation}
 use Rattle.server_core.proofs.Words.{numbered, rx1_of, rx2_of, Plan, Job, candidates, from_map, get_contains, some_inj, Device}
 use Rattle.server_core.proofs.Words.{AreSettings, SettingLists, plan_for, Gateway, World, Sent, DeviceSetting, IsMember}
 use Rattle.server_core.proofs.Words.{IsOwnWindow, jobs_given, Run, sent_for}

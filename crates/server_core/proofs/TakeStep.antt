@@ -4,7 +4,7 @@ use Rattle.server_core.proofs.Words.{Result, Some, [], refl, slice_get, ℕ, ◌
 use Rattle.server_core.proofs.Words.{HeardCopy, IsWindowOf, IsWindowOf-ranked, on_gateways_that_heard, candidates_of, Candidate}
 use Rattle.server_core.proofs.Words.{Job, Open, Waiting, is_not_given, known_of, numbered-here, all_get, get_set_same, some_inj}
 use Rattle.server_core.proofs.Words.{Device, Register, AreSettings, SettingLists, after_taking, counter_given, head, job_of}
-use Rattle.server_core.proofs.Words.{plan_for, take_answer, taken_from, with_counter_given, World, known, Asked, TakeFault}
+use Rattle.server_core.proofs.Words.{plan_for, taken_from, with_counter_given, take_answer, World, known, Asked, TakeFault}
 use Rattle.server_core.proofs.Words.{DeviceSetting, take, take_by}
 use Rattle.server_core.proofs.Tickets.{IsTicket, ticket, still_waits}
 use Rattle.server_core.proofs.Holds.{IsOfDevice, IsJobFor, Holds, IsGivenAt, IsGood, IsGoodStep, IsNew, IsUsed, Holds-weaker}

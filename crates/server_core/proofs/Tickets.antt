@@ -1,8 +1,8 @@
 -- What is known of an uplink for which a ticket is given.
 use Rattle.server_core.proofs.Words.{ap, ◌∙◌, Bool, Err, List, None, Ok, Option, Some, false, if◌then◌else◌, map, refl, slice_get}
 use Rattle.server_core.proofs.Words.{suc, true, zero, ℕ, ◌≡◌, is_closed_at, numbered, Job, Answer, Booked, Open, Out, Settled}
-use Rattle.server_core.proofs.Words.{Waiting, is_not_given, known_of, from_map, Device, Register, given_or, job_of, take_answer}
-use Rattle.server_core.proofs.Words.{take_fault, take_known, Asked, Known, TakeFault, NotReady, Taken}
+use Rattle.server_core.proofs.Words.{Waiting, is_not_given, known_of, from_map, Device, Register, given_or, job_of, take_fault}
+use Rattle.server_core.proofs.Words.{take_known, take_answer, Asked, Known, TakeFault, NotReady, Taken}
 use Rattle.server_desk.specs.Taking.{take_by}
 
 -- no ticket was given for it before, and the job is made of what is known of it and of its device

@@ -8,7 +8,7 @@ pub use Rattle.std.proofs.lemmas.List.Elements.{All-cons, All-nil, All-weaker, C
 pub use Rattle.std.proofs.lemmas.List.Elements.{Contains-push_cases}
 pub use Rattle.std.proofs.lemmas.List.Kept.{AllPairs-cons}
 pub use Rattle.std.proofs.lemmas.Option.{get_or_from_slice_get, slice_get_within}
-pub use Rattle.std.specs.List.{position_from}
+pub use Rattle.std.specs.List.{AllZip, position_from}
 pub use Rattle.std.specs.Option.{IsSomeAnd, option_and_then, option_map, option_map_or}
 pub use Rattle.std.specs.Prelude.{All, AllPairs, Bool, Contains, Err, IfOk, IsOkUnless, IsSome, IsTrue, List, MatchResult, None}
 pub use Rattle.std.specs.Prelude.{Ok, OnErr, OnOk, Option, Result, Some, [], cond, drop, false, filter, find, get_or}
@@ -33,6 +33,8 @@ pub use Rattle.gateway_book.specs.declared.cancel.CancelFault.{CancelFault}
 pub use Rattle.gateway_book.specs.declared.cancel.CancelFault.TheVariants.{Begun, NotHere}
 pub use Rattle.gateway_book.specs.declared.refusal.Refusal.{Refusal}
 pub use Rattle.gateway_book.specs.declared.totals.Totals.{Totals}
+pub use Rattle.gateway_book.specs.Remembers.{Remembers, orderly_booked, orderly_cancelled, remembers_answer, remembers_booked}
+pub use Rattle.gateway_book.specs.Remembers.{remembers_cancel, remembers_cancelled, remembers_own, remembers_ticked}
 pub use Rattle.lora_frame.specs.Reading.{addr_of, uplink_of}
 pub use Rattle.lora_frame.specs.declared.reading.FrameFault.{FrameFault}
 pub use Rattle.lora_frame.specs.declared.reading.Uplink.{Uplink}
@@ -56,7 +58,7 @@ pub use Rattle.rx_windows.specs.declared.plan.Plan.{Plan}
 pub use Rattle.answer_ticket.specs.Ended.{answered_as}
 pub use Rattle.answer_ticket.specs.Job.{Job, Payload, ask_for, candidate_at, candidates, frame_for}
 pub use Rattle.answer_ticket.specs.Ticket.{Standing, candidate_of}
-pub use Rattle.answer_ticket.specs.Tried.{IsBooked, IsWrong, next_of, refusal_by}
+pub use Rattle.answer_ticket.specs.Tried.{IsBooked, IsReceipt, IsWrong, next_of, refusal_by}
 pub use Rattle.answer_ticket.specs.declared.outcome.Ending.{Ending}
 pub use Rattle.answer_ticket.specs.declared.outcome.Ending.TheVariants.{Answered, GivenUp, Unanswered}
 pub use Rattle.answer_ticket.specs.declared.outcome.Outcome.{Outcome}
@@ -107,9 +109,9 @@ pub use Rattle.server_core.specs.Promise.{jobs_given, setting_of, with_given}
 pub use Rattle.server_core.specs.Schedule.{accepts, answer_steps, closing_steps, due_from, due_numbers, given_steps, is_accepted}
 pub use Rattle.server_core.specs.Schedule.{is_none, reached, schedule, step_of, up_to_first, usual_limits}
 unfoldable pub use Rattle.server_core.specs.Schedule.{event_steps, pass_steps, schedule_from}
-pub use Rattle.server_core.specs.Server.{AreHeard, AreHere, Does, Goes, IsAt, IsCancelled, IsIdle, IsOpened, IsReady, Makes, Seen}
-pub use Rattle.server_core.specs.Server.{cancelled_line, heard_line, ids_of, is_among, pass_whole, queued_line, seen, with_lines}
-pub use Rattle.server_core.specs.Server.{with_step}
+pub use Rattle.server_core.specs.Server.{AreAt, AreBooksOf, AreHeard, AreHere, AreReady, Does, Goes, IsAt, IsBookOf, IsCancelled}
+pub use Rattle.server_core.specs.Server.{IsIdle, IsOpened, IsReady, Makes, Moves, Seen, cancelled_line, heard_line, ids_of}
+pub use Rattle.server_core.specs.Server.{is_among, pass_whole, queued_line, seen, with_lines, with_step}
 pub use Rattle.server_core.specs.Steps.{After, Cancel, Given, Hear, Heard, Pass, Queue, Queued, Reply, Run, Settle, Step, Take}
 pub use Rattle.server_core.specs.Steps.{Tick, Try, answers_after, cancel, cancel_at, cancel_of, cancel_sent, ending_of, hear}
 pub use Rattle.server_core.specs.Steps.{hear_by, pass, queue, refused, run, sent_by, sent_for, settle, settle_as, settle_of, take}

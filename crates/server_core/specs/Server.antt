@@ -1,6 +1,8 @@
 use Rattle.std.specs.Prelude.{ℕ, ◌≡◌, ◌==◌, Bool, false, List, [], ◌∷◌, ◌++◌, map, Contains, IsTrue, Some, Result, Ok, Err}
-use Rattle.std.specs.List.{list_any}
+use Rattle.std.specs.List.{list_any, AllZip}
 use Rattle.gateway_book.specs.Book.{Book}
+use Rattle.gateway_book.specs.Orderly.{IsOrderly}
+use Rattle.gateway_book.specs.Remembers.{Remembers}
 use Rattle.gateway_book.specs.declared.cancel.CancelFault.{CancelFault}
 use Rattle.uplink_gather.specs.declared.heard.HeardCopy.{HeardCopy}
 use Rattle.uplink_gather.specs.Gatherings.{Gathering, numbered}
@@ -19,11 +21,11 @@ use Rattle.server_desk.specs.Settings.{SettingLists, AreSettings}
 use Rattle.server_desk.specs.declared.answers.Known.{Known}
 use Rattle.server_desk.specs.Answers.{is_given}
 use Rattle.server_desk.specs.Desk.{DeskView, desk_of}
-use Rattle.server_desk.specs.World.{World, opening}
+use Rattle.server_desk.specs.World.{World, Gateway, opening}
 use Rattle.server_core.specs.Steps.{Step, Cancel, step}
 use Rattle.server_core.specs.Steps as replies
 use Rattle.server_core.specs.Schedule.{usual_limits, reached, due_numbers, pass_steps, event_steps, step_of}
-use Rattle.server_core.specs.Entries.{step_lines, event_lines, entry_at, gateway_of}
+use Rattle.server_core.specs.Entries.{step_lines, event_lines, entry_at}
 
 -- What one thread keeps of the system, and how it goes on.
 
@@ -44,10 +46,25 @@ with_step made s = record s { steps = s.steps ++ made ∷ [] }
 abbrev pub with_lines : {A : Type 0} → ℕ → List (Line A) → Seen A → Seen A
 with_lines place lines s = record s { outcomes = s.outcomes ++ map (entry_at place) lines }
 
+-- a book beside the world's gateway, whose orderly list forgets nothing
+pub record IsBookOf (b : Book) (g : Gateway) : Type 0 where
+  pub id : b.id ≡ g.id
+  pub rules : b.rules ≡ g.rules
+  pub orderly : IsOrderly g.state.list
+  pub remembers : Remembers b g.state
+
+-- each book is the gateway's at its place
+abbrev pub AreBooksOf : List Book → List Gateway → Type 0
+AreBooksOf books gateways = AllZip IsBookOf books gateways
+
+-- the desk and the books are those of this world
+pub record AreAt (w : World) (d : DeskView) (bs : List Book) : Type 0 where
+  pub desk : d ≡ desk_of w
+  pub books : AreBooksOf bs w.gateways
+
 -- it keeps this world
-pub record IsAt {A : Type 0} (w : World) (s : Seen A) : Type 0 where
-  pub desk : s.desk ≡ desk_of w
-  pub gateways : map gateway_of s.books ≡ w.gateways
+abbrev pub IsAt : {A : Type 0} → World → Seen A → Type 0
+IsAt w s = AreAt w s.desk s.books
 
 -- it made these steps from a world, and told these lines
 pub record Goes {A : Type 0} (w : World) (ss : List Step) (lines : List (Entry A)) (old new : Seen A) : Type 0 where
@@ -55,10 +72,14 @@ pub record Goes {A : Type 0} (w : World) (ss : List Step) (lines : List (Entry A
   pub steps : map step_of new.steps ≡ map step_of old.steps ++ ss
   pub outcomes : new.outcomes ≡ old.outcomes ++ lines
 
--- from the world that it keeps it makes these steps, and tells the lines for them as an answer to the event at this place
+-- it made these steps from a world, and told the lines for them as an answer to the event at this place
+abbrev pub Moves : {A : Type 0} → ℕ → World → List Step → Seen A → Seen A → Type 0
+Moves place w ss old new = Goes w ss (map (entry_at place) (step_lines w ss)) old new
+
+-- it does so from the world that it keeps
 abbrev pub Makes : {A : Type 0} → ℕ → (World → List Step) → Seen A → Seen A → Type 0
 Makes place steps old new =
-    (w : World) → IsAt w old → Goes w (steps w) (map (entry_at place) (step_lines w (steps w))) old new
+    (w : World) → IsAt w old → Moves place w (steps w) old new
 
 -- it makes the steps of an event, and tells its lines
 abbrev pub Does : {A : Type 0} → ℕ → Event A → Seen A → Seen A → Type 0
@@ -84,11 +105,15 @@ AreHere ids job = (k : ℕ) (c : Candidate) → candidate_at job k ≡ Some c �
 abbrev pub ids_of : List Book → List ℕ
 ids_of books = map (λ b. b.id) books
 
--- it is ready for an event: its books are those of the desk's gateways, which heard all copies, and no ticket is out
-pub record IsReady {A : Type 0} (s : Seen A) : Type 0 where
-  pub books : ids_of s.books ≡ s.desk.ids
-  pub heard : AreHeard s.desk.ids s.desk.reg.gathered.list
-  pub idle : IsIdle s.desk.known
+-- the books are those of the desk's gateways, which heard all copies, and no ticket is out
+pub record AreReady (d : DeskView) (bs : List Book) : Type 0 where
+  pub books : ids_of bs ≡ d.ids
+  pub heard : AreHeard d.ids d.reg.gathered.list
+  pub idle : IsIdle d.known
+
+-- it is ready for an event
+abbrev pub IsReady : {A : Type 0} → Seen A → Type 0
+IsReady s = AreReady s.desk s.books
 
 -- it keeps what there is before the first step
 pub record IsOpened {A : Type 0} (settings : SettingLists) (s : Seen A) : Type 0 where
@@ -117,7 +142,7 @@ pub record IsCancelled {A : Type 0} (n : ℕ) (old new : Seen A) (result : Resul
   pub steps : new.steps ≡ old.steps
   pub outcomes : new.outcomes ≡ old.outcomes
   pub books : ids_of new.books ≡ ids_of old.books
-  pub gateways : (w : World) → IsAt w old → map gateway_of new.books ≡ (step w (Cancel n)).0.gateways
+  pub kept : (w : World) → IsAt w old → AreBooksOf new.books (step w (Cancel n)).0.gateways
   pub reply : (w : World) → IsAt w old → (step w (Cancel n)).1 ≡ replies.Cancelled result
 
 -- the steps in which all that is due is closed and answered

@@ -21,8 +21,8 @@ use Rattle.server_desk.specs.World.{World}
 use Rattle.server_core.specs.Steps.{Step, Settle, Try, step}
 use Rattle.server_core.specs.Steps as replies
 use Rattle.server_core.specs.Schedule.{reached, up_to_first, is_accepted, given_steps, step_of}
-use Rattle.server_core.specs.Entries.{lines_for, step_lines, entry_at, gateway_of}
-use Rattle.server_core.specs.Server.{Seen, IsAt, Goes, ids_of}
+use Rattle.server_core.specs.Entries.{lines_for, step_lines, entry_at}
+use Rattle.server_core.specs.Server.{Seen, IsAt, AreBooksOf, Moves, ids_of}
 
 -- A ticket is tried on one thread, and settled.
 
@@ -50,7 +50,7 @@ end_lines n ending receipt = []
 
 -- the ticket was tried until it was booked or out; what is to be told of that is told when it is settled
 pub record EndsTries {A : Type 0} (w : World) (t : Standing) (old new : Seen A) (ended : Ended A) : Type 0 where
-  pub gateways : map gateway_of new.books ≡ (reached w (tries_from w t)).gateways
+  pub books : AreBooksOf new.books (reached w (tries_from w t)).gateways
   pub steps : map step_of new.steps ≡ map step_of old.steps ++ tries_from w t
   pub told : told (reached w (tries_from w t)) t.job.number ≡ Some ended.stub.result
   pub lines : step_lines w (tries_from w t)
@@ -59,15 +59,15 @@ pub record EndsTries {A : Type 0} (w : World) (t : Standing) (old new : Seen A) 
 
 -- the candidate at which it stood was refused, and another follows
 pub record GoesOn {A : Type 0} (w : World) (t : Standing) (old new : Seen A) : Type 0 where
-  pub gateways : map gateway_of new.books ≡ (step w (Try t.job.number)).0.gateways
+  pub books : AreBooksOf new.books (step w (Try t.job.number)).0.gateways
   pub steps : map step_of new.steps ≡ map step_of old.steps ++ Try t.job.number ∷ []
   pub stands : numbered t.job.number (step w (Try t.job.number)).0.answers ≡ Some (Open (t.at + 1) t.job)
   pub rest : tries_from w t ≡ Try t.job.number ∷ tries_from (step w (Try t.job.number)).0 (next_of t)
   pub lines : lines_for {A = A} w (Try t.job.number) (step w (Try t.job.number)).1 ≡ []
 
--- a world whose gateways have these books, and in which this ticket is out
+-- a world of whose gateways these are the books, and in which this ticket is out
 pub record IsOut {A : Type 0} (w : World) (t : Standing) (s : Seen A) : Type 0 where
-  pub gateways : map gateway_of s.books ≡ w.gateways
+  pub books : AreBooksOf s.books w.gateways
   pub stands : numbered t.job.number w.answers ≡ Some (Open t.at t.job)
 
 -- what tries leave as it is
@@ -112,5 +112,4 @@ pub record IsAnswered {A : Type 0} (place : ℕ) (job : Job) (old new : Seen A) 
   pub ending : Ending
   pub desk : new.desk ≡ desk_settled ending job.number old.desk
   pub goes : (w : World) → IsAt w old → numbered job.number w.answers ≡ Some (Open 0 job)
-      → Goes w (given_steps w job.number (replies.Given (Ok job)))
-      (map (entry_at place) (step_lines w (given_steps w job.number (replies.Given (Ok job))))) old new
+      → Moves place w (given_steps w job.number (replies.Given (Ok job))) old new

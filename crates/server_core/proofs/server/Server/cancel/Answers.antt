@@ -8,9 +8,8 @@ cancelled-answer-requires g c = ready_noted _ (seen c.args.self.now) (seen c.did
 
 pub returns : goal.returns
 returns g c =
-    let both = both_done c.args.place _ (seen c.args.self.now) (seen c.told.new.self) c.told.result
+    both_done c.args.place _ (seen c.args.self.now) (seen c.told.new.self) c.told.result
     (cancel_done c.args.place c.args.number (seen c.args.self.now) (seen c.did.new.self) (seen c.cancelled-answer.new.self)
     (seen c.told.new.self) c.cancelled-answer.result _ c.in_ok-did.ensures
     c.cancelled-answer.ensures c.cancelled_line.ensures c.requires)
-    c.told.ensures in
-    record { ready = both.0; made = both.1 }
+    c.told.ensures

@@ -24,11 +24,10 @@ index_mut-book-requires g c =
 
 pub returns : goal.returns
 returns g c =
-    let both = both_done c.args.place _ (seen c.args.self.now) (seen c.told-2.new.self) c.told-2.result
+    both_done c.args.place _ (seen c.args.self.now) (seen c.told-2.new.self) c.told-2.result
     (ticked_done c.args.place (seen c.args.self.now) (seen c.did.new.self)
     (seen c.told-2.new.self) c.args.gateway c.args.now c.in_ok-did.ensures c.requires
     c.in-Some.at c.index_mut-book.result.now c.tick.new.self c.totals-floor.result.floor
     (rw c.deref.ensures.value at c.in-Some.ensures) c.index_mut-book.ensures.value c.tick.ensures.floor
     (ap (λ (t : Totals). t.floor) c.totals-floor.ensures.totals))
-    c.told-2.ensures in
-    record { ready = both.0; made = both.1 }
+    c.told-2.ensures

@@ -33,21 +33,19 @@ returns-in-Booked g c =
     booked_turn c.args.ticket (seen c.args.self.now) (seen c.did.new.self) c.gateway.result c.in-Some.place c.index_mut.result.now
     c.try_on.new.book
     (c.in-Ok.ensures ∙ ap (λ (x : ℕ). with_step (made.Try x) (seen c.args.self.now)) c.number-number.ensures.number)
-    (rw c.deref.ensures.value at c.in-Some.ensures) c.index_mut.ensures.value c.gateway.ensures.gateway c.requires
-    c.in-Booked.stub c.in-Booked.receipt c.in-Booked.ensures
+    (rw c.deref.ensures.value at c.in-Some.ensures) c.index_mut.ensures.value c.requires c.in-Booked.stub c.in-Booked.receipt
+    c.in-Booked.ensures
 
 pub returns-in-Next : goal.returns-in-Next
 returns-in-Next g c =
     next_turn c.args.ticket (seen c.args.self.now) (seen c.did.new.self) c.gateway.result c.in-Some.place c.index_mut.result.now
     c.try_on.new.book
     (c.in-Ok.ensures ∙ ap (λ (x : ℕ). with_step (made.Try x) (seen c.args.self.now)) c.number-number.ensures.number)
-    (rw c.deref.ensures.value at c.in-Some.ensures) c.index_mut.ensures.value c.gateway.ensures.gateway c.in-Next.ticket
-    c.in-Next.field-1 c.in-Next.ensures
+    (rw c.deref.ensures.value at c.in-Some.ensures) c.index_mut.ensures.value c.in-Next.ticket c.in-Next.field-1 c.in-Next.ensures
 
 pub returns-in-Out : goal.returns-in-Out
 returns-in-Out g c =
     out_turn c.args.ticket (seen c.args.self.now) (seen c.did.new.self) c.gateway.result c.in-Some.place c.index_mut.result.now
     c.try_on.new.book
     (c.in-Ok.ensures ∙ ap (λ (x : ℕ). with_step (made.Try x) (seen c.args.self.now)) c.number-number.ensures.number)
-    (rw c.deref.ensures.value at c.in-Some.ensures) c.index_mut.ensures.value c.gateway.ensures.gateway c.in-Out.stub
-    c.in-Out.field-1 c.in-Out.ensures
+    (rw c.deref.ensures.value at c.in-Some.ensures) c.index_mut.ensures.value c.in-Out.stub c.in-Out.field-1 c.in-Out.ensures
