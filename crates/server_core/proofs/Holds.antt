@@ -173,13 +173,9 @@ module _ (settings : SettingLists) (T U : Job → Type 0) (more : (job : Job) �
 
   pub Holds-weaker : (w : World) → Holds settings T w → Holds settings U w
   Holds-weaker w h =
-      record {
-        gateways = h.gateways;
-        devices = h.devices;
-        in_order = h.in_order;
-        together = h.together;
-        answered = h.answered;
-        asked = h.asked;
-        jobs = λ n k job e. job_weaker w.reg.gathered.list n job (h.jobs n k job e);
-        stands = λ i g e k r f. stand_weaker w.reg.gathered.list w.answers g.id r (h.stands i g e k r f);
-      }
+      let jobs : (n k : ℕ) (job : Job) → numbered n w.answers ≡ Some (Open k job)
+      → IsJobFor settings U w.reg.gathered.list n job = λ n k job e. job_weaker w.reg.gathered.list n job (h.jobs n k job e) in
+      let stands : (i : ℕ) (g : Gateway) → slice_get w.gateways i ≡ Some g
+      → AllStand settings U w.reg.gathered.list w.answers g =
+      λ i g e k r f. stand_weaker w.reg.gathered.list w.answers g.id r (h.stands i g e k r f) in
+      assumption (jobs, stands)

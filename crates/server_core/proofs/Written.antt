@@ -28,22 +28,9 @@ module _ (settings : SettingLists) (T : Job → Type 0) (w : World) (h : Holds s
   pub device_written : (p : ℕ) (d e : Device) → slice_get w.reg.devices p ≡ Some d → e.setting ≡ d.setting → d.down ≤ e.down
       → IsGood settings T w (with_device p e)
   device_written p d e g s c =
-      record {
-        holds = record {
-          gateways = h.gateways;
-          devices = map_set (λ x. x.setting) w.reg.devices p d e g s ∙ h.devices;
-          in_order = h.in_order;
-          together = h.together;
-          answered = h.answered;
-          asked = h.asked;
-          jobs = h.jobs;
-          stands = h.stands;
-        };
-        follows = record {
-          given = λ n i. i;
-          devices = λ q f i. later_by p q d e f s c (get_set_after w.reg.devices p q d e f g i);
-        };
-      }
+      let later : (q : ℕ) (f : Device) → slice_get w.reg.devices q ≡ Some f → IsLater (slice_set w.reg.devices p e) q f =
+      λ q f i. later_by p q d e f s c (get_set_after w.reg.devices p q d e f g i) in
+      assumption (map_set (λ x. x.setting) w.reg.devices p d e g s ∙ h.devices, later)
 
   -- an answer, which keeps what was booked for it, and of which a ticket was given
 
@@ -94,22 +81,15 @@ module _ (settings : SettingLists) (T : Job → Type 0) (w : World) (h : Holds s
         → ((k : ℕ) (job : Job) → new ≡ Open k job → IsJobFor settings T w.reg.gathered.list n job)
         → IsGood settings T w (with_answer n new)
     answer_written s i o =
-        record {
-          holds = record {
-            gateways = h.gateways;
-            devices = h.devices;
-            in_order = h.in_order;
-            together = h.together;
-            answered = length-rewritten (λ a. new) n w.answers ∙ h.answered;
-            asked = h.asked;
-            jobs = λ m k job e. job_by m k job o (numbered_cases (λ a. new) n m w.answers old (Open k job) there e);
-            stands = λ j g e k r f. stand_by g.id r s (h.stands j g e k r f);
-          };
-          follows = record {
-            given = λ m g. given_by m i g (numbered_after (λ a. new) n m w.answers old g.answer there g.answered);
-            devices = (Follows-refl w).devices;
-          };
-        }
+        let answers = rewritten (λ a. new) n w.answers in
+        let jobs : (m k : ℕ) (job : Job) → numbered m answers ≡ Some (Open k job)
+        → IsJobFor settings T w.reg.gathered.list m job =
+        λ m k job e. job_by m k job o (numbered_cases (λ a. new) n m w.answers old (Open k job) there e) in
+        let stands : (j : ℕ) (g : Gateway) → slice_get w.gateways j ≡ Some g
+        → AllStand settings T w.reg.gathered.list answers g = λ j g e k r f. stand_by g.id r s (h.stands j g e k r f) in
+        let given : (m : ℕ) → IsGivenAt w.answers m → IsGivenAt answers m =
+        λ m g. given_by m i g (numbered_after (λ a. new) n m w.answers old g.answer there g.answered) in
+        assumption (length-rewritten (λ a. new) n w.answers ∙ h.answered, jobs, stands, given, (Follows-refl w).devices)
 
   -- a gateway, which keeps its setting, and whose members stand for their answers
 
@@ -131,16 +111,9 @@ module _ (settings : SettingLists) (T : Job → Type 0) (w : World) (h : Holds s
     pub gateway_written : setting_of new ≡ setting_of old → IsInOrder new → AllStand settings T w.reg.gathered.list w.answers new
         → IsGood settings T w (with_gateway i new)
     gateway_written s o a =
-        record {
-          holds = record {
-            gateways = map_set setting_of w.gateways i old new there s ∙ h.gateways;
-            devices = h.devices;
-            in_order = λ j g e. in_order_by j g o (get_set_cases w.gateways i j new g e);
-            together = h.together;
-            answered = h.answered;
-            asked = h.asked;
-            jobs = h.jobs;
-            stands = λ j g e. all_by j g a (get_set_cases w.gateways i j new g e);
-          };
-          follows = record { given = λ n g. g; devices = (Follows-refl w).devices };
-        }
+        let in_order : (j : ℕ) (g : Gateway) → slice_get (slice_set w.gateways i new) j ≡ Some g → IsInOrder g =
+        λ j g e. in_order_by j g o (get_set_cases w.gateways i j new g e) in
+        let stands : (j : ℕ) (g : Gateway) → slice_get (slice_set w.gateways i new) j ≡ Some g
+        → AllStand settings T w.reg.gathered.list w.answers g =
+        λ j g e. all_by j g a (get_set_cases w.gateways i j new g e) in
+        assumption (map_set setting_of w.gateways i old new there s ∙ h.gateways, in_order, stands, (Follows-refl w).devices)
