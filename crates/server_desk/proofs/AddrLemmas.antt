@@ -1,12 +1,8 @@
 -- A device's place by its address.
-use Rattle.std.specs.Prelude.{ℕ, ◌≡◌, ◌+◌, ◌==◌, nat_eq, Bool, true, false, if◌then◌else◌, List, [], ◌∷◌, map, position, Option}
-use Rattle.std.specs.Prelude.{Some, None, refl}
-use Rattle.std.specs.Option.{option_map}
-use Rattle.std.specs.List.{position_from}
-use Rattle.std.proofs.Common.{ap, ◌∙◌, arith}
-use Rattle.std.proofs.lemmas.Bool.Decides.{nat_tests}
+use Rattle.server_desk.proofs.Words.{ℕ, ◌≡◌, ◌+◌, ◌==◌, nat_eq, Bool, true, false, if◌then◌else◌, List, [], ◌∷◌, map, position}
+use Rattle.server_desk.proofs.Words.{Option, Some, None, refl, option_map, position_from, ap, ◌∙◌, arith, nat_tests, Device}
+use Rattle.server_desk.proofs.Words.{next_place, device_with}
 use Rattle.std.proofs.lemmas.Iterator.Adapters.{position_from-zero}
-use Rattle.server_desk.specs.Register.{Device, next_place, device_with}
 
 -- the address of a device
 abbrev pub addr_of : Device → ℕ

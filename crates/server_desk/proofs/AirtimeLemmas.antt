@@ -1,38 +1,18 @@
 -- The airtimes of the gateways, as the desk keeps them.
-use Rattle.std.specs.Prelude.{ℕ, zero, suc, ◌≡◌, ◌≢◌, ◌+◌, ◌-◌, ◌^◌, ◌<◌, ◌≤◌, ◌==◌, Bool, true, false, ◌&&◌, ◌||◌, if◌then◌else◌}
-use Rattle.std.specs.Prelude.{List, [], ◌∷◌, ◌++◌, map, length, slice_get, slice_set, get_or, All, AllPairs, Option, Some, None}
-use Rattle.std.specs.Prelude.{Result, Ok, Err, refl}
-use Rattle.std.specs.List.{list_any}
-use Rattle.std.specs.Option.{option_map, option_map_or}
-use Rattle.std.proofs.Common.{sym, ap, ◌∙◌, subst, arith}
-use Rattle.std.proofs.lemmas.Bool.{true≢false, eq-eqb}
-use Rattle.std.proofs.lemmas.Bool.Decides.{nat_tests}
-use Rattle.std.proofs.lemmas.List.{length-map, length-append, length-set}
-use Rattle.std.proofs.lemmas.List.Elements.{All-nil, All-map, All-push, All-set}
-use Rattle.rx_windows.specs.RankLaws.{AllPairs-head, AllPairs-tail}
-use Rattle.answer_ticket.specs.Ended.{longest_us, IsWithinLongest}
-use Rattle.answer_ticket.specs.declared.outcome.Ending.{Ending}
+use Rattle.server_desk.proofs.Words.{ℕ, zero, suc, ◌≡◌, ◌≢◌, ◌+◌, ◌-◌, ◌^◌, ◌<◌, ◌≤◌, ◌==◌, Bool, true, false, ◌&&◌, ◌||◌}
+use Rattle.server_desk.proofs.Words.{if◌then◌else◌, List, [], ◌∷◌, ◌++◌, map, length, slice_get, slice_set, get_or, All, AllPairs}
+use Rattle.server_desk.proofs.Words.{Option, Some, None, Result, Ok, Err, refl, list_any, option_map, option_map_or, sym, ap, ◌∙◌}
+use Rattle.server_desk.proofs.Words.{subst, arith, true≢false, eq-eqb, nat_tests, length-map, length-append, length-set, All-nil}
+use Rattle.server_desk.proofs.Words.{All-map, All-push, All-set, AllPairs-head, AllPairs-tail, longest_us, IsWithinLongest}
+use Rattle.server_desk.proofs.Words.{Ending, get_or_from_slice_get, slice_get_within, HeardCopy, HearFault, Heard, Opened, Joined}
+use Rattle.server_desk.proofs.Words.{Gatherings, numbered, after_hearing, GatewaySetting, at_number, Known, NotGiven, Given, Done}
+use Rattle.server_desk.proofs.Words.{Sent, is_given, first_at, next_place, sent_of, is_here, may_settle, DeskView, answered_at}
+use Rattle.server_desk.proofs.Words.{total_at, answered_for, sent_airtime, airtime_of_ending, total_limit, whole_airtime}
+use Rattle.server_desk.proofs.Words.{AreAirtimes, raised_at, raised, CanRaise, some_inj, map_there, found_there, total_same}
+use Rattle.server_desk.proofs.Words.{answered_push, answered_given}
 use Rattle.answer_ticket.specs.declared.outcome.Ending.TheVariants.{Answered, Unanswered, GivenUp}
-use Rattle.std.proofs.lemmas.Option.{get_or_from_slice_get, slice_get_within}
 use Rattle.std.proofs.lemmas.List.Kept.{AllPairs-cons}
-use Rattle.uplink_gather.specs.declared.heard.HeardCopy.{HeardCopy}
-use Rattle.uplink_gather.specs.declared.fault.HearFault.{HearFault}
-use Rattle.uplink_gather.specs.declared.answers.Heard.{Heard}
-use Rattle.uplink_gather.specs.declared.answers.Heard.TheVariants.{Opened, Joined}
-use Rattle.uplink_gather.specs.Gatherings.{Gatherings, numbered}
-use Rattle.uplink_gather.specs.Hearing.{after_hearing}
-use Rattle.server_desk.specs.declared.setting.GatewaySetting.{GatewaySetting}
-use Rattle.server_desk.specs.Numbers.{at_number}
-use Rattle.server_desk.specs.Answers.{Known, NotGiven, Given, Done, Sent, is_given}
-use Rattle.server_desk.specs.Register.{first_at, next_place}
-use Rattle.server_desk.specs.Settling.{sent_of, is_here, may_settle}
-use Rattle.server_desk.specs.Desk.{DeskView}
 use Rattle.server_desk.proofs.SettleLemmas.{is_out}
-use Rattle.server_desk.specs.Airtime.{answered_at, total_at, answered_for, sent_airtime, airtime_of_ending, total_limit}
-use Rattle.server_desk.specs.Airtime.{whole_airtime, AreAirtimes, raised_at, raised, CanRaise}
-use Rattle.server_desk.specs.Places.{some_inj, map_there}
-use Rattle.server_desk.specs.Found.{found_there}
-use Rattle.server_desk.specs.AirtimeLaws.{total_same, answered_push, answered_given}
 use Rattle.server_desk.proofs.AirtimeSums.{answered_more, same_airtimes, share, raised_there, total_raised, answered_short}
 
 -- a list in which none was found has none

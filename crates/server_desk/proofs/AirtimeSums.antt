@@ -1,16 +1,9 @@
 -- Sums of airtimes over gateways and answers.
-use Rattle.std.specs.Prelude.{ℕ, zero, suc, ◌≡◌, ◌≢◌, ◌+◌, ◌*◌, ◌≤◌, ◌==◌, Bool, true, false, if◌then◌else◌, List, [], ◌∷◌, map}
-use Rattle.std.specs.Prelude.{length, slice_get, slice_set, get_or, All, AllPairs, Option, Some, None, refl}
-use Rattle.std.proofs.Common.{sym, ap, ◌∙◌, subst, arith}
-use Rattle.std.proofs.lemmas.Bool.{eq-eqb, ne_eqb}
-use Rattle.std.proofs.lemmas.Bool.Decides.{nat_tests}
-use Rattle.std.proofs.lemmas.List.Elements.{All-head, All-tail}
-use Rattle.rx_windows.specs.RankLaws.{AllPairs-head, AllPairs-tail}
-use Rattle.answer_ticket.specs.Ended.{longest_us}
-use Rattle.server_desk.specs.Answers.{Known, NotGiven, Given, Done, Sent}
-use Rattle.server_desk.specs.Airtime.{own_airtime, known_airtime, answered_at, total_at, total_limit, whole_airtime, AreAirtimes}
-use Rattle.server_desk.specs.Places.{some_inj, all_get}
-use Rattle.server_desk.specs.AirtimeLaws.{total_nil}
+use Rattle.server_desk.proofs.Words.{ℕ, zero, suc, ◌≡◌, ◌≢◌, ◌+◌, ◌*◌, ◌≤◌, ◌==◌, Bool, true, false, if◌then◌else◌, List, [], ◌∷◌}
+use Rattle.server_desk.proofs.Words.{map, length, slice_get, slice_set, get_or, All, AllPairs, Option, Some, None, refl, sym, ap}
+use Rattle.server_desk.proofs.Words.{◌∙◌, subst, arith, eq-eqb, ne_eqb, nat_tests, All-head, All-tail, AllPairs-head}
+use Rattle.server_desk.proofs.Words.{AllPairs-tail, longest_us, Known, NotGiven, Given, Done, Sent, own_airtime, known_airtime}
+use Rattle.server_desk.proofs.Words.{answered_at, total_at, total_limit, whole_airtime, AreAirtimes, some_inj, all_get, total_nil}
 
 -- what an answer that is settled adds to its gateway's airtime
 pub answered_more : (id : ℕ) (known : List Known) (i : ℕ) (sent : Option Sent) → slice_get known i ≡ Some Given

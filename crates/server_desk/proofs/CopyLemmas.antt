@@ -1,24 +1,14 @@
 -- The copies of gathered uplinks stay in their ranges, and each of another gateway.
-use Rattle.std.specs.Prelude.{ℕ, ◌≡◌, ◌≢◌, ◌-◌, ◌<◌, ◌==◌, nat_le, Bool, true, false, if◌then◌else◌, List, [], ◌∷◌, ◌++◌, length}
-use Rattle.std.specs.Prelude.{All, get_or, Option, Some, None, Result, Ok, Err, IfOk, refl}
-use Rattle.std.proofs.Common.{sym, ap, ◌∙◌, subst, arith, eq-eqb, true≢false, length-append}
-use Rattle.std.proofs.lemmas.List.Elements.{All-set, All-push, All-nil, All-cons}
+use Rattle.server_desk.proofs.Words.{ℕ, ◌≡◌, ◌≢◌, ◌-◌, ◌<◌, ◌==◌, nat_le, Bool, true, false, if◌then◌else◌, List, [], ◌∷◌, ◌++◌}
+use Rattle.server_desk.proofs.Words.{length, All, get_or, Option, Some, None, Result, Ok, Err, IfOk, refl, sym, ap, ◌∙◌, subst}
+use Rattle.server_desk.proofs.Words.{arith, eq-eqb, true≢false, length-append, All-set, All-push, All-nil, All-cons, list_any_at}
+use Rattle.server_desk.proofs.Words.{HeardCopy, HearFault, Heard, Opened, Joined, Joins, Opens, Gathering, Gatherings, numbered}
+use Rattle.server_desk.proofs.Words.{rewritten, place_of, place_by, takes_copies, has_gateway, delay, late_us, hear_answer}
+use Rattle.server_desk.proofs.Words.{after_hearing, opening, with_copy, IsHeard, IsGathered, some_inj, all_get, at_number}
+use Rattle.server_desk.proofs.Words.{rewritten-found, rewritten-none}
 use Rattle.std.proofs.lemmas.List.Quantifiers.{all_pairs_push}
-use Rattle.std.proofs.lemmas.List.Folds.{list_any_at}
-use Rattle.uplink_gather.specs.declared.heard.HeardCopy.{HeardCopy}
-use Rattle.uplink_gather.specs.declared.fault.HearFault.{HearFault}
 use Rattle.uplink_gather.specs.declared.fault.HearFault.TheVariants.{SameGateway, TooManyCopies, Late}
-use Rattle.uplink_gather.specs.declared.answers.Heard.{Heard}
-use Rattle.uplink_gather.specs.declared.answers.Heard.TheVariants.{Opened, Joined}
-use Rattle.uplink_gather.specs.declared.answers.Place.TheVariants.{Joins, Opens}
-use Rattle.uplink_gather.specs.Gatherings.{Gathering, Gatherings, numbered, rewritten}
-use Rattle.uplink_gather.specs.Hearing.{place_of, place_by, takes_copies, has_gateway, delay, late_us, hear_answer, after_hearing}
-use Rattle.uplink_gather.specs.Hearing.{opening, with_copy}
 use Rattle.uplink_gather.specs.HearingLaws.{joins_at, answer_joined}
-use Rattle.rx_windows.specs.Windows.{IsHeard}
-use Rattle.server_desk.specs.Kept.{IsGathered}
-use Rattle.server_desk.specs.Places.{some_inj, all_get}
-use Rattle.server_desk.specs.Numbers.{at_number, rewritten-found, rewritten-none}
 
 -- what is true of all is true where one is written anew that keeps it
 all_rewritten_by : {X : Type 0} (P : X → Type 0) (f : X → X) (n : ℕ) (xs : List X) (o : Option X) → numbered n xs ≡ o

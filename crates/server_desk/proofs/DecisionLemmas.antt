@@ -1,32 +1,18 @@
 -- What is to be done with a copy of an uplink, as the desk finds it.
-use Rattle.std.specs.Prelude.{ℕ, ◌≡◌, ◌^◌, ◌<◌, ◌≤◌, nat_lt, nat_le, ◌==◌, Bool, true, false, not, ◌||◌, if◌then◌else◌, ⊤}
-use Rattle.std.specs.Prelude.{is_some, List, length, Option, Some, None, Result, Ok, Err, refl}
-use Rattle.std.proofs.Common.{ap, ◌∙◌, arith}
-use Rattle.std.specs.List.{list_any}
-use Rattle.std.proofs.lemmas.Bool.Decides.{nat_tests}
+use Rattle.server_desk.proofs.Words.{ℕ, ◌≡◌, ◌^◌, ◌<◌, ◌≤◌, nat_lt, nat_le, ◌==◌, Bool, true, false, not, ◌||◌, if◌then◌else◌}
+use Rattle.server_desk.proofs.Words.{is_some, List, length, Option, Some, None, Result, Ok, Err, refl, ap, ◌∙◌, arith, list_any}
+use Rattle.server_desk.proofs.Words.{nat_tests, rate_numbered, uplink_of, has_mic, HearFault, Place, Gatherings, place_of}
+use Rattle.server_desk.proofs.Words.{NewUplink, Heard1, DeskFault, Frame, UnknownGateway, NoRate, NoBand, Moment, BadMic, Crowded}
+use Rattle.server_desk.proofs.Words.{Device, Register, device_with, last_moment, Decision, Refuse, Join, Open, Opening}
+use Rattle.server_desk.proofs.Words.{copy_fault, decide_device, decide_place, decide_copy, decide_frame, decide, is_last}
+use Rattle.server_desk.proofs.Words.{asked_by, verdict_of, DeskView, read_same}
+use Rattle.std.specs.Prelude.{⊤}
 use Rattle.radio_bands.specs.Band.{band_of}
-use Rattle.rx_windows.specs.Windows.{rate_numbered}
 use Rattle.lora_frame.specs.declared.reading.Uplink.{Uplink}
 use Rattle.lora_frame.specs.declared.reading.FrameFault.{FrameFault}
-use Rattle.lora_frame.specs.Reading.{uplink_of, has_mic}
 use Rattle.lora_frame.specs.Counter.{inferred_counter}
-use Rattle.uplink_gather.specs.declared.fault.HearFault.{HearFault}
-use Rattle.uplink_gather.specs.declared.answers.Place.{Place}
-use Rattle.uplink_gather.specs.Gatherings.{Gatherings}
-use Rattle.uplink_gather.specs.Hearing.{place_of}
-use Rattle.server_desk.specs.declared.verdict.NewUplink.{NewUplink}
 use Rattle.server_desk.specs.declared.verdict.Verdict.{Verdict}
 use Rattle.server_desk.specs.declared.verdict.Verdict.TheVariants as says
-use Rattle.server_desk.specs.declared.heard.Heard1.{Heard1}
-use Rattle.server_desk.specs.declared.faults.DeskFault.{DeskFault}
-use Rattle.server_desk.specs.declared.faults.DeskFault.TheVariants.{Frame, UnknownGateway, NoRate, NoBand, Moment, BadMic}
-use Rattle.server_desk.specs.declared.faults.DeskFault.TheVariants.{Crowded}
-use Rattle.server_desk.specs.Register.{Device, Register, device_with}
-use Rattle.server_desk.specs.Hearing.{last_moment, Decision, Refuse, Join, Open, Opening, copy_fault, decide_device, decide_place}
-use Rattle.server_desk.specs.Hearing.{decide_copy, decide_frame, decide, is_last, asked_by}
-use Rattle.server_desk.specs.Kept.{verdict_of}
-use Rattle.server_desk.specs.Desk.{DeskView}
-use Rattle.server_desk.specs.Decided.{read_same}
 
 -- which decision a verdict tells
 pub is_join : (bytes : List ℕ) (d : Decision) → verdict_of bytes d ≡ says.Join → (n : ℕ) × (d ≡ Join n)

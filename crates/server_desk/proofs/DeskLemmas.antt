@@ -1,26 +1,15 @@
 -- The devices as the desk keeps them, and as they are seen.
-use Rattle.std.specs.Prelude.{ℕ, zero, suc, ◌≡◌, ◌==◌, ◌<◌, nat_lt, nat_le, Bool, true, false, ◌||◌, if◌then◌else◌, List, [], ◌∷◌}
-use Rattle.std.specs.Prelude.{map, length, slice_get, slice_set, get_or, Option, Some, None, Result, Ok, Err, IfOk, OnOk, OnErr}
-use Rattle.std.specs.Prelude.{MatchResult, IsOkUnless, refl}
-use Rattle.std.specs.Option.{option_map}
-use Rattle.std.proofs.Common.{sym, ap, ◌∙◌, subst, arith}
-use Rattle.std.proofs.lemmas.Option.{slice_get-map, slice_get_within}
-use Rattle.std.proofs.lemmas.Bool.Decides.{nat_tests}
-use Rattle.std.proofs.lemmas.List.{length-map, length-set, map-set}
-use Rattle.std.proofs.lemmas.List.Elements.{All-set, All-push}
-use Rattle.answer_ticket.specs.Job.{Payload}
-use Rattle.server_desk.specs.declared.device.Kept.{Kept}
+use Rattle.server_desk.proofs.Words.{ℕ, zero, suc, ◌≡◌, ◌==◌, ◌<◌, nat_lt, nat_le, Bool, true, false, ◌||◌, if◌then◌else◌, List}
+use Rattle.server_desk.proofs.Words.{[], ◌∷◌, map, length, slice_get, slice_set, get_or, Option, Some, None, Result, Ok, Err}
+use Rattle.server_desk.proofs.Words.{IfOk, OnOk, OnErr, MatchResult, IsOkUnless, refl, option_map, sym, ap, ◌∙◌, subst, arith}
+use Rattle.server_desk.proofs.Words.{slice_get-map, slice_get_within, nat_tests, length-map, length-set, map-set, All-set}
+use Rattle.server_desk.proofs.Words.{All-push, Payload, Kept, Known, Device, Asked, Register, device_with, Gatherings, shown}
+use Rattle.server_desk.proofs.Words.{outs, IsSendable, IsServable, AreOut, IsDesk, DeskView, desk_queue, some_inj, all_get}
+use Rattle.server_desk.proofs.Words.{map_set, found_there}
 use Rattle.server_desk.specs.declared.faults.QueueFault.{QueueFault}
 use Rattle.server_desk.specs.declared.faults.QueueFault.TheVariants.{Port, Long, QueueFull, NoMemory}
-use Rattle.server_desk.specs.declared.answers.Known.{Known}
-use Rattle.server_desk.specs.Register.{Device, Asked, Register, device_with}
-use Rattle.uplink_gather.specs.Gatherings.{Gatherings}
 use Rattle.server_desk.specs.Queueing.{queue_limit, queue_answer, queue_answer_for, queue_fault, queued_or, queue_step}
 use Rattle.server_desk.specs.Queueing.{after_queueing, with_payload}
-use Rattle.server_desk.specs.Kept.{shown, outs, IsSendable, IsServable, AreOut, IsDesk}
-use Rattle.server_desk.specs.Desk.{DeskView, desk_queue}
-use Rattle.server_desk.specs.Places.{some_inj, all_get, map_set}
-use Rattle.server_desk.specs.Found.{found_there}
 
 pub get_within : {X : Type 0} (xs : List X) (i : ℕ) (d : X) → i < length xs → slice_get xs i ≡ Some (get_or xs i d)
 get_within [] i d h = absurd (omega arith)

@@ -1,44 +1,23 @@
 -- A copy of an uplink, as the desk hears it.
-use Rattle.std.specs.Prelude.{ℕ, ◌≡◌, ◌+◌, ◌^◌, ◌<◌, ◌≤◌, nat_le, ◌==◌, Bool, false, if◌then◌else◌, List, [], ◌∷◌, ◌++◌, map}
-use Rattle.std.specs.Prelude.{length, All, slice_get, slice_set, get_or, Some, Result, Ok, Err, IfOk, OnErr, MatchResult}
-use Rattle.std.specs.Prelude.{IsOkUnless, refl}
-use Rattle.std.specs.Option.{option_map}
-use Rattle.std.proofs.Common.{sym, ap, ◌∙◌, subst, arith, length-append}
-use Rattle.lora_frame.specs.Reading.{addr_of}
-use Rattle.uplink_gather.specs.declared.heard.HeardCopy.{HeardCopy}
-use Rattle.uplink_gather.specs.declared.answers.Heard.{Heard}
-use Rattle.uplink_gather.specs.declared.answers.Heard.TheVariants as gathers
-use Rattle.uplink_gather.specs.declared.fault.HearFault.{HearFault}
-use Rattle.uplink_gather.specs.declared.fault.HearFault.TheVariants as gathering
-use Rattle.uplink_gather.specs.declared.answers.Place.{Place}
-use Rattle.uplink_gather.specs.declared.answers.Place.TheVariants.{Joins, Opens}
-use Rattle.uplink_gather.specs.Gatherings.{Gatherings}
-use Rattle.uplink_gather.specs.Hearing.{place_of, is_crowded, answer_at, hear_answer, after_hearing, with_copy, hear_step}
-use Rattle.server_desk.specs.declared.device.Kept.{Kept}
-use Rattle.server_desk.specs.declared.answers.Known.{Known}
-use Rattle.server_desk.specs.declared.answers.Known.TheVariants.{NotGiven}
-use Rattle.server_desk.specs.declared.verdict.NewUplink.{NewUplink}
-use Rattle.server_desk.specs.declared.verdict.Verdict.TheVariants as says
-use Rattle.server_desk.specs.declared.heard.Heard1.{Heard1}
+use Rattle.server_desk.proofs.Words.{ℕ, ◌≡◌, ◌+◌, ◌^◌, ◌<◌, ◌≤◌, nat_le, ◌==◌, Bool, false, if◌then◌else◌, List, [], ◌∷◌, ◌++◌}
+use Rattle.server_desk.proofs.Words.{map, length, All, slice_get, slice_set, get_or, Some, Result, Ok, Err, IfOk, OnErr}
+use Rattle.server_desk.proofs.Words.{MatchResult, IsOkUnless, refl, option_map, sym, ap, ◌∙◌, subst, arith, length-append}
+use Rattle.server_desk.proofs.Words.{addr_of, HeardCopy, Heard, HearFault, Place, Joins, Opens, Gatherings, place_of, is_crowded}
+use Rattle.server_desk.proofs.Words.{answer_at, hear_answer, after_hearing, with_copy, hear_step, Kept, Known, NotGiven}
+use Rattle.server_desk.proofs.Words.{NewUplink, Heard1, DeskFault, NoMemory, Device, Asked, Register, Decision, Join, Open}
+use Rattle.server_desk.proofs.Words.{Opening, copy_of, named_fault, answer_to, shown, outs, IsServable, IsGathered, AreOut}
+use Rattle.server_desk.proofs.Words.{IsDesk, verdict_of, desk_answer, DeskView, desk_hear, known_after, length-map, length-set}
+use Rattle.server_desk.proofs.Words.{map-set, All-push, some_inj, length-rewritten, found_there, IsDecided, decided}
 use Rattle.server_desk.specs.declared.heard.DeskHeard.{DeskHeard}
 use Rattle.server_desk.specs.declared.heard.DeskHeard.TheVariants.{Opened}
-use Rattle.server_desk.specs.declared.faults.DeskFault.{DeskFault}
-use Rattle.server_desk.specs.declared.faults.DeskFault.TheVariants.{NoMemory}
-use Rattle.server_desk.specs.Register.{Device, Asked, Register}
-use Rattle.server_desk.specs.Hearing.{Decision, Join, Open, Opening, copy_of, named_fault, answer_to}
-use Rattle.server_desk.specs.Kept.{shown, outs, IsServable, IsGathered, AreOut, IsDesk, verdict_of, desk_answer}
-use Rattle.server_desk.specs.Desk.{DeskView, desk_hear, known_after}
-use Rattle.server_desk.specs.Hearing as hearing
-use Rattle.std.proofs.lemmas.List.{length-map, length-set, map-set}
-use Rattle.std.proofs.lemmas.List.Elements.{All-push}
-use Rattle.server_desk.specs.Places.{some_inj}
-use Rattle.server_desk.specs.Numbers.{length-rewritten}
-use Rattle.server_desk.specs.Found.{found_there}
-use Rattle.server_desk.specs.Decided.{IsDecided, decided}
 use Rattle.server_desk.proofs.OutLemmas.{count_push}
 use Rattle.server_desk.proofs.CopyLemmas.{all_heard}
 use Rattle.server_desk.proofs.DeskLemmas.{seen, found_within, kept_at, queued_holds}
 use Rattle.server_desk.proofs.DecisionLemmas.{IsNew, IsTimely, decision, is_join, is_open, room_left, timely}
+use Rattle.uplink_gather.specs.declared.answers.Heard.TheVariants as gathers
+use Rattle.uplink_gather.specs.declared.fault.HearFault.TheVariants as gathering
+use Rattle.server_desk.specs.declared.verdict.Verdict.TheVariants as says
+use Rattle.server_desk.specs.Hearing as hearing
 
 -- the desk's answer follows from that of the gatherings
 memory : (repeat : Bool) (r : Result Heard HearFault) → IsOkUnless r gathering.NoMemory

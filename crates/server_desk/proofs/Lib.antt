@@ -1,3 +1,4 @@
+pub mod Words
 mod SettingsLemmas
 pub mod OutLemmas
 pub mod CopyLemmas

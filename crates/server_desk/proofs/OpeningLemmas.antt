@@ -1,23 +1,12 @@
 -- A desk before anything was heard.
-use Rattle.std.specs.Prelude.{ℕ, suc, ◌≡◌, ◌≢◌, ◌+◌, ◌<◌, ◌==◌, nat_eq, Bool, false, ◌||◌, if◌then◌else◌, List, [], ◌∷◌, ◌++◌}
-use Rattle.std.specs.Prelude.{map, length, take, get_or, All, AllPairs, refl}
-use Rattle.std.specs.List.{list_any}
-use Rattle.std.proofs.Common.{sym, ap, ◌∙◌, subst, arith}
+use Rattle.server_desk.proofs.Words.{ℕ, suc, ◌≡◌, ◌≢◌, ◌+◌, ◌<◌, ◌==◌, nat_eq, Bool, false, ◌||◌, if◌then◌else◌, List, [], ◌∷◌}
+use Rattle.server_desk.proofs.Words.{◌++◌, map, length, take, get_or, All, AllPairs, refl, list_any, sym, ap, ◌∙◌, subst, arith}
+use Rattle.server_desk.proofs.Words.{map-append, take_more, All-nil, All-push, All-map, All-weaker, Limits, Gatherings}
+use Rattle.server_desk.proofs.Words.{GatewaySetting, DeviceSetting, Kept, Known, SettingLists, IsDeviceInRange, AreSettings}
+use Rattle.server_desk.proofs.Words.{Asked, Device, opened_device, shown, outs, IsSendable, IsServable, IsGathered, count_out}
+use Rattle.server_desk.proofs.Words.{AreOut, IsDesk, desk_of, from_map, all_get}
 use Rattle.std.proofs.Math.Seq.{take-suc}
-use Rattle.std.proofs.lemmas.List.{map-append, take_more}
-use Rattle.std.proofs.lemmas.List.Elements.{All-nil, All-push, All-map, All-weaker}
-use Rattle.uplink_gather.specs.declared.limits.Limits.{Limits}
-use Rattle.uplink_gather.specs.Gatherings.{Gatherings}
-use Rattle.server_desk.specs.declared.setting.GatewaySetting.{GatewaySetting}
-use Rattle.server_desk.specs.declared.setting.DeviceSetting.{DeviceSetting}
-use Rattle.server_desk.specs.declared.device.Kept.{Kept}
-use Rattle.server_desk.specs.declared.answers.Known.{Known}
-use Rattle.server_desk.specs.Settings.{SettingLists, IsDeviceInRange, AreSettings}
-use Rattle.server_desk.specs.Register.{Asked, Device, opened_device}
 use Rattle.server_desk.specs.World.{opened_gateway, opening}
-use Rattle.server_desk.specs.Kept.{shown, outs, IsSendable, IsServable, IsGathered, count_out, AreOut, IsDesk}
-use Rattle.server_desk.specs.Desk.{desk_of}
-use Rattle.server_desk.specs.Places.{from_map, all_get}
 use Rattle.server_desk.proofs.SettingsLemmas.{IsNew-from_AllPairs}
 use Rattle.server_desk.proofs.AddrLemmas.{flipped}
 use Rattle.server_desk.proofs.HearLemmas.{same_desk}

@@ -1,13 +1,8 @@
 -- How many tickets and stubs of a device are out.
-use Rattle.std.specs.Prelude.{ℕ, ◌⊎◌, zero, suc, ◌≡◌, ◌≢◌, ◌+◌, ◌==◌, nat_lt, Bool, true, false, ◌&&◌, ◌||◌, if◌then◌else◌, List}
-use Rattle.std.specs.Prelude.{[], ◌∷◌, ◌++◌, length, slice_get, slice_set, Option, Some, refl}
-use Rattle.std.proofs.Common.{inl, inr, sym, ap, ◌∙◌, subst, arith, eq-eqb, ne_eqb}
-use Rattle.std.proofs.lemmas.Bool.Decides.{nat_tests}
-use Rattle.server_desk.specs.Register.{Asked}
-use Rattle.server_desk.specs.Answers.{Known, NotGiven, Given, Done, Sent, is_given}
-use Rattle.server_desk.specs.Taking.{is_engaged}
-use Rattle.server_desk.specs.Kept.{own_out, count_out, AreOut}
-use Rattle.server_desk.specs.Places.{some_inj, get_set_cases}
+use Rattle.server_desk.proofs.Words.{ℕ, ◌⊎◌, zero, suc, ◌≡◌, ◌≢◌, ◌+◌, ◌==◌, nat_lt, Bool, true, false, ◌&&◌, ◌||◌, if◌then◌else◌}
+use Rattle.server_desk.proofs.Words.{List, [], ◌∷◌, ◌++◌, length, slice_get, slice_set, Option, Some, refl, inl, inr, sym, ap}
+use Rattle.server_desk.proofs.Words.{◌∙◌, subst, arith, eq-eqb, ne_eqb, nat_tests, Asked, Known, NotGiven, Given, Done, Sent}
+use Rattle.server_desk.proofs.Words.{is_given, is_engaged, own_out, count_out, AreOut, some_inj, get_set_cases}
 
 abbrev as_count : Bool → ℕ
 as_count b = if b then 1 else 0

@@ -1,19 +1,12 @@
-use Rattle.std.proofs.Common.{◌≡◌, ◌≢◌, ℕ, zero, suc, ◌<◌, ◌==◌, Bool, true, false, not, if◌then◌else◌, List, [], ◌∷◌, ◌++◌}
-use Rattle.std.proofs.Common.{length, get_or, take, Option, Some, None, AllPairs, refl, sym, ◌∙◌, append_assoc, length-take}
-use Rattle.std.proofs.Common.{arith}
-use Rattle.std.specs.Option.{option_or}
-use Rattle.std.specs.List.{list_any}
-use Rattle.std.proofs.lemmas.Bool.{true≢false, eq-eqb, ne_eqb}
-use Rattle.std.proofs.lemmas.Bool.Decides.{nat_tests}
-use Rattle.std.proofs.lemmas.List.{append-nil, get_or-take, get_or_default}
-use Rattle.std.proofs.lemmas.List.Folds.{list_any_at, list_any_none}
-use Rattle.std.proofs.lemmas.Option.{none-some}
-use Rattle.server_desk.specs.declared.setting.GatewaySetting.{GatewaySetting}
-use Rattle.server_desk.specs.declared.setting.DeviceSetting.{DeviceSetting}
+use Rattle.server_desk.proofs.Words.{◌≡◌, ◌≢◌, ℕ, zero, suc, ◌<◌, ◌==◌, Bool, true, false, not, if◌then◌else◌, List, [], ◌∷◌}
+use Rattle.server_desk.proofs.Words.{◌++◌, length, get_or, take, Option, Some, None, AllPairs, refl, sym, ◌∙◌, append_assoc}
+use Rattle.server_desk.proofs.Words.{length-take, arith, option_or, list_any, true≢false, eq-eqb, ne_eqb, nat_tests, append-nil}
+use Rattle.server_desk.proofs.Words.{get_or-take, get_or_default, list_any_at, list_any_none, none-some, GatewaySetting}
+use Rattle.server_desk.proofs.Words.{DeviceSetting, IsGatewayInRange, is_gateway_in_range, IsDeviceInRange, is_device_in_range}
+use Rattle.server_desk.proofs.Words.{has_rx2_band, AreSettings, are_counts_in_range, gateway_fault, device_fault, first_fault}
+use Rattle.server_desk.proofs.Words.{settings_fault}
 use Rattle.server_desk.specs.declared.settings_fault.SettingsFault.{SettingsFault}
 use Rattle.server_desk.specs.declared.settings_fault.SettingsFault.TheVariants.{Count, Range, DoubleGateway, NoBand, DoubleDevice}
-use Rattle.server_desk.specs.Settings.{IsGatewayInRange, is_gateway_in_range, IsDeviceInRange, is_device_in_range, has_rx2_band}
-use Rattle.server_desk.specs.Settings.{AreSettings, are_counts_in_range, gateway_fault, device_fault, first_fault, settings_fault}
 
 -- Settings have no fault exactly where they are what `AreSettings` says.
 

@@ -1,22 +1,11 @@
 -- An answer is settled, as the desk settles it.
-use Rattle.std.specs.Prelude.{ℕ, ◌≡◌, ◌-◌, ◌<◌, Bool, true, false, ◌&&◌, if◌then◌else◌, List, map, length, slice_get, slice_set}
-use Rattle.std.specs.Prelude.{get_or, Option, Some, None, refl}
-use Rattle.std.specs.Option.{option_map_or}
-use Rattle.std.proofs.Common.{sym, ap, ◌∙◌, subst, arith, true≢false}
-use Rattle.std.proofs.lemmas.Option.{get_or_from_slice_get}
-use Rattle.std.proofs.lemmas.List.{length-map, set-get_or, length-set, map-set}
-use Rattle.std.proofs.lemmas.List.Elements.{All-drop}
-use Rattle.uplink_gather.specs.Gatherings.{Gatherings, numbered}
-use Rattle.answer_ticket.specs.declared.outcome.Ending.{Ending}
-use Rattle.server_desk.specs.declared.device.Kept.{Kept}
-use Rattle.server_desk.specs.Answers.{Known, NotGiven, Given, Done, Sent, is_given}
-use Rattle.server_desk.specs.Register.{Device, Asked, Register}
-use Rattle.server_desk.specs.Settling.{sent_of, has_carried, is_here, may_settle, without_head, head_taken, delivered}
-use Rattle.server_desk.specs.Settling.{after_settling}
-use Rattle.server_desk.specs.Kept.{shown, outs, IsSendable, IsServable, AreOut, IsDesk}
-use Rattle.server_desk.specs.Desk.{DeskView, desk_settled}
-use Rattle.server_desk.specs.Places.{all_get}
-use Rattle.server_desk.specs.Numbers.{rewritten-found, at_number}
+use Rattle.server_desk.proofs.Words.{ℕ, ◌≡◌, ◌-◌, ◌<◌, Bool, true, false, ◌&&◌, if◌then◌else◌, List, map, length, slice_get}
+use Rattle.server_desk.proofs.Words.{slice_set, get_or, Option, Some, None, refl, option_map_or, sym, ap, ◌∙◌, subst, arith}
+use Rattle.server_desk.proofs.Words.{true≢false, get_or_from_slice_get, length-map, set-get_or, length-set, map-set, All-drop}
+use Rattle.server_desk.proofs.Words.{Gatherings, numbered, Ending, Kept, Known, NotGiven, Given, Done, Sent, is_given, Device}
+use Rattle.server_desk.proofs.Words.{Asked, Register, sent_of, has_carried, is_here, may_settle, without_head, head_taken}
+use Rattle.server_desk.proofs.Words.{delivered, after_settling, shown, outs, IsSendable, IsServable, AreOut, IsDesk, DeskView}
+use Rattle.server_desk.proofs.Words.{desk_settled, all_get, rewritten-found, at_number}
 use Rattle.server_desk.proofs.OutLemmas.{out_settled}
 use Rattle.server_desk.proofs.DeskLemmas.{seen, kept_at, written_holds}
 use Rattle.server_desk.proofs.TakeLemmas.{number_too, out_at_place, with_both, both_written}

@@ -1,30 +1,18 @@
 -- A ticket is given, as the desk gives it.
-use Rattle.std.specs.Prelude.{ℕ, zero, suc, ◌≡◌, ◌-◌, ◌^◌, ◌<◌, ◌≤◌, nat_le, Bool, true, false, not, if◌then◌else◌, List, [], ◌∷◌}
-use Rattle.std.specs.Prelude.{map, length, All, slice_get, slice_set, get_or, Option, Some, None, Result, Ok, Err, IfOk, refl}
-use Rattle.std.specs.Option.{option_map, option_map_or, ForSome}
-use Rattle.std.proofs.Common.{sym, ap, ◌∙◌, subst, arith}
-use Rattle.std.proofs.lemmas.Bool.Decides.{nat_tests}
-use Rattle.std.proofs.lemmas.Option.{slice_get-map, slice_get_within}
-use Rattle.std.proofs.lemmas.List.{length-map, length-set, map-set}
-use Rattle.std.proofs.lemmas.List.Elements.{All-head}
-use Rattle.uplink_gather.specs.declared.heard.HeardCopy.{HeardCopy}
-use Rattle.uplink_gather.specs.Gatherings.{Gathering, Gatherings, numbered, rewritten, is_closed_at, copies_of}
+use Rattle.server_desk.proofs.Words.{ℕ, zero, suc, ◌≡◌, ◌-◌, ◌^◌, ◌<◌, ◌≤◌, nat_le, Bool, true, false, not, if◌then◌else◌, List}
+use Rattle.server_desk.proofs.Words.{[], ◌∷◌, map, length, All, slice_get, slice_set, get_or, Option, Some, None, Result, Ok, Err}
+use Rattle.server_desk.proofs.Words.{IfOk, refl, option_map, option_map_or, ForSome, sym, ap, ◌∙◌, subst, arith, nat_tests}
+use Rattle.server_desk.proofs.Words.{slice_get-map, slice_get_within, length-map, length-set, map-set, All-head, HeardCopy}
+use Rattle.server_desk.proofs.Words.{Gathering, Gatherings, numbered, rewritten, is_closed_at, copies_of, length-ranked}
+use Rattle.server_desk.proofs.Words.{All-ranked, IsHeard, Job, Payload, IsJob, IsPort, payload_len, Kept, Known, NotGiven, Given}
+use Rattle.server_desk.proofs.Words.{Done, is_not_given, Device, Asked, Register, head, is_owed, is_engaged, job_for, job_of}
+use Rattle.server_desk.proofs.Words.{fault_of, given_or, take_known, take_answer, with_counter_given, counter_given, taken_from}
+use Rattle.server_desk.proofs.Words.{after_taking, shown, outs, IsSendable, IsServable, IsGathered, AreOut, IsDesk, IsReady}
+use Rattle.server_desk.proofs.Words.{DeskView, desk_taken, desk_take, some_inj, all_get, rewritten-found, at_number}
 use Rattle.rx_windows.specs.Rank.{ranked}
-use Rattle.rx_windows.specs.RankLaws.{length-ranked, All-ranked}
-use Rattle.rx_windows.specs.Windows.{IsHeard}
-use Rattle.answer_ticket.specs.Job.{Job, Payload, IsJob, IsPort, payload_len}
 use Rattle.answer_ticket.specs.Ticket.{Standing}
-use Rattle.server_desk.specs.declared.device.Kept.{Kept}
 use Rattle.server_desk.specs.declared.faults.TakeFault.{TakeFault}
 use Rattle.server_desk.specs.declared.faults.TakeFault.TheVariants.{NotReady, Taken, Silent, Engaged, CounterSpent}
-use Rattle.server_desk.specs.Answers.{Known, NotGiven, Given, Done, is_not_given}
-use Rattle.server_desk.specs.Register.{Device, Asked, Register}
-use Rattle.server_desk.specs.Taking.{head, is_owed, is_engaged, job_for, job_of, fault_of, given_or, take_known, take_answer}
-use Rattle.server_desk.specs.Taking.{with_counter_given, counter_given, taken_from, after_taking}
-use Rattle.server_desk.specs.Kept.{shown, outs, IsSendable, IsServable, IsGathered, AreOut, IsDesk, IsReady}
-use Rattle.server_desk.specs.Desk.{DeskView, desk_taken, desk_take}
-use Rattle.server_desk.specs.Places.{some_inj, all_get}
-use Rattle.server_desk.specs.Numbers.{rewritten-found, at_number}
 use Rattle.server_desk.proofs.OutLemmas.{engaged_is, out_given}
 use Rattle.server_desk.proofs.DeskLemmas.{seen, get_within, kept_at, written_holds}
 

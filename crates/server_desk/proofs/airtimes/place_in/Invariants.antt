@@ -1,7 +1,4 @@
-use Rattle.std.proofs.Common.{◌≡◌, ◌+◌, drop}
-use Rattle.std.specs.Prelude.{◌==◌}
-use Rattle.std.specs.Option.{option_map}
-use Rattle.server_desk.specs.Register.{first_at}
+use Rattle.server_desk.proofs.Words.{◌≡◌, ◌+◌, drop, ◌==◌, option_map, first_at}
 use Rattle.server_desk.proofs.airtimes.place_in.Given as goal
 
 abbrev pub invariant-loop-place : goal.invariant-loop-place

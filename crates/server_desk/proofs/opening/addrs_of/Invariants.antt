@@ -1,4 +1,4 @@
-use Rattle.std.proofs.Common.{◌≡◌, map, take}
+use Rattle.server_desk.proofs.Words.{◌≡◌, map, take}
 use Rattle.server_desk.proofs.opening.addrs_of.Given as goal
 
 abbrev pub invariant-loop-device : goal.invariant-loop-device

@@ -1,6 +1,4 @@
-use Rattle.std.proofs.Common.{◌≡◌, false, map, take, All}
-use Rattle.server_desk.specs.Register.{opened_device}
-use Rattle.server_desk.specs.Kept.{shown}
+use Rattle.server_desk.proofs.Words.{◌≡◌, false, map, take, All, opened_device, shown}
 use Rattle.server_desk.proofs.opening.devices_of.Given as goal
 
 abbrev pub invariant-loop-device : goal.invariant-loop-device

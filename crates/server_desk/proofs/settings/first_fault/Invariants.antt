@@ -1,5 +1,4 @@
-use Rattle.std.proofs.Common.{◌≡◌, [], take, drop}
-use Rattle.server_desk.specs.Settings.{first_fault}
+use Rattle.server_desk.proofs.Words.{◌≡◌, [], take, drop, first_fault}
 use Rattle.server_desk.proofs.settings.first_fault.Given as goal
 
 abbrev pub invariant-loop-place : goal.invariant-loop-place

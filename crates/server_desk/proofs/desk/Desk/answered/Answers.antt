@@ -1,6 +1,4 @@
-use Rattle.std.proofs.Common.{ap, ◌∙◌, sym, arith, length}
-use Rattle.server_desk.specs.Airtime.{answered_for}
-use Rattle.server_desk.specs.Desk.{DeskView}
+use Rattle.server_desk.proofs.Words.{ap, ◌∙◌, sym, arith, length, answered_for, DeskView}
 use Rattle.server_desk.proofs.AirtimeLemmas.{as_many, answered_there, answered_none}
 use Rattle.server_desk.proofs.desk.Desk.answered.Goals as goal
 

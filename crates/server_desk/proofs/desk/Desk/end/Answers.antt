@@ -1,6 +1,4 @@
-use Rattle.std.proofs.Common.{refl, ap, ◌∙◌, arith}
-use Rattle.server_desk.specs.Settling.{may_settle}
-use Rattle.server_desk.specs.Desk.{DeskView}
+use Rattle.server_desk.proofs.Words.{refl, ap, ◌∙◌, arith, may_settle, DeskView}
 use Rattle.server_desk.proofs.AirtimeLemmas.{can_raise, known_within, ended_airtimes, ended_total}
 use Rattle.server_desk.proofs.AirtimeSums.{within_limit}
 use Rattle.server_desk.proofs.SettleLemmas.{settled_holds, settled_here}

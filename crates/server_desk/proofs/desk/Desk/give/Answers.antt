@@ -1,7 +1,5 @@
+use Rattle.server_desk.proofs.Words.{◌∙◌, ap, numbered, DeskView}
 use Rattle.server_desk.proofs.TakeLemmas.{ready_within, given_holds, given_here}
-use Rattle.std.proofs.Common.{◌∙◌, ap}
-use Rattle.uplink_gather.specs.Gatherings.{numbered}
-use Rattle.server_desk.specs.Desk.{DeskView}
 use Rattle.server_desk.proofs.AirtimeLemmas.{given_airtimes}
 use Rattle.server_desk.proofs.desk.Desk.give.Goals as goal
 

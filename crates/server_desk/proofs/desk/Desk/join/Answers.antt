@@ -1,7 +1,4 @@
-use Rattle.std.proofs.Common.{◌∙◌, ap, length, refl}
-use Rattle.uplink_gather.specs.declared.limits.Limits.{Limits}
-use Rattle.uplink_gather.specs.Gatherings.{Gatherings}
-use Rattle.server_desk.specs.Desk.{DeskView}
+use Rattle.server_desk.proofs.Words.{◌∙◌, ap, length, refl, Limits, Gatherings, DeskView}
 use Rattle.server_desk.proofs.HearLemmas.{answered, told, join_answer, join_length, join_gathered, join_holds}
 use Rattle.server_desk.proofs.AirtimeLemmas.{same_airtimes_hold, limits_kept}
 use Rattle.server_desk.proofs.desk.Desk.join.Goals as goal

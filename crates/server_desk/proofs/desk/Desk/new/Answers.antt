@@ -1,6 +1,4 @@
-use Rattle.std.proofs.Common.{ap, ◌∙◌, map, arith}
-use Rattle.uplink_gather.specs.Gatherings.{Gatherings}
-use Rattle.server_desk.specs.declared.setting.GatewaySetting.{GatewaySetting}
+use Rattle.server_desk.proofs.Words.{ap, ◌∙◌, map, arith, Gatherings, GatewaySetting}
 use Rattle.server_desk.proofs.OpeningLemmas.{opened_holds, opened_desk}
 use Rattle.server_desk.proofs.AirtimeLemmas.{first_airtimes}
 use Rattle.server_desk.proofs.desk.Desk.new.Goals as goal

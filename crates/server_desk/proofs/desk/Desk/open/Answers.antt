@@ -1,7 +1,4 @@
-use Rattle.std.proofs.Common.{◌∙◌, ap, sym, arith, length, refl, Ok}
-use Rattle.uplink_gather.specs.declared.limits.Limits.{Limits}
-use Rattle.uplink_gather.specs.Gatherings.{Gatherings}
-use Rattle.server_desk.specs.Desk.{DeskView}
+use Rattle.server_desk.proofs.Words.{◌∙◌, ap, sym, arith, length, refl, Ok, Limits, Gatherings, DeskView}
 use Rattle.server_desk.proofs.DeskLemmas.{desk_devices, same_holds}
 use Rattle.server_desk.proofs.HearLemmas.{answered, told, was_fault, open_answer, open_length, open_within, open_room}
 use Rattle.server_desk.proofs.HearLemmas.{open_gathered, open_copies, open_holds, open_step, open_refused}

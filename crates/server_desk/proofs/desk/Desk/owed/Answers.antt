@@ -1,5 +1,4 @@
-use Rattle.std.proofs.Common.{ap, arith, sym, ◌∙◌}
-use Rattle.uplink_gather.specs.Gatherings.{numbered}
+use Rattle.server_desk.proofs.Words.{ap, arith, sym, ◌∙◌, numbered}
 use Rattle.server_desk.proofs.TakeLemmas.{not_closed, no_uplink, no_answer, was_given, told_here, within_here, fault_here}
 use Rattle.server_desk.proofs.TakeLemmas.{ready_here}
 use Rattle.server_desk.proofs.desk.Desk.owed.Goals as goal

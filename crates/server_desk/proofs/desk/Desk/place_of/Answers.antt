@@ -1,8 +1,4 @@
-use Rattle.std.specs.Prelude.{nat_eq, position}
-use Rattle.std.specs.Option.{option_map}
-use Rattle.std.proofs.Common.{ap, ◌∙◌}
-use Rattle.server_desk.specs.Register.{device_with}
-use Rattle.server_desk.specs.Desk.{DeskView}
+use Rattle.server_desk.proofs.Words.{nat_eq, position, option_map, ap, ◌∙◌, device_with, DeskView}
 use Rattle.server_desk.proofs.AddrLemmas.{place_found}
 use Rattle.server_desk.proofs.desk.Desk.place_of.Goals as goal
 

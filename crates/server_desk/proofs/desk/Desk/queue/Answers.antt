@@ -1,4 +1,4 @@
-use Rattle.std.proofs.Common.{arith}
+use Rattle.server_desk.proofs.Words.{arith}
 use Rattle.server_desk.proofs.DeskLemmas.{found_within, queued_holds, pushed_servable, queued_answer, queued_told, queued_step}
 use Rattle.server_desk.proofs.DeskLemmas.{queued_refused, desk_devices}
 use Rattle.server_desk.proofs.desk.Desk.queue.Goals as goal

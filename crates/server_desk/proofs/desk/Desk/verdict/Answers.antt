@@ -1,7 +1,6 @@
-use Rattle.std.proofs.Common.{Ok, Err, ◌∙◌, ap, sym}
-use Rattle.server_desk.specs.declared.verdict.Verdict.TheVariants as says
-use Rattle.server_desk.specs.Desk.{DeskView}
+use Rattle.server_desk.proofs.Words.{Ok, Err, ◌∙◌, ap, sym, DeskView}
 use Rattle.server_desk.proofs.DecisionLemmas.{no_frame, wrong_copy, by_place}
+use Rattle.server_desk.specs.declared.verdict.Verdict.TheVariants as says
 use Rattle.server_desk.proofs.desk.Desk.verdict.Goals as goal
 
 pub returns-in-Err : goal.returns-in-Err

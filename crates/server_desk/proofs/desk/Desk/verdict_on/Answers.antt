@@ -1,7 +1,4 @@
-use Rattle.std.proofs.Common.{ℕ, List, ◌∙◌, ap, sym, arith}
-use Rattle.lora_frame.specs.Reading.{has_mic}
-use Rattle.uplink_gather.specs.Hearing.{is_crowded}
-use Rattle.server_desk.specs.Desk.{DeskView}
+use Rattle.server_desk.proofs.Words.{ℕ, List, ◌∙◌, ap, sym, arith, has_mic, is_crowded, DeskView}
 use Rattle.server_desk.proofs.DeskLemmas.{found_within, found_kept, desk_devices}
 use Rattle.server_desk.proofs.DecisionLemmas.{no_counter, wrong_mic, no_room, is_new}
 use Rattle.server_desk.proofs.desk.Desk.verdict_on.Goals as goal

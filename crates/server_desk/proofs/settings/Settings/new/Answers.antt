@@ -1,6 +1,4 @@
-use Rattle.std.proofs.Common.{◌≡◌, Some, None, sym, ◌∙◌}
-use Rattle.std.proofs.lemmas.Option.{none-some}
-use Rattle.server_desk.specs.Settings.{settings_fault}
+use Rattle.server_desk.proofs.Words.{◌≡◌, Some, None, sym, ◌∙◌, none-some, settings_fault}
 use Rattle.server_desk.proofs.SettingsLemmas.{AreSettings-from_none, none-from_AreSettings}
 use Rattle.server_desk.proofs.settings.Settings.new.Goals as goal
 
