@@ -1,9 +1,10 @@
 -- Sums of airtimes over gateways and answers.
 use Rattle.server_desk.proofs.Words.{ℕ, zero, suc, ◌≡◌, ◌≢◌, ◌+◌, ◌*◌, ◌≤◌, ◌==◌, Bool, true, false, if◌then◌else◌, List, [], ◌∷◌}
 use Rattle.server_desk.proofs.Words.{map, length, slice_get, slice_set, get_or, All, AllPairs, Option, Some, None, refl, sym, ap}
-use Rattle.server_desk.proofs.Words.{◌∙◌, subst, arith, eq-eqb, ne_eqb, nat_tests, All-head, All-tail, AllPairs-head}
-use Rattle.server_desk.proofs.Words.{AllPairs-tail, longest_us, Known, NotGiven, Given, Done, Sent, own_airtime, known_airtime}
-use Rattle.server_desk.proofs.Words.{answered_at, total_at, total_limit, whole_airtime, AreAirtimes, some_inj, all_get, total_nil}
+use Rattle.server_desk.proofs.Words.{◌∙◌, subst, arith, list_any, option_map, eq-eqb, ne_eqb, nat_tests, All-head, All-tail}
+use Rattle.server_desk.proofs.Words.{some_inj, AllPairs-head, AllPairs-tail, longest_us, Known, NotGiven, Given, Done, Sent}
+use Rattle.server_desk.proofs.Words.{own_airtime, known_airtime, answered_at, answered_for, total_at, total_limit, whole_airtime}
+use Rattle.server_desk.proofs.Words.{AreAirtimes, raised_at, raised, first_at, next_place, total_nil}
 
 -- what an answer that is settled adds to its gateway's airtime
 pub answered_more : (id : ℕ) (known : List Known) (i : ℕ) (sent : Option Sent) → slice_get known i ≡ Some Given
@@ -16,73 +17,82 @@ answered_more id (k ∷ known) (suc i) sent e = omega (arith, answered_more id k
 
 pub same_airtimes : (f h : ℕ → ℕ) → ((id : ℕ) → f id ≡ h id) → (ids : List ℕ) → map f ids ≡ map h ids
 same_airtimes f h e [] = refl
-same_airtimes f h e (id ∷ ids) = ap (λ x. x ∷ map f ids) (e id) ∙ ap (λ l. h id ∷ l) (same_airtimes f h e ids)
+same_airtimes f h e (id ∷ ids) = cc (e id, same_airtimes f h e ids)
 
--- what this gateway's airtime gets of `airtime` that is another's
-abbrev pub share : ℕ → ℕ → ℕ → ℕ
-share gateway airtime id = if gateway == id then airtime else 0
+-- the total of more answers is that of the old ones and of the one that is new
+pub total_more : (known more : List Known) (k : Known)
+    → ((id : ℕ) → answered_at id more ≡ answered_at id known + known_airtime id k)
+    → (ids : List ℕ) → total_at ids more ≡ total_at ids known + total_at ids (k ∷ [])
+total_more known more k e [] = refl
+total_more known more k e (id ∷ ids) = omega (arith, e id, total_more known more k e ids)
 
-share_own : (gateway airtime : ℕ) → share gateway airtime gateway ≡ airtime
-share_own gateway airtime = ap (λ (t : Bool). if t then airtime else 0) (eq-eqb gateway gateway refl)
+-- the airtime of a gateway, found by its number
+module _ (known : List Known) (gateway d : ℕ) where
+  abbrev IsFound : List ℕ → Type 0
+  IsFound ids = option_map (λ p. get_or (map (λ id. answered_at id known) ids) p d)
+      (option_map (λ found. found.0) (first_at (λ id. id == gateway) ids)) ≡ answered_for ids known gateway
 
-share_other : (gateway airtime id : ℕ) → gateway ≢ id → share gateway airtime id ≡ 0
-share_other gateway airtime id h = ap (λ (t : Bool). if t then airtime else 0) (ne_eqb gateway id h)
+  next_found : (o : Option (ℕ × ℕ)) (x : ℕ) (xs : List ℕ)
+      → option_map (λ p. get_or (x ∷ xs) p d) (option_map (λ found. found.0) (option_map next_place o))
+      ≡ option_map (λ p. get_or xs p d) (option_map (λ found. found.0) o)
+  next_found None x xs = refl
+  next_found (Some found) x xs = refl
 
-module _ (f h : ℕ → ℕ) (gateway airtime : ℕ) (e : (id : ℕ) → h id ≡ f id + share gateway airtime id) where
-  others_stay : (ids : List ℕ) → All (λ id. gateway ≢ id) ids → map f ids ≡ map h ids
-  others_stay [] a = refl
-  others_stay (id ∷ ids) a =
-      let here : f id ≡ h id = omega (arith, e id, share_other gateway airtime id (All-head (λ y. gateway ≢ y) id ids a)) in
-      ap (λ x. x ∷ map f ids) here ∙ ap (λ l. h id ∷ l) (others_stay ids (All-tail (λ y. gateway ≢ y) id ids a))
+  found_by : (id : ℕ) (ids : List ℕ) (t : Bool) → (id == gateway) ≡ t → IsFound ids → IsFound (id ∷ ids)
+  found_by id ids true q rest =
+      let same : id ≡ gateway = grind (arith, nat_tests, q) in
+      rw q (ap (λ g. Some (answered_at g known)) same)
+  found_by id ids false q rest = rw q (next_found (first_at (λ id. id == gateway) ids) _ _ ∙ rest)
 
-  -- the airtime of one of different gateways is raised
-  pub raised_there : (ids : List ℕ) (p : ℕ) → AllPairs (λ a b. a ≢ b) ids → slice_get ids p ≡ Some gateway
-      → slice_set (map f ids) p (get_or (map f ids) p 0 + airtime) ≡ map h ids
-  raised_there [] p d q = absurd (cc)
-  raised_there (id ∷ ids) zero d q =
-      let same : id ≡ gateway = some_inj q in
-      let here : f id + airtime ≡ h id = omega (arith, e id, ap (share gateway airtime) same, share_own gateway airtime) in
-      ap (λ x. x ∷ map f ids) here
-      ∙ ap (λ l. h id ∷ l) (others_stay ids (subst (λ x. All (λ y. x ≢ y) ids) same (AllPairs-head (λ a b. a ≢ b) id ids d)))
-  raised_there (id ∷ ids) (suc p) d q =
-      let other : id ≢ gateway = all_get (λ y. id ≢ y) ids p gateway (AllPairs-head (λ a b. a ≢ b) id ids d) q in
-      let here : f id ≡ h id = omega (arith, e id, share_other gateway airtime id (λ w. other (sym w))) in
-      ap (λ x. x ∷ slice_set (map f ids) p (get_or (map f ids) p 0 + airtime)) here
-      ∙ ap (λ l. h id ∷ l) (raised_there ids p (AllPairs-tail (λ a b. a ≢ b) id ids d) q)
+  pub answered_found : (ids : List ℕ) → IsFound ids
+  answered_found [] = refl
+  answered_found (id ∷ ids) = found_by id ids (id == gateway) refl (answered_found ids)
 
-module _ (known more : List Known) (gateway airtime : ℕ) (e : (id : ℕ)
-    → answered_at id more ≡ answered_at id known + share gateway airtime id) where
-  total_stays : (ids : List ℕ) → All (λ id. gateway ≢ id) ids → total_at ids more ≡ total_at ids known
-  total_stays [] a = refl
-  total_stays (id ∷ ids) a =
-      omega (
-        arith,
-        e id,
-        share_other gateway airtime id (All-head (λ y. gateway ≢ y) id ids a),
-        total_stays ids (All-tail (λ y. gateway ≢ y) id ids a),
-      )
+-- where one of different gateways sent this: its airtime alone is raised, and the total by as much
+module _ (f : ℕ → ℕ) (sent : Sent) where
+  abbrev Raises : List ℕ → Type 0
+  Raises ids = (raised ids (Some sent) (map f ids) ≡ map (λ id. f id + own_airtime id (Some sent)) ids)
+      × (total_at ids (Done (Some sent) ∷ []) ≡ (if list_any (λ id. id == sent.gateway) ids then sent.airtime else 0))
 
-  -- the total over different gateways is raised
-  pub total_raised : (ids : List ℕ) (p : ℕ) → AllPairs (λ a b. a ≢ b) ids → slice_get ids p ≡ Some gateway
-      → total_at ids more ≡ total_at ids known + airtime
-  total_raised [] p d q = absurd (cc)
-  total_raised (id ∷ ids) zero d q =
-      let same : id ≡ gateway = some_inj q in
-      omega (
-        arith,
-        e id,
-        ap (share gateway airtime) same,
-        share_own gateway airtime,
-        total_stays ids (subst (λ x. All (λ y. x ≢ y) ids) same (AllPairs-head (λ a b. a ≢ b) id ids d)),
-      )
-  total_raised (id ∷ ids) (suc p) d q =
-      let other : id ≢ gateway = all_get (λ y. id ≢ y) ids p gateway (AllPairs-head (λ a b. a ≢ b) id ids d) q in
-      omega (
-        arith,
-        e id,
-        share_other gateway airtime id (λ w. other (sym w)),
-        total_raised ids p (AllPairs-tail (λ a b. a ≢ b) id ids d) q,
-      )
+  elsewhere : (ids : List ℕ) → All (λ id. sent.gateway ≢ id) ids
+      → (map f ids ≡ map (λ id. f id + own_airtime id (Some sent)) ids) × (total_at ids (Done (Some sent) ∷ []) ≡ 0)
+  elsewhere [] a = (refl, refl)
+  elsewhere (id ∷ ids) a =
+      let none : own_airtime id (Some sent) ≡ 0 =
+      ap (λ (t : Bool). if t then sent.airtime else 0) (ne_eqb sent.gateway id (All-head (λ y. sent.gateway ≢ y) id ids a)) in
+      let rest = elsewhere ids (All-tail (λ y. sent.gateway ≢ y) id ids a) in
+      let here : f id ≡ f id + own_airtime id (Some sent) = omega (arith, none) in
+      (cc (here, rest.0), omega (arith, none, rest.1))
+
+  later : (o : Option (ℕ × ℕ)) (x : ℕ) (xs : List ℕ) → raised_at (option_map next_place o) sent.airtime (x ∷ xs)
+      ≡ x ∷ raised_at o sent.airtime xs
+  later None x xs = refl
+  later (Some found) x xs = refl
+
+  raises_by : (id : ℕ) (ids : List ℕ) (t : Bool) → (id == sent.gateway) ≡ t → All (λ y. id ≢ y) ids → Raises ids
+      → Raises (id ∷ ids)
+  raises_by id ids true q a rest =
+      let same : id ≡ sent.gateway = grind (arith, nat_tests, q) in
+      let own : own_airtime id (Some sent) ≡ sent.airtime =
+      ap (λ (t : Bool). if t then sent.airtime else 0) (eq-eqb sent.gateway id (sym same)) in
+      let others = elsewhere ids (subst (λ x. All (λ y. x ≢ y) ids) same a) in
+      let here : f id + sent.airtime ≡ f id + own_airtime id (Some sent) = omega (arith, own) in
+      rw q (cc (here, others.0), omega (arith, own, others.1))
+  raises_by id ids false q a rest =
+      let none : own_airtime id (Some sent) ≡ 0 =
+      ap (λ (t : Bool). if t then sent.airtime else 0) (ne_eqb sent.gateway id (λ s. grind (arith, nat_tests, q))) in
+      let here : f id ≡ f id + own_airtime id (Some sent) = omega (arith, none) in
+      rw q (later (first_at (λ x. x == sent.gateway) ids) (f id) (map f ids) ∙ cc (here, rest.0), omega (arith, none, rest.1))
+
+  pub raises : (ids : List ℕ) → AllPairs (λ a b. a ≢ b) ids → Raises ids
+  raises [] d = (refl, refl)
+  raises (id ∷ ids) d = raises_by id ids (id == sent.gateway) refl (AllPairs-head (λ a b. a ≢ b) id ids d)
+      (raises ids (AllPairs-tail (λ a b. a ≢ b) id ids d))
+
+-- an answer by which nothing was sent adds nothing
+pub total_none : (ids : List ℕ) (k : Known) → ((id : ℕ) → known_airtime id k ≡ 0) → total_at ids (k ∷ []) ≡ 0
+total_none [] k e = refl
+total_none (id ∷ ids) k e = omega (arith, e id, total_none ids k e)
 
 -- no gateway was on air for longer than all answers
 share_short : (t : Bool) (airtime : ℕ) → (if t then airtime else 0) ≤ airtime
@@ -106,48 +116,12 @@ answered_short id (k ∷ known) a = omega (
 )
 
 -- nor were they all
-total_cons : (ids : List ℕ) (k : Known) (known : List Known)
-    → total_at ids (k ∷ known) ≡ total_at ids (k ∷ []) + total_at ids known
-total_cons [] k known = refl
-total_cons (id ∷ ids) k known = omega (arith, total_cons ids k known)
-
-total_none : (ids : List ℕ) (k : Known) → ((id : ℕ) → known_airtime id k ≡ 0) → total_at ids (k ∷ []) ≡ 0
-total_none [] k e = refl
-total_none (id ∷ ids) k e = omega (arith, e id, total_none ids k e)
-
-total_elsewhere : (ids : List ℕ) (sent : Sent) → All (λ id. sent.gateway ≢ id) ids → total_at ids (Done (Some sent) ∷ []) ≡ 0
-total_elsewhere [] sent a = refl
-total_elsewhere (id ∷ ids) sent a =
-    omega (
-      arith,
-      share_other sent.gateway sent.airtime id (All-head (λ y. sent.gateway ≢ y) id ids a),
-      total_elsewhere ids sent (All-tail (λ y. sent.gateway ≢ y) id ids a),
-    )
-
-sent_first : (id : ℕ) (ids : List ℕ) (sent : Sent) (t : Bool) → (sent.gateway == id) ≡ t → AllPairs (λ a b. a ≢ b) (id ∷ ids)
-    → total_at ids (Done (Some sent) ∷ []) ≤ sent.airtime
-    → total_at (id ∷ ids) (Done (Some sent) ∷ []) ≤ sent.airtime
-sent_first id ids sent true q d rest =
-    let same : sent.gateway ≡ id = grind (arith, nat_tests, q) in
-    omega (
-      arith,
-      share_short (sent.gateway == id) sent.airtime,
-      total_elsewhere ids sent (subst (λ x. All (λ y. x ≢ y) ids) (sym same) (AllPairs-head (λ a b. a ≢ b) id ids d)),
-    )
-sent_first id ids sent false q d rest =
-    let none : share sent.gateway sent.airtime id ≡ 0 = ap (λ (t : Bool). if t then sent.airtime else 0) q in
-    omega (arith, none, rest)
-
-sent_short : (ids : List ℕ) (sent : Sent) → AllPairs (λ a b. a ≢ b) ids → total_at ids (Done (Some sent) ∷ []) ≤ sent.airtime
-sent_short [] sent d = omega arith
-sent_short (id ∷ ids) sent d = sent_first id ids sent (sent.gateway == id) refl d
-    (sent_short ids sent (AllPairs-tail (λ a b. a ≢ b) id ids d))
-
 one_short : (ids : List ℕ) (k : Known) → AllPairs (λ a b. a ≢ b) ids → total_at ids (k ∷ []) ≤ whole_airtime k
 one_short ids NotGiven d = omega (arith, total_none ids NotGiven (λ id. refl))
 one_short ids Given d = omega (arith, total_none ids Given (λ id. refl))
 one_short ids (Done None) d = omega (arith, total_none ids (Done None) (λ id. refl))
-one_short ids (Done (Some sent)) d = sent_short ids sent d
+one_short ids (Done (Some sent)) d =
+    omega (arith, (raises (λ id. 0) sent ids d).1, share_short (list_any (λ id. id == sent.gateway) ids) sent.airtime)
 
 total_short : (ids : List ℕ) (known : List Known) → AllPairs (λ a b. a ≢ b) ids → All (λ k. whole_airtime k ≤ longest_us) known
     → total_at ids known ≤ longest_us * length known
@@ -155,7 +129,7 @@ total_short ids [] d a = omega (arith, total_nil ids)
 total_short ids (k ∷ known) d a =
     omega (
       arith,
-      total_cons ids k known,
+      total_more known (k ∷ known) k (λ id. omega arith) ids,
       one_short ids k d,
       All-head (λ x. whole_airtime x ≤ longest_us) k known a,
       total_short ids known d (All-tail (λ x. whole_airtime x ≤ longest_us) k known a),

@@ -1,10 +1,11 @@
 -- A desk before anything was heard.
 use Rattle.server_desk.proofs.Words.{ℕ, suc, ◌≡◌, ◌≢◌, ◌+◌, ◌<◌, ◌==◌, nat_eq, Bool, false, ◌||◌, if◌then◌else◌, List, [], ◌∷◌}
 use Rattle.server_desk.proofs.Words.{◌++◌, map, length, take, get_or, All, AllPairs, refl, list_any, sym, ap, ◌∙◌, subst, arith}
-use Rattle.server_desk.proofs.Words.{map-append, take_more, All-nil, All-push, All-map, All-weaker, Limits, Gatherings}
-use Rattle.server_desk.proofs.Words.{GatewaySetting, DeviceSetting, Kept, Known, SettingLists, IsDeviceInRange, AreSettings}
-use Rattle.server_desk.proofs.Words.{Asked, Device, opened_device, shown, outs, IsSendable, IsServable, IsGathered, count_out}
-use Rattle.server_desk.proofs.Words.{AreOut, IsDesk, desk_of, from_map, all_get}
+use Rattle.server_desk.proofs.Words.{map-append, take_more, All-nil, All-push, All-map, All-weaker, Gatherings, GatewaySetting}
+use Rattle.server_desk.proofs.Words.{DeviceSetting, Kept, Known, SettingLists, IsDeviceInRange, AreSettings, Asked, Device}
+use Rattle.server_desk.proofs.Words.{opened_device, shown, outs, IsSendable, IsServable, IsGathered, count_out, AreOut, IsDesk}
+use Rattle.server_desk.proofs.Words.{desk_of, from_map, all_get}
+use Rattle.uplink_gather.specs.declared.limits.Limits.{Limits}
 use Rattle.std.proofs.Math.Seq.{take-suc}
 use Rattle.server_desk.specs.World.{opened_gateway, opening}
 use Rattle.server_desk.proofs.SettingsLemmas.{IsNew-from_AllPairs}

@@ -23,7 +23,6 @@ pub use Rattle.uplink_gather.specs.declared.answers.Place.{Place}
 pub use Rattle.uplink_gather.specs.declared.answers.Place.TheVariants.{Joins, Opens}
 pub use Rattle.uplink_gather.specs.declared.fault.HearFault.{HearFault}
 pub use Rattle.uplink_gather.specs.declared.heard.HeardCopy.{HeardCopy}
-pub use Rattle.uplink_gather.specs.declared.limits.Limits.{Limits}
 pub use Rattle.rx_windows.specs.RankLaws.{All-ranked, AllPairs-head, AllPairs-tail, length-ranked}
 pub use Rattle.rx_windows.specs.Windows.{IsHeard, rate_numbered}
 pub use Rattle.answer_ticket.specs.Ended.{IsWithinLongest, longest_us}
@@ -31,7 +30,7 @@ pub use Rattle.answer_ticket.specs.Job.{IsJob, IsPort, Job, Payload, payload_len
 pub use Rattle.answer_ticket.specs.declared.outcome.Ending.{Ending}
 pub use Rattle.server_desk.specs.Airtime.{AreAirtimes, CanRaise, airtime_of_ending, answered_at, answered_for, known_airtime}
 pub use Rattle.server_desk.specs.Airtime.{own_airtime, raised, raised_at, sent_airtime, total_at, total_limit, whole_airtime}
-pub use Rattle.server_desk.specs.AirtimeLaws.{answered_given, answered_push, total_nil, total_same}
+pub use Rattle.server_desk.specs.AirtimeLaws.{answered_given, answered_push, total_nil}
 pub use Rattle.server_desk.specs.Answers.{Done, Given, Known, NotGiven, Sent, is_given, is_not_given}
 pub use Rattle.server_desk.specs.Decided.{IsDecided, decided, read_same}
 pub use Rattle.server_desk.specs.Desk.{DeskView, desk_hear, desk_of, desk_queue, desk_settled, desk_take, desk_taken, known_after}
@@ -43,7 +42,7 @@ unfoldable pub use Rattle.server_desk.specs.Hearing.{decide}
 pub use Rattle.server_desk.specs.Kept.{AreOut, IsDesk, IsGathered, IsReady, IsSendable, IsServable, count_out, desk_answer, outs}
 pub use Rattle.server_desk.specs.Kept.{own_out, shown, verdict_of}
 pub use Rattle.server_desk.specs.Numbers.{at_number, length-rewritten, rewritten-found, rewritten-none}
-pub use Rattle.server_desk.specs.Places.{all_get, from_map, get_set_cases, map_set, map_there, some_inj}
+pub use Rattle.server_desk.specs.Places.{all_get, from_map, get_set_cases, map_set, some_inj}
 pub use Rattle.server_desk.specs.Register.{Asked, Device, Register, device_with, first_at, next_place, opened_device}
 pub use Rattle.server_desk.specs.Settings.{AreSettings, IsDeviceInRange, IsGatewayInRange, SettingLists, are_counts_in_range}
 pub use Rattle.server_desk.specs.Settings.{device_fault, first_fault, gateway_fault, has_rx2_band, is_device_in_range}

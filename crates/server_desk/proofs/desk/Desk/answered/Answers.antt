@@ -1,5 +1,5 @@
-use Rattle.server_desk.proofs.Words.{ap, ◌∙◌, sym, arith, length, answered_for, DeskView}
-use Rattle.server_desk.proofs.AirtimeLemmas.{as_many, answered_there, answered_none}
+use Rattle.server_desk.proofs.Words.{ap, ◌∙◌, arith, length, Some, None}
+use Rattle.server_desk.proofs.AirtimeLemmas.{as_many, answered_is}
 use Rattle.server_desk.proofs.desk.Desk.answered.Goals as goal
 
 pub index-requires : goal.index-requires
@@ -14,11 +14,11 @@ index-requires g c =
 
 pub returns : goal.returns
 returns g c =
-    answered_there _ _ _ _ c.self.invariant.1 c.args.gateway c.in-Some.place c.index.result.now c.deref.result.now
-    c.deref.ensures.value c.in-Some.ensures.found c.index.ensures
-    ∙ ap (λ (v : DeskView). answered_for v.ids v.known c.args.gateway) c.self.view_is
+    let found = rw c.deref.ensures.value at c.in-Some.ensures.found in
+    rw (← c.self.view_is)
+    (rw c.index.ensures (answered_is _ _ _ _ c.self.invariant.1 c.args.gateway _ (Some c.in-Some.place) found))
 
 pub returns-in_default : goal.returns-in_default
 returns-in_default g c =
-    answered_none _ _ c.args.gateway c.deref.result.now c.deref.ensures.value (sym c.in_default.is ∙ c.place_in.ensures.found)
-    ∙ ap (λ (v : DeskView). answered_for v.ids v.known c.args.gateway) c.self.view_is
+    let found = rw (c.in_default.is, c.deref.ensures.value) at c.place_in.ensures.found in
+    rw (← c.self.view_is) (answered_is _ _ _ _ c.self.invariant.1 c.args.gateway 0 None found)

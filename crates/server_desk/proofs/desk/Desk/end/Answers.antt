@@ -1,20 +1,20 @@
-use Rattle.server_desk.proofs.Words.{refl, ap, ◌∙◌, arith, may_settle, DeskView}
-use Rattle.server_desk.proofs.AirtimeLemmas.{can_raise, known_within, ended_airtimes, ended_total}
+use Rattle.server_desk.proofs.Words.{arith, at_number, slice_get_within, Given}
+use Rattle.server_desk.proofs.AirtimeLemmas.{can_raise, short_ending, sent_here, settled_airtimes, settled_total}
 use Rattle.server_desk.proofs.AirtimeSums.{within_limit}
-use Rattle.server_desk.proofs.SettleLemmas.{settled_holds, settled_here}
+use Rattle.server_desk.proofs.SettleLemmas.{settled_holds, settled_here, is_out}
 use Rattle.server_desk.proofs.desk.Desk.end.Goals as goal
 
 pub invariant_of-self : goal.invariant_of-self
-invariant_of-self g c = (
-  settled_holds _ _ _ _ _ _ c.self.view_is c.args.outcome.now.number c.args.outcome.now.result c.requires.out _ c.self.invariant.0
+invariant_of-self g c =
+    let may = rw (← c.self.view_is) at c.requires.out in
+    let out = at_number c.args.outcome.now.number _ Given (is_out _ _ c.args.outcome.now.number c.args.outcome.now.result may) in (
+    settled_holds _ _ _ _ _ _ c.self.view_is c.args.outcome.now.number c.args.outcome.now.result c.requires.out _ c.self.invariant.0
       c.index.result.now c.index.ensures
       c.index_mut.result.now c.settle.new.self c.index_mut.ensures.value c.has_carried.result c.has_carried.ensures
       c.settle.ensures.shown c.sent_of-sent.result c.sent_of-sent.ensures c.settle.ensures.out,
-  ended_airtimes _ _ _ _ c.self.invariant.1 c.args.outcome.now.number c.args.outcome.now.result
-      (ap (λ (v : DeskView). may_settle v.ids v.known c.args.outcome.now.number c.args.outcome.now.result) c.self.view_is
-      ∙ c.requires.out) c.sent_of-sent.result c.sent_of-sent.ensures c.deref.result.now c.raise.new.airtimes.items
-      c.requires.short c.deref.ensures.value c.raise.ensures,
-)
+    rw (c.raise.ensures, c.deref.ensures.value, c.sent_of-sent.ensures)
+      (settled_airtimes _ _ _ _ c.self.invariant.1 _ out _ (short_ending c.args.outcome.now.result c.requires.short)),
+  )
 
 pub returns-clause-step : goal.returns-clause-step
 returns-clause-step g c =
@@ -25,30 +25,26 @@ returns-clause-step g c =
 
 pub raise-requires : goal.raise-requires
 raise-requires g c =
-    can_raise _ _ c.deref.result.now _ _ _ c.sent_of-sent.result c.args.outcome.now.result c.self.invariant.1
-    c.deref.ensures.value refl c.sent_of-sent.ensures c.requires.short
+    rw (c.deref.ensures.value, c.sent_of-sent.ensures)
+    (can_raise _ _ _ _ _ c.self.invariant.1 (short_ending c.args.outcome.now.result c.requires.short))
 
 pub index_mut-requires-2 : goal.index_mut-requires-2
 index_mut-requires-2 g c =
-    omega (
-      arith,
-      known_within _ _ _ _ c.self.invariant.1 c.args.outcome.now.number c.args.outcome.now.result
-          (ap (λ (v : DeskView). may_settle v.ids v.known c.args.outcome.now.number c.args.outcome.now.result) c.self.view_is
-          ∙ c.requires.out) c.sent_of-sent.result c.sent_of-sent.ensures,
-      c.self.inside.known.ok.0,
-    )
+    let may = rw (← c.self.view_is) at c.requires.out in
+    let out = at_number c.args.outcome.now.number _ Given (is_out _ _ c.args.outcome.now.number c.args.outcome.now.result may) in
+    omega (arith, slice_get_within c.self.inside.known.items _ Given out, c.self.inside.known.ok.0)
 
 pub returns-clause-total : goal.returns-clause-total
 returns-clause-total g c =
-    ended_total _ _ _ _ c.self.invariant.1 c.args.outcome.now.number c.args.outcome.now.result
-    (ap (λ (v : DeskView). may_settle v.ids v.known c.args.outcome.now.number c.args.outcome.now.result) c.self.view_is
-    ∙ c.requires.out) c.sent_of-sent.result c.sent_of-sent.ensures c.args.self.now
-    (ap (λ (v : DeskView). v.ids) c.self.view_is) (ap (λ (v : DeskView). v.known) c.self.view_is)
+    let may = rw (← c.self.view_is) at c.requires.out in
+    let out = at_number c.args.outcome.now.number _ Given (is_out _ _ c.args.outcome.now.number c.args.outcome.now.result may) in
+    rw (← c.self.view_is, c.sent_of-sent.ensures)
+    (settled_total _ _ _ _ c.self.invariant.1 _ out _ (sent_here _ _ c.args.outcome.now.number c.args.outcome.now.result may))
 
 pub returns-clause-limit : goal.returns-clause-limit
 returns-clause-limit g c =
-    within_limit _ _ _ _
-    (ended_airtimes _ _ _ _ c.self.invariant.1 c.args.outcome.now.number c.args.outcome.now.result
-    (ap (λ (v : DeskView). may_settle v.ids v.known c.args.outcome.now.number c.args.outcome.now.result) c.self.view_is
-    ∙ c.requires.out) c.sent_of-sent.result c.sent_of-sent.ensures c.deref.result.now c.raise.new.airtimes.items
-    c.requires.short c.deref.ensures.value c.raise.ensures)
+    let may = rw (← c.self.view_is) at c.requires.out in
+    let out = at_number c.args.outcome.now.number _ Given (is_out _ _ c.args.outcome.now.number c.args.outcome.now.result may) in
+    rw c.sent_of-sent.ensures
+    (within_limit _ _ _ _ (settled_airtimes _ _ _ _ c.self.invariant.1 _ out _
+    (short_ending c.args.outcome.now.result c.requires.short)))

@@ -1,6 +1,6 @@
-use Rattle.server_desk.proofs.Words.{◌∙◌, ap, length, refl, Limits, Gatherings, DeskView}
+use Rattle.server_desk.proofs.Words.{◌∙◌, ap, length, Gatherings, DeskView}
 use Rattle.server_desk.proofs.HearLemmas.{answered, told, join_answer, join_length, join_gathered, join_holds}
-use Rattle.server_desk.proofs.AirtimeLemmas.{same_airtimes_hold, limits_kept}
+use Rattle.server_desk.proofs.AirtimeLemmas.{limits_kept}
 use Rattle.server_desk.proofs.desk.Desk.join.Goals as goal
 
 pub invariant_of-self : goal.invariant_of-self
@@ -13,8 +13,7 @@ invariant_of-self g c = (
       (join_gathered c.args.self.now c.args.bytes.now c.args.heard.now c.args.arrived _
       (ap (λ (v : DeskView). v.reg.gathered) c.self.view_is) c.copy_of.result c.copy_of.ensures c.requires
       c.hear-answer.result c.hear-answer.new.self c.hear-answer.ensures.step c.hear-answer.ensures.told),
-  same_airtimes_hold _ _ _ _ c.self.invariant.1 _ _ (ap (λ (s : Gatherings). s.limits.max_ever) c.hear-answer.ensures.step
-      ∙ ap (λ (l : Limits). l.max_ever) (limits_kept c.hear-answer.result _ _ _ _)) refl,
+  rw (c.hear-answer.ensures.step, limits_kept) c.self.invariant.1,
 )
 
 pub returns-clause-answer : goal.returns-clause-answer

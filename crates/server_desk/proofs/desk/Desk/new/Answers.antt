@@ -1,4 +1,4 @@
-use Rattle.server_desk.proofs.Words.{ap, ◌∙◌, map, arith, Gatherings, GatewaySetting}
+use Rattle.server_desk.proofs.Words.{arith}
 use Rattle.server_desk.proofs.OpeningLemmas.{opened_holds, opened_desk}
 use Rattle.server_desk.proofs.AirtimeLemmas.{first_airtimes}
 use Rattle.server_desk.proofs.desk.Desk.new.Goals as goal
@@ -8,10 +8,8 @@ invariant_of-result g c = (
   opened_holds c.args.settings.now c.args.limits c.in_ok-devices.devices.items _ c.in_ok-gather.gather _ _
       c.in_ok-devices.ensures.shown c.devices.ensures.list c.in_ok-gather.ensures c.new-2.ensures.items c.new-3.ensures.items
       _ _ c.in_ok-addrs.ensures c.devices-2.ensures.list c.devices.ensures.kept c.in_ok-devices.ensures.none_out,
-  first_airtimes c.args.settings.now.gateways _ _ c.args.limits.max_ever _ _ c.devices.ensures.kept.ids_differ
-      (c.in_ok-gateways.ensures ∙ ap (map (λ (g : GatewaySetting). g.id)) c.gateways.ensures.list)
-      (c.in_ok-answered.ensures ∙ ap (map (λ (g : GatewaySetting). 0)) c.gateways-2.ensures.list)
-      c.new-3.ensures.items (ap (λ (s : Gatherings). s.limits.max_ever) c.in_ok-gather.ensures) (omega (arith, c.if-prove)),
+  rw (c.in_ok-gateways.ensures, c.in_ok-answered.ensures, c.gateways.ensures.list, c.gateways-2.ensures.list,
+      c.in_ok-gather.ensures, c.new-3.ensures.items) (first_airtimes _ _ c.devices.ensures.kept.ids_differ (omega (arith, c.if-prove))),
 )
 
 pub returns : goal.returns

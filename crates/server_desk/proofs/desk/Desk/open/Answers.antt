@@ -1,8 +1,8 @@
-use Rattle.server_desk.proofs.Words.{◌∙◌, ap, sym, arith, length, refl, Ok, Limits, Gatherings, DeskView}
+use Rattle.server_desk.proofs.Words.{◌∙◌, ap, sym, arith, length, refl, Ok, Gatherings, DeskView}
 use Rattle.server_desk.proofs.DeskLemmas.{desk_devices, same_holds}
 use Rattle.server_desk.proofs.HearLemmas.{answered, told, was_fault, open_answer, open_length, open_within, open_room}
 use Rattle.server_desk.proofs.HearLemmas.{open_gathered, open_copies, open_holds, open_step, open_refused}
-use Rattle.server_desk.proofs.AirtimeLemmas.{same_airtimes_hold, opened_airtimes, limits_kept}
+use Rattle.server_desk.proofs.AirtimeLemmas.{opened_airtimes, limits_kept}
 use Rattle.server_desk.proofs.desk.Desk.open.Goals as goal
 
 pub returns-in-Err-clause-answer : goal.returns-in-Err-clause-answer
@@ -26,9 +26,8 @@ invariant_of-self-in-Err g c = (
       (was_fault _ c.args.new.repeat c.hear-answer.result c.in-Err.fault
       (sym c.desk_answer.ensures ∙ c.in-Err.is) c.hear-answer.ensures.refused)
       c.reserve.ensures.items c.reserve-2.ensures.items,
-  same_airtimes_hold _ _ _ _ c.self.invariant.1 _ _ (ap (λ (s : Gatherings). s.limits.max_ever)
-      (was_fault _ c.args.new.repeat c.hear-answer.result c.in-Err.fault
-      (sym c.desk_answer.ensures ∙ c.in-Err.is) c.hear-answer.ensures.refused)) c.reserve-2.ensures.items,
+  rw (was_fault _ c.args.new.repeat c.hear-answer.result c.in-Err.fault
+      (sym c.desk_answer.ensures ∙ c.in-Err.is) c.hear-answer.ensures.refused, c.reserve-2.ensures.items) c.self.invariant.1,
 )
 
 pub index_mut-requires : goal.index_mut-requires
@@ -59,15 +58,13 @@ invariant_of-self-2 g c = (
       c.hear-answer.result c.hear-answer.new.self c.hear-answer.ensures.step c.hear-answer.ensures.told)
       (rw c.reserve.ensures.items at c.push_reserved.ensures.items)
       (rw c.reserve-2.ensures.items at c.push_reserved-2.ensures.items),
-  opened_airtimes _ _ _ _ c.self.invariant.1 _ _ (ap (λ (s : Gatherings). s.limits.max_ever) c.hear-answer.ensures.step
-      ∙ ap (λ (l : Limits). l.max_ever) (limits_kept c.hear-answer.result _ _ _ _))
-      (rw c.reserve-2.ensures.items at c.push_reserved-2.ensures.items)
-      (omega (
+  rw (c.hear-answer.ensures.step, limits_kept, c.push_reserved-2.ensures.items, c.reserve-2.ensures.items)
+      (opened_airtimes _ _ _ _ c.self.invariant.1 (omega (
         arith,
         c.self.invariant.0.told,
         open_room c.args.self.now c.args.bytes.now c.args.heard.now c.args.arrived _
             (ap (λ (v : DeskView). v.reg.gathered) c.self.view_is) c.copy_of.result c.copy_of.ensures c.args.new c.requires,
-      )),
+      ))),
 )
 
 pub returns-clause-told : goal.returns-clause-told
