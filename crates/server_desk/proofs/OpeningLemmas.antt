@@ -1,16 +1,14 @@
 -- A desk before anything was heard.
 use Rattle.server_desk.proofs.Words.{ℕ, suc, ◌≡◌, ◌≢◌, ◌+◌, ◌<◌, ◌==◌, nat_eq, Bool, false, ◌||◌, if◌then◌else◌, List, [], ◌∷◌}
 use Rattle.server_desk.proofs.Words.{◌++◌, map, length, take, get_or, All, AllPairs, refl, list_any, sym, ap, ◌∙◌, subst, arith}
-use Rattle.server_desk.proofs.Words.{map-append, take_more, All-nil, All-push, All-map, All-weaker, Gatherings, GatewaySetting}
-use Rattle.server_desk.proofs.Words.{DeviceSetting, Kept, Known, SettingLists, IsDeviceInRange, AreSettings, Asked, Device}
-use Rattle.server_desk.proofs.Words.{opened_device, shown, outs, IsSendable, IsServable, IsGathered, count_out, AreOut, IsDesk}
-use Rattle.server_desk.proofs.Words.{desk_of, from_map, all_get}
+use Rattle.server_desk.proofs.Words.{map-append, take_more, All-nil, All-push, All-map, All-weaker, GatewaySetting, DeviceSetting}
+use Rattle.server_desk.proofs.Words.{Kept, SettingLists, IsDeviceInRange, AreSettings, Asked, Device, opened_device, shown, outs}
+use Rattle.server_desk.proofs.Words.{IsSendable, IsServable, IsGathered, AreOut, IsDesk, desk_of, from_map, all_get}
 use Rattle.uplink_gather.specs.declared.limits.Limits.{Limits}
 use Rattle.std.proofs.Math.Seq.{take-suc}
 use Rattle.server_desk.specs.World.{opened_gateway, opening}
 use Rattle.server_desk.proofs.SettingsLemmas.{IsNew-from_AllPairs}
 use Rattle.server_desk.proofs.AddrLemmas.{flipped}
-use Rattle.server_desk.proofs.HearLemmas.{same_desk}
 use Rattle.server_desk.proofs.DeskLemmas.{seen}
 
 abbrev addr_of : DeviceSetting → ℕ
@@ -67,41 +65,31 @@ opened_more devices i d kepts more new h both s o e = (
   subst (All (λ k. k.out ≡ false)) (sym e) (All-push (λ k. k.out ≡ false) kepts new both.1 o),
 )
 
-module _ {A : Type 0} (settings : SettingLists) (limits : Limits) (kepts : List (Kept A)) (devices : List DeviceSetting)
-    (gathered : Gatherings) (asked : List Asked) (known : List Known)
-    (d : map shown kepts ≡ map opened_device devices) (s : devices ≡ settings.devices)
-    (g : gathered ≡ record { list = []; limits = limits }) (a : asked ≡ []) (k : known ≡ []) where
-  no_out : All (λ (x : Kept A). x.out ≡ false) kepts → AreOut (outs kepts) asked known
+module _ {A : Type 0} (settings : SettingLists) (limits : Limits) (kepts : List (Kept A))
+    (d : map shown kepts ≡ map opened_device settings.devices) where
+  no_out : All (λ (x : Kept A). x.out ≡ false) kepts → AreOut (outs kepts) [] []
   no_out n place out e =
       let x = from_map (λ (x : Kept A). x.out) kepts place out e in
       let none : out ≡ false = sym x.2 ∙ all_get (λ (y : Kept A). y.out ≡ false) kepts place x.0 n x.1 in
-      ap (λ (l : List Asked). count_out place l known) a ∙ sym (ap (λ (t : Bool). if t then 1 else 0) none)
+      rw none refl
 
   -- what is true of a desk's fields holds
-  pub opened_holds : (keys : List ℕ) (others : List DeviceSetting) → keys ≡ map addr_of others → others ≡ settings.devices
-      → AreSettings settings.gateways settings.devices → All (λ (x : Kept A). x.out ≡ false) kepts
-      → IsDesk keys (outs kepts) (record { devices = map shown kepts; gathered = gathered; asked = asked }) known
-  opened_holds keys others e q are n =
-      let P : Asked → Type 0 = λ x. x.device < length (map shown kepts) in
-      let Q : Gatherings → Type 0 = λ x. All IsGathered x.list in
+  pub opened_holds : AreSettings settings.gateways settings.devices → All (λ (x : Kept A). x.out ≡ false) kepts
+      → IsDesk (map addr_of settings.devices) (outs kepts)
+      (record { devices = map shown kepts; gathered = record { list = []; limits = limits }; asked = [] }) []
+  opened_holds are n =
       record {
-        addrs = e ∙ ap (map addr_of) (q ∙ sym s) ∙ opened_addrs devices ∙ sym (ap (map (λ (x : Device). x.setting.addr)) d);
-        asked = ap length a ∙ sym (ap (λ (x : Gatherings). length x.list) g);
-        told = ap length k ∙ sym (ap (λ (x : Gatherings). length x.list) g);
-        placed = subst (All P) (sym a) (λ i x h. absurd (omega arith));
-        servable = subst (All IsServable) (sym (d ∙ ap (map opened_device) s))
-            (All-map IsServable opened_device settings.devices
+        addrs = rw d (opened_addrs settings.devices);
+        asked = refl;
+        told = refl;
+        placed = All-nil (λ (x : Asked). x.device < length (map shown kepts));
+        servable = rw d (All-map IsServable opened_device settings.devices
             (All-weaker IsDeviceInRange _ opened_servable settings.devices are.devices_in_range));
-        gathered = subst Q (sym g) (All-nil IsGathered);
+        gathered = All-nil IsGathered;
         engaged = no_out n;
       }
 
   -- it is the desk's part of the whole system before the first step
-  pub opened_desk : (ids : List ℕ) (gateways : List GatewaySetting) → ids ≡ map (λ g. g.id) gateways
-      → gateways ≡ settings.gateways
-      → seen ids kepts gathered asked known ≡ desk_of (opening settings limits)
-  opened_desk ids gateways e q =
-      same_desk _ _ _ _ _ _ _ _ _ _
-      (e ∙ ap (map (λ (x : GatewaySetting). x.id)) q ∙ opened_ids settings.gateways)
-      (d ∙ ap (map opened_device) s)
-      g a k
+  pub opened_desk : seen (map (λ g. g.id) settings.gateways) kepts (record { list = []; limits = limits }) [] []
+      ≡ desk_of (opening settings limits)
+  opened_desk = rw (d, opened_ids settings.gateways) refl

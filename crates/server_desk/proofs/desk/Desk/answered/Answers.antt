@@ -1,4 +1,4 @@
-use Rattle.server_desk.proofs.Words.{ap, ◌∙◌, arith, length, Some, None}
+use Rattle.server_desk.proofs.Words.{ap, arith, length, Some, None}
 use Rattle.server_desk.proofs.AirtimeLemmas.{as_many, answered_is}
 use Rattle.server_desk.proofs.desk.Desk.answered.Goals as goal
 

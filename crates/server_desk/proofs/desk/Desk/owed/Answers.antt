@@ -1,55 +1,48 @@
-use Rattle.server_desk.proofs.Words.{ap, arith, sym, ◌∙◌, numbered}
-use Rattle.server_desk.proofs.TakeLemmas.{not_closed, no_uplink, no_answer, was_given, told_here, within_here, fault_here}
-use Rattle.server_desk.proofs.TakeLemmas.{ready_here}
+use Rattle.server_desk.proofs.Words.{take_answer, refl, sym, arith, Some, slice_get_read}
+use Rattle.server_desk.proofs.TakeLemmas.{within_here, answer_is, is_ready}
 use Rattle.server_desk.proofs.desk.Desk.owed.Goals as goal
 
 pub returns-then-not-is_closed : goal.returns-then-not-is_closed
-returns-then-not-is_closed g c =
-    told_here _ _ _ _ _ _ c.self.view_is c.args.n _ (not_closed _ _ c.args.n c.if-not-is_closed.ensures)
+unfolding take_answer
+returns-then-not-is_closed g c = rw (← c.self.view_is, ← c.if-not-is_closed.ensures) refl
 
 pub returns-in_default : goal.returns-in_default
+unfolding take_answer
 returns-in_default g c =
-    told_here _ _ _ _ _ _ c.self.view_is c.args.n _
-    (no_uplink _ _ c.args.n c.if-not-is_closed.ensures (c.in_default.ensures ∙ ap (numbered c.args.n) c.deref.ensures.value))
+    let none = rw c.deref.ensures.value at c.in_default.ensures in
+    rw (← c.self.view_is, ← c.if-not-is_closed.ensures, ← none) refl
 
 pub returns-in_default-numbered : goal.returns-in_default-numbered
+unfolding take_answer
 returns-in_default-numbered g c =
-    told_here _ _ _ _ _ _ c.self.view_is c.args.n _
-    (no_answer _ _ c.args.n c.in-Some.asked c.if-not-is_closed.ensures
-    (c.in-Some.ensures ∙ ap (numbered c.args.n) c.deref.ensures.value)
-    (c.in_default-numbered.ensures ∙ ap (numbered c.args.n) c.deref-2.ensures.value))
+    let asked = rw c.deref.ensures.value at c.in-Some.ensures in
+    let none = rw c.deref-2.ensures.value at c.in_default-numbered.ensures in
+    rw (← c.self.view_is, ← c.if-not-is_closed.ensures, ← asked, ← none) refl
 
 pub returns-then-not-is_not_given : goal.returns-then-not-is_not_given
+unfolding take_answer
 returns-then-not-is_not_given g c =
-    told_here _ _ _ _ _ _ c.self.view_is c.args.n _
-    (was_given _ _ c.args.n c.in-Some.asked c.in-Some-numbered.known c.if-not-is_closed.ensures
-    (c.in-Some.ensures ∙ ap (numbered c.args.n) c.deref.ensures.value)
-    (c.in-Some-numbered.ensures ∙ ap (numbered c.args.n) c.deref-2.ensures.value) c.if-not-is_not_given.ensures)
+    let asked = rw c.deref.ensures.value at c.in-Some.ensures in
+    let known = rw c.deref-2.ensures.value at c.in-Some-numbered.ensures in
+    rw (← c.self.view_is, ← c.if-not-is_closed.ensures, ← asked, ← known, ← c.if-not-is_not_given.ensures) refl
 
 pub index-requires : goal.index-requires
 index-requires g c =
-    omega (
-      arith,
-      within_here _ _ _ _ _ _ c.self.view_is c.args.n _ c.in-Some.asked c.self.invariant.0
-          (sym (c.in-Some.ensures ∙ ap (numbered c.args.n) c.deref.ensures.value)),
-      c.self.inside.devices.ok.0,
-    )
+    let asked = rw c.deref.ensures.value at c.in-Some.ensures in
+    omega (arith, within_here _ _ _ _ _ c.self.invariant.0 c.args.n _ (sym asked), c.self.inside.devices.ok.0)
 
 pub returns-in-None : goal.returns-in-None
 returns-in-None g c =
-    ready_here _ _ _ _ _ _ c.self.view_is c.args.n c.in-Some.asked c.index.result.now
-    (within_here _ _ _ _ _ _ c.self.view_is c.args.n _ c.in-Some.asked c.self.invariant.0
-    (sym (c.in-Some.ensures ∙ ap (numbered c.args.n) c.deref.ensures.value)))
-    c.index.ensures _ c.self.invariant.0 c.in-Some-numbered.known c.if-not-is_closed.ensures
-    (c.in-Some.ensures ∙ ap (numbered c.args.n) c.deref.ensures.value)
-    (c.in-Some-numbered.ensures ∙ ap (numbered c.args.n) c.deref-2.ensures.value) c.if-not-is_not_given.ensures c.in-None.ensures
+    let asked = rw c.deref.ensures.value at c.in-Some.ensures in
+    let known = rw c.deref-2.ensures.value at c.in-Some-numbered.ensures in
+    let at = slice_get_read _ _ _ _ refl (within_here _ _ _ _ _ c.self.invariant.0 c.args.n _ (sym asked)) c.index.ensures in
+    rw (← c.self.view_is) (is_ready _ _ _ _ _ c.self.invariant.0 c.args.n _ (sym asked) _ at _ c.if-not-is_closed.ensures known
+    c.if-not-is_not_given.ensures c.in-None.ensures)
 
 pub returns-in-Some-take_fault : goal.returns-in-Some-take_fault
 returns-in-Some-take_fault g c =
-    fault_here _ _ _ _ _ _ c.self.view_is c.args.n c.in-Some.asked c.index.result.now
-    (within_here _ _ _ _ _ _ c.self.view_is c.args.n _ c.in-Some.asked c.self.invariant.0
-    (sym (c.in-Some.ensures ∙ ap (numbered c.args.n) c.deref.ensures.value)))
-    c.index.ensures _ c.self.invariant.0 c.in-Some-numbered.known c.if-not-is_closed.ensures
-    (c.in-Some.ensures ∙ ap (numbered c.args.n) c.deref.ensures.value)
-    (c.in-Some-numbered.ensures ∙ ap (numbered c.args.n) c.deref-2.ensures.value) c.if-not-is_not_given.ensures
-    c.in-Some-take_fault.fault c.in-Some-take_fault.ensures
+    let asked = rw c.deref.ensures.value at c.in-Some.ensures in
+    let known = rw c.deref-2.ensures.value at c.in-Some-numbered.ensures in
+    let at = slice_get_read _ _ _ _ refl (within_here _ _ _ _ _ c.self.invariant.0 c.args.n _ (sym asked)) c.index.ensures in
+    rw (← c.self.view_is) (answer_is _ _ _ _ _ c.self.invariant.0 c.args.n _ (sym asked) _ at _ c.if-not-is_closed.ensures known
+    c.if-not-is_not_given.ensures (Some c.in-Some-take_fault.fault) c.in-Some-take_fault.ensures)

@@ -1,47 +1,41 @@
-use Rattle.server_desk.proofs.Words.{ℕ, List, ◌∙◌, ap, sym, arith, has_mic, is_crowded, DeskView}
-use Rattle.server_desk.proofs.DeskLemmas.{found_within, found_kept, desk_devices}
-use Rattle.server_desk.proofs.DecisionLemmas.{no_counter, wrong_mic, no_room, is_new}
+use Rattle.server_desk.proofs.Words.{refl, arith, read_same}
+use Rattle.server_desk.proofs.DeskLemmas.{found_within, found_kept}
 use Rattle.server_desk.proofs.desk.Desk.verdict_on.Goals as goal
 
 pub index-device-requires : goal.index-device-requires
 index-device-requires g c =
-    omega (
-      arith,
-      found_within _ c.self.inside.devices.items c.args.uplink.addr c.in-Some.place
-          (desk_devices c.self.view_is) c.in-Some.ensures,
-      c.self.inside.devices.ok.0,
-    )
+    let p = rw (← c.self.view_is) at c.in-Some.ensures in
+    omega (arith, found_within c.self.inside.devices.items _ _ p, c.self.inside.devices.ok.0)
 
 pub returns-in_default-infer : goal.returns-in_default-infer
 returns-in_default-infer g c =
-    no_counter c.args.bytes.now c.args.uplink _ _ c.in-Some.place _
-    (found_kept _ c.self.inside.devices.items c.args.uplink.addr c.in-Some.place c.index-device.result.now
-    (desk_devices c.self.view_is) c.in-Some.ensures c.index-device.ensures)
-    (sym c.in_default-infer.is ∙ c.infer.ensures)
+    let p = rw (← c.self.view_is) at c.in-Some.ensures in
+    let infer = rw c.in_default-infer.is at c.infer.ensures in
+    rw (← c.self.view_is, found_kept _ _ _ _ c.index-device.ensures p, ← infer) refl
 
 pub returns-then-not-check_mic : goal.returns-then-not-check_mic
 returns-then-not-check_mic g c =
-    wrong_mic c.args.bytes.now c.args.uplink _ _ c.in-Some.place _
-    (found_kept _ c.self.inside.devices.items c.args.uplink.addr c.in-Some.place c.index-device.result.now
-    (desk_devices c.self.view_is) c.in-Some.ensures c.index-device.ensures)
-    c.in-Some-infer.counter c.in-Some-infer.ensures
-    (c.if-not-check_mic.ensures.value ∙ ap (λ (key : List ℕ). has_mic c.args.bytes.now key c.in-Some-infer.counter) c.new.ensures)
+    let p = rw (← c.self.view_is) at c.in-Some.ensures in
+    let mic = rw c.new.ensures at c.if-not-check_mic.ensures.value in
+    rw (← c.self.view_is, found_kept _ _ _ _ c.index-device.ensures p, ← c.in-Some-infer.ensures, ← mic) refl
 
 pub returns-then-is_crowded : goal.returns-then-is_crowded
 returns-then-is_crowded g c =
-    no_room c.args.bytes.now c.args.uplink _ _ c.in-Some.place _
-    (found_kept _ c.self.inside.devices.items c.args.uplink.addr c.in-Some.place c.index-device.result.now
-    (desk_devices c.self.view_is) c.in-Some.ensures c.index-device.ensures)
-    c.in-Some-infer.counter c.in-Some-infer.ensures
-    (c.if-not-check_mic.ensures.value ∙ ap (λ (key : List ℕ). has_mic c.args.bytes.now key c.in-Some-infer.counter) c.new.ensures)
-    (c.if-is_crowded.ensures ∙ ap (λ (v : DeskView). is_crowded v.reg.gathered) c.self.view_is)
+    let p = rw (← c.self.view_is) at c.in-Some.ensures in
+    let mic = rw c.new.ensures at c.if-not-check_mic.ensures.value in
+    rw (← c.self.view_is, found_kept _ _ _ _ c.index-device.ensures p, ← c.in-Some-infer.ensures, ← mic, ← c.if-is_crowded.ensures)
+    refl
 
 pub returns : goal.returns
 returns g c =
-    is_new c.args.bytes.now c.args.uplink _ _ c.in-Some.place _
-    (found_kept _ c.self.inside.devices.items c.args.uplink.addr c.in-Some.place c.index-device.result.now
-    (desk_devices c.self.view_is) c.in-Some.ensures c.index-device.ensures)
-    c.in-Some-infer.counter c.in-Some-infer.ensures
-    (c.if-not-check_mic.ensures.value ∙ ap (λ (key : List ℕ). has_mic c.args.bytes.now key c.in-Some-infer.counter) c.new.ensures)
-    (c.if-is_crowded.ensures ∙ ap (λ (v : DeskView). is_crowded v.reg.gathered) c.self.view_is)
-    c.requires c.is_last.result c.is_last.ensures
+    let p = rw (← c.self.view_is) at c.in-Some.ensures in
+    let mic = rw c.new.ensures at c.if-not-check_mic.ensures.value in
+    rw (
+      ← c.self.view_is,
+      found_kept _ _ _ _ c.index-device.ensures p,
+      ← c.in-Some-infer.ensures,
+      ← mic,
+      ← c.if-is_crowded.ensures,
+      c.is_last.ensures,
+      ← read_same c.args.bytes.now c.args.uplink c.requires,
+    ) refl
