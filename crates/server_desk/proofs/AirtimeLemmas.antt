@@ -1,7 +1,7 @@
 -- The airtimes of the gateways, as the desk keeps them.
-use Rattle.server_desk.proofs.Words.{ℕ, ◌≡◌, ◌≢◌, ◌+◌, ◌-◌, ◌^◌, ◌<◌, ◌≤◌, ◌==◌, Bool, true, false, ◌&&◌, List, [], ◌∷◌, ◌++◌}
-use Rattle.server_desk.proofs.Words.{map, length, slice_get, slice_set, get_or, All, AllPairs, Option, Some, None, Result, Ok}
-use Rattle.server_desk.proofs.Words.{Err, refl, list_any, option_map, option_map_or, sym, ap, ◌∙◌, subst, arith, length-map}
+use Rattle.server_desk.proofs.Words.{map-map, ℕ, ◌≡◌, ◌≢◌, ◌+◌, ◌-◌, ◌^◌, ◌<◌, ◌≤◌, ◌==◌, Bool, true, false, ◌&&◌, List, [], ◌∷◌}
+use Rattle.server_desk.proofs.Words.{◌++◌, map, length, slice_get, slice_set, get_or, All, AllPairs, Option, Some, None, Result}
+use Rattle.server_desk.proofs.Words.{Ok, Err, refl, list_any, option_map, option_map_or, sym, ap, ◌∙◌, subst, arith, length-map}
 use Rattle.server_desk.proofs.Words.{length-append, length-set, All-nil, All-map, All-push, All-set, AllPairs-head, AllPairs-tail}
 use Rattle.server_desk.proofs.Words.{longest_us, IsWithinLongest, Ending, HeardCopy, HearFault, Heard, Opened, Joined, Gatherings}
 use Rattle.server_desk.proofs.Words.{numbered, after_hearing, GatewaySetting, at_number, Known, NotGiven, Given, Done, Sent}
@@ -51,10 +51,6 @@ limits_kept (Ok (Joined n copies)) s bytes copy arrived = refl
 limits_kept (Err fault) s bytes copy arrived = refl
 
 -- before anything was heard
-no_airtimes : (gateways : List GatewaySetting) → map (λ g. 0) gateways ≡ map (λ id. answered_at id []) (map (λ g. g.id) gateways)
-no_airtimes [] = refl
-no_airtimes (g ∷ gateways) = ap (λ (l : List ℕ). 0 ∷ l) (no_airtimes gateways)
-
 ids_differ : (gateways : List GatewaySetting) → AllPairs (λ g h. g.id ≢ h.id) gateways
     → AllPairs (λ a b. a ≢ b) (map (λ g. g.id) gateways)
 ids_differ [] d = λ i j x l h. absurd (omega (arith, h))
@@ -69,7 +65,7 @@ pub first_airtimes : (gateways : List GatewaySetting) (limit : ℕ) → AllPairs
 first_airtimes gateways limit d h =
     record {
       differ = ids_differ gateways d;
-      told = no_airtimes gateways;
+      told = sym (map-map (λ id. answered_at id []) (λ (g : GatewaySetting). g.id) gateways);
       short = All-nil (λ k. whole_airtime k ≤ longest_us);
       few = omega arith;
       limited = h;

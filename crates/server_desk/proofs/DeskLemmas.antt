@@ -1,14 +1,11 @@
 -- The devices as the desk keeps them, and as they are seen.
-use Rattle.server_desk.proofs.Words.{ℕ, ◌≡◌, ◌==◌, ◌<◌, nat_lt, ◌||◌, List, map, length, slice_get, slice_set, get_or, Option}
-use Rattle.server_desk.proofs.Words.{Some, None, Result, Ok, Err, IfOk, OnOk, OnErr, refl, option_map, sym, ap, ◌∙◌, arith}
-use Rattle.server_desk.proofs.Words.{slice_get_within, nat_tests, length-map, length-set, map-set, All-set, All-push, Payload}
-use Rattle.server_desk.proofs.Words.{Kept, Known, Device, Asked, device_with, Gatherings, shown, outs, IsSendable, IsServable}
-use Rattle.server_desk.proofs.Words.{AreOut, IsDesk, DeskView, desk_queue, some_inj, all_get, map_set, found_there}
-use Rattle.server_desk.proofs.Words.{slice_get_read, map_there}
+use Rattle.server_desk.proofs.Words.{ℕ, ◌≡◌, ◌==◌, ◌<◌, List, map, length, slice_get, slice_set, get_or, Option, Some, None}
+use Rattle.server_desk.proofs.Words.{Result, Ok, Err, IfOk, OnOk, OnErr, refl, option_map, sym, ap, ◌∙◌, arith, slice_get_within}
+use Rattle.server_desk.proofs.Words.{nat_tests, length-map, length-set, map-set, All-set, All-push, Payload, Kept, Known, Device}
+use Rattle.server_desk.proofs.Words.{Asked, device_with, Gatherings, shown, outs, IsSendable, IsServable, AreOut, IsDesk}
+use Rattle.server_desk.proofs.Words.{DeskView, desk_queue, some_inj, all_get, map_set, found_there, slice_get_read, map_there}
 use Rattle.server_desk.specs.declared.faults.QueueFault.{QueueFault}
-use Rattle.server_desk.specs.declared.faults.QueueFault.TheVariants.{Port, Long}
 use Rattle.server_desk.specs.Queueing.{queue_fault, queued_or, with_payload}
-use Rattle.server_desk.proofs.Tests.{passed}
 
 -- the desk's part of the world, by what it keeps
 abbrev pub seen : {A : Type 0} → List ℕ → List (Kept A) → Gatherings → List Asked → List Known → DeskView
@@ -95,12 +92,7 @@ sendable : (device : Device) (payload : Payload) (count : ℕ) (o : Option Queue
     → queued_or device o ≡ Ok count → IsSendable payload
 sendable device payload count (Some fault) q e = absurd (cc)
 sendable device payload count None q e =
-    let port = passed (payload.0 == 0 || nat_lt 223 payload.0) Port _ q in
-    let long = passed (nat_lt 242 (length payload.1)) Long _ port.1 in
-    record {
-      port = (grind (arith, nat_tests, port.0), grind (arith, nat_tests, port.0));
-      len = grind (arith, nat_tests, long.0);
-    }
+    record { port = (grind (arith, nat_tests), grind (arith, nat_tests)); len = grind (arith, nat_tests) }
 
 pub pushed_servable : (device new : Device) (payload : Payload) (r : Result ℕ QueueFault)
     → IfOk r (λ count. queued_or device (queue_fault device payload) ≡ Ok count)

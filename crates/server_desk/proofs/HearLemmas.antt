@@ -3,9 +3,11 @@ use Rattle.server_desk.proofs.Words.{length_push, true, nat_tests, ◌||◌, sli
 use Rattle.server_desk.proofs.Words.{◌+◌, ◌<◌, nat_le, ◌==◌, Bool, false, List, [], ◌∷◌, ◌++◌, map, length, slice_get, slice_set}
 use Rattle.server_desk.proofs.Words.{Some, Result, Ok, Err, IfOk, OnErr, MatchResult, IsOkUnless, refl, sym, ap, ◌∙◌, arith}
 use Rattle.server_desk.proofs.Words.{addr_of, Heard, HearFault, Gatherings, hear_answer, after_hearing, with_copy, hear_step}
-use Rattle.server_desk.proofs.Words.{Kept, Known, NotGiven, NewUplink, Heard1, DeskFault, NoMemory, Device, Asked, Register}
-use Rattle.server_desk.proofs.Words.{copy_of, named_fault, answer_to, shown, outs, IsServable, IsDesk, desk_answer, desk_hear}
-use Rattle.server_desk.proofs.Words.{length-map, length-set, map-set, All-push, some_inj, length-rewritten, found_there}
+use Rattle.server_desk.proofs.Words.{Kept, Known, NotGiven, NewUplink, Heard1, Device, Asked, Register, copy_of, named_fault}
+use Rattle.server_desk.proofs.Words.{answer_to, shown, outs, IsServable, IsDesk, desk_answer, desk_hear, length-map, length-set}
+use Rattle.server_desk.proofs.Words.{map-set, All-push, some_inj, length-rewritten, found_there}
+use Rattle.server_desk.specs.declared.faults.DeskFault.{DeskFault}
+use Rattle.server_desk.specs.declared.faults.DeskFault.TheVariants.{NoMemory}
 use Rattle.server_desk.specs.declared.heard.DeskHeard.{DeskHeard}
 use Rattle.server_desk.specs.declared.heard.DeskHeard.TheVariants.{Opened}
 use Rattle.server_desk.proofs.OutLemmas.{count_push}
@@ -24,28 +26,19 @@ memory repeat (Ok (gathers.Opened n)) h = tt
 memory repeat (Ok (gathers.Joined n copies)) h = tt
 memory repeat (Err fault) h = ap named_fault h
 
-answered_by : (repeat : Bool) (a r : Result Heard HearFault)
+pub answered : (repeat : Bool) (a r : Result Heard HearFault)
     → MatchResult a (λ _. IsOkUnless r gathering.NoMemory) (λ fault. r ≡ Err fault)
     → MatchResult (desk_answer repeat a) (λ _. IsOkUnless (desk_answer repeat r) NoMemory)
     (λ fault. desk_answer repeat r ≡ Err fault)
-answered_by repeat (Ok (gathers.Opened n)) r h = memory repeat r h
-answered_by repeat (Ok (gathers.Joined n copies)) r h = memory repeat r h
-answered_by repeat (Err fault) r h = ap (desk_answer repeat) h
+answered repeat (Ok (gathers.Opened n)) r h = memory repeat r h
+answered repeat (Ok (gathers.Joined n copies)) r h = memory repeat r h
+answered repeat (Err fault) r h = ap (desk_answer repeat) h
 
-told_by : (repeat : Bool) (a r : Result Heard HearFault) → IfOk r (λ heard. a ≡ Ok heard)
+pub told : (repeat : Bool) (a r : Result Heard HearFault) → IfOk r (λ heard. a ≡ Ok heard)
     → IfOk (desk_answer repeat r) (λ told. desk_answer repeat a ≡ Ok told)
-told_by repeat a (Ok (gathers.Opened n)) h = ap (desk_answer repeat) h
-told_by repeat a (Ok (gathers.Joined n copies)) h = ap (desk_answer repeat) h
-told_by repeat a (Err fault) h = tt
-
-module _ (answer x : Result DeskHeard DeskFault) (repeat : Bool) (a r : Result Heard HearFault)
-    (e : answer ≡ desk_answer repeat a) (q : x ≡ desk_answer repeat r) where
-  pub answered : MatchResult a (λ _. IsOkUnless r gathering.NoMemory) (λ fault. r ≡ Err fault)
-      → MatchResult answer (λ _. IsOkUnless x NoMemory) (λ fault. x ≡ Err fault)
-  answered h = rw (e, q) (answered_by repeat a r h)
-
-  pub told : IfOk r (λ heard. a ≡ Ok heard) → IfOk x (λ told. answer ≡ Ok told)
-  told h = rw (e, q) (told_by repeat a r h)
+told repeat a (Ok (gathers.Opened n)) h = ap (desk_answer repeat) h
+told repeat a (Ok (gathers.Joined n copies)) h = ap (desk_answer repeat) h
+told repeat a (Err fault) h = tt
 
 -- where the desk's answer is a fault, the gathering's was one
 pub was_fault : (P : Type 0) (repeat : Bool) (r : Result Heard HearFault) (fault : DeskFault) → desk_answer repeat r ≡ Err fault

@@ -3,7 +3,6 @@ mod SettingsLemmas
 pub mod OutLemmas
 pub mod CopyLemmas
 pub mod DeskLemmas
-pub mod Tests
 pub mod AddrLemmas
 pub mod DecisionLemmas
 pub mod HearLemmas

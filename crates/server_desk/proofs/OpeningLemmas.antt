@@ -1,12 +1,11 @@
 -- A desk before anything was heard.
-use Rattle.server_desk.proofs.Words.{ℕ, suc, ◌≡◌, ◌≢◌, ◌+◌, ◌<◌, ◌==◌, nat_eq, Bool, false, ◌||◌, if◌then◌else◌, List, [], ◌∷◌}
-use Rattle.server_desk.proofs.Words.{◌++◌, map, length, take, get_or, All, AllPairs, refl, list_any, sym, ap, ◌∙◌, subst, arith}
-use Rattle.server_desk.proofs.Words.{map-append, take_more, All-nil, All-push, All-map, All-weaker, GatewaySetting, DeviceSetting}
-use Rattle.server_desk.proofs.Words.{Kept, SettingLists, IsDeviceInRange, AreSettings, Asked, Device, opened_device, shown, outs}
-use Rattle.server_desk.proofs.Words.{IsSendable, IsServable, IsGathered, AreOut, IsDesk, desk_of, from_map, all_get}
+use Rattle.server_desk.proofs.Words.{map_push, map_more, map-map, ℕ, ◌≡◌, ◌≢◌, ◌+◌, ◌<◌, ◌==◌, nat_eq, Bool, false, ◌||◌}
+use Rattle.server_desk.proofs.Words.{if◌then◌else◌, List, [], ◌∷◌, ◌++◌, map, length, take, get_or, All, AllPairs, refl, list_any}
+use Rattle.server_desk.proofs.Words.{sym, ap, ◌∙◌, All-nil, All-push, All-map, All-weaker, DeviceSetting, Kept, SettingLists}
+use Rattle.server_desk.proofs.Words.{IsDeviceInRange, AreSettings, Asked, opened_device, shown, outs, IsSendable, IsServable}
+use Rattle.server_desk.proofs.Words.{IsGathered, AreOut, IsDesk, desk_of, from_map, all_get}
 use Rattle.uplink_gather.specs.declared.limits.Limits.{Limits}
-use Rattle.std.proofs.Math.Seq.{take-suc}
-use Rattle.server_desk.specs.World.{opened_gateway, opening}
+use Rattle.server_desk.specs.World.{opening}
 use Rattle.server_desk.proofs.SettingsLemmas.{IsNew-from_AllPairs}
 use Rattle.server_desk.proofs.AddrLemmas.{flipped}
 use Rattle.server_desk.proofs.DeskLemmas.{seen}
@@ -27,24 +26,8 @@ pub addr_added : (devices : List DeviceSetting) (i : ℕ) (d : DeviceSetting) (k
     → after ≡ (if list_any (nat_eq (get_or devices i d).addr) keys then keys else keys ++ (get_or devices i d).addr ∷ [])
     → after ≡ map addr_of (take (i + 1) devices)
 addr_added devices i d keys after differ h e a =
-    let v : ℕ = (get_or devices i d).addr in
-    let new : list_any (nat_eq v) (map addr_of (take i devices)) ≡ false =
-    any_addr v (take i devices) ∙ IsNew-from_AllPairs addr_of devices differ i d h in
-    let next : suc i ≡ i + 1 = omega arith in
-    a
-    ∙ ap (λ (ks : List ℕ). if list_any (nat_eq v) ks then ks else ks ++ v ∷ []) e
-    ∙ ap (λ (t : Bool). if t then map addr_of (take i devices) else map addr_of (take i devices) ++ v ∷ []) new
-    ∙ sym (map-append addr_of (take i devices) (get_or devices i d ∷ []))
-    ∙ sym (ap (map addr_of) (take-suc devices i d h))
-    ∙ ap (λ (n : ℕ). map addr_of (take n devices)) next
-
-opened_ids : (gateways : List GatewaySetting) → map (λ g. g.id) gateways ≡ map (λ g. g.id) (map opened_gateway gateways)
-opened_ids [] = refl
-opened_ids (g ∷ gateways) = ap (λ (l : List ℕ). g.id ∷ l) (opened_ids gateways)
-
-opened_addrs : (devices : List DeviceSetting) → map addr_of devices ≡ map (λ d. d.setting.addr) (map opened_device devices)
-opened_addrs [] = refl
-opened_addrs (d ∷ devices) = ap (λ (l : List ℕ). d.addr ∷ l) (opened_addrs devices)
+    let new = any_addr (get_or devices i d).addr (take i devices) ∙ IsNew-from_AllPairs addr_of devices differ i d h in
+    rw (map_more addr_of devices i d h, a, e, new) refl
 
 opened_servable : (d : DeviceSetting) → IsDeviceInRange d → IsServable (opened_device d)
 opened_servable d i = record { setting = i; queue = All-nil IsSendable; down = i.down.1 }
@@ -56,13 +39,8 @@ pub opened_more : {A : Type 0} (devices : List DeviceSetting) (i : ℕ) (d : Dev
     → shown new ≡ opened_device (get_or devices i d) → new.out ≡ false → more ≡ kepts ++ new ∷ []
     → (map shown more ≡ map opened_device (take (i + 1) devices)) × All (λ k. k.out ≡ false) more
 opened_more devices i d kepts more new h both s o e = (
-  ap (map shown) e
-      ∙ map-append shown kepts (new ∷ [])
-      ∙ ap (λ (l : List Device). l ++ shown new ∷ []) both.0
-      ∙ ap (λ (x : Device). map opened_device (take i devices) ++ x ∷ []) s
-      ∙ sym (ap (map opened_device) (take_more devices i d h)
-      ∙ map-append opened_device (take i devices) (get_or devices i d ∷ [])),
-  subst (All (λ k. k.out ≡ false)) (sym e) (All-push (λ k. k.out ≡ false) kepts new both.1 o),
+  rw (e, map_push shown kepts new, map_more opened_device devices i d h, both.0, s) refl,
+  rw e (All-push (λ k. k.out ≡ false) kepts new both.1 o),
 )
 
 module _ {A : Type 0} (settings : SettingLists) (limits : Limits) (kepts : List (Kept A))
@@ -79,7 +57,7 @@ module _ {A : Type 0} (settings : SettingLists) (limits : Limits) (kepts : List 
       (record { devices = map shown kepts; gathered = record { list = []; limits = limits }; asked = [] }) []
   opened_holds are n =
       record {
-        addrs = rw d (opened_addrs settings.devices);
+        addrs = rw (d, map-map) refl;
         asked = refl;
         told = refl;
         placed = All-nil (λ (x : Asked). x.device < length (map shown kepts));
@@ -92,4 +70,4 @@ module _ {A : Type 0} (settings : SettingLists) (limits : Limits) (kepts : List 
   -- it is the desk's part of the whole system before the first step
   pub opened_desk : seen (map (λ g. g.id) settings.gateways) kepts (record { list = []; limits = limits }) [] []
       ≡ desk_of (opening settings limits)
-  opened_desk = rw (d, opened_ids settings.gateways) refl
+  opened_desk = rw (d, map-map) refl

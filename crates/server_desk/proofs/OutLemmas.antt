@@ -1,8 +1,8 @@
 -- How many tickets and stubs of a device are out.
 use Rattle.server_desk.proofs.Words.{ℕ, ◌⊎◌, zero, suc, ◌≡◌, ◌≢◌, ◌+◌, ◌==◌, nat_lt, Bool, true, false, ◌&&◌, ◌||◌, if◌then◌else◌}
 use Rattle.server_desk.proofs.Words.{List, [], ◌∷◌, ◌++◌, length, slice_get, slice_set, Option, Some, refl, inl, inr, sym, ap}
-use Rattle.server_desk.proofs.Words.{◌∙◌, subst, arith, eq-eqb, ne_eqb, nat_tests, Asked, Known, NotGiven, Given, Done, Sent}
-use Rattle.server_desk.proofs.Words.{is_given, is_engaged, own_out, count_out, AreOut, some_inj, get_set_cases}
+use Rattle.server_desk.proofs.Words.{◌∙◌, subst, arith, eq-eqb, nat_tests, Asked, Known, NotGiven, Given, Done, Sent, is_given}
+use Rattle.server_desk.proofs.Words.{is_engaged, own_out, count_out, AreOut, some_inj, get_set_cases}
 
 abbrev as_count : Bool → ℕ
 as_count b = if b then 1 else 0
@@ -53,15 +53,11 @@ pub engaged_is : (outs : List Bool) (asked : List Asked) (known : List Known) (p
 engaged_is outs asked known place out h e = engaged_count place asked known ∙ ap (nat_lt 0) (h place out e) ∙ as_counted out
 
 -- of another device's uplink none is out
-none_by : (b t : Bool) → t ≡ false → as_count (b && t) ≡ 0
-none_by true t e = ap as_count e
-none_by false t e = refl
-
 own_other : (place : ℕ) (a : Asked) (k : Known) → a.device ≢ place → own_out place a k ≡ 0
-own_other place a k n = none_by (is_given k) (a.device == place) (ne_eqb a.device place n)
+own_other place a k n = grind (arith, nat_tests)
 
 own_given : (a : Asked) → own_out a.device a Given ≡ 1
-own_given a = ap as_count (eq-eqb a.device a.device refl)
+own_given a = rw (eq-eqb a.device a.device refl) refl
 
 module _ (outs : List Bool) (asked : List Asked) (known : List Known) (i : ℕ) (a : Asked) (k new : Known) (old out : Bool)
     (there : slice_get asked i ≡ Some a) (stated : slice_get known i ≡ Some k) (was : slice_get outs a.device ≡ Some old)

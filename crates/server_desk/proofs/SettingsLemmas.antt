@@ -1,24 +1,16 @@
-use Rattle.server_desk.proofs.Words.{◌≡◌, ◌≢◌, ℕ, zero, suc, ◌<◌, ◌==◌, Bool, true, false, not, if◌then◌else◌, List, [], ◌∷◌}
-use Rattle.server_desk.proofs.Words.{◌++◌, length, get_or, take, Option, Some, None, AllPairs, refl, sym, ◌∙◌, append_assoc}
-use Rattle.server_desk.proofs.Words.{length-take, arith, option_or, list_any, true≢false, eq-eqb, ne_eqb, nat_tests, append-nil}
-use Rattle.server_desk.proofs.Words.{get_or-take, get_or_default, list_any_at, list_any_none, none-some, GatewaySetting}
-use Rattle.server_desk.proofs.Words.{DeviceSetting, IsGatewayInRange, is_gateway_in_range, IsDeviceInRange, is_device_in_range}
-use Rattle.server_desk.proofs.Words.{has_rx2_band, AreSettings, are_counts_in_range, gateway_fault, device_fault, first_fault}
-use Rattle.server_desk.proofs.Words.{settings_fault}
+use Rattle.server_desk.proofs.Words.{◌≡◌, ◌≢◌, ℕ, zero, suc, ◌<◌, ◌==◌, true, false, List, [], ◌∷◌, ◌++◌, length, get_or, take}
+use Rattle.server_desk.proofs.Words.{Option, Some, None, AllPairs, refl, sym, ◌∙◌, append_assoc, length-take, arith, option_or}
+use Rattle.server_desk.proofs.Words.{list_any, true≢false, eq-eqb, ne_eqb, nat_tests, append-nil, get_or-take, get_or_default}
+use Rattle.server_desk.proofs.Words.{list_any_at, list_any_none, GatewaySetting, DeviceSetting, IsGatewayInRange}
+use Rattle.server_desk.proofs.Words.{is_gateway_in_range, IsDeviceInRange, is_device_in_range, has_rx2_band, AreSettings}
+use Rattle.server_desk.proofs.Words.{are_counts_in_range, gateway_fault, device_fault, first_fault, settings_fault}
 use Rattle.server_desk.specs.declared.settings_fault.SettingsFault.{SettingsFault}
-use Rattle.server_desk.specs.declared.settings_fault.SettingsFault.TheVariants.{Count, Range, DoubleGateway, NoBand, DoubleDevice}
 
 -- Settings have no fault exactly where they are what `AreSettings` says.
 
--- a test that gave no fault failed, and what comes after it gave none either
-passed : (test : Bool) (fault : SettingsFault) (rest : Option SettingsFault) → (if test then Some fault else rest) ≡ None
-    → (test ≡ false) × (rest ≡ None)
-passed true fault rest h = absurd (none-some fault (sym h))
-passed false fault rest h = (refl, h)
-
 both_none : (o p : Option SettingsFault) → option_or o p ≡ None → (o ≡ None) × (p ≡ None)
 both_none None p h = (refl, h)
-both_none (Some fault) p h = absurd (none-some fault (sym h))
+both_none (Some fault) p h = absurd (cc)
 
 -- the member at each place has no fault beside those before it
 abbrev pub FaultFree : {S : Type 0} → (List S → S → Option SettingsFault) → List S → List S → Type 0
@@ -83,35 +75,24 @@ IsDeviceInRange-test d h =
 is_device_in_range-true : (d : DeviceSetting) → IsDeviceInRange d → is_device_in_range d ≡ true
 is_device_in_range-true d h = grind (arith, nat_tests)
 
-not_not : (b : Bool) → not b ≡ false → b ≡ true
-not_not true h = refl
-not_not false h = sym h
-
 -- a gateway without a fault is in range and new
 gateway_passed : (earlier : List GatewaySetting) (g : GatewaySetting) → gateway_fault earlier g ≡ None
-    → (is_gateway_in_range g ≡ true) × (list_any (λ e. e.id == g.id) earlier ≡ false)
-gateway_passed earlier g h =
-    let ranged = passed (not (is_gateway_in_range g)) Range _ h in
-    let new = passed (list_any (λ e. e.id == g.id) earlier) DoubleGateway None ranged.1 in
-    (not_not _ ranged.0, new.0)
+    → IsGatewayInRange g × (list_any (λ e. e.id == g.id) earlier ≡ false)
+gateway_passed earlier g h = (IsGatewayInRange-test g (grind (arith, h)), grind (arith, h))
 
 -- a device without a fault is in range and new, and the channel of its RX2 lies in a sub-band
 device_passed : (earlier : List DeviceSetting) (d : DeviceSetting) → device_fault earlier d ≡ None
-    → (is_device_in_range d ≡ true) × (has_rx2_band d ≡ true) × (list_any (λ e. e.addr == d.addr) earlier ≡ false)
-device_passed earlier d h =
-    let ranged = passed (not (is_device_in_range d)) Range _ h in
-    let banded = passed (not (has_rx2_band d)) NoBand _ ranged.1 in
-    let new = passed (list_any (λ e. e.addr == d.addr) earlier) DoubleDevice None banded.1 in
-    (not_not _ ranged.0, not_not _ banded.0, new.0)
+    → IsDeviceInRange d × (has_rx2_band d ≡ true) × (list_any (λ e. e.addr == d.addr) earlier ≡ false)
+device_passed earlier d h = (IsDeviceInRange-test d (grind (arith, h)), grind (arith, h), grind (arith, h))
 
 -- settings without a fault are what the type keeps
 pub AreSettings-from_none : (gateways : List GatewaySetting) (devices : List DeviceSetting)
     → settings_fault gateways devices ≡ None → AreSettings gateways devices
 unfolding settings_fault
 AreSettings-from_none gateways devices h =
-    let counted = passed (not (are_counts_in_range (length gateways) (length devices))) Count _ h in
-    let counts : are_counts_in_range (length gateways) (length devices) ≡ true = not_not _ counted.0 in
-    let both = both_none (first_fault gateway_fault [] gateways) (first_fault device_fault [] devices) counted.1 in
+    let counts : are_counts_in_range (length gateways) (length devices) ≡ true = grind (arith, h) in
+    let faultless = rw counts at h in
+    let both = both_none (first_fault gateway_fault [] gateways) (first_fault device_fault [] devices) faultless in
     let gateway_free = FaultFree-from_none gateway_fault [] gateways both.0 in
     let device_free = FaultFree-from_none device_fault [] devices both.1 in
     let gateway_at = λ (k : ℕ) (d : GatewaySetting) (l : k < length gateways). gateway_passed (take k gateways)
@@ -121,9 +102,9 @@ AreSettings-from_none gateways devices h =
     record {
       gateway_count = (grind (arith, nat_tests), grind (arith, nat_tests));
       device_count = (grind (arith, nat_tests), grind (arith, nat_tests));
-      gateways_in_range = λ k d l. IsGatewayInRange-test _ (gateway_at k d l).0;
+      gateways_in_range = λ k d l. (gateway_at k d l).0;
       ids_differ = AllPairs-from_IsNew (λ g. g.id) gateways (λ k d l. (gateway_at k d l).1);
-      devices_in_range = λ k d l. IsDeviceInRange-test _ (device_at k d l).0;
+      devices_in_range = λ k d l. (device_at k d l).0;
       rx2_in_bands = λ k d l. (device_at k d l).1;
       addrs_differ = AllPairs-from_IsNew (λ d. d.addr) devices (λ k d l. (device_at k d l).2);
     }

@@ -1,19 +1,17 @@
 -- A ticket is given, as the desk gives it.
-use Rattle.server_desk.proofs.Words.{map_there, ℕ, zero, suc, ◌≡◌, ◌-◌, ◌^◌, ◌<◌, ◌≤◌, nat_le, true, false, not, List, [], ◌∷◌}
-use Rattle.server_desk.proofs.Words.{map, length, All, slice_get, slice_set, Option, Some, None, Result, Ok, Err, IfOk, refl}
-use Rattle.server_desk.proofs.Words.{option_map, ForSome, sym, ap, ◌∙◌, subst, arith, nat_tests, length-map, length-set, map-set}
-use Rattle.server_desk.proofs.Words.{All-head, HeardCopy, Gatherings, numbered, is_closed_at, copies_of, length-ranked}
+use Rattle.server_desk.proofs.Words.{slice_get_read, get_or, map_there, ℕ, zero, suc, ◌≡◌, ◌-◌, ◌^◌, ◌<◌, ◌≤◌, true, false, List}
+use Rattle.server_desk.proofs.Words.{[], ◌∷◌, map, length, All, slice_get, slice_set, Option, Some, None, Result, Ok, Err, IfOk}
+use Rattle.server_desk.proofs.Words.{refl, option_map, ForSome, sym, ap, ◌∙◌, subst, arith, nat_tests, length-map, length-set}
+use Rattle.server_desk.proofs.Words.{map-set, All-head, HeardCopy, Gatherings, numbered, is_closed_at, copies_of, length-ranked}
 use Rattle.server_desk.proofs.Words.{All-ranked, IsHeard, Job, Payload, IsJob, IsPort, payload_len, Kept, Known, NotGiven, Given}
-use Rattle.server_desk.proofs.Words.{Done, is_not_given, Device, Asked, Register, head, is_owed, is_engaged, job_for, fault_of}
-use Rattle.server_desk.proofs.Words.{given_or, take_answer, with_counter_given, shown, outs, IsSendable, IsServable, IsGathered}
-use Rattle.server_desk.proofs.Words.{IsDesk, IsReady, desk_take, some_inj, all_get, at_number}
+use Rattle.server_desk.proofs.Words.{Done, is_not_given, Device, Asked, Register, head, is_engaged, job_for, fault_of, given_or}
+use Rattle.server_desk.proofs.Words.{take_answer, with_counter_given, shown, outs, IsSendable, IsServable, IsGathered, IsDesk}
+use Rattle.server_desk.proofs.Words.{IsReady, desk_take, some_inj, all_get, at_number}
 use Rattle.rx_windows.specs.Rank.{ranked}
 use Rattle.answer_ticket.specs.Ticket.{Standing}
 use Rattle.server_desk.specs.declared.faults.TakeFault.{TakeFault}
-use Rattle.server_desk.specs.declared.faults.TakeFault.TheVariants.{Silent, Engaged, CounterSpent}
 use Rattle.server_desk.proofs.OutLemmas.{engaged_is, out_given}
 use Rattle.server_desk.proofs.DeskLemmas.{seen, written_holds}
-use Rattle.server_desk.proofs.Tests.{passed}
 
 -- the job that a ticket is given for
 head_port : (queue : List Payload) → All IsSendable queue → ForSome (head queue) (λ b. IsPort b.0)
@@ -76,6 +74,9 @@ module _ {A : Type 0} (keys : List ℕ) (kepts : List (Kept A)) (gathered : Gath
       let own : IsGathered g.0 = all_get IsGathered gathered.list (n - 1) g.0 i.gathered (at_number n gathered.list g.0 g.1) in
       rw g.1 (own.copied, own.heard)
 
+  pub at_here : (k : Kept A) → k ≡ get_or kepts a.device k → slice_get kepts a.device ≡ Some k
+  at_here k g = slice_get_read kepts (length kepts) a.device k refl within_here g
+
   module _ (k : Kept A) (at : slice_get kepts a.device ≡ Some k) where
     there : slice_get (map shown kepts) a.device ≡ Some (shown k)
     there = map_there shown kepts a.device k at
@@ -117,11 +118,10 @@ module _ {A : Type 0} (keys : List ℕ) (kepts : List (Kept A)) (gathered : Gath
       -- no other is out, and a counter is left
       free : (k.out ≡ false) × (k.down < 2 ^ 32)
       free =
-          let owed = passed (not (is_owed a ready.device)) Silent _ ready.free in
-          let out = passed (is_engaged a.device asked known) Engaged _ owed.1 in
-          let spent = passed (nat_le (2 ^ 32) ready.device.down) CounterSpent None out.1 in
-          let left : ready.device.down < 2 ^ 32 = grind (arith, nat_tests, spent.0) in
-          (sym engaged ∙ out.0, rw same_device at left)
+          let fault = ready.free in
+          let out : is_engaged a.device asked known ≡ false = grind (arith, fault) in
+          let left : ready.device.down < 2 ^ 32 = grind (arith, nat_tests, fault) in
+          (sym engaged ∙ out, rw same_device at left)
 
       -- the job, as the desk makes it
       pub job_here : take_answer reg known n ≡ Ok (job_for (shown k) n a (ranked (copies_of n gathered.list)))

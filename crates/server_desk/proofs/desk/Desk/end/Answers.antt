@@ -1,7 +1,7 @@
-use Rattle.server_desk.proofs.Words.{refl, sym, arith, at_number, slice_get_within, Given, slice_get_read}
+use Rattle.server_desk.proofs.Words.{sym, arith, at_number, slice_get_within, Given}
+use Rattle.server_desk.proofs.TakeLemmas.{at_here}
 use Rattle.server_desk.proofs.AirtimeLemmas.{can_raise, short_ending, sent_here, settled_airtimes, settled_total}
 use Rattle.server_desk.proofs.AirtimeSums.{within_limit}
-use Rattle.server_desk.proofs.TakeLemmas.{within_here}
 use Rattle.server_desk.proofs.SettleLemmas.{its_uplink, settled_holds, settled_here, is_out}
 use Rattle.server_desk.proofs.desk.Desk.end.Goals as goal
 
@@ -9,8 +9,7 @@ pub invariant_of-self : goal.invariant_of-self
 invariant_of-self g c =
     let out = is_out _ _ c.args.outcome.now.number c.args.outcome.now.result (rw (← c.self.view_is) at c.requires.out) in
     let uplink = its_uplink _ _ _ _ _ c.self.invariant.0 c.args.outcome.now.number out _ c.index.ensures in
-    let at = slice_get_read _ _ _ _ refl (within_here _ _ _ _ _ c.self.invariant.0 c.args.outcome.now.number _ uplink)
-    c.index_mut.ensures.value in (
+    let at = at_here _ _ _ _ _ c.self.invariant.0 c.args.outcome.now.number _ uplink _ c.index_mut.ensures.value in (
       settled_holds _ _ _ _ _ c.self.invariant.0 c.args.outcome.now.number out _ uplink _ _ at c.has_carried.result
           c.settle.ensures.shown c.sent_of-sent.result c.settle.ensures.out,
       rw (c.raise.ensures, c.deref.ensures.value, c.sent_of-sent.ensures)
@@ -22,8 +21,7 @@ pub returns-clause-step : goal.returns-clause-step
 returns-clause-step g c =
     let out = is_out _ _ c.args.outcome.now.number c.args.outcome.now.result (rw (← c.self.view_is) at c.requires.out) in
     let uplink = its_uplink _ _ _ _ _ c.self.invariant.0 c.args.outcome.now.number out _ c.index.ensures in
-    let at = slice_get_read _ _ _ _ refl (within_here _ _ _ _ _ c.self.invariant.0 c.args.outcome.now.number _ uplink)
-    c.index_mut.ensures.value in
+    let at = at_here _ _ _ _ _ c.self.invariant.0 c.args.outcome.now.number _ uplink _ c.index_mut.ensures.value in
     rw (← c.self.view_is, c.sent_of-sent.ensures) (settled_here _ _ _ _ _ c.self.invariant.0 c.args.outcome.now.number out _ uplink
     _ _ at c.has_carried.result c.settle.ensures.shown _ c.args.outcome.now.result (sym c.has_carried.ensures))
 

@@ -1,12 +1,11 @@
-use Rattle.server_desk.proofs.Words.{refl, slice_get_read}
-use Rattle.server_desk.proofs.TakeLemmas.{within_here, given_holds, given_here}
+use Rattle.server_desk.proofs.TakeLemmas.{at_here, given_holds, given_here}
 use Rattle.server_desk.proofs.AirtimeLemmas.{given_airtimes}
 use Rattle.server_desk.proofs.desk.Desk.give.Goals as goal
 
 pub invariant_of-self : goal.invariant_of-self
 invariant_of-self g c =
     let ready = rw (← c.self.view_is) at c.requires in
-    let at = slice_get_read _ _ _ _ refl (within_here _ _ _ _ _ c.self.invariant.0 c.args.n _ ready.uplink) c.index_mut.ensures.value in (
+    let at = at_here _ _ _ _ _ c.self.invariant.0 c.args.n _ ready.uplink _ c.index_mut.ensures.value in (
       given_holds _ _ _ _ _ c.self.invariant.0 c.args.n _ ready.uplink _ at ready _ c.give.ensures.shown c.give.ensures.out,
       given_airtimes _ _ _ _ c.self.invariant.1 c.args.n ready.waits,
     )
@@ -14,5 +13,5 @@ invariant_of-self g c =
 pub returns : goal.returns
 returns g c =
     let ready = rw (← c.self.view_is) at c.requires in
-    let at = slice_get_read _ _ _ _ refl (within_here _ _ _ _ _ c.self.invariant.0 c.args.n _ ready.uplink) c.index_mut.ensures.value in
+    let at = at_here _ _ _ _ _ c.self.invariant.0 c.args.n _ ready.uplink _ c.index_mut.ensures.value in
     rw (← c.self.view_is) (given_here _ _ _ _ _ c.self.invariant.0 c.args.n _ ready.uplink _ at ready _ c.give.ensures.shown _)

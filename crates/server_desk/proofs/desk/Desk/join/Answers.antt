@@ -1,3 +1,4 @@
+use Rattle.server_desk.proofs.Words.{false}
 use Rattle.server_desk.proofs.AirtimeLemmas.{limits_kept}
 use Rattle.server_desk.proofs.DecisionLemmas.{is_told}
 use Rattle.server_desk.proofs.HearLemmas.{answered, told, join_answer, join_holds}
@@ -16,10 +17,10 @@ pub returns-clause-answer : goal.returns-clause-answer
 returns-clause-answer g c =
     let j = is_told _ _ _ _ _ says.Join (rw (← c.self.view_is) at c.requires) in
     let answer = rw c.copy_of.ensures at c.hear-answer.ensures.answer in
-    rw (← c.self.view_is) (answered _ _ _ _ c.hear-answer.result (join_answer j) c.desk_answer.ensures answer)
+    rw (← c.self.view_is, join_answer j, c.desk_answer.ensures) (answered false _ c.hear-answer.result answer)
 
 pub returns-clause-told : goal.returns-clause-told
 returns-clause-told g c =
     let j = is_told _ _ _ _ _ says.Join (rw (← c.self.view_is) at c.requires) in
-    let told_it = rw c.copy_of.ensures at c.hear-answer.ensures.told in
-    rw (← c.self.view_is) (told _ _ _ _ c.hear-answer.result (join_answer j) c.desk_answer.ensures told_it)
+    let heard = rw c.copy_of.ensures at c.hear-answer.ensures.told in
+    rw (← c.self.view_is, join_answer j, c.desk_answer.ensures) (told false _ c.hear-answer.result heard)

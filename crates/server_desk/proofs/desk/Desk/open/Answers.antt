@@ -10,8 +10,8 @@ pub returns-in-Err-clause-answer : goal.returns-in-Err-clause-answer
 returns-in-Err-clause-answer g c =
     let n = is_told _ _ _ _ _ (says.Open c.args.new) (rw (← c.self.view_is) at c.requires) in
     let answer = rw c.copy_of.ensures at c.hear-answer.ensures.answer in
-    rw (← c.self.view_is) (answered _ _ _ _ c.hear-answer.result (open_answer _ _ _ _ n)
-    (sym c.in-Err.is ∙ c.desk_answer.ensures) answer)
+    let fault = sym c.desk_answer.ensures ∙ c.in-Err.is in
+    rw (← c.self.view_is, open_answer _ _ _ _ n) (rw fault at (answered c.args.new.repeat _ c.hear-answer.result answer))
 
 pub returns-in-Err-clause-refused : goal.returns-in-Err-clause-refused
 returns-in-Err-clause-refused g c =
@@ -46,9 +46,9 @@ invariant_of-self-2 g c =
 pub returns-clause-told : goal.returns-clause-told
 returns-clause-told g c =
     let n = is_told _ _ _ _ _ (says.Open c.args.new) (rw (← c.self.view_is) at c.requires) in
-    let told_it = rw c.copy_of.ensures at c.hear-answer.ensures.told in
-    rw (← c.self.view_is) (told _ _ _ _ c.hear-answer.result (open_answer _ _ _ _ n)
-    (sym c.in-Ok-desk_answer.is ∙ c.desk_answer.ensures) told_it)
+    let heard = rw c.copy_of.ensures at c.hear-answer.ensures.told in
+    let is = sym c.desk_answer.ensures ∙ c.in-Ok-desk_answer.is in
+    rw (← c.self.view_is, open_answer _ _ _ _ n) (rw is at (told c.args.new.repeat _ c.hear-answer.result heard))
 
 pub returns-clause-step : goal.returns-clause-step
 returns-clause-step g c =

@@ -1,5 +1,5 @@
-use Rattle.server_desk.proofs.Words.{take_answer, refl, sym, arith, Some, slice_get_read}
-use Rattle.server_desk.proofs.TakeLemmas.{within_here, answer_is, is_ready}
+use Rattle.server_desk.proofs.Words.{take_answer, refl, sym, arith, Some}
+use Rattle.server_desk.proofs.TakeLemmas.{at_here, within_here, answer_is, is_ready}
 use Rattle.server_desk.proofs.desk.Desk.owed.Goals as goal
 
 pub returns-then-not-is_closed : goal.returns-then-not-is_closed
@@ -35,7 +35,7 @@ pub returns-in-None : goal.returns-in-None
 returns-in-None g c =
     let asked = rw c.deref.ensures.value at c.in-Some.ensures in
     let known = rw c.deref-2.ensures.value at c.in-Some-numbered.ensures in
-    let at = slice_get_read _ _ _ _ refl (within_here _ _ _ _ _ c.self.invariant.0 c.args.n _ (sym asked)) c.index.ensures in
+    let at = at_here _ _ _ _ _ c.self.invariant.0 c.args.n _ (sym asked) _ c.index.ensures in
     rw (← c.self.view_is) (is_ready _ _ _ _ _ c.self.invariant.0 c.args.n _ (sym asked) _ at _ c.if-not-is_closed.ensures known
     c.if-not-is_not_given.ensures c.in-None.ensures)
 
@@ -43,6 +43,6 @@ pub returns-in-Some-take_fault : goal.returns-in-Some-take_fault
 returns-in-Some-take_fault g c =
     let asked = rw c.deref.ensures.value at c.in-Some.ensures in
     let known = rw c.deref-2.ensures.value at c.in-Some-numbered.ensures in
-    let at = slice_get_read _ _ _ _ refl (within_here _ _ _ _ _ c.self.invariant.0 c.args.n _ (sym asked)) c.index.ensures in
+    let at = at_here _ _ _ _ _ c.self.invariant.0 c.args.n _ (sym asked) _ c.index.ensures in
     rw (← c.self.view_is) (answer_is _ _ _ _ _ c.self.invariant.0 c.args.n _ (sym asked) _ at _ c.if-not-is_closed.ensures known
     c.if-not-is_not_given.ensures (Some c.in-Some-take_fault.fault) c.in-Some-take_fault.ensures)
