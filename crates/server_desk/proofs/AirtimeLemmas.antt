@@ -77,8 +77,8 @@ short_ending (Unanswered refusal) h = omega arith
 short_ending GivenUp h = omega arith
 
 -- an answer's airtime can be added
-pub can_raise : (ids airtimes : List ℕ) (limit : ℕ) (known : List Known) (sent : Option Sent) → AreAirtimes ids airtimes limit known
-    → sent_airtime sent ≤ longest_us → CanRaise ids airtimes sent
+pub can_raise : (ids airtimes : List ℕ) (limit : ℕ) (known : List Known) (sent : Option Sent)
+    → AreAirtimes ids airtimes limit known → sent_airtime sent ≤ longest_us → CanRaise ids airtimes sent
 can_raise ids airtimes limit known sent i short =
     let low : (id : ℕ) → answered_at id known ≤ total_limit =
     λ id. omega (arith, answered_short id known i.short, i.few, i.limited) in

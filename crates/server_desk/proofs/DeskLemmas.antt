@@ -1,20 +1,29 @@
 -- The devices as the desk keeps them, and as they are seen.
-use Rattle.server_desk.proofs.Words.{ℕ, ◌≡◌, ◌==◌, ◌<◌, List, map, length, slice_get, slice_set, get_or, Option, Some, None}
-use Rattle.server_desk.proofs.Words.{Result, Ok, Err, IfOk, OnOk, OnErr, refl, option_map, sym, ap, ◌∙◌, arith, slice_get_within}
-use Rattle.server_desk.proofs.Words.{nat_tests, length-map, length-set, map-set, All-set, All-push, Payload, Kept, Known, Device}
-use Rattle.server_desk.proofs.Words.{Asked, device_with, Gatherings, shown, outs, IsSendable, IsServable, AreOut, IsDesk}
-use Rattle.server_desk.proofs.Words.{DeskView, desk_queue, some_inj, all_get, map_set, found_there, slice_get_read, map_there}
+use Rattle.server_desk.proofs.Words.{Register, ℕ, ◌≡◌, ◌==◌, ◌<◌, List, map, length, slice_get, slice_set, get_or, Option, Some}
+use Rattle.server_desk.proofs.Words.{None, Result, Ok, Err, IfOk, OnOk, OnErr, refl, option_map, sym, ap, ◌∙◌, arith}
+use Rattle.server_desk.proofs.Words.{slice_get_within, nat_tests, length-map, length-set, map-set, All-set, All-push, Payload}
+use Rattle.server_desk.proofs.Words.{Kept, Known, Device, Asked, device_with, Gatherings, shown, outs, IsSendable, IsServable}
+use Rattle.server_desk.proofs.Words.{AreOut, IsDesk, DeskView, desk_queue, some_inj, all_get, map_set, found_there}
+use Rattle.server_desk.proofs.Words.{slice_get_read, map_there}
 use Rattle.server_desk.specs.declared.faults.QueueFault.{QueueFault}
 use Rattle.server_desk.specs.Queueing.{queue_fault, queued_or, with_payload}
 
--- the desk's part of the world, by what it keeps
+-- the desk's part of the world, by what it keeps, and what is true of it
+abbrev pub seen_reg : {A : Type 0} → List (Kept A) → Gatherings → List Asked → Register
+seen_reg kepts gathered asked = record { devices = map shown kepts; gathered = gathered; asked = asked }
+
 abbrev pub seen : {A : Type 0} → List ℕ → List (Kept A) → Gatherings → List Asked → List Known → DeskView
-seen ids kepts gathered asked known =
-    record { ids = ids; reg = record { devices = map shown kepts; gathered = gathered; asked = asked }; known = known }
+seen ids kepts gathered asked known = record { ids = ids; reg = seen_reg kepts gathered asked; known = known }
+
+abbrev pub Holds : {A : Type 0} → List ℕ → List (Kept A) → Gatherings → List Asked → List Known → Type 0
+Holds keys kepts gathered asked known = IsDesk keys (outs kepts) (seen_reg kepts gathered asked) known
 
 -- the device that was found by its address, as it is kept
 module _ {A : Type 0} (kepts : List (Kept A)) (addr place : ℕ) where
-  placed : (o : Option (ℕ × Device)) → device_with addr (map shown kepts) ≡ o → Some place ≡ option_map (λ found. found.0) o
+  abbrev IsFound : Option (ℕ × Device) → Type 0
+  IsFound o = Some place ≡ option_map (λ found. found.0) o
+
+  placed : (o : Option (ℕ × Device)) → device_with addr (map shown kepts) ≡ o → IsFound o
       → (d : Device) × (device_with addr (map shown kepts) ≡ Some (place, d)) × (slice_get (map shown kepts) place ≡ Some d)
   placed None e p = absurd (cc)
   placed (Some found) e p =
@@ -22,17 +31,16 @@ module _ {A : Type 0} (kepts : List (Kept A)) (addr place : ℕ) where
       let there = (found_there (λ (d : Device). d.setting.addr == addr) (map shown kepts) found e).0 in
       (found.1, e ∙ ap (λ i. Some (i, found.1)) at, rw at at there)
 
-  pub found_within : Some place ≡ option_map (λ found. found.0) (device_with addr (map shown kepts)) → place < length kepts
+  pub found_within : IsFound (device_with addr (map shown kepts)) → place < length kepts
   found_within p =
       let d = placed (device_with addr (map shown kepts)) refl p in
       omega (arith, slice_get_within (map shown kepts) place d.0 d.2, length-map kepts shown)
 
-  pub found_at : (k : Kept A) → k ≡ get_or kepts place k
-      → Some place ≡ option_map (λ found. found.0) (device_with addr (map shown kepts)) → slice_get kepts place ≡ Some k
+  pub found_at : (k : Kept A) → k ≡ get_or kepts place k → IsFound (device_with addr (map shown kepts))
+      → slice_get kepts place ≡ Some k
   found_at k g p = slice_get_read kepts (length kepts) place k refl (found_within p) g
 
-  pub found_kept : (k : Kept A) → k ≡ get_or kepts place k
-      → Some place ≡ option_map (λ found. found.0) (device_with addr (map shown kepts))
+  pub found_kept : (k : Kept A) → k ≡ get_or kepts place k → IsFound (device_with addr (map shown kepts))
       → device_with addr (map shown kepts) ≡ Some (place, shown k)
   found_kept k g p =
       let d = placed (device_with addr (map shown kepts)) refl p in
@@ -40,15 +48,13 @@ module _ {A : Type 0} (kepts : List (Kept A)) (addr place : ℕ) where
       rw same at d.1
 
 -- a device is written anew
-module _ {A : Type 0} (kepts : List (Kept A)) (gathered : Gatherings) (asked : List Asked) (known : List Known)
-    (place : ℕ) (k new : Kept A) (at : slice_get kepts place ≡ Some k) where
+module _ {A : Type 0} (kepts : List (Kept A)) (gathered : Gatherings) (asked : List Asked) (known : List Known) (place : ℕ)
+    (k new : Kept A) (at : slice_get kepts place ≡ Some k) where
   -- what is true of the desk's fields stays so where the device keeps its setting
-  pub written_holds : (keys : List ℕ)
-      → IsDesk keys (outs kepts) (record { devices = map shown kepts; gathered = gathered; asked = asked }) known
-      → (more : List Known) → new.setting ≡ k.setting → (IsServable (shown k) → IsServable (shown new))
-      → length more ≡ length known → AreOut (outs (slice_set kepts place new)) asked more
-      → IsDesk keys (outs (slice_set kepts place new)) (record
-      { devices = map shown (slice_set kepts place new); gathered = gathered; asked = asked }) more
+  pub written_holds : (keys : List ℕ) → Holds keys kepts gathered asked known → (more : List Known) → new.setting ≡ k.setting
+      → (IsServable (shown k) → IsServable (shown new)) → length more ≡ length known
+      → AreOut (outs (slice_set kepts place new)) asked more
+      → Holds keys (slice_set kepts place new) gathered asked more
   written_holds keys i more s servable l out =
       let there : slice_get (map shown kepts) place ≡ Some (shown k) = map_there shown kepts place k at in
       rw (map-set shown kepts place new) (record {
@@ -64,11 +70,9 @@ module _ {A : Type 0} (kepts : List (Kept A)) (gathered : Gatherings) (asked : L
       })
 
   -- and as many tickets of it are out as before
-  pub queued_holds : (keys : List ℕ)
-      → IsDesk keys (outs kepts) (record { devices = map shown kepts; gathered = gathered; asked = asked }) known
-      → new.setting ≡ k.setting → (IsServable (shown k) → IsServable (shown new)) → new.out ≡ k.out
-      → IsDesk keys (outs (slice_set kepts place new)) (record
-      { devices = map shown (slice_set kepts place new); gathered = gathered; asked = asked }) known
+  pub queued_holds : (keys : List ℕ) → Holds keys kepts gathered asked known → new.setting ≡ k.setting
+      → (IsServable (shown k) → IsServable (shown new)) → new.out ≡ k.out
+      → Holds keys (slice_set kepts place new) gathered asked known
   queued_holds keys i s servable o =
       written_holds keys i known s servable refl (rw (map_set (λ (x : Kept A). x.out) kepts place k new at o) i.engaged)
 
@@ -98,9 +102,6 @@ pub pushed_servable : (device new : Device) (payload : Payload) (r : Result ℕ 
     → IfOk r (λ count. queued_or device (queue_fault device payload) ≡ Ok count)
     → OnOk r (new ≡ with_payload payload device) → OnErr r (new ≡ device) → IsServable device → IsServable new
 pushed_servable device new payload (Ok count) told e f i =
-    rw e (record {
-      setting = i.setting;
-      queue = All-push IsSendable device.queue payload i.queue (sendable device payload count (queue_fault device payload) refl told);
-      down = i.down;
-    })
+    let may = sendable device payload count (queue_fault device payload) refl told in
+    rw e (record { setting = i.setting; queue = All-push IsSendable device.queue payload i.queue may; down = i.down })
 pushed_servable device new payload (Err fault) told e f i = rw f i

@@ -4,15 +4,15 @@ use Rattle.server_desk.proofs.Words.{◌+◌, ◌<◌, nat_le, ◌==◌, Bool, f
 use Rattle.server_desk.proofs.Words.{Some, Result, Ok, Err, IfOk, OnErr, MatchResult, IsOkUnless, refl, sym, ap, ◌∙◌, arith}
 use Rattle.server_desk.proofs.Words.{addr_of, Heard, HearFault, Gatherings, hear_answer, after_hearing, with_copy, hear_step}
 use Rattle.server_desk.proofs.Words.{Kept, Known, NotGiven, NewUplink, Heard1, Device, Asked, Register, copy_of, named_fault}
-use Rattle.server_desk.proofs.Words.{answer_to, shown, outs, IsServable, IsDesk, desk_answer, desk_hear, length-map, length-set}
+use Rattle.server_desk.proofs.Words.{answer_to, shown, IsServable, IsDesk, desk_answer, desk_hear, length-map, length-set}
 use Rattle.server_desk.proofs.Words.{map-set, All-push, some_inj, length-rewritten, found_there}
+use Rattle.server_desk.proofs.DeskLemmas.{Holds, seen_reg, seen, queued_holds}
 use Rattle.server_desk.specs.declared.faults.DeskFault.{DeskFault}
 use Rattle.server_desk.specs.declared.faults.DeskFault.TheVariants.{NoMemory}
 use Rattle.server_desk.specs.declared.heard.DeskHeard.{DeskHeard}
 use Rattle.server_desk.specs.declared.heard.DeskHeard.TheVariants.{Opened}
 use Rattle.server_desk.proofs.OutLemmas.{count_push}
 use Rattle.server_desk.proofs.CopyLemmas.{all_heard}
-use Rattle.server_desk.proofs.DeskLemmas.{seen, queued_holds}
 use Rattle.server_desk.proofs.DecisionLemmas.{IsJoin, IsNew}
 use Rattle.uplink_gather.specs.declared.answers.Heard.TheVariants as gathers
 use Rattle.uplink_gather.specs.declared.fault.HearFault.TheVariants as gathering
@@ -54,7 +54,8 @@ was_told repeat a (Ok heard) x q h = sym h
 was_told repeat a (Err fault) x q h = absurd (cc)
 
 -- a copy joins a gathering
-module _ {ids : List ℕ} {reg : Register} {bytes : List ℕ} {heard : Heard1} {arrived : ℕ} (j : IsJoin ids reg bytes heard arrived) where
+module _ {ids : List ℕ} {reg : Register} {bytes : List ℕ} {heard : Heard1} {arrived : ℕ}
+    (j : IsJoin ids reg bytes heard arrived) where
   pub join_answer : answer_to (decide ids reg bytes heard arrived) reg
       ≡ desk_answer false (hear_answer reg.gathered bytes heard.gateway arrived)
   join_answer = rw (j.decided_so, j.place) refl
@@ -82,24 +83,21 @@ module _ {ids : List ℕ} {reg : Register} {bytes : List ℕ} {heard : Heard1} {
       }
 
 -- a copy opens a gathering
-module _ {A : Type 0} (ids : List ℕ) (kepts : List (Kept A)) (gathered : Gatherings) (asked : List Asked) {bytes : List ℕ} {heard : Heard1} {arrived : ℕ} {new : NewUplink}
-    (n : IsNew ids (record { devices = map shown kepts; gathered = gathered; asked = asked }) bytes heard arrived new) where
-  abbrev reg : Register
-  reg = record { devices = map shown kepts; gathered = gathered; asked = asked }
-
+module _ {A : Type 0} (ids : List ℕ) (kepts : List (Kept A)) (gathered : Gatherings) (asked : List Asked) {bytes : List ℕ}
+    {heard : Heard1} {arrived : ℕ} {new : NewUplink}
+    (n : IsNew ids (seen_reg kepts gathered asked) bytes heard arrived new) where
   opened : hear_answer gathered bytes heard.gateway arrived ≡ Ok (gathers.Opened (length gathered.list + 1))
   opened = rw (n.place, n.room) refl
 
-  pub open_answer : answer_to (decide ids reg bytes heard arrived) reg
+  pub open_answer : answer_to (decide ids (seen_reg kepts gathered asked) bytes heard arrived) (seen_reg kepts gathered asked)
       ≡ desk_answer new.repeat (hear_answer gathered bytes heard.gateway arrived)
   open_answer = rw (n.decided_so, opened, ← n.is) refl
 
   -- the device stands among the others
-  place : n.opening.place ≡ new.asked.device
-  place = ap (λ (u : NewUplink). u.asked.device) n.is
-
   there : slice_get (map shown kepts) new.asked.device ≡ Some n.opening.device
-  there = rw place at (found_there (λ (x : Device). x.setting.addr == addr_of bytes) (map shown kepts)
+  there =
+      rw (ap (λ (u : NewUplink). u.asked.device) n.is) at
+      (found_there (λ (x : Device). x.setting.addr == addr_of bytes) (map shown kepts)
       (n.opening.place, n.opening.device) n.found).0
 
   pub open_within : new.asked.device < length kepts
@@ -114,40 +112,35 @@ module _ {A : Type 0} (ids : List ℕ) (kepts : List (Kept A)) (gathered : Gathe
   pub open_room : length gathered.list < gathered.limits.max_ever
   open_room = room_by _ (nat_le gathered.limits.max_ever (length gathered.list)) n.room refl
 
-  module _ (known : List Known) (k new_kept : Kept A) (at : slice_get kepts new.asked.device ≡ Some k) where
+  module _ (known : List Known) (k new_kept : Kept A) (at : slice_get kepts new.asked.device ≡ Some k)
+      (s : shown new_kept ≡ record (shown k) { up = Some new.counter }) where
     -- the desk's fields hold
-    pub open_holds : (keys : List ℕ) → IsDesk keys (outs kepts) reg known → new_kept.setting ≡ k.setting
-        → (IsServable (shown k) → IsServable (shown new_kept)) → new_kept.out ≡ k.out
-        → IsDesk keys (outs (slice_set kepts new.asked.device new_kept)) (record {
-          devices = map shown (slice_set kepts new.asked.device new_kept);
-          gathered = hear_step gathered bytes (copy_of heard) arrived;
-          asked = asked ++ new.asked ∷ [];
-        }) (known ++ NotGiven ∷ [])
-    open_holds keys i s servable o =
-        let j = queued_holds kepts gathered asked known new.asked.device k new_kept at keys i s servable o in
-        let more : List Device = map shown (slice_set kepts new.asked.device new_kept) in
-        let here : new.asked.device < length more =
-        omega (
-          arith,
-          open_within,
-          length-map (slice_set kepts new.asked.device new_kept) shown,
-          length-set kepts new.asked.device new_kept,
-        ) in
+    pub open_holds : (keys : List ℕ) → Holds keys kepts gathered asked known → new_kept.out ≡ k.out
+        → Holds keys (slice_set kepts new.asked.device new_kept) (hear_step gathered bytes (copy_of heard) arrived)
+        (asked ++ new.asked ∷ []) (known ++ NotGiven ∷ [])
+    open_holds keys i o =
+        let servable : IsServable (shown k) → IsServable (record (shown k) { up = Some new.counter }) =
+        λ h. record { setting = h.setting; queue = h.queue; down = h.down } in
+        let j = queued_holds kepts gathered asked known new.asked.device k new_kept at keys i (ap (λ (x : Device). x.setting) s)
+        (rw s servable) o in
+        let more : List (Kept A) = slice_set kepts new.asked.device new_kept in
+        let here : new.asked.device < length (map shown more) =
+        omega (arith, open_within, length-map more shown, length-set kepts new.asked.device new_kept) in
+        let longer = length_push gathered.list (opening bytes (copy_of heard) arrived) in
+        let r : Result Heard HearFault = Ok (gathers.Opened (length gathered.list + 1)) in
         rw opened (record {
           addrs = j.addrs;
-          asked = omega (arith, length_push asked new.asked, length_push gathered.list (opening bytes (copy_of heard) arrived), i.asked);
-          told = omega (arith, length_push known NotGiven, length_push gathered.list (opening bytes (copy_of heard) arrived), i.told);
-          placed = All-push (λ (x : Asked). x.device < length more) asked new.asked j.placed here;
+          asked = omega (arith, length_push asked new.asked, longer, i.asked);
+          told = omega (arith, length_push known NotGiven, longer, i.told);
+          placed = All-push (λ (x : Asked). x.device < length (map shown more)) asked new.asked j.placed here;
           servable = j.servable;
-          gathered = all_heard gathered bytes (copy_of heard) arrived (Ok (gathers.Opened (length gathered.list + 1))) opened n.early
-              i.gathered;
+          gathered = all_heard gathered bytes (copy_of heard) arrived r opened n.early i.gathered;
           engaged = λ p b q. count_push p asked known new.asked (i.asked ∙ sym i.told) ∙ j.engaged p b q;
         })
 
     -- and it is the step
-    pub open_step : shown new_kept ≡ record (shown k) { up = Some new.counter }
-        → seen ids (slice_set kepts new.asked.device new_kept) (hear_step gathered bytes (copy_of heard) arrived)
+    pub open_step : seen ids (slice_set kepts new.asked.device new_kept) (hear_step gathered bytes (copy_of heard) arrived)
         (asked ++ new.asked ∷ []) (known ++ NotGiven ∷ []) ≡ desk_hear (seen ids kepts gathered asked known) bytes heard arrived
-    open_step s =
+    open_step =
         let same : shown k ≡ n.opening.device = some_inj (sym (map_there shown kepts new.asked.device k at) ∙ there) in
         rw (n.decided_so, map-set shown kepts new.asked.device new_kept, s, ← same, ← n.is) refl

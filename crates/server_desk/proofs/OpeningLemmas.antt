@@ -3,12 +3,12 @@ use Rattle.server_desk.proofs.Words.{map_push, map_more, map-map, ℕ, ◌≡◌
 use Rattle.server_desk.proofs.Words.{if◌then◌else◌, List, [], ◌∷◌, ◌++◌, map, length, take, get_or, All, AllPairs, refl, list_any}
 use Rattle.server_desk.proofs.Words.{sym, ap, ◌∙◌, All-nil, All-push, All-map, All-weaker, DeviceSetting, Kept, SettingLists}
 use Rattle.server_desk.proofs.Words.{IsDeviceInRange, AreSettings, Asked, opened_device, shown, outs, IsSendable, IsServable}
-use Rattle.server_desk.proofs.Words.{IsGathered, AreOut, IsDesk, desk_of, from_map, all_get}
+use Rattle.server_desk.proofs.Words.{IsGathered, AreOut, desk_of, from_map, all_get}
+use Rattle.server_desk.proofs.DeskLemmas.{Holds, seen}
 use Rattle.uplink_gather.specs.declared.limits.Limits.{Limits}
 use Rattle.server_desk.specs.World.{opening}
 use Rattle.server_desk.proofs.SettingsLemmas.{IsNew-from_AllPairs}
 use Rattle.server_desk.proofs.AddrLemmas.{flipped}
-use Rattle.server_desk.proofs.DeskLemmas.{seen}
 
 abbrev addr_of : DeviceSetting → ℕ
 addr_of d = d.addr
@@ -53,8 +53,7 @@ module _ {A : Type 0} (settings : SettingLists) (limits : Limits) (kepts : List 
 
   -- what is true of a desk's fields holds
   pub opened_holds : AreSettings settings.gateways settings.devices → All (λ (x : Kept A). x.out ≡ false) kepts
-      → IsDesk (map addr_of settings.devices) (outs kepts)
-      (record { devices = map shown kepts; gathered = record { list = []; limits = limits }; asked = [] }) []
+      → Holds (map addr_of settings.devices) kepts (record { list = []; limits = limits }) [] []
   opened_holds are n =
       record {
         addrs = rw (d, map-map) refl;

@@ -1,12 +1,12 @@
 -- An answer is settled, as the desk settles it.
-use Rattle.server_desk.proofs.Words.{map_set, map_there, ℕ, ◌≡◌, ◌-◌, Bool, true, false, ◌&&◌, if◌then◌else◌, List, map}
-use Rattle.server_desk.proofs.Words.{slice_get, slice_set, get_or, Option, Some, None, refl, option_map_or, sym, ap, ◌∙◌}
+use Rattle.server_desk.proofs.Words.{map_set, map_there, ℕ, ◌≡◌, ◌-◌, Bool, true, false, ◌&&◌, if◌then◌else◌, List, slice_get}
+use Rattle.server_desk.proofs.Words.{slice_set, get_or, Option, Some, None, refl, option_map_or, sym, ap, ◌∙◌}
 use Rattle.server_desk.proofs.Words.{get_or_from_slice_get, length-set, map-set, All-drop, Gatherings, numbered, Ending, Kept}
 use Rattle.server_desk.proofs.Words.{Known, NotGiven, Given, Done, Sent, is_given, Device, Asked, sent_of, has_carried, is_here}
-use Rattle.server_desk.proofs.Words.{may_settle, without_head, delivered, shown, outs, IsSendable, IsServable, IsDesk}
-use Rattle.server_desk.proofs.Words.{desk_settled, at_number}
+use Rattle.server_desk.proofs.Words.{may_settle, without_head, delivered, shown, outs, IsSendable, IsServable, desk_settled}
+use Rattle.server_desk.proofs.Words.{at_number}
+use Rattle.server_desk.proofs.DeskLemmas.{seen_reg, Holds, seen, written_holds}
 use Rattle.server_desk.proofs.OutLemmas.{out_settled}
-use Rattle.server_desk.proofs.DeskLemmas.{seen, written_holds}
 use Rattle.server_desk.proofs.TakeLemmas.{number_too, out_there}
 
 -- what may be settled is out
@@ -30,8 +30,7 @@ settled_setting true device = refl
 settled_setting false device = refl
 
 module _ {A : Type 0} (keys : List ℕ) (kepts : List (Kept A)) (gathered : Gatherings) (asked : List Asked) (known : List Known)
-    (i : IsDesk keys (outs kepts) (record { devices = map shown kepts; gathered = gathered; asked = asked }) known) (n : ℕ)
-    (waits : numbered n known ≡ Some Given) where
+    (i : Holds keys kepts gathered asked known) (n : ℕ) (waits : numbered n known ≡ Some Given) where
   -- what the uplink says of which the ticket was given
   pub its_uplink : (a : Asked) → a ≡ get_or asked (n - 1) a → numbered n asked ≡ Some a
   its_uplink a at =
@@ -41,9 +40,8 @@ module _ {A : Type 0} (keys : List ℕ) (kepts : List (Kept A)) (gathered : Gath
   module _ (a : Asked) (uplink : numbered n asked ≡ Some a) (k new : Kept A) (at : slice_get kepts a.device ≡ Some k)
       (carried : Bool) (s : shown new ≡ (if carried then without_head (shown k) else shown k)) where
     -- what is true of the desk's fields holds where the answer is settled
-    pub settled_holds : (sent : Option Sent) → new.out ≡ false → IsDesk keys (outs (slice_set kepts a.device new)) (record
-        { devices = map shown (slice_set kepts a.device new); gathered = gathered; asked = asked })
-        (slice_set known (n - 1) (Done sent))
+    pub settled_holds : (sent : Option Sent) → new.out ≡ false
+        → Holds keys (slice_set kepts a.device new) gathered asked (slice_set known (n - 1) (Done sent))
     settled_holds sent o =
         let out = out_settled (outs kepts) asked known (n - 1) a (at_number n asked a uplink) i.engaged sent k.out
         (at_number n known Given waits) (out_there keys kepts gathered asked known i n a uplink k at) in
@@ -53,18 +51,17 @@ module _ {A : Type 0} (keys : List ℕ) (kepts : List (Kept A)) (gathered : Gath
         (rw (map-set (λ (x : Kept A). x.out) kepts a.device new, o) out)
 
     -- and it is the step
+    step_by : (ids : List ℕ) (after : List Known) (t : Bool) → t ≡ carried
+        → seen ids (slice_set kepts a.device new) gathered asked after ≡ record (seen ids kepts gathered asked after)
+        { reg = if t then delivered (numbered n asked) (seen_reg kepts gathered asked) else seen_reg kepts gathered asked }
+    step_by ids after true e =
+        let s = rw (← e) at s in
+        rw (uplink, map_there shown kepts a.device k at, map-set shown kepts a.device new, s) refl
+    step_by ids after false e =
+        let s = rw (← e) at s in
+        rw (map_set shown kepts a.device k new at s) refl
+
     pub settled_here : (ids : List ℕ) (ending : Ending) → has_carried ending ≡ carried
         → seen ids (slice_set kepts a.device new) gathered asked (slice_set known (n - 1) (Done (sent_of ending)))
         ≡ desk_settled ending n (seen ids kepts gathered asked known)
-    settled_here ids ending c = rw (c, waits) (by carried s)
-      where
-        by : (carried : Bool) → shown new ≡ (if carried then without_head (shown k) else shown k)
-            → seen ids (slice_set kepts a.device new) gathered asked (slice_set known (n - 1) (Done (sent_of ending)))
-            ≡ record {
-              ids = ids;
-              reg = if carried then delivered (numbered n asked) (record { devices = map shown kepts; gathered = gathered; asked = asked })
-                  else record { devices = map shown kepts; gathered = gathered; asked = asked };
-              known = slice_set known (n - 1) (Done (sent_of ending));
-            }
-        by true s = rw (uplink, map_there shown kepts a.device k at, map-set shown kepts a.device new, s) refl
-        by false s = rw (map_set shown kepts a.device k new at s) refl
+    settled_here ids ending c = rw (c, waits) (step_by ids (slice_set known (n - 1) (Done (sent_of ending))) carried refl)

@@ -4,14 +4,14 @@ use Rattle.server_desk.proofs.Words.{[], ◌∷◌, map, length, All, slice_get,
 use Rattle.server_desk.proofs.Words.{refl, option_map, ForSome, sym, ap, ◌∙◌, subst, arith, nat_tests, length-map, length-set}
 use Rattle.server_desk.proofs.Words.{map-set, All-head, HeardCopy, Gatherings, numbered, is_closed_at, copies_of, length-ranked}
 use Rattle.server_desk.proofs.Words.{All-ranked, IsHeard, Job, Payload, IsJob, IsPort, payload_len, Kept, Known, NotGiven, Given}
-use Rattle.server_desk.proofs.Words.{Done, is_not_given, Device, Asked, Register, head, is_engaged, job_for, fault_of, given_or}
-use Rattle.server_desk.proofs.Words.{take_answer, with_counter_given, shown, outs, IsSendable, IsServable, IsGathered, IsDesk}
-use Rattle.server_desk.proofs.Words.{IsReady, desk_take, some_inj, all_get, at_number}
+use Rattle.server_desk.proofs.Words.{Done, is_not_given, Device, Asked, head, is_engaged, job_for, fault_of, given_or}
+use Rattle.server_desk.proofs.Words.{take_answer, with_counter_given, shown, outs, IsSendable, IsServable, IsGathered, IsReady}
+use Rattle.server_desk.proofs.Words.{desk_take, some_inj, all_get, at_number}
+use Rattle.server_desk.proofs.DeskLemmas.{seen_reg, Holds, seen, written_holds}
 use Rattle.rx_windows.specs.Rank.{ranked}
 use Rattle.answer_ticket.specs.Ticket.{Standing}
 use Rattle.server_desk.specs.declared.faults.TakeFault.{TakeFault}
 use Rattle.server_desk.proofs.OutLemmas.{engaged_is, out_given}
-use Rattle.server_desk.proofs.DeskLemmas.{seen, written_holds}
 
 -- the job that a ticket is given for
 head_port : (queue : List Payload) → All IsSendable queue → ForSome (head queue) (λ b. IsPort b.0)
@@ -53,19 +53,12 @@ number_too (suc i) xs ys x l e = get_too xs ys i x l e
 
 -- what is true of a known uplink on a desk
 module _ {A : Type 0} (keys : List ℕ) (kepts : List (Kept A)) (gathered : Gatherings) (asked : List Asked) (known : List Known)
-    (i : IsDesk keys (outs kepts) (record { devices = map shown kepts; gathered = gathered; asked = asked }) known) (n : ℕ) (a : Asked)
-    (p : numbered n asked ≡ Some a) where
-  abbrev reg : Register
-  reg = record { devices = map shown kepts; gathered = gathered; asked = asked }
-
+    (i : Holds keys kepts gathered asked known) (n : ℕ) (a : Asked) (p : numbered n asked ≡ Some a) where
   -- its device stands among the others
   pub within_here : a.device < length kepts
   within_here =
-      omega (
-        arith,
-        all_get (λ (x : Asked). x.device < length (map shown kepts)) asked (n - 1) a i.placed (at_number n asked a p),
-        length-map kepts shown,
-      )
+      let Stands : Asked → Type 0 = λ x. x.device < length (map shown kepts) in
+      omega (arith, all_get Stands asked (n - 1) a i.placed (at_number n asked a p), length-map kepts shown)
 
   -- its copies are in their ranges
   own_copies : (0 < length (copies_of n gathered.list)) × (All IsHeard (copies_of n gathered.list))
@@ -88,9 +81,10 @@ module _ {A : Type 0} (keys : List ℕ) (kepts : List (Kept A)) (gathered : Gath
     engaged = engaged_is (outs kepts) asked known a.device k.out i.engaged out_there
 
     -- the answer to `take`, by what is found
-    module _ (s : Known) (closed : true ≡ is_closed_at n gathered.list) (q : Some s ≡ numbered n known) (t : true ≡ is_not_given s) where
+    module _ (s : Known) (closed : true ≡ is_closed_at n gathered.list) (q : Some s ≡ numbered n known)
+        (t : true ≡ is_not_given s) where
       pub answer_is : (o : Option TakeFault) → o ≡ fault_of a (shown k) k.out
-          → take_answer reg known n ≡ given_or reg n a (shown k) o
+          → take_answer (seen_reg kepts gathered asked) known n ≡ given_or (seen_reg kepts gathered asked) n a (shown k) o
       unfolding take_answer
       answer_is o f = rw (← closed, p, ← q, ← t, there, engaged, ← f) refl
 
@@ -99,7 +93,7 @@ module _ {A : Type 0} (keys : List ℕ) (kepts : List (Kept A)) (gathered : Gath
       waiting Given h e = absurd (cc (h))
       waiting (Done sent) h e = absurd (cc (h))
 
-      pub is_ready : None ≡ fault_of a (shown k) k.out → IsReady reg known n a
+      pub is_ready : None ≡ fault_of a (shown k) k.out → IsReady (seen_reg kepts gathered asked) known n a
       is_ready f =
           record {
             uplink = p;
@@ -111,7 +105,7 @@ module _ {A : Type 0} (keys : List ℕ) (kepts : List (Kept A)) (gathered : Gath
           }
 
     -- a ticket may be given
-    module _ (ready : IsReady reg known n a) where
+    module _ (ready : IsReady (seen_reg kepts gathered asked) known n a) where
       same_device : ready.device ≡ shown k
       same_device = some_inj (sym ready.served ∙ there)
 
@@ -124,19 +118,19 @@ module _ {A : Type 0} (keys : List ℕ) (kepts : List (Kept A)) (gathered : Gath
           (sym engaged ∙ out, rw same_device at left)
 
       -- the job, as the desk makes it
-      pub job_here : take_answer reg known n ≡ Ok (job_for (shown k) n a (ranked (copies_of n gathered.list)))
+      pub job_here : take_answer (seen_reg kepts gathered asked) known n
+          ≡ Ok (job_for (shown k) n a (ranked (copies_of n gathered.list)))
       job_here = rw (ready.answer, same_device) refl
 
       pub is_job_here : IsJob (job_for (shown k) n a (ranked (copies_of n gathered.list)))
       is_job_here =
-          is_job (shown k) n a (copies_of n gathered.list) (all_get IsServable (map shown kepts) a.device (shown k) i.servable there)
-          own_copies.0 own_copies.1
+          let servable = all_get IsServable (map shown kepts) a.device (shown k) i.servable there in
+          is_job (shown k) n a (copies_of n gathered.list) servable own_copies.0 own_copies.1
 
       -- what is true of the desk's fields holds where the ticket is out
       module _ (new : Kept A) (e : shown new ≡ with_counter_given (shown k)) where
-        pub given_holds : new.out ≡ true → IsDesk keys (outs (slice_set kepts a.device new))
-            (record { devices = map shown (slice_set kepts a.device new); gathered = gathered; asked = asked })
-            (slice_set known (n - 1) Given)
+        pub given_holds : new.out ≡ true
+            → Holds keys (slice_set kepts a.device new) gathered asked (slice_set known (n - 1) Given)
         given_holds o =
             let counted : IsServable (shown k) → IsServable (with_counter_given (shown k)) =
             λ s. record { setting = s.setting; queue = s.queue; down = omega (arith, free.1) } in

@@ -22,8 +22,9 @@ returns-clause-step g c =
     let out = is_out _ _ c.args.outcome.now.number c.args.outcome.now.result (rw (← c.self.view_is) at c.requires.out) in
     let uplink = its_uplink _ _ _ _ _ c.self.invariant.0 c.args.outcome.now.number out _ c.index.ensures in
     let at = at_here _ _ _ _ _ c.self.invariant.0 c.args.outcome.now.number _ uplink _ c.index_mut.ensures.value in
-    rw (← c.self.view_is, c.sent_of-sent.ensures) (settled_here _ _ _ _ _ c.self.invariant.0 c.args.outcome.now.number out _ uplink
-    _ _ at c.has_carried.result c.settle.ensures.shown _ c.args.outcome.now.result (sym c.has_carried.ensures))
+    rw (← c.self.view_is, c.sent_of-sent.ensures)
+    (settled_here _ _ _ _ _ c.self.invariant.0 c.args.outcome.now.number out _ uplink _ _ at c.has_carried.result
+    c.settle.ensures.shown _ c.args.outcome.now.result (sym c.has_carried.ensures))
 
 pub raise-requires : goal.raise-requires
 raise-requires g c =
@@ -33,11 +34,8 @@ raise-requires g c =
 pub index_mut-requires-2 : goal.index_mut-requires-2
 index_mut-requires-2 g c =
     let out = is_out _ _ c.args.outcome.now.number c.args.outcome.now.result (rw (← c.self.view_is) at c.requires.out) in
-    omega (
-      arith,
-      slice_get_within c.self.inside.known.items _ Given (at_number c.args.outcome.now.number _ Given out),
-      c.self.inside.known.ok.0,
-    )
+    let there = at_number c.args.outcome.now.number c.self.inside.known.items Given out in
+    omega (arith, slice_get_within c.self.inside.known.items _ Given there, c.self.inside.known.ok.0)
 
 pub returns-clause-total : goal.returns-clause-total
 returns-clause-total g c =

@@ -14,4 +14,6 @@ pub returns : goal.returns
 returns g c =
     let ready = rw (← c.self.view_is) at c.requires in
     let at = at_here _ _ _ _ _ c.self.invariant.0 c.args.n _ ready.uplink _ c.index_mut.ensures.value in
-    rw (← c.self.view_is) (given_here _ _ _ _ _ c.self.invariant.0 c.args.n _ ready.uplink _ at ready _ c.give.ensures.shown _)
+    rw (← c.self.view_is)
+    (given_here _ _ _ _ _ c.self.invariant.0 c.args.n _ ready.uplink _ at ready _ c.give.ensures.shown
+    c.self.inside.gateways.items)

@@ -36,10 +36,11 @@ invariant_of-self-2 g c =
     let hears = rw c.copy_of.ensures at c.hear-answer.ensures in
     let opened = was_told c.args.new.repeat _ c.hear-answer.result c.in-Ok-desk_answer.told
     (sym c.desk_answer.ensures ∙ c.in-Ok-desk_answer.is) hears.told in
+    let asked = rw c.reserve.ensures.items at c.push_reserved.ensures.items in
+    let known = rw c.reserve-2.ensures.items at c.push_reserved-2.ensures.items in
     let at = slice_get_read _ _ _ _ refl (open_within _ _ _ _ n) c.index_mut.ensures.value in (
-      rw (hears.step, opened, c.push_reserved.ensures.items, c.push_reserved-2.ensures.items, c.reserve.ensures.items, c.reserve-2.ensures.items)
-          (open_holds _ _ _ _ n _ _ _ at _ c.self.invariant.0 refl (λ i. record { setting = i.setting; queue = i.queue; down = i.down }) refl),
-      rw (c.hear-answer.ensures.step, limits_kept, c.push_reserved-2.ensures.items, c.reserve-2.ensures.items)
+      rw (hears.step, opened, asked, known) (open_holds _ _ _ _ n _ _ _ at refl _ c.self.invariant.0 refl),
+      rw (c.hear-answer.ensures.step, limits_kept, known)
           (opened_airtimes _ _ _ _ c.self.invariant.1 (omega (arith, c.self.invariant.0.told, open_room _ _ _ _ n))),
     )
 
@@ -56,13 +57,7 @@ returns-clause-step g c =
     let hears = rw c.copy_of.ensures at c.hear-answer.ensures in
     let opened = was_told c.args.new.repeat _ c.hear-answer.result c.in-Ok-desk_answer.told
     (sym c.desk_answer.ensures ∙ c.in-Ok-desk_answer.is) hears.told in
+    let asked = rw c.reserve.ensures.items at c.push_reserved.ensures.items in
+    let known = rw c.reserve-2.ensures.items at c.push_reserved-2.ensures.items in
     let at = slice_get_read _ _ _ _ refl (open_within _ _ _ _ n) c.index_mut.ensures.value in
-    rw (
-      ← c.self.view_is,
-      hears.step,
-      opened,
-      c.push_reserved.ensures.items,
-      c.push_reserved-2.ensures.items,
-      c.reserve.ensures.items,
-      c.reserve-2.ensures.items,
-    ) (open_step _ _ _ _ n _ _ _ at refl)
+    rw (← c.self.view_is, hears.step, opened, asked, known) (open_step _ _ _ _ n _ _ _ at refl)

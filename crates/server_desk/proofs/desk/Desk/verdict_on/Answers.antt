@@ -23,19 +23,13 @@ pub returns-then-is_crowded : goal.returns-then-is_crowded
 returns-then-is_crowded g c =
     let p = rw (← c.self.view_is) at c.in-Some.ensures in
     let mic = rw c.new.ensures at c.if-not-check_mic.ensures.value in
-    rw (← c.self.view_is, found_kept _ _ _ _ c.index-device.ensures p, ← c.in-Some-infer.ensures, ← mic, ← c.if-is_crowded.ensures)
-    refl
+    let found = found_kept c.self.inside.devices.items _ _ _ c.index-device.ensures p in
+    rw (← c.self.view_is, found, ← c.in-Some-infer.ensures, ← mic, ← c.if-is_crowded.ensures) refl
 
 pub returns : goal.returns
 returns g c =
     let p = rw (← c.self.view_is) at c.in-Some.ensures in
     let mic = rw c.new.ensures at c.if-not-check_mic.ensures.value in
-    rw (
-      ← c.self.view_is,
-      found_kept _ _ _ _ c.index-device.ensures p,
-      ← c.in-Some-infer.ensures,
-      ← mic,
-      ← c.if-is_crowded.ensures,
-      c.is_last.ensures,
-      ← read_same c.args.bytes.now c.args.uplink c.requires,
-    ) refl
+    let found = found_kept c.self.inside.devices.items _ _ _ c.index-device.ensures p in
+    let read = read_same c.args.bytes.now c.args.uplink c.requires in
+    rw (← c.self.view_is, found, ← c.in-Some-infer.ensures, ← mic, ← c.if-is_crowded.ensures, c.is_last.ensures, ← read) refl
