@@ -4,10 +4,11 @@ use Rattle.server_desk.proofs.Words.{◌++◌, map, length, slice_get, slice_set
 use Rattle.server_desk.proofs.Words.{Ok, Err, refl, list_any, option_map, option_map_or, sym, ap, ◌∙◌, subst, arith, length-map}
 use Rattle.server_desk.proofs.Words.{length-append, length-set, All-nil, All-map, All-push, All-set, AllPairs-head, AllPairs-tail}
 use Rattle.server_desk.proofs.Words.{longest_us, IsWithinLongest, Ending, HeardCopy, HearFault, Heard, Opened, Joined, Gatherings}
-use Rattle.server_desk.proofs.Words.{numbered, after_hearing, GatewaySetting, at_number, Known, NotGiven, Given, Done, Sent}
-use Rattle.server_desk.proofs.Words.{is_given, first_at, sent_of, is_here, may_settle, answered_at, total_at, answered_for}
-use Rattle.server_desk.proofs.Words.{sent_airtime, airtime_of_ending, total_limit, whole_airtime, AreAirtimes, raised, CanRaise}
-use Rattle.server_desk.proofs.Words.{answered_push, answered_given, own_airtime}
+use Rattle.server_desk.proofs.Words.{numbered, after_hearing, GatewaySetting, Known, NotGiven, Given, Done, Sent, is_given}
+use Rattle.server_desk.proofs.Words.{first_at, sent_of, is_here, may_settle, answered_at, total_at, answered_for, sent_airtime}
+use Rattle.server_desk.proofs.Words.{airtime_of_ending, total_limit, whole_airtime, AreAirtimes, raised, CanRaise, own_airtime}
+use Rattle.server_desk.proofs.Numbers.{at_number}
+use Rattle.server_desk.proofs.AirtimeLaws.{answered_push, answered_given}
 use Rattle.answer_ticket.specs.declared.outcome.Ending.TheVariants.{Answered, Unanswered, GivenUp}
 use Rattle.std.proofs.lemmas.List.Kept.{AllPairs-cons}
 use Rattle.server_desk.proofs.AirtimeSums.{answered_more, same_airtimes, total_more, answered_found, raises, total_none}

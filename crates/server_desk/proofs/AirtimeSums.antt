@@ -2,9 +2,11 @@
 use Rattle.server_desk.proofs.Words.{ℕ, zero, suc, ◌≡◌, ◌≢◌, ◌+◌, ◌*◌, ◌≤◌, ◌==◌, Bool, true, false, if◌then◌else◌, List, [], ◌∷◌}
 use Rattle.server_desk.proofs.Words.{map, length, slice_get, slice_set, get_or, All, AllPairs, Option, Some, None, refl, sym, ap}
 use Rattle.server_desk.proofs.Words.{◌∙◌, subst, arith, list_any, option_map, eq-eqb, ne_eqb, nat_tests, All-head, All-tail}
-use Rattle.server_desk.proofs.Words.{some_inj, AllPairs-head, AllPairs-tail, longest_us, Known, NotGiven, Given, Done, Sent}
-use Rattle.server_desk.proofs.Words.{own_airtime, known_airtime, answered_at, answered_for, total_at, total_limit, whole_airtime}
-use Rattle.server_desk.proofs.Words.{AreAirtimes, raised_at, raised, first_at, next_place, total_nil}
+use Rattle.server_desk.proofs.Words.{AllPairs-head, AllPairs-tail, longest_us, Known, NotGiven, Given, Done, Sent, own_airtime}
+use Rattle.server_desk.proofs.Words.{known_airtime, answered_at, answered_for, total_at, total_limit, whole_airtime, AreAirtimes}
+use Rattle.server_desk.proofs.Words.{raised_at, raised, first_at, next_place}
+use Rattle.server_desk.proofs.Places.{some_inj}
+use Rattle.server_desk.proofs.AirtimeLaws.{total_nil}
 
 -- what an answer that is settled adds to its gateway's airtime
 pub answered_more : (id : ℕ) (known : List Known) (i : ℕ) (sent : Option Sent) → slice_get known i ≡ Some Given

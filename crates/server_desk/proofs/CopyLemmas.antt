@@ -3,8 +3,10 @@ use Rattle.server_desk.proofs.Words.{ℕ, ◌≡◌, ◌≢◌, ◌-◌, ◌<◌
 use Rattle.server_desk.proofs.Words.{Some, None, Result, Ok, Err, IfOk, refl, sym, ◌∙◌, arith, eq-eqb, true≢false, length-append}
 use Rattle.server_desk.proofs.Words.{All-set, All-push, All-nil, All-cons, list_any_at, HeardCopy, HearFault, Heard, Opened}
 use Rattle.server_desk.proofs.Words.{Joined, Joins, Gathering, Gatherings, numbered, rewritten, place_of, place_by, has_gateway}
-use Rattle.server_desk.proofs.Words.{hear_answer, after_hearing, opening, with_copy, IsHeard, IsGathered, some_inj, all_get}
-use Rattle.server_desk.proofs.Words.{at_number}
+use Rattle.server_desk.proofs.Words.{hear_answer, after_hearing, with_copy, IsHeard, IsGathered}
+use Rattle.uplink_gather.specs.Hearing.{opening}
+use Rattle.server_desk.proofs.Places.{some_inj, all_get}
+use Rattle.server_desk.proofs.Numbers.{at_number}
 use Rattle.std.proofs.lemmas.List.Quantifiers.{all_pairs_push}
 use Rattle.uplink_gather.specs.HearingLaws.{joins_at, answer_joined}
 

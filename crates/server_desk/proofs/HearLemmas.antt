@@ -1,14 +1,16 @@
 -- A copy of an uplink, as the desk hears it.
-use Rattle.server_desk.proofs.Words.{length_push, true, nat_tests, ◌||◌, slice_get_within, opening, map_there, decide, ℕ, ◌≡◌}
-use Rattle.server_desk.proofs.Words.{◌+◌, ◌<◌, nat_le, ◌==◌, Bool, false, List, [], ◌∷◌, ◌++◌, map, length, slice_get, slice_set}
-use Rattle.server_desk.proofs.Words.{Some, Result, Ok, Err, IfOk, OnErr, MatchResult, IsOkUnless, refl, sym, ap, ◌∙◌, arith}
-use Rattle.server_desk.proofs.Words.{addr_of, Heard, HearFault, Gatherings, hear_answer, after_hearing, with_copy, hear_step}
-use Rattle.server_desk.proofs.Words.{Kept, Known, NotGiven, NewUplink, Heard1, Device, Asked, Register, copy_of, named_fault}
-use Rattle.server_desk.proofs.Words.{answer_to, shown, IsServable, IsDesk, desk_answer, desk_hear, length-map, length-set}
-use Rattle.server_desk.proofs.Words.{map-set, All-push, some_inj, length-rewritten, found_there}
+use Rattle.server_desk.proofs.Words.{length_push, true, nat_tests, ◌||◌, slice_get_within, decide, ℕ, ◌≡◌, ◌+◌, ◌<◌, nat_le, ◌==◌}
+use Rattle.server_desk.proofs.Words.{Bool, false, List, [], ◌∷◌, ◌++◌, map, length, slice_get, slice_set, Some, Result, Ok, Err}
+use Rattle.server_desk.proofs.Words.{IfOk, OnErr, MatchResult, IsOkUnless, refl, sym, ap, ◌∙◌, arith, addr_of, Heard, HearFault}
+use Rattle.server_desk.proofs.Words.{Gatherings, hear_answer, after_hearing, with_copy, hear_step, Kept, Known, NotGiven}
+use Rattle.server_desk.proofs.Words.{NewUplink, Heard1, Device, Asked, Register, copy_of, named_fault, answer_to, shown}
+use Rattle.server_desk.proofs.Words.{IsServable, IsDesk, desk_answer, desk_hear, length-map, length-set, map-set, All-push}
+use Rattle.server_desk.proofs.Words.{DeskFault, NoMemory}
+use Rattle.uplink_gather.specs.Hearing.{opening}
+use Rattle.server_desk.proofs.Places.{map_there, some_inj}
+use Rattle.server_desk.proofs.Numbers.{length-rewritten}
+use Rattle.server_desk.proofs.Found.{found_there}
 use Rattle.server_desk.proofs.DeskLemmas.{Holds, seen_reg, seen, queued_holds}
-use Rattle.server_desk.specs.declared.faults.DeskFault.{DeskFault}
-use Rattle.server_desk.specs.declared.faults.DeskFault.TheVariants.{NoMemory}
 use Rattle.server_desk.specs.declared.heard.DeskHeard.{DeskHeard}
 use Rattle.server_desk.specs.declared.heard.DeskHeard.TheVariants.{Opened}
 use Rattle.server_desk.proofs.OutLemmas.{count_push}

@@ -1,4 +1,9 @@
 pub mod Words
+pub mod Places
+pub mod Numbers
+pub mod Found
+pub mod Decided
+pub mod AirtimeLaws
 mod SettingsLemmas
 pub mod OutLemmas
 pub mod CopyLemmas

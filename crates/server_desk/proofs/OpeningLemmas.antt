@@ -3,9 +3,9 @@ use Rattle.server_desk.proofs.Words.{map_push, map_more, map-map, ℕ, ◌≡◌
 use Rattle.server_desk.proofs.Words.{if◌then◌else◌, List, [], ◌∷◌, ◌++◌, map, length, take, get_or, All, AllPairs, refl, list_any}
 use Rattle.server_desk.proofs.Words.{sym, ap, ◌∙◌, All-nil, All-push, All-map, All-weaker, DeviceSetting, Kept, SettingLists}
 use Rattle.server_desk.proofs.Words.{IsDeviceInRange, AreSettings, Asked, opened_device, shown, outs, IsSendable, IsServable}
-use Rattle.server_desk.proofs.Words.{IsGathered, AreOut, desk_of, from_map, all_get}
+use Rattle.server_desk.proofs.Words.{IsGathered, AreOut, desk_of, Limits}
+use Rattle.server_desk.proofs.Places.{from_map, all_get}
 use Rattle.server_desk.proofs.DeskLemmas.{Holds, seen}
-use Rattle.uplink_gather.specs.declared.limits.Limits.{Limits}
 use Rattle.server_desk.specs.World.{opening}
 use Rattle.server_desk.proofs.SettingsLemmas.{IsNew-from_AllPairs}
 use Rattle.server_desk.proofs.AddrLemmas.{flipped}

@@ -2,7 +2,8 @@
 use Rattle.server_desk.proofs.Words.{ℕ, ◌⊎◌, zero, suc, ◌≡◌, ◌≢◌, ◌+◌, ◌==◌, nat_lt, Bool, true, false, ◌&&◌, ◌||◌, if◌then◌else◌}
 use Rattle.server_desk.proofs.Words.{List, [], ◌∷◌, ◌++◌, length, slice_get, slice_set, Option, Some, refl, inl, inr, sym, ap}
 use Rattle.server_desk.proofs.Words.{◌∙◌, subst, arith, eq-eqb, nat_tests, Asked, Known, NotGiven, Given, Done, Sent, is_given}
-use Rattle.server_desk.proofs.Words.{is_engaged, own_out, count_out, AreOut, some_inj, get_set_cases}
+use Rattle.server_desk.proofs.Words.{is_engaged, own_out, count_out, AreOut}
+use Rattle.server_desk.proofs.Places.{some_inj, get_set_cases}
 
 abbrev as_count : Bool → ℕ
 as_count b = if b then 1 else 0

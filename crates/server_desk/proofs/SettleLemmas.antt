@@ -1,10 +1,11 @@
 -- An answer is settled, as the desk settles it.
-use Rattle.server_desk.proofs.Words.{map_set, map_there, ℕ, ◌≡◌, ◌-◌, Bool, true, false, ◌&&◌, if◌then◌else◌, List, slice_get}
-use Rattle.server_desk.proofs.Words.{slice_set, get_or, Option, Some, None, refl, option_map_or, sym, ap, ◌∙◌}
-use Rattle.server_desk.proofs.Words.{get_or_from_slice_get, length-set, map-set, All-drop, Gatherings, numbered, Ending, Kept}
-use Rattle.server_desk.proofs.Words.{Known, NotGiven, Given, Done, Sent, is_given, Device, Asked, sent_of, has_carried, is_here}
-use Rattle.server_desk.proofs.Words.{may_settle, without_head, delivered, shown, outs, IsSendable, IsServable, desk_settled}
-use Rattle.server_desk.proofs.Words.{at_number}
+use Rattle.server_desk.proofs.Words.{ℕ, ◌≡◌, ◌-◌, Bool, true, false, ◌&&◌, if◌then◌else◌, List, slice_get, slice_set, get_or}
+use Rattle.server_desk.proofs.Words.{Option, Some, None, refl, option_map_or, sym, ap, ◌∙◌, get_or_from_slice_get, length-set}
+use Rattle.server_desk.proofs.Words.{map-set, All-drop, Gatherings, numbered, Ending, Kept, Known, NotGiven, Given, Done, Sent}
+use Rattle.server_desk.proofs.Words.{is_given, Device, Asked, sent_of, has_carried, is_here, may_settle, without_head, delivered}
+use Rattle.server_desk.proofs.Words.{shown, outs, IsSendable, IsServable, desk_settled}
+use Rattle.server_desk.proofs.Places.{map_set, map_there}
+use Rattle.server_desk.proofs.Numbers.{at_number}
 use Rattle.server_desk.proofs.DeskLemmas.{seen_reg, Holds, seen, written_holds}
 use Rattle.server_desk.proofs.OutLemmas.{out_settled}
 use Rattle.server_desk.proofs.TakeLemmas.{number_too, out_there}

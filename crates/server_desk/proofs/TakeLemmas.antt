@@ -1,16 +1,17 @@
 -- A ticket is given, as the desk gives it.
-use Rattle.server_desk.proofs.Words.{slice_get_read, get_or, map_there, ℕ, zero, suc, ◌≡◌, ◌-◌, ◌^◌, ◌<◌, ◌≤◌, true, false, List}
-use Rattle.server_desk.proofs.Words.{[], ◌∷◌, map, length, All, slice_get, slice_set, Option, Some, None, Result, Ok, Err, IfOk}
-use Rattle.server_desk.proofs.Words.{refl, option_map, ForSome, sym, ap, ◌∙◌, subst, arith, nat_tests, length-map, length-set}
-use Rattle.server_desk.proofs.Words.{map-set, All-head, HeardCopy, Gatherings, numbered, is_closed_at, copies_of, length-ranked}
+use Rattle.server_desk.proofs.Words.{slice_get_read, get_or, ℕ, zero, suc, ◌≡◌, ◌-◌, ◌^◌, ◌<◌, ◌≤◌, true, false, List, [], ◌∷◌}
+use Rattle.server_desk.proofs.Words.{map, length, All, slice_get, slice_set, Option, Some, None, Result, Ok, Err, IfOk, refl}
+use Rattle.server_desk.proofs.Words.{option_map, ForSome, sym, ap, ◌∙◌, subst, arith, nat_tests, length-map, length-set, map-set}
+use Rattle.server_desk.proofs.Words.{All-head, HeardCopy, Gatherings, numbered, is_closed_at, copies_of, length-ranked}
 use Rattle.server_desk.proofs.Words.{All-ranked, IsHeard, Job, Payload, IsJob, IsPort, payload_len, Kept, Known, NotGiven, Given}
 use Rattle.server_desk.proofs.Words.{Done, is_not_given, Device, Asked, head, is_engaged, job_for, fault_of, given_or}
 use Rattle.server_desk.proofs.Words.{take_answer, with_counter_given, shown, outs, IsSendable, IsServable, IsGathered, IsReady}
-use Rattle.server_desk.proofs.Words.{desk_take, some_inj, all_get, at_number}
+use Rattle.server_desk.proofs.Words.{desk_take, TakeFault}
+use Rattle.server_desk.proofs.Places.{map_there, some_inj, all_get}
+use Rattle.server_desk.proofs.Numbers.{at_number}
 use Rattle.server_desk.proofs.DeskLemmas.{seen_reg, Holds, seen, written_holds}
 use Rattle.rx_windows.specs.Rank.{ranked}
 use Rattle.answer_ticket.specs.Ticket.{Standing}
-use Rattle.server_desk.specs.declared.faults.TakeFault.{TakeFault}
 use Rattle.server_desk.proofs.OutLemmas.{engaged_is, out_given}
 
 -- the job that a ticket is given for

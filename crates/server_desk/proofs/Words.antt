@@ -1,27 +1,30 @@
 -- The names that most proofs cite, passed on from one place.
-pub use Rattle.std.proofs.Common.{All, AllPairs, Bool, Err, IfOk, IsOkUnless, List, MatchResult, None, Ok, OnErr, OnOk, Option}
-pub use Rattle.std.proofs.Common.{Result, Some, [], ap, append-nil, append_assoc, arith, drop, eq-eqb, false, get_or, get_or-take}
-pub use Rattle.std.proofs.Common.{if◌then◌else◌, inl, inr, length, length-append, length-set, length-take, map, nat_eq, nat_le}
-pub use Rattle.std.proofs.Common.{nat_lt, ne_eqb, position, refl, slice_get, slice_set, subst, suc, sym, take, true, true≢false}
-pub use Rattle.std.proofs.Common.{zero, ℕ, ◌&&◌, ◌*◌, ◌++◌, ◌+◌, ◌-◌, ◌<◌, ◌==◌, ◌^◌, ◌||◌, ◌∙◌, ◌∷◌, ◌≡◌, ◌≢◌, ◌≤◌, ◌⊎◌}
+pub use Rattle.std.proofs.Common.{All, AllPairs, Bool, Contains, Err, IfOk, IsOkUnless, List, MatchResult, None, Ok, OnErr, OnOk}
+pub use Rattle.std.proofs.Common.{Option, Result, Some, [], ap, append-nil, append_assoc, arith, drop, eq-eqb, false, get_or}
+pub use Rattle.std.proofs.Common.{get_or-take, if◌then◌else◌, inl, inr, length, length-append, length-set, length-take, map}
+pub use Rattle.std.proofs.Common.{nat_eq, nat_le, nat_lt, ne_eqb, position, refl, slice_get, slice_set, subst, suc, sym, take}
+pub use Rattle.std.proofs.Common.{true, true≢false, unwrap_or, zero, ℕ, ◌&&◌, ◌*◌, ◌++◌, ◌+◌, ◌-◌, ◌<◌, ◌==◌, ◌^◌, ◌||◌, ◌∙◌, ◌∷◌}
+pub use Rattle.std.proofs.Common.{◌≡◌, ◌≢◌, ◌≤◌, ◌⊎◌}
 pub use Rattle.std.proofs.lemmas.Bool.Decides.{nat_tests}
 pub use Rattle.std.proofs.lemmas.List.{get_or_default, length-map, length_push, map-set, map_more, map_push}
 pub use Rattle.std.proofs.lemmas.List.Elements.{All-cons, All-drop, All-head, All-map, All-nil, All-push, All-set, All-tail}
 pub use Rattle.std.proofs.lemmas.List.Elements.{All-weaker}
 pub use Rattle.std.proofs.lemmas.List.Folds.{list_any_at, list_any_none}
-pub use Rattle.std.proofs.lemmas.Option.{get_or_from_slice_get, none-some, slice_get_read, slice_get_within}
+pub use Rattle.std.proofs.lemmas.Option.{get_or_from_slice_get, none-some, slice_get-map, slice_get_read, slice_get_within}
 pub use Rattle.std.proofs.lemmas.Simd.{map-map}
 pub use Rattle.std.specs.List.{list_any, position_from}
 pub use Rattle.std.specs.Option.{ForSome, option_map, option_map_or, option_or}
-pub use Rattle.lora_frame.specs.Reading.{addr_of}
+pub use Rattle.std.specs.Prelude.{⊤}
+pub use Rattle.lora_frame.specs.Reading.{addr_of, has_mic, uplink_of, uplink_record}
 pub use Rattle.uplink_gather.specs.Gatherings.{Gathering, Gatherings, copies_of, is_closed_at, numbered, rewritten}
-pub use Rattle.uplink_gather.specs.Hearing.{after_hearing, has_gateway, hear_answer, hear_step, is_crowded, opening, place_by}
-pub use Rattle.uplink_gather.specs.Hearing.{place_of, with_copy}
+pub use Rattle.uplink_gather.specs.Hearing.{after_hearing, has_gateway, hear_answer, hear_step, is_crowded, place_by, place_of}
+pub use Rattle.uplink_gather.specs.Hearing.{with_copy}
 pub use Rattle.uplink_gather.specs.declared.answers.Heard.{Heard}
 pub use Rattle.uplink_gather.specs.declared.answers.Heard.TheVariants.{Joined, Opened}
 pub use Rattle.uplink_gather.specs.declared.answers.Place.TheVariants.{Joins, Opens}
 pub use Rattle.uplink_gather.specs.declared.fault.HearFault.{HearFault}
 pub use Rattle.uplink_gather.specs.declared.heard.HeardCopy.{HeardCopy}
+pub use Rattle.uplink_gather.specs.declared.limits.Limits.{Limits}
 pub use Rattle.rx_windows.specs.RankLaws.{All-ranked, AllPairs-head, AllPairs-tail, length-ranked}
 pub use Rattle.rx_windows.specs.Windows.{IsHeard}
 pub use Rattle.answer_ticket.specs.Ended.{IsWithinLongest, longest_us}
@@ -29,27 +32,27 @@ pub use Rattle.answer_ticket.specs.Job.{IsJob, IsPort, Job, Payload, payload_len
 pub use Rattle.answer_ticket.specs.declared.outcome.Ending.{Ending}
 pub use Rattle.server_desk.specs.Airtime.{AreAirtimes, CanRaise, airtime_of_ending, answered_at, answered_for, known_airtime}
 pub use Rattle.server_desk.specs.Airtime.{own_airtime, raised, raised_at, sent_airtime, total_at, total_limit, whole_airtime}
-pub use Rattle.server_desk.specs.AirtimeLaws.{answered_given, answered_push, total_nil}
 pub use Rattle.server_desk.specs.Answers.{Done, Given, Known, NotGiven, Sent, is_given, is_not_given}
-pub use Rattle.server_desk.specs.Decided.{IsDecided, IsTimely, decided, read_same, timely}
-pub use Rattle.server_desk.specs.Desk.{DeskView, desk_hear, desk_of, desk_queue, desk_settled, desk_take}
-pub use Rattle.server_desk.specs.Found.{found_there}
-pub use Rattle.server_desk.specs.Hearing.{Decision, Join, Open, Opening, Refuse, answer_to, asked_by, copy_of, is_last}
-pub use Rattle.server_desk.specs.Hearing.{named_fault}
+pub use Rattle.server_desk.specs.Desk.{DeskView, desk_hear, desk_of, desk_queue, desk_settled, desk_take, desk_taken, known_after}
+pub use Rattle.server_desk.specs.Desk.{total_of}
+pub use Rattle.server_desk.specs.Hearing.{Decision, Join, Open, Opening, Refuse, answer_to, asked_by, copy_fault, copy_of}
+pub use Rattle.server_desk.specs.Hearing.{decide_copy, decide_device, decide_frame, decide_mic, decide_place, decide_room}
+pub use Rattle.server_desk.specs.Hearing.{is_last, named_fault}
 unfoldable pub use Rattle.server_desk.specs.Hearing.{decide}
 pub use Rattle.server_desk.specs.Kept.{AreOut, IsDesk, IsGathered, IsReady, IsSendable, IsServable, count_out, desk_answer, outs}
 pub use Rattle.server_desk.specs.Kept.{own_out, shown, verdict_of}
-pub use Rattle.server_desk.specs.Numbers.{at_number, length-rewritten}
-pub use Rattle.server_desk.specs.Places.{all_get, from_map, get_set_cases, map_set, map_there, some_inj}
 pub use Rattle.server_desk.specs.Register.{Asked, Device, Register, device_with, first_at, next_place, opened_device}
 pub use Rattle.server_desk.specs.Settings.{AreSettings, IsDeviceInRange, IsGatewayInRange, SettingLists, are_counts_in_range}
 pub use Rattle.server_desk.specs.Settings.{device_fault, first_fault, gateway_fault, has_rx2_band, is_device_in_range}
 pub use Rattle.server_desk.specs.Settings.{is_gateway_in_range}
 unfoldable pub use Rattle.server_desk.specs.Settings.{settings_fault}
 pub use Rattle.server_desk.specs.Settling.{delivered, has_carried, is_here, may_settle, sent_of, without_head}
-pub use Rattle.server_desk.specs.Taking.{fault_of, given_or, head, is_engaged, job_for, with_counter_given}
+pub use Rattle.server_desk.specs.Taking.{fault_of, given_or, head, is_engaged, job_for, take_known, with_counter_given}
 unfoldable pub use Rattle.server_desk.specs.Taking.{take_answer}
 pub use Rattle.server_desk.specs.declared.device.Kept.{Kept}
+pub use Rattle.server_desk.specs.declared.faults.DeskFault.{DeskFault}
+pub use Rattle.server_desk.specs.declared.faults.DeskFault.TheVariants.{BadMic, Crowded, NoMemory}
+pub use Rattle.server_desk.specs.declared.faults.TakeFault.{TakeFault}
 pub use Rattle.server_desk.specs.declared.heard.Heard1.{Heard1}
 pub use Rattle.server_desk.specs.declared.setting.DeviceSetting.{DeviceSetting}
 pub use Rattle.server_desk.specs.declared.setting.GatewaySetting.{GatewaySetting}

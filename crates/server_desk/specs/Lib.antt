@@ -10,12 +10,7 @@ pub mod Airtime
 pub mod Passing
 pub mod World
 pub mod Desk
-pub mod AirtimeLaws
 pub mod Kept
-pub mod Places
-pub mod Numbers
-pub mod Found
-pub mod Decided
 pub use Rattle.radio_airtime.specs.DataRate
 pub use Rattle.radio_airtime.specs.TimeOnAir
 pub use Rattle.radio_airtime.specs.Bounds

@@ -1,4 +1,5 @@
-use Rattle.server_desk.proofs.Words.{sym, arith, at_number, slice_get_within, Given}
+use Rattle.server_desk.proofs.Words.{sym, arith, slice_get_within, Given}
+use Rattle.server_desk.proofs.Numbers.{at_number}
 use Rattle.server_desk.proofs.TakeLemmas.{at_here}
 use Rattle.server_desk.proofs.AirtimeLemmas.{can_raise, short_ending, sent_here, settled_airtimes, settled_total}
 use Rattle.server_desk.proofs.AirtimeSums.{within_limit}

@@ -1,4 +1,5 @@
-use Rattle.server_desk.proofs.Words.{refl, arith, read_same}
+use Rattle.server_desk.proofs.Words.{refl, arith}
+use Rattle.server_desk.proofs.Decided.{read_same}
 use Rattle.server_desk.proofs.DeskLemmas.{found_within, found_kept}
 use Rattle.server_desk.proofs.desk.Desk.verdict_on.Goals as goal
 

@@ -1,22 +1,14 @@
 -- What is known of a copy that joins a gathering, or opens one.
-use Rattle.std.specs.Prelude.{ℕ, ◌≡◌, ◌^◌, ◌≤◌, Bool, true, false, if◌then◌else◌, List, Option, Some, None, Result, Ok, Err, ⊤, refl}
-use Rattle.std.proofs.Common.{sym, ap, arith}
+use Rattle.server_desk.proofs.Words.{ℕ, ◌≡◌, ◌^◌, ◌≤◌, false, List, Option, Some, None, Result, Ok, Err, ⊤, refl, sym, ap, arith}
+use Rattle.server_desk.proofs.Words.{nat_tests, addr_of, uplink_record, uplink_of, has_mic, HearFault, Joins, Opens, place_of}
+use Rattle.server_desk.proofs.Words.{is_crowded, Heard1, DeskFault, BadMic, Crowded, Device, Register, device_with, Decision}
+use Rattle.server_desk.proofs.Words.{Refuse, Join, Open, Opening, copy_fault, decide_room, decide_mic, decide_device}
+use Rattle.server_desk.proofs.Words.{decide_place, decide_copy, decide_frame, decide}
 use Rattle.std.proofs.lemmas.Bool.{cond_both}
-use Rattle.std.proofs.lemmas.Bool.Decides.{nat_tests}
 use Rattle.lora_frame.specs.declared.reading.Uplink.{Uplink}
 use Rattle.lora_frame.specs.declared.reading.FrameFault.{FrameFault}
-use Rattle.lora_frame.specs.Reading.{addr_of, uplink_record, uplink_of, has_mic}
 use Rattle.lora_frame.specs.Counter.{inferred_counter}
-use Rattle.uplink_gather.specs.declared.fault.HearFault.{HearFault}
 use Rattle.uplink_gather.specs.declared.answers.Place.{Place}
-use Rattle.uplink_gather.specs.declared.answers.Place.TheVariants.{Joins, Opens}
-use Rattle.uplink_gather.specs.Hearing.{place_of, is_crowded}
-use Rattle.server_desk.specs.declared.heard.Heard1.{Heard1}
-use Rattle.server_desk.specs.declared.faults.DeskFault.{DeskFault}
-use Rattle.server_desk.specs.declared.faults.DeskFault.TheVariants.{BadMic, Crowded}
-use Rattle.server_desk.specs.Register.{Device, Register, device_with}
-use Rattle.server_desk.specs.Hearing.{Decision, Refuse, Join, Open, Opening, copy_fault, decide_room, decide_mic, decide_device}
-use Rattle.server_desk.specs.Hearing.{decide_place, decide_copy, decide_frame, decide}
 
 -- the newest gathering of the bytes tells where the copy goes; one that opens a gathering has room, and is of a device
 abbrev pub IsDecided : Register → List ℕ → ℕ → ℕ → Decision → Type 0

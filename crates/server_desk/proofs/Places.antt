@@ -1,9 +1,8 @@
 -- Members of a list by their places.
-use Rattle.std.specs.Prelude.{ℕ, zero, suc, ◌≡◌, ◌≢◌, ◌⊎◌, List, [], ◌∷◌, ◌++◌, map, length, All, Contains, slice_get, slice_set}
-use Rattle.std.specs.Prelude.{Option, Some, unwrap_or, refl}
-use Rattle.std.specs.Option.{option_map}
-use Rattle.std.proofs.Common.{inl, inr, sym, ap, ◌∙◌, subst, arith}
-use Rattle.std.proofs.lemmas.Option.{slice_get-map, slice_get_within, get_or_from_slice_get}
+use Rattle.server_desk.proofs.Words.{ℕ, zero, suc, ◌≡◌, ◌≢◌, ◌⊎◌, List, [], ◌∷◌, ◌++◌, map, length, All, Contains, slice_get}
+use Rattle.server_desk.proofs.Words.{slice_set, Option, Some, unwrap_or, refl, inl, inr, sym, ap, ◌∙◌, subst, arith, option_map}
+use Rattle.server_desk.proofs.Words.{slice_get-map, slice_get_within, get_or_from_slice_get}
+use Rattle.std.proofs.Math.Seq.{map-set_same}
 
 pub some_inj : {X : Type 0} {x y : X} → Some x ≡ Some y → x ≡ y
 some_inj {X} {x} {y} e = ap (λ (o : Option X). unwrap_or o x) e
@@ -31,12 +30,8 @@ module _ {X : Type 0} where
   get_append_cases [] y z zero e = inr (refl, sym (some_inj e))
   get_append_cases [] y z (suc i) e = absurd (cc)
   get_append_cases (x ∷ xs) y z zero e = inl e
-  get_append_cases (x ∷ xs) y z (suc i) e = later (get_append_cases xs y z i e)
-    where
-      later : (slice_get xs i ≡ Some z) ⊎ ((i ≡ length xs) × (z ≡ y))
-          → (slice_get xs i ≡ Some z) ⊎ ((suc i ≡ suc (length xs)) × (z ≡ y))
-      later (inl h) = inl h
-      later (inr h) = inr (ap suc h.0, h.1)
+  get_append_cases (x ∷ xs) y z (suc i) e =
+      elim (get_append_cases xs y z i e) [ inl h ↦ inl h | inr h ↦ inr (ap suc h.0, h.1) ]
 
   -- a member of a list in which one place was written is the new one at that place, or an old one at another
   pub get_set_cases : (xs : List X) (i j : ℕ) (y z : X) → slice_get (slice_set xs i y) j ≡ Some z
@@ -45,12 +40,8 @@ module _ {X : Type 0} where
   get_set_cases (x ∷ xs) zero zero y z e = inl (refl, sym (some_inj e))
   get_set_cases (x ∷ xs) zero (suc j) y z e = inr (λ q. absurd (omega (arith, q)), e)
   get_set_cases (x ∷ xs) (suc i) zero y z e = inr (λ q. absurd (omega (arith, q)), e)
-  get_set_cases (x ∷ xs) (suc i) (suc j) y z e = later (get_set_cases xs i j y z e)
-    where
-      later : ((i ≡ j) × (z ≡ y)) ⊎ ((i ≢ j) × (slice_get xs j ≡ Some z))
-          → ((suc i ≡ suc j) × (z ≡ y)) ⊎ ((suc i ≢ suc j) × (slice_get xs j ≡ Some z))
-      later (inl h) = inl (ap suc h.0, h.1)
-      later (inr h) = inr (λ q. h.0 (omega (arith, q)), h.1)
+  get_set_cases (x ∷ xs) (suc i) (suc j) y z e = elim (get_set_cases xs i j y z e)
+      [ inl h ↦ inl (ap suc h.0, h.1) | inr h ↦ inr (λ q. h.0 (omega (arith, q)), h.1) ]
 
   -- a member of the list before that place was written is there still, or was the one that was written anew
   pub get_set_after : (xs : List X) (i j : ℕ) (x y z : X) → slice_get xs i ≡ Some x → slice_get xs j ≡ Some z
@@ -59,12 +50,8 @@ module _ {X : Type 0} where
   get_set_after (u ∷ xs) zero zero x y z e f = inl (refl, sym (some_inj f) ∙ some_inj e, refl)
   get_set_after (u ∷ xs) zero (suc j) x y z e f = inr f
   get_set_after (u ∷ xs) (suc i) zero x y z e f = inr f
-  get_set_after (u ∷ xs) (suc i) (suc j) x y z e f = later (get_set_after xs i j x y z e f)
-    where
-      later : ((i ≡ j) × (z ≡ x) × (slice_get (slice_set xs i y) j ≡ Some y)) ⊎ (slice_get (slice_set xs i y) j ≡ Some z)
-          → ((suc i ≡ suc j) × (z ≡ x) × (slice_get (slice_set xs i y) j ≡ Some y)) ⊎ (slice_get (slice_set xs i y) j ≡ Some z)
-      later (inl h) = inl (ap suc h.0, h.1, h.2)
-      later (inr h) = inr h
+  get_set_after (u ∷ xs) (suc i) (suc j) x y z e f =
+      elim (get_set_after xs i j x y z e f) [ inl h ↦ inl (ap suc h.0, h.1, h.2) | inr h ↦ inr h ]
 
   -- what stands at a place is a member, and what is true of all is true of it
   pub get_contains : (xs : List X) (k : ℕ) (x : X) → slice_get xs k ≡ Some x → Contains xs x
@@ -84,6 +71,4 @@ module _ {X Y : Type 0} (f : X → Y) where
 
   -- a member is written anew by one that f can't tell from it
   pub map_set : (xs : List X) (i : ℕ) (x y : X) → slice_get xs i ≡ Some x → f y ≡ f x → map f (slice_set xs i y) ≡ map f xs
-  map_set [] i x y e q = refl
-  map_set (z ∷ xs) zero x y e q = ap (λ u. u ∷ map f xs) (q ∙ ap f (sym (some_inj e)))
-  map_set (z ∷ xs) (suc i) x y e q = ap (λ us. f z ∷ us) (map_set xs i x y e q)
+  map_set xs i x y e q = map-set_same f xs i y x (q ∙ ap f (sym (get_or_from_slice_get xs i x x e)))

@@ -1,9 +1,7 @@
 -- The first member of a list that passes a test, and its place.
-use Rattle.std.specs.Prelude.{ℕ, ◌≡◌, Bool, true, false, if◌then◌else◌, List, [], ◌∷◌, slice_get, Option, Some, None, refl}
-use Rattle.std.specs.Option.{option_map}
-use Rattle.std.proofs.Common.{sym, subst}
-use Rattle.server_desk.specs.Register.{first_at, next_place}
-use Rattle.server_desk.specs.Places.{some_inj}
+use Rattle.server_desk.proofs.Words.{ℕ, ◌≡◌, Bool, true, false, if◌then◌else◌, List, [], ◌∷◌, slice_get, Option, Some, None, refl}
+use Rattle.server_desk.proofs.Words.{option_map, sym, subst, first_at, next_place}
+use Rattle.server_desk.proofs.Places.{some_inj}
 
 module _ {X : Type 0} (test : X → Bool) where
   -- what was found in the rest stands one place later

@@ -1,29 +1,15 @@
-use Rattle.std.specs.Prelude.{ℕ, zero, suc, ◌≡◌, ◌+◌, ◌-◌, Bool, true, false, List, [], ◌∷◌, ◌++◌, slice_get, slice_set}
-use Rattle.std.specs.Prelude.{if◌then◌else◌, Option, Some, None, Result, Ok, Err, refl}
-use Rattle.std.proofs.Common.{ap, ◌∙◌, arith}
-use Rattle.std.specs.Option.{option_map_or}
-use Rattle.uplink_gather.specs.declared.limits.Limits.{Limits}
-use Rattle.uplink_gather.specs.Gatherings.{numbered, rewritten, is_closed_at}
-use Rattle.answer_ticket.specs.Job.{Job}
-use Rattle.server_desk.specs.declared.heard.Heard1.{Heard1}
-use Rattle.server_desk.specs.declared.faults.TakeFault.{TakeFault}
+use Rattle.server_desk.proofs.Words.{ℕ, zero, suc, ◌≡◌, ◌+◌, ◌-◌, Bool, true, false, List, [], ◌∷◌, ◌++◌, slice_get, slice_set}
+use Rattle.server_desk.proofs.Words.{if◌then◌else◌, Option, Some, None, Result, Ok, Err, refl, ap, ◌∙◌, arith, option_map_or}
+use Rattle.server_desk.proofs.Words.{Limits, numbered, rewritten, is_closed_at, Job, Heard1, TakeFault, SettingLists, Register}
+use Rattle.server_desk.proofs.Words.{Asked, Decision, Refuse, Join, Open, decide, Known, NotGiven, Given, Done, take_answer}
+use Rattle.server_desk.proofs.Words.{take_known, known_airtime, answered_at, total_at, DeskView, total_of, desk_of, desk_hear}
+use Rattle.server_desk.proofs.Words.{desk_take, desk_taken, known_after}
 use Rattle.server_desk.specs.declared.faults.TakeFault.TheVariants.{NotReady}
-use Rattle.server_desk.specs.Settings.{SettingLists}
-use Rattle.server_desk.specs.Register.{Register, Asked}
-use Rattle.server_desk.specs.Hearing.{Decision, Refuse, Join, Open, decide}
-use Rattle.server_desk.specs.Answers.{Known, NotGiven, Given, Done}
-use Rattle.server_desk.specs.Taking.{take_answer, take_known}
-use Rattle.server_desk.specs.Airtime.{known_airtime, answered_at, total_at}
 use Rattle.server_desk.specs.World.{opening}
-use Rattle.server_desk.specs.Desk.{DeskView, desk_of, desk_hear, desk_take, desk_taken, known_after}
-use Rattle.server_desk.specs.Places.{some_inj}
-use Rattle.server_desk.specs.Numbers.{at_number}
+use Rattle.server_desk.proofs.Places.{some_inj}
+use Rattle.server_desk.proofs.Numbers.{at_number}
 
 -- Which calls leave the airtime of all settled answers as it is: all but `settle`.
-
--- the airtime of all settled answers, as the desk knows them
-abbrev pub total_of : DeskView → ℕ
-total_of d = total_at d.ids d.known
 
 -- before anything was heard there is none
 pub total_nil : (ids : List ℕ) → total_at ids [] ≡ 0
