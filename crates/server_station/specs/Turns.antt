@@ -59,3 +59,9 @@ abbrev pub was_taken : {A : Type 0} → Turn A → Bool
 was_taken (NotTaken fault) = false
 was_taken (Settled outcome receipt) = true
 was_taken (Stray receipt) = true
+
+-- the receipt of what was booked
+abbrev pub receipt_of : {A : Type 0} → Turn A → Option (Receipt A)
+receipt_of (NotTaken fault) = None
+receipt_of (Settled outcome receipt) = receipt
+receipt_of (Stray receipt) = receipt

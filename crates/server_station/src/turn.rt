@@ -1,6 +1,6 @@
 // An uplink is answered, once.
 ghost use Rattle.std.specs.Prelude.{◌≡◌, ◌≤◌, true, false};
-ghost use Rattle.server_station.specs.Turns.{IsTurn, IsEndOf, was_taken};
+ghost use Rattle.server_station.specs.Turns.{IsTurn, IsEndOf, was_taken, receipt_of};
 
 use crate::{Gate, Ledger, Station, Till};
 use answer_ticket::{Outcome, Receipt, Stub, Ticket, Tried};
@@ -93,6 +93,7 @@ impl<B: Ledger, S: BuildHasher, A: Allocator + Copy> Station<B, S, A> {
         requires { IsEndOf ended.stub.number ended }
         ensures turn { IsTurn ended.stub.number till.old till.new result }
         ensures taken { was_taken result ≡ true }
+        ensures receipt { receipt_of result ≡ ended.receipt }
     {
         let Ended { stub, receipt } = ended;
         match self.settle(rt, stub, till) {

@@ -1,8 +1,9 @@
 -- Lemmas on what a crew does, and on room for it.
 use Rattle.std.proofs.Common.{ℕ, suc, ◌≡◌, ◌+◌, ◌-◌, ◌*◌, ◌^◌, ◌<◌, ◌≤◌, Bool, true, false, List, [], ◌∷◌, ◌++◌, reverse, Vec}
-use Rattle.std.proofs.Common.{vec_len, vec_capacity, refl, sym, ap, ◌∙◌, append_assoc, arith}
+use Rattle.std.proofs.Common.{vec_len, vec_capacity, refl, sym, ap, subst, ◌∙◌, append_assoc, arith}
 use Rattle.std.specs.Prelude.{min, sum_by, Result, Ok, Err, IfOk, IfErr}
 use Rattle.std.specs.List.{flat_map}
+use Rattle.std.specs.List.Sorted.{IsPermutation}
 use Rattle.std.specs.Int.{from_bool}
 use Rattle.std.proofs.Math.Nat.{suc-mul}
 use Rattle.std.proofs.lemmas.List.{append-nil, reverse-append}
@@ -11,7 +12,9 @@ use Rattle.air_ledger.specs.Tills.{Holding}
 use Rattle.server_workers.specs.declared.worked.Worked.{Worked}
 use Rattle.server_workers.specs.declared.served.Served.{Served}
 use Rattle.server_workers.specs.Works.{IsJoined}
-use Rattle.server_workers.specs.Serving.{Fits, added_up, IsGathered}
+use Rattle.server_workers.specs.Serving.{Fits, added_up, begun, IsGathered, IsReordered, IsSummedUp}
+use Rattle.server_workers.specs.declared.lists.Lists.{Lists}
+use Rattle.server_workers.specs.EmptyLists.{AreEmptyFor}
 
 -- a product that fits into a list is the whole product
 pub within_reach : (product room cap : ℕ) → cap ≡ room → room ≡ min product (2 ^ 64 - 1) → cap < 2 ^ 63 → room ≡ product
@@ -115,6 +118,31 @@ module _ {B A : Type 0} (all : Served B A) (crew : List (Worked B A)) where
 pub one_at_most : (has_begun : Bool) → from_bool has_begun ≤ 1
 one_at_most true = omega arith
 one_at_most false = omega arith
+
+-- one more has begun, or has not
+pub begun_last : (l : List Bool) (b : Bool) → begun (l ++ b ∷ []) ≡ begun l + from_bool b
+begun_last l b = sum_by-append from_bool l (b ∷ []) ∙ ap (λ n. begun l + n) (sum_by-cons from_bool b [] ∙ omega arith)
+
+-- what a crew did is what was put together and then sorted
+put_in_order : {X : Type 0} (old mid kept new : List X) → old ≡ [] → mid ≡ old ++ kept → IsPermutation mid new
+    → IsPermutation kept new
+put_in_order old mid kept new none e h = subst (λ l. IsPermutation l new) (e ∙ ap (λ l. l ++ kept) none) h
+
+pub all_summed_up : {B A : Type 0} (lists : Lists A) (n : ℕ) (old mid new : Served B A) (crew : List (Worked B A))
+    → AreEmptyFor n lists
+    → old.receipts ≡ lists.receipts → old.outcomes ≡ lists.outcomes → old.skipped ≡ lists.skipped
+    → old.refused ≡ lists.refused → old.strays ≡ lists.strays → old.overrun ≡ 0
+    → IsGathered old crew mid → IsReordered mid new → IsSummedUp crew new
+all_summed_up {B = B} {A = A} lists n old mid new crew empty receipts outcomes skipped refused strays overrun g h =
+    record {
+      receipts = put_in_order _ _ _ _ (ap (λ l. l.items) receipts ∙ empty.receipts.none) g.receipts h.receipts;
+      outcomes = put_in_order _ _ _ _ (ap (λ l. l.items) outcomes ∙ empty.outcomes.none) g.outcomes h.outcomes;
+      skipped = put_in_order _ _ _ _ (ap (λ l. l.items) skipped ∙ empty.skipped.none) g.skipped h.skipped;
+      refused = put_in_order _ _ _ _ (ap (λ l. l.items) refused ∙ empty.refused.none) g.refused h.refused;
+      strays = put_in_order _ _ _ _ (ap (λ l. l.items) strays ∙ empty.strays.none) g.strays h.strays;
+      overrun = h.overrun ∙ g.overrun
+          ∙ ap (λ n. added_up n (sum_by (λ (w : Worked B A). w.overrun) crew)) overrun;
+    }
 
 -- where nobody has begun so far, nothing was settled
 pub none_on : {X : Type 0} (has_begun : Bool) (ran more : ℕ) (first old own new : List X) → more ≡ ran + from_bool has_begun

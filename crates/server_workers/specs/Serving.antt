@@ -1,4 +1,6 @@
-use Rattle.std.specs.Prelude.{ℕ, ◌≡◌, ◌+◌, ◌-◌, ◌^◌, ◌<◌, ◌≤◌, ◌⊎◌, List, ◌++◌, Vec, vec_len, vec_capacity, min, reverse, sum_by}
+use Rattle.std.specs.Prelude.{ℕ, ◌≡◌, ◌+◌, ◌-◌, ◌^◌, ◌<◌, ◌≤◌, ◌⊎◌, Bool, List, ◌++◌, Vec, vec_len, vec_capacity, min}
+use Rattle.std.specs.Prelude.{reverse, sum_by}
+use Rattle.std.specs.Int.{from_bool}
 use Rattle.std.specs.List.{flat_map}
 use Rattle.std.specs.List.Sorted.{IsPermutation, IsNonDecreasing, IsNonDecreasingBy}
 use Rattle.answer_ticket.specs.declared.outcome.Outcome.{Outcome}
@@ -41,6 +43,19 @@ pub record IsGathered {B A : Type 0} (old : Served B A) (crew : List (Worked B A
   pub refused : HasKept (λ w. w.refused.items) old.refused.items crew new.refused.items
   pub strays : HasKept (λ w. w.strays.items) old.strays.items crew new.strays.items
   pub overrun : new.overrun ≡ added_up old.overrun (sum_by (λ (w : Worked B A). w.overrun) crew)
+
+-- how many have begun
+abbrev pub begun : List Bool → ℕ
+begun crew = sum_by from_bool crew
+
+-- what a crew did, each list in some order
+pub record IsSummedUp {B A : Type 0} (crew : List (Worked B A)) (served : Served B A) : Type 0 where
+  pub receipts : IsPermutation (flat_map (λ (w : Worked B A). w.receipts.items) (reverse crew)) served.receipts.items
+  pub outcomes : IsPermutation (flat_map (λ (w : Worked B A). w.outcomes.items) (reverse crew)) served.outcomes.items
+  pub skipped : IsPermutation (flat_map (λ (w : Worked B A). w.skipped.items) (reverse crew)) served.skipped.items
+  pub refused : IsPermutation (flat_map (λ (w : Worked B A). w.refused.items) (reverse crew)) served.refused.items
+  pub strays : IsPermutation (flat_map (λ (w : Worked B A). w.strays.items) (reverse crew)) served.strays.items
+  pub overrun : served.overrun ≡ added_up 0 (sum_by (λ (w : Worked B A). w.overrun) crew)
 
 -- each list has what it had, in some order, and all else is the same
 pub record IsReordered {B A : Type 0} (old new : Served B A) : Type 0 where

@@ -26,6 +26,11 @@ pub record IsLonger {X Z : Type 0} (old new : Vec X Z) : Type 0 where
   pub begins : BeginsWith old.items new.items
   pub fits : vec_capacity new ≡ vec_capacity old
 
+-- a list has these items at its end, and the room that it had
+pub record HasMore {X Z : Type 0} (more : List X) (old new : Vec X Z) : Type 0 where
+  pub items : new.items ≡ old.items ++ more
+  pub fits : vec_capacity new ≡ vec_capacity old
+
 -- a list has another's items at its end, and the room that it had
 pub record IsJoined {X Z : Type 0} (old more new : Vec X Z) : Type 0 where
   pub items : new.items ≡ old.items ++ more.items

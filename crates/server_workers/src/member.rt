@@ -63,6 +63,7 @@ impl<K: Room, B: Ledger, A: Allocator> Member<K, B, A> {
 
     /// Whether it has begun, and what it has done.
     pub(crate) fn parted(self) -> (bool, Worked<B, A>)
+        ensures begun { result.0 ≡ self.has_begun }
         ensures same { result.1 ≡ self.worked }
         ensures within { IsWithin K.room result.1 }
         ensures before { HasSettledNone result.0 result.1 }

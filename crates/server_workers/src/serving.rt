@@ -4,7 +4,7 @@ ghost use Rattle.std.specs.Prelude.{vec_capacity};
 ghost use Rattle.air_ledger.specs.Tills.{all_parts};
 ghost use Rattle.server_workers.specs.Works.{airtime_of};
 ghost use Rattle.server_workers.specs.EmptyLists.{AreEmptyFor};
-ghost use Rattle.server_workers.specs.Serving.{IsOutside, HasRoomFor, IsGathered, IsSortedByNumber};
+ghost use Rattle.server_workers.specs.Serving.{IsOutside, HasRoomFor, IsGathered, IsSummedUp, IsSortedByNumber, begun};
 
 use crate::lists::Lists;
 use crate::member::{Member, Numbers, Room};
@@ -237,6 +237,8 @@ fn summed_up<K: Room, B: Ledger, A: Allocator>(
     ensures ran { IfOk result (λ served. (1 ≤ served.ran) × (served.ran ≤ vec_len crew)) }
     ensures back { IfErr result (λ fault. fault.till ≡ record { parts = till.parts + vec_len crew; amount = till.amount }) }
     ensures nobody { IfErr result (λ fault. fault.cause ≡ ServeCause.NoThread) }
+    ensures all { IfOk result (IsSummedUp (map (λ m. m.worked) crew.items)) }
+    ensures begun { IfOk result (λ served. served.ran ≡ begun (map (λ m. m.has_begun) crew.items)) }
 {
     let mut served = Served::new(till, all);
     gather(&mut served, crew);
@@ -259,7 +261,8 @@ fn gather<K: Room, B: Ledger, A: Allocator>(
     ensures parts { served.new.till.parts ≡ served.old.till.parts + vec_len crew }
     ensures amount { served.new.till.amount + airtime_of served.old.outcomes.items
         ≡ served.old.till.amount + airtime_of served.new.outcomes.items }
-    ensures ran { served.new.ran ≤ served.old.ran + vec_len crew }
+    ensures ran { served.new.ran ≡ served.old.ran + begun (map (λ m. m.has_begun) crew.items) }
+    ensures most { served.new.ran ≤ served.old.ran + vec_len crew }
     ensures nobody { served.new.ran ≡ 0 → served.new.outcomes.items ≡ served.old.outcomes.items }
 {
     let mut crew = crew;

@@ -1,11 +1,12 @@
 // A worker takes, tries and settles one number after another.
 ghost use Rattle.std.specs.Prelude.{◌≡◌, ◌+◌, ◌↔◌, ◌++◌, List, IsTrue, vec_capacity};
 ghost use Rattle.answer_ticket.specs.declared.outcome.Outcome.{Outcome as Ends};
-ghost use Rattle.server_workers.specs.Works.{IsOpen, airtime_of};
-ghost use Rattle.server_workers.specs.Working.{HasFiled, HasRoom, IsFiled, IsMore, items_of};
+ghost use Rattle.server_workers.specs.Works.{IsOpen, HasMore, airtime_of};
+ghost use Rattle.server_workers.specs.Working.{HasFiled, HasRoom, IsMore, items_of, receipts_of, outcomes_of, skipped_of, refused_of};
+ghost use Rattle.server_workers.specs.Working.{strays_of};
 
 use crate::{Gate, Ledger, Station, Turn, Worked};
-use answer_ticket::Receipt;
+use answer_ticket::{Outcome, Receipt};
 use crossbeam_channel::Receiver;
 use server_core::TakeFault;
 use std::alloc::Allocator;
@@ -63,19 +64,6 @@ impl<B: Ledger, A: Allocator> Worked<B, A> {
             && is_open(&self.refused)
             && is_open(&self.strays)
     }
-
-    /// Files a number that got no ticket.
-    fn pass_over(&mut self, number: u64, fault: TakeFault)
-        requires skipped { IsOpen self.old.skipped }
-        requires refused { IsOpen self.old.refused }
-        ensures more { IsMore self.old self.new }
-        ensures filed { IsFiled number self.old self.new (Turn.NotTaken fault) }
-    {
-        match fault {
-            TakeFault::Engaged | TakeFault::NoMemory => self.skipped.push_reserved(number),
-            other => self.refused.push_reserved((number, other)),
-        }
-    }
 }
 
 impl<B: Ledger, A: Allocator + Copy> Worked<B, A> {
@@ -91,16 +79,52 @@ impl<B: Ledger, A: Allocator + Copy> Worked<B, A> {
         ensures more { IsMore self.old self.new }
         ensures filed { HasFiled number self.old self.new }
     {
-        match station.answer(rt, gate, number, &mut self.till, &mut self.overrun) {
-            Turn::NotTaken(fault) => self.pass_over(number, fault),
-            Turn::Settled(outcome, receipt) => {
-                self.outcomes.push_reserved(outcome);
-                keep(&mut self.receipts, receipt);
-            }
-            Turn::Stray(receipt) => {
-                self.strays.push_reserved(number);
-                keep(&mut self.receipts, receipt);
-            }
+        let turn = station.answer(rt, gate, number, &mut self.till, &mut self.overrun);
+        file(
+            number,
+            turn,
+            &mut self.receipts,
+            &mut self.outcomes,
+            &mut self.skipped,
+            &mut self.refused,
+            &mut self.strays,
+        );
+    }
+}
+
+/// Files what became of a number in the one list for it.
+fn file<A: Allocator>(
+    number: u64,
+    turn: Turn<A>,
+    receipts: &mut Vec<Receipt<A>, A>,
+    outcomes: &mut Vec<Outcome, A>,
+    skipped: &mut Vec<u64, A>,
+    refused: &mut Vec<(u64, TakeFault), A>,
+    strays: &mut Vec<u64, A>,
+)
+    requires receipts { IsOpen receipts.old }
+    requires outcomes { IsOpen outcomes.old }
+    requires skipped { IsOpen skipped.old }
+    requires refused { IsOpen refused.old }
+    requires strays { IsOpen strays.old }
+    ensures receipts { HasMore (receipts_of turn) receipts.old receipts.new }
+    ensures outcomes { HasMore (outcomes_of turn) outcomes.old outcomes.new }
+    ensures skipped { HasMore (skipped_of number turn) skipped.old skipped.new }
+    ensures refused { HasMore (refused_of number turn) refused.old refused.new }
+    ensures strays { HasMore (strays_of number turn) strays.old strays.new }
+{
+    match turn {
+        Turn::NotTaken(TakeFault::Engaged | TakeFault::NoMemory) => {
+            skipped.push_reserved(number);
+        }
+        Turn::NotTaken(fault) => refused.push_reserved((number, fault)),
+        Turn::Settled(outcome, receipt) => {
+            outcomes.push_reserved(outcome);
+            keep(receipts, receipt);
+        }
+        Turn::Stray(receipt) => {
+            strays.push_reserved(number);
+            keep(receipts, receipt);
         }
     }
 }
@@ -108,8 +132,7 @@ impl<B: Ledger, A: Allocator + Copy> Worked<B, A> {
 /// Keeps what was booked.
 fn keep<A: Allocator>(receipts: &mut Vec<Receipt<A>, A>, receipt: Option<Receipt<A>>)
     requires { IsOpen receipts.old }
-    ensures items { receipts.new.items ≡ receipts.old.items ++ items_of receipt }
-    ensures room { vec_capacity receipts.new ≡ vec_capacity receipts.old }
+    ensures { HasMore (items_of receipt) receipts.old receipts.new }
 {
     if let Some(receipt) = receipt {
         receipts.push_reserved(receipt);

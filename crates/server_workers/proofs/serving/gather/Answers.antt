@@ -1,8 +1,10 @@
 -- Each list fits, since no worker's list outgrows the numbers.
 use Rattle.std.proofs.Common.{◌≡◌, ◌+◌, [], ◌∷◌, ◌++◌, map, ap, sym, rules, ◌∙◌, arith, vec_len}
+use Rattle.std.specs.Int.{from_bool}
 use Rattle.server_workers.specs.Works.{airtime_of}
+use Rattle.server_workers.specs.Serving.{begun}
 use Rattle.std.proofs.lemmas.List.{map-append}
-use Rattle.server_workers.proofs.CrewLemmas.{one_fits, others_fit, owed_on, owed_none, one_at_most, none_on}
+use Rattle.server_workers.proofs.CrewLemmas.{one_fits, others_fit, owed_on, owed_none, one_at_most, none_on, begun_last}
 use Rattle.server_workers.proofs.WorkLemmas.{airtime_of-append}
 use Rattle.server_workers.proofs.serving.gather.Goals as goal
 
@@ -71,6 +73,17 @@ loop-member-preserved g c =
       amount = omega (arith, amount, airtime, own.counted, c.loop-member.invariant.amount);
       few = c.loop-member.invariant.few;
       ran = omega (arith, one_at_most c.parted-has_begun.result.0, c.from.ensures, joined.ran, e, c.loop-member.invariant.ran);
+      begun =
+          omega (
+            arith,
+            ap begun (ap (map (λ m. m.has_begun)) c.in-Some.ensures.items
+                ∙ map-append (λ m. m.has_begun) c.pop.new.self.items (c.in-Some.member ∷ [])),
+            begun_last (map (λ m. m.has_begun) c.pop.new.self.items) c.in-Some.member.has_begun,
+            ap from_bool c.parted-has_begun.ensures.begun,
+            c.from.ensures,
+            joined.ran,
+            c.loop-member.invariant.begun,
+          );
       nobody =
           none_on c.parted-has_begun.result.0 all.ran _ _ all.outcomes.items own.outcomes.items new.outcomes.items
           (ap (λ n. n + c.from.result) joined.ran ∙ ap (λ n. all.ran + n) c.from.ensures)
