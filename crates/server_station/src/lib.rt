@@ -5,7 +5,6 @@
 mod closing;
 mod finishing;
 mod gate;
-mod gateways;
 mod office;
 mod place;
 mod shelf;
