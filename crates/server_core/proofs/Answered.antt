@@ -1,18 +1,17 @@
 -- An uplink is answered: a ticket is taken, tried and settled.
 use Rattle.server_core.proofs.Words.{ap, append-nil, arith, inl, inr, subst, sym, ◌∙◌, set-set, option_map_or, Bool, Contains}
 use Rattle.server_core.proofs.Words.{Err, IsOkUnless, IsTrue, List, MatchResult, None, Ok, Option, Result, Some, [], false}
-use Rattle.server_core.proofs.Words.{if◌then◌else◌, refl, slice_set, true, ℕ, ◌-◌, ◌∷◌, ◌≡◌, ◌≢◌, ◌⊎◌, Gathering, copies_of}
-use Rattle.server_core.proofs.Words.{numbered, rewritten, HeardCopy, IsWindowOf, IsWindowOf-ranked, on_gateways_that_heard}
-use Rattle.server_core.proofs.Words.{candidates_of, Job, Standing, Answer, Open, Waiting, is_given, DeskView, desk_settled}
-use Rattle.server_core.proofs.Words.{desk_take, desk_taken, numbered-here, numbered_cases, rewritten-found, all_get, Device}
-use Rattle.server_core.proofs.Words.{Register, delivered, has_carried, sent_of, job_of, taken_from, take_answer, World, known}
-use Rattle.server_core.proofs.Words.{Asked, Known, Done, TakeFault, not_taken, answer_steps, given_steps, AreBooksOf, AreHeard}
-use Rattle.server_core.proofs.Words.{AreHere, IsAt, IsIdle, IsReady, Makes, Moves, Seen, ids_of, is_among, with_lines, with_step}
-use Rattle.server_core.proofs.Words.{After, Step, Take, take_by, run_from, step, IsAnswered, IsGivenTo, Line}
+use Rattle.server_core.proofs.Words.{if◌then◌else◌, refl, slice_set, true, ℕ, ◌-◌, ◌∷◌, ◌≡◌, ◌≢◌, ◌⊎◌, Gathering, numbered}
+use Rattle.server_core.proofs.Words.{rewritten, HeardCopy, Standing, Answer, Open, Waiting, is_given, DeskView, desk_settled}
+use Rattle.server_core.proofs.Words.{desk_take, desk_taken, numbered-here, numbered_cases, rewritten-found, Device, Register}
+use Rattle.server_core.proofs.Words.{delivered, has_carried, sent_of, job_of, taken_from, take_answer, World, known, Asked, Known}
+use Rattle.server_core.proofs.Words.{Done, TakeFault, not_taken, answer_steps, given_steps, AreBooksOf, AreHeard, AreHere, IsAt}
+use Rattle.server_core.proofs.Words.{IsIdle, IsReady, Makes, Moves, Seen, ids_of, is_among, with_lines, with_step, After, Step}
+use Rattle.server_core.proofs.Words.{Take, take_by, run_from, step, IsAnswered, IsGivenTo, Line}
 use Rattle.server_desk.specs.declared.answers.Known.TheVariants.{Given}
 use Rattle.server_core.specs.declared.event.Step.TheVariants as made
 use Rattle.server_core.specs.Steps as replies
-use Rattle.server_core.proofs.Tickets.{IsTicket, ticket, still_waits}
+use Rattle.server_core.proofs.Tickets.{IsTicket, ticket, still_waits, job_window}
 use Rattle.server_core.proofs.DeskSteps.{desk_calls_are_steps}
 use Rattle.server_core.proofs.Going.{one_step, moves_on}
 
@@ -56,10 +55,7 @@ copies_heard ids l n (Some g) e h copy k = h n g copy e k
 job_here : (ids : List ℕ) (reg : Register) (n : ℕ) (asked : Asked) (device : Device) → AreHeard ids reg.gathered.list
     → AreHere ids (job_of reg n asked device)
 job_here ids reg n asked device h k c e =
-    let job : Job = job_of reg n asked device in
-    let copies : List HeardCopy = copies_of n reg.gathered.list in
-    let x = IsWindowOf-ranked job.plan copies c (all_get (IsWindowOf job.plan job.copies) (candidates_of job.copies job.plan) k c
-    (on_gateways_that_heard job.plan job.copies) e) in
+    let x = job_window reg n asked device k c e in
     ap (is_among ids) x.gateway ∙ copies_heard ids reg.gathered.list n (numbered n reg.gathered.list) refl h x.copy x.heard
 
 module _ {A : Type 0} (place n : ℕ) (old mid : Seen A) (noted : mid ≡ with_step (made.Take n) old) (ready : IsReady old) where

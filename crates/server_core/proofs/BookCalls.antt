@@ -11,7 +11,6 @@ use Rattle.server_core.specs.declared.event.Step.TheVariants as made
 use Rattle.server_core.specs.Steps as replies
 use Rattle.server_core.specs.declared.entry.Line.TheVariants as says
 use Rattle.server_core.proofs.DeskSteps.{desk_calls_are_steps}
-use Rattle.server_core.proofs.Ready.{ready_same}
 use Rattle.server_core.proofs.BookFound.{IsFound, IsFoundIn, place_of, book_found, gateway_found, no_gateway, zip_set}
 use Rattle.server_core.proofs.Calls.{IsDone, done}
 

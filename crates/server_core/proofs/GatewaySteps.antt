@@ -9,7 +9,7 @@ use Rattle.server_core.proofs.Words.{Candidate, Job, ask_for, candidate_at, Answ
 use Rattle.server_core.proofs.Words.{found_there, numbered-here, SettingLists, Gateway, World, gateway_with, Sent, cancel}
 use Rattle.server_core.proofs.Words.{cancel_at, cancel_of, cancel_sent, refused, sent_by, sent_for, terms, tick, tick_at}
 use Rattle.server_core.proofs.Words.{tried_by, try, try_candidate, try_of, try_on}
-use Rattle.server_core.proofs.Holds.{IsInOrder, Holds, IsGoodStep, unchanged, AllStand, IsGood, IsJobFor, Stands, both_good}
+use Rattle.server_core.proofs.Holds.{IsInOrder, Holds, IsGoodStep, unchanged, AllStand, IsGood, IsJobAt, Stands, both_good}
 use Rattle.server_core.proofs.Written.{gateway_written, with_gateway, with_answer, answer_written}
 use Rattle.server_core.proofs.Members.{filter_member, IsIn, place_member}
 use Rattle.server_core.proofs.Served.{equal_where_tested}
@@ -117,14 +117,14 @@ module _ (settings : SettingLists) (T : Job → Type 0) (w : World) (h : Holds s
 -- A gateway books a transmission for which it was asked.
 
 -- the reservation with the asked fields
-pub record IsBooking (g : Gateway) (ask : Ask) : Type 0 where
+pub record IsBooked (g : Gateway) (ask : Ask) : Type 0 where
   pub made : Reservation
   pub asked : IsAsked ask made
   pub state : book_step g.rules g.state ask ≡ record (g.state)
       { list = place made g.state.list; booked = g.state.booked + airtime_us made }
 
 module _ (g : Gateway) (ask : Ask) (e : refusal_of (terms g) g.state.list ask ≡ None) where
-  pub booking : IsBooking g ask
+  pub booking : IsBooked g ask
   booking =
       let r : Reservation =
       record {
@@ -138,7 +138,7 @@ module _ (g : Gateway) (ask : Ask) (e : refusal_of (terms g) g.state.list ask �
       let a : IsAsked ask r = record { number = refl; start = refl; freq_hz = refl; rate = refl; len = refl } in
       record { made = r; asked = a; state = book_step-accepted g.rules g.state ask r e a }
 
-  pub booked_in_order : IsInOrder g → (b : IsBooking g ask) → IsInOrder (record g { state = book_step g.rules g.state ask })
+  pub booked_in_order : IsInOrder g → (b : IsBooked g ask) → IsInOrder (record g { state = book_step g.rules g.state ask })
   booked_in_order o b =
       let r = b.made in
       let P : State → Type 0 = λ s. IsInOrder (record g { state = s }) in
@@ -159,7 +159,7 @@ module _ (settings : SettingLists) (T : Job → Type 0) (w : World) (h : Holds s
       (λ i j q. absurd (cc (q)))
   next_by refusal (Some c) =
       answer_written settings T w h n (Open k job) (Open (k + 1) job) at_job (λ s q. absurd (cc (q))) refl
-      (λ i j q. let same : job ≡ j = cc (q) in subst (IsJobFor settings T w.reg.gathered.list n) same (h.jobs n k job at_job))
+      (λ i j q. let same : job ≡ j = cc (q) in subst (IsJobAt settings T w.reg.gathered.list n) same (h.jobs n k job at_job))
 
   module _ (c : Candidate) (at : candidate_at job k ≡ Some c) (i : ℕ) (g : Gateway) (there : slice_get w.gateways i ≡ Some g)
       (here : g.id ≡ c.gateway) where
@@ -172,28 +172,30 @@ module _ (settings : SettingLists) (T : Job → Type 0) (w : World) (h : Holds s
     first : IsGood settings T w asked
     first = answer_written settings T w h n (Open k job) new at_job (λ s q. absurd (cc (q))) refl (λ i j q. absurd (cc (q)))
 
-    module _ (b : IsBooking g (ask_for job c)) where
+    module _ (b : IsBooked g (ask_for job c)) where
       made_stands : Stands settings T w.reg.gathered.list asked.answers g.id b.made
       made_stands =
           let j = h.jobs n k job at_job in
           let number : n ≡ b.made.number = sym (b.asked.number ∙ j.number) in
           record {
             sent = sent_by job c;
-            kept = record {
-              answer = new;
-              answered = subst (λ m. numbered m asked.answers ≡ Some new) number
-                  (numbered-here (λ a. new) n w.answers (Open k job) at_job);
-              kept = refl;
-            };
-            start = sym b.asked.start;
-            gateway = sym here;
             job = job;
-            own = subst (λ m. IsJobFor settings T w.reg.gathered.list m job) number j;
-            place = k;
-            candidate = c;
-            tried = at;
-            here = sym here;
-            taken = record { start = b.asked.start; freq_hz = b.asked.freq_hz; rate = b.asked.rate; len = b.asked.len };
+            booking = record {
+              start = sym b.asked.start;
+              gateway = sym here;
+              place = k;
+              candidate = c;
+              tried = at;
+              here = sym here;
+              taken = record { start = b.asked.start; freq_hz = b.asked.freq_hz; rate = b.asked.rate; len = b.asked.len };
+            };
+            own = subst (λ m. IsJobAt settings T w.reg.gathered.list m job) number j;
+            kept = record {
+              member = new;
+              there = subst (λ m. numbered m asked.answers ≡ Some new) number
+                  (numbered-here (λ a. new) n w.answers (Open k job) at_job);
+              is = refl;
+            };
           }
 
       member_by : (r : Reservation) → (r ≡ b.made) ⊎ IsIn g.state.list r

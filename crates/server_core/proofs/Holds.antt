@@ -1,48 +1,74 @@
 -- What the system keeps at every step.
-use Rattle.server_core.proofs.Words.{arith, ◌∙◌, List, Ok, Some, false, length, map, refl, slice_get, ℕ, ⊤, ◌+◌, ◌<◌, ◌≡◌, ◌≤◌}
-use Rattle.server_core.proofs.Words.{◌⊎◌, net, Reservation, IsOrderly, addr_of, Gathering, numbered, IsWindowOf, Candidate, Job}
-use Rattle.server_core.proofs.Words.{candidate_at, Answer, Open, is_not_given, known_of, Device, SettingLists, plan_for, Gateway}
-use Rattle.server_core.proofs.Words.{World, Asked, Sent, DeviceSetting, IsTaken, setting_of, Given, Reply, sent_for}
+use Rattle.server_core.proofs.Words.{arith, inl, inr, subst, sym, ◌∙◌, Contains, List, None, Ok, Option, Some, false, length, map}
+use Rattle.server_core.proofs.Words.{refl, slice_get, ℕ, ⊤, ◌++◌, ◌+◌, ◌<◌, ◌≡◌, ◌≤◌, ◌⊎◌, net, Reservation, IsOrderly, addr_of}
+use Rattle.server_core.proofs.Words.{Gathering, numbered, rewritten, HeardCopy, IsWindowOf, Candidate, Job, candidate_at, Answer}
+use Rattle.server_core.proofs.Words.{Open, is_not_given, known_of, numbered-append, numbered_after, rewritten-none, Device}
+use Rattle.server_core.proofs.Words.{SettingLists, plan_for, Gateway, World, Asked, Sent, DeviceSetting, IsTaken, setting_of}
+use Rattle.server_core.proofs.Words.{Given, Reply, sent_for}
 
--- a gathered uplink of the device with this place and setting: the address in its bytes is the device's
-pub record IsOfDevice (settings : SettingLists) (l : List Gathering) (n place : ℕ) : Type 0 where
-  pub gathering : Gathering
-  pub gathered : numbered n l ≡ Some gathering
+-- a member with this number, of which this holds
+pub record Has {X : Type 0} (P : X → Type 0) (xs : List X) (n : ℕ) : Type 0 where
+  pub member : X
+  pub there : numbered n xs ≡ Some member
+  pub is : P member
+
+-- the gathering has the bytes and the copies that it had
+pub record IsGrown (before g : Gathering) : Type 0 where
+  pub bytes : g.bytes ≡ before.bytes
+  pub copies : (c : HeardCopy) → Contains before.copies c → Contains g.copies c
+
+pub has_now : (l : List Gathering) (n : ℕ) (g : Gathering) → numbered n l ≡ Some g → Has (IsGrown g) l n
+has_now l n g e = record { member = g; there = e; is = record { bytes = refl; copies = λ c k. k } }
+
+-- the uplink is of the device with this place and setting: the address in its bytes is the device's
+pub record IsOfDevice (settings : SettingLists) (place : ℕ) (g : Gathering) : Type 0 where
   pub setting : DeviceSetting
   pub served : slice_get settings.devices place ≡ Some setting
-  pub its_own : setting.addr ≡ addr_of gathering.bytes
+  pub its_own : setting.addr ≡ addr_of g.bytes
 
--- the job answers uplink n as its device listens, a ticket was given for it, and each candidate of it is RX1 or RX2 of a
--- copy of the uplink; T tells for which jobs tickets were given
-pub record IsJobFor (settings : SettingLists) (T : Job → Type 0) (l : List Gathering) (n : ℕ) (job : Job) : Type 0 where
-  pub number : job.number ≡ n
-  pub given : T job
+-- uplink n was of the device with this place when it was asked after, and is gathered still
+pub record IsAskedAt (settings : SettingLists) (l : List Gathering) (n place : ℕ) : Type 0 where
+  pub gathering : Gathering
+  pub own : IsOfDevice settings place gathering
+  pub now : Has (IsGrown gathering) l n
+
+-- the job answers this uplink as its device listens, and each candidate of it is RX1 or RX2 of a copy of the uplink
+pub record IsJobFor (settings : SettingLists) (job : Job) (gathering : Gathering) : Type 0 where
   pub place : ℕ
-  pub uplink : IsOfDevice settings l n place
+  pub uplink : IsOfDevice settings place gathering
   pub addr : job.addr ≡ uplink.setting.addr
   pub plan : job.plan ≡ plan_for uplink.setting job.body
-  pub windows : (k : ℕ) (c : Candidate) → candidate_at job k ≡ Some c → IsWindowOf job.plan uplink.gathering.copies c
+  pub windows : (k : ℕ) (c : Candidate) → candidate_at job k ≡ Some c → IsWindowOf job.plan gathering.copies c
+
+-- the job answers uplink n, and a ticket was given for it: T tells for which jobs tickets were given
+pub record IsJobAt (settings : SettingLists) (T : Job → Type 0) (l : List Gathering) (n : ℕ) (job : Job) : Type 0 where
+  pub number : job.number ≡ n
+  pub given : T job
+  pub gathering : Gathering
+  pub own : IsJobFor settings job gathering
+  pub now : Has (IsGrown gathering) l n
 
 -- an answer keeps what was booked for its number
-pub record IsKept (answers : List Answer) (n : ℕ) (sent : Sent) : Type 0 where
-  pub answer : Answer
-  pub answered : numbered n answers ≡ Some answer
-  pub kept : sent_for answer ≡ Some sent
+abbrev pub IsKept : List Answer → ℕ → Sent → Type 0
+IsKept answers n sent = Has (λ a. sent_for a ≡ Some sent) answers n
 
--- a reservation on the gateway with this id stands for the candidate of its uplink's job that was booked
-pub record Stands (settings : SettingLists) (T : Job → Type 0) (l : List Gathering) (answers : List Answer) (id : ℕ)
-    (r : Reservation) : Type 0 where
-  pub sent : Sent
-  pub kept : IsKept answers r.number sent
+-- a reservation on the gateway with this id stands for this candidate of its uplink's job, which was booked
+pub record IsBooking (id : ℕ) (r : Reservation) (sent : Sent) (job : Job) : Type 0 where
   pub start : sent.start ≡ r.start
   pub gateway : sent.gateway ≡ id
-  pub job : Job
-  pub own : IsJobFor settings T l r.number job
   pub place : ℕ
   pub candidate : Candidate
   pub tried : candidate_at job place ≡ Some candidate
   pub here : candidate.gateway ≡ id
   pub taken : IsTaken candidate r
+
+pub record Stands (settings : SettingLists) (T : Job → Type 0) (l : List Gathering) (answers : List Answer) (id : ℕ)
+    (r : Reservation) : Type 0 where
+  pub sent : Sent
+  pub job : Job
+  pub booking : IsBooking id r sent job
+  pub own : IsJobAt settings T l r.number job
+  pub kept : IsKept answers r.number sent
 
 -- the gateway's list is one that it may hold, and what was booked less what was cancelled is its airtime
 pub record IsInOrder (g : Gateway) : Type 0 where
@@ -60,17 +86,15 @@ pub record Holds (settings : SettingLists) (T : Job → Type 0) (w : World) : Ty
   pub in_order : (i : ℕ) (g : Gateway) → slice_get w.gateways i ≡ Some g → IsInOrder g
   pub together : length w.reg.asked ≡ length w.reg.gathered.list
   pub answered : length w.answers ≡ length w.reg.gathered.list
-  pub asked : (n : ℕ) (a : Asked) → numbered n w.reg.asked ≡ Some a → IsOfDevice settings w.reg.gathered.list n a.device
-  pub jobs : (n k : ℕ) (job : Job) → numbered n w.answers ≡ Some (Open k job) → IsJobFor settings T w.reg.gathered.list n job
+  pub asked : (n : ℕ) (a : Asked) → numbered n w.reg.asked ≡ Some a → IsAskedAt settings w.reg.gathered.list n a.device
+  pub jobs : (n k : ℕ) (job : Job) → numbered n w.answers ≡ Some (Open k job) → IsJobAt settings T w.reg.gathered.list n job
   pub stands : (i : ℕ) (g : Gateway) → slice_get w.gateways i ≡ Some g → AllStand settings T w.reg.gathered.list w.answers g
 
 -- What a step never takes back.
 
 -- a ticket for this number was given
-pub record IsGivenAt (answers : List Answer) (n : ℕ) : Type 0 where
-  pub answer : Answer
-  pub answered : numbered n answers ≡ Some answer
-  pub given : is_not_given (known_of answer) ≡ false
+abbrev pub IsGivenAt : List Answer → ℕ → Type 0
+IsGivenAt answers n = Has (λ a. is_not_given (known_of a) ≡ false) answers n
 
 -- the device at this place, with at least as many downlink counters given
 pub record IsLater (devices : List Device) (place : ℕ) (before : Device) : Type 0 where
@@ -140,42 +164,62 @@ both_good {settings} {T} {u} {v} {w} a b = record { holds = b.holds; follows = F
 pub unchanged : {settings : SettingLists} {T : Job → Type 0} (w : World) → Holds settings T w → IsGood settings T w w
 unchanged w h = record { holds = h; follows = Follows-refl w }
 
--- what holds also holds where tickets were given for more jobs
-module _ (settings : SettingLists) (T U : Job → Type 0) (more : (job : Job) → T job → U job) where
-  job_weaker : (l : List Gathering) (n : ℕ) (job : Job) → IsJobFor settings T l n job → IsJobFor settings U l n job
-  job_weaker l n job j =
+-- what holds also holds where tickets were given for more jobs, and where gatherings have grown
+
+abbrev pub Grow : List Gathering → List Gathering → Type 0
+Grow l m = (n : ℕ) (g : Gathering) → Has (IsGrown g) l n → Has (IsGrown g) m n
+
+module _ (settings : SettingLists) (T U : Job → Type 0) (more : (job : Job) → T job → U job) (l m : List Gathering)
+    (grow : Grow l m) where
+  pub job_on : (n : ℕ) (job : Job) → IsJobAt settings T l n job → IsJobAt settings U m n job
+  job_on n job j =
       record {
         number = j.number;
         given = more job j.given;
-        place = j.place;
-        uplink = j.uplink;
-        addr = j.addr;
-        plan = j.plan;
-        windows = j.windows;
+        gathering = j.gathering;
+        own = j.own;
+        now = grow n j.gathering j.now;
       }
 
-  stand_weaker : (l : List Gathering) (answers : List Answer) (id : ℕ) (r : Reservation) → Stands settings T l answers id r
-      → Stands settings U l answers id r
-  stand_weaker l answers id r s =
+  -- and an answer keeps what was booked for it
+  pub stand_on : (answers others : List Answer) → ((n : ℕ) (sent : Sent) → IsKept answers n sent → IsKept others n sent)
+      → (id : ℕ) (r : Reservation) → Stands settings T l answers id r → Stands settings U m others id r
+  stand_on answers others f id r s =
       record {
         sent = s.sent;
-        kept = s.kept;
-        start = s.start;
-        gateway = s.gateway;
         job = s.job;
-        own = job_weaker l r.number s.job s.own;
-        place = s.place;
-        candidate = s.candidate;
-        tried = s.tried;
-        here = s.here;
-        taken = s.taken;
+        booking = s.booking;
+        own = job_on r.number s.job s.own;
+        kept = f r.number s.sent s.kept;
       }
 
-  pub Holds-weaker : (w : World) → Holds settings T w → Holds settings U w
-  Holds-weaker w h =
-      let jobs : (n k : ℕ) (job : Job) → numbered n w.answers ≡ Some (Open k job)
-      → IsJobFor settings U w.reg.gathered.list n job = λ n k job e. job_weaker w.reg.gathered.list n job (h.jobs n k job e) in
-      let stands : (i : ℕ) (g : Gateway) → slice_get w.gateways i ≡ Some g
-      → AllStand settings U w.reg.gathered.list w.answers g =
-      λ i g e k r f. stand_weaker w.reg.gathered.list w.answers g.id r (h.stands i g e k r f) in
-      assumption (jobs, stands)
+pub Holds-weaker : (settings : SettingLists) (T U : Job → Type 0) → ((job : Job) → T job → U job) → (w : World)
+    → Holds settings T w → Holds settings U w
+Holds-weaker settings T U more w h =
+    let l = w.reg.gathered.list in
+    let jobs : (n k : ℕ) (job : Job) → numbered n w.answers ≡ Some (Open k job) → IsJobAt settings U l n job =
+    λ n k job e. job_on settings T U more l l (λ m g x. x) n job (h.jobs n k job e) in
+    let stands : (i : ℕ) (g : Gateway) → slice_get w.gateways i ≡ Some g → AllStand settings U l w.answers g =
+    λ i g e k r f. stand_on settings T U more l l (λ m x y. y) w.answers w.answers (λ m x y. y) g.id r (h.stands i g e k r f) in
+    assumption (jobs, stands)
+
+-- What has a number has it still in a list that goes on, or in which a member was written anew.
+
+module _ {X : Type 0} (P : X → Type 0) (xs : List X) where
+  pub Has-append : (ys : List X) (n : ℕ) → Has P xs n → Has P (xs ++ ys) n
+  Has-append ys n x = record { member = x.member; there = numbered-append n xs ys x.member x.there; is = x.is }
+
+  module _ (f : X → X) (n : ℕ) where
+    has_at : (m : ℕ) (y : X) (x : Has P xs m) → (P y → P (f y))
+        → ((n ≡ m) × (x.member ≡ y) × (numbered m (rewritten f n xs) ≡ Some (f y))) ⊎
+        (numbered m (rewritten f n xs) ≡ Some x.member) → Has P (rewritten f n xs) m
+    has_at m y x k (inl e) = record { member = f y; there = e.2; is = k (subst P e.1 x.is) }
+    has_at m y x k (inr e) = record { member = x.member; there = e; is = x.is }
+
+    has_by : (m : ℕ) (o : Option X) → numbered n xs ≡ o → ((y : X) → o ≡ Some y → P y → P (f y)) → Has P xs m
+        → Has P (rewritten f n xs) m
+    has_by m None e k x = subst (λ ys. Has P ys m) (sym (rewritten-none f n xs e)) x
+    has_by m (Some y) e k x = has_at m y x (k y refl) (numbered_after f n m xs y x.member e x.there)
+
+    pub Has-rewritten : (m : ℕ) → ((y : X) → numbered n xs ≡ Some y → P y → P (f y)) → Has P xs m → Has P (rewritten f n xs) m
+    Has-rewritten m k x = has_by m (numbered n xs) refl k x

@@ -5,10 +5,10 @@ use Rattle.server_core.proofs.Words.{◌==◌, ◌∷◌, ◌≡◌, addr_of, Ga
 use Rattle.server_core.proofs.Words.{hear_step, is_crowded, place_of, with_copy, Opened, Place, Joins, Opens, HearFault, Crowded}
 use Rattle.server_core.proofs.Words.{HeardCopy, Job, Payload, Ending, Answered, GivenUp, Unanswered, Answer, Booked, Open, Out}
 use Rattle.server_core.proofs.Words.{Settled, Waiting, IsDecided, decided, found_there, Decision, Join, Opening, Refuse, asked_by}
-use Rattle.server_core.proofs.Words.{copy_of, decide, length-rewritten, numbered_next, closing, pass_answer, after_queueing}
-use Rattle.server_core.proofs.Words.{queue_answer, with_payload, Device, Register, device_with, SettingLists, after_settling}
-use Rattle.server_core.proofs.Words.{delivered, has_carried, head_taken, sent_of, without_head, World, ids, Asked, Sent}
-use Rattle.server_core.proofs.Words.{QueueFault, Heard1, hear, hear_by, pass, queue, sent_for, settle, settle_as, settle_of}
+use Rattle.server_core.proofs.Words.{copy_of, decide, length-rewritten, closing, pass_answer, after_queueing, queue_answer}
+use Rattle.server_core.proofs.Words.{with_payload, Device, Register, device_with, SettingLists, after_settling, delivered}
+use Rattle.server_core.proofs.Words.{has_carried, head_taken, sent_of, without_head, World, ids, Asked, Sent, QueueFault, Heard1}
+use Rattle.server_core.proofs.Words.{hear, hear_by, pass, queue, sent_for, settle, settle_as, settle_of}
 use Rattle.uplink_gather.specs.Hearing as gathers
 use Rattle.server_desk.specs.Hearing as hearing
 use Rattle.server_core.proofs.Holds.{Holds, IsGood, IsGoodStep, unchanged, IsOfDevice, both_good}
@@ -46,7 +46,7 @@ module _ (settings : SettingLists) (T : Job → Type 0) (w : World) (h : Holds s
       })
   closed_by n true =
       gathered_grown settings T w h (rewritten closed n w.reg.gathered.list) (sym (length-rewritten closed n w.reg.gathered.list))
-      (Grow-rewritten closed (λ g. (refl, λ c k. k)) n w.reg.gathered.list)
+      (Grow-rewritten closed (λ g. record { bytes = refl; copies = λ c k. k }) n w.reg.gathered.list)
   closed_by n false = unchanged w h
 
   passed_by : (o : Option ℕ) → IsGood settings T w (record w { reg = closing o w.reg })
@@ -88,7 +88,7 @@ module _ (settings : SettingLists) (T : Job → Type 0) (w : World) (h : Holds s
       let P : Gatherings → Type 0 = λ s. IsGood settings T w (record w { reg = record (w.reg) { gathered = s } }) in
       subst P (joined w.reg.gathered bytes copy arrived n p)
       (gathered_grown settings T w h l (sym (length-rewritten (with_copy copy) n w.reg.gathered.list))
-      (Grow-rewritten (with_copy copy) (λ g. (refl, more_copies copy g)) n w.reg.gathered.list))
+      (Grow-rewritten (with_copy copy) (λ g. record { bytes = refl; copies = more_copies copy g }) n w.reg.gathered.list))
 
   opened_good : (o : Opening) → IsDecided w.reg bytes heard.gateway arrived (hearing.Open o)
       → IsGood settings T w (hear_by w bytes heard arrived (hearing.Open o)).0
@@ -99,10 +99,8 @@ module _ (settings : SettingLists) (T : Job → Type 0) (w : World) (h : Holds s
       let there = found_there (λ (x : Device). x.setting.addr == addr_of bytes) w.reg.devices (o.place, o.device) d.2 in
       let v = with_device settings T w h o.place device in
       let first : IsGood settings T w v = device_written settings T w h o.place o.device device there.0 refl (omega arith) in
-      let own : IsOfDevice settings (w.reg.gathered.list ++ g ∷ []) (length w.reg.gathered.list + 1) o.place =
+      let own : IsOfDevice settings o.place g =
       record {
-        gathering = g;
-        gathered = numbered_next w.reg.gathered.list g;
         setting = o.device.setting;
         served = device_setting settings T w h o.place o.device there.0;
         its_own = equal_where_tested o.device.setting.addr (addr_of bytes) there.1;

@@ -1,8 +1,8 @@
 -- What holds at every step is what is promised of a run.
-use Rattle.server_core.proofs.Words.{ap, subst, sym, ◌∙◌, Contains, Some, slice_get, ℕ, ◌+◌, ◌≡◌, ◌⊎◌, start_of, net, Reservation}
-use Rattle.server_core.proofs.Words.{numbered, rx1_of, rx2_of, Plan, Job, candidates, from_map, get_contains, some_inj, Device}
-use Rattle.server_core.proofs.Words.{AreSettings, SettingLists, plan_for, Gateway, World, Sent, DeviceSetting, IsMember}
-use Rattle.server_core.proofs.Words.{IsOwnWindow, jobs_given, Run, sent_for}
+use Rattle.server_core.proofs.Words.{ap, subst, sym, ◌∙◌, Contains, Some, slice_get, ℕ, ◌+◌, ◌≡◌, start_of, net, Reservation}
+use Rattle.server_core.proofs.Words.{addr_of, Job, candidates, from_map, get_contains, some_inj, Device, AreSettings}
+use Rattle.server_core.proofs.Words.{SettingLists, plan_for, Gateway, World, Sent, IsMember, IsOwnWindow, jobs_given, Run}
+use Rattle.server_core.proofs.Words.{sent_for}
 use Rattle.server_core.proofs.Members.{rises_once}
 use Rattle.server_core.proofs.Holds.{IsKept, Stands, Holds}
 use Rattle.server_core.proofs.Served.{one_gateway}
@@ -15,9 +15,7 @@ module _ (settings : SettingLists) (are : AreSettings settings.gateways settings
   -- one number has one answer
   same_sent : (m n : ℕ) (s t : Sent) → m ≡ n → IsKept w.answers m s → IsKept w.answers n t → s ≡ t
   same_sent m n s t q a b =
-      let there : numbered n w.answers ≡ Some a.answer = subst (λ i. numbered i w.answers ≡ Some a.answer) q a.answered in
-      let same : a.answer ≡ b.answer = some_inj (sym there ∙ b.answered) in
-      some_inj (sym a.kept ∙ ap sent_for same ∙ b.kept)
+      some_inj (sym a.is ∙ ap sent_for (some_inj (sym (rw q at a.there) ∙ b.there)) ∙ b.is)
 
   module _ (i j k l : ℕ) (g f : Gateway) (a b : Reservation) (m : IsMember w i k g a) (o : IsMember w j l f b) where
     place_by : g.id ≡ f.id → a.start ≡ b.start → (i ≡ j) × (k ≡ l)
@@ -34,42 +32,44 @@ module _ (settings : SettingLists) (are : AreSettings settings.gateways settings
         let s = h.stands i g m.gateway k a m.member in
         let t = h.stands j f o.gateway l b o.member in
         let same = same_sent a.number b.number s.sent t.sent q s.kept t.kept in
-        place_by (sym s.gateway ∙ ap (λ (x : Sent). x.gateway) same ∙ t.gateway)
-        (sym s.start ∙ ap (λ (x : Sent). x.start) same ∙ t.start)
+        place_by (sym s.booking.gateway ∙ ap (λ (x : Sent). x.gateway) same ∙ t.booking.gateway)
+        (sym s.booking.start ∙ ap (λ (x : Sent). x.start) same ∙ t.booking.start)
 
 module _ (settings : SettingLists) (r : Run) (h : Holds settings (Contains (jobs_given r.replies)) r.world) where
   own_by : (g : Gateway) (a : Reservation) (s : Stands settings
       (Contains (jobs_given r.replies)) r.world.reg.gathered.list r.world.answers g.id a)
-      → (d : Device) × (slice_get r.world.reg.devices s.own.place ≡ Some d) × (d.setting ≡ s.own.uplink.setting)
+      → (d : Device) × (slice_get r.world.reg.devices s.own.own.place ≡ Some d) × (d.setting ≡ s.own.own.uplink.setting)
       → IsOwnWindow r g a
   own_by g a s d =
-      let j = s.own in
-      let x = j.windows s.place s.candidate s.tried in
-      let plan : s.job.plan ≡ plan_for d.0.setting s.job.body =
-      j.plan ∙ ap (λ (t : DeviceSetting). plan_for t s.job.body) (sym d.2) in
-      let P : Plan → Type 0 = λ p. (s.candidate ≡ rx1_of p x.copy) ⊎ (s.candidate ≡ rx2_of p x.copy) in
+      let j = s.own.own in
+      let b = s.booking in
+      let now = s.own.now in
+      let x = j.windows b.place b.candidate b.tried in
+      let its_own : j.uplink.setting.addr ≡ addr_of now.member.bytes = rw now.is.bytes j.uplink.its_own in
+      let plan : s.job.plan ≡ plan_for d.0.setting s.job.body = rw d.2 j.plan in
       record {
-        gathering = j.uplink.gathering;
-        gathered = j.uplink.gathered;
+        gathering = now.member;
+        gathered = now.there;
         copy = x.copy;
-        heard = x.heard;
-        here = sym x.gateway ∙ s.here;
+        heard = now.is.copies x.copy x.heard;
+        here = sym x.gateway ∙ b.here;
         device = d.0;
         served = get_contains r.world.reg.devices j.place d.0 d.1;
-        its_own = ap (λ (t : DeviceSetting). t.addr) d.2 ∙ j.uplink.its_own;
+        its_own = rw d.2 its_own;
         job = s.job;
-        given = j.given;
-        number = j.number;
-        addr = j.addr ∙ j.uplink.its_own;
+        given = s.own.given;
+        number = s.own.number;
+        addr = j.addr ∙ its_own;
         plan = plan;
-        candidate = s.candidate;
-        tried = get_contains (candidates s.job) s.place s.candidate s.tried;
-        window = subst P plan x.window;
-        taken = s.taken;
+        candidate = b.candidate;
+        tried = get_contains (candidates s.job) b.place b.candidate b.tried;
+        window = rw plan at x.window;
+        taken = b.taken;
       }
 
   pub own_at : (i k : ℕ) (g : Gateway) (a : Reservation) → IsMember r.world i k g a → IsOwnWindow r g a
   own_at i k g a m =
       let s = h.stands i g m.gateway k a m.member in
-      let served = subst (λ l. slice_get l s.own.place ≡ Some s.own.uplink.setting) (sym h.devices) s.own.uplink.served in
-      own_by g a s (from_map (λ d. d.setting) r.world.reg.devices s.own.place s.own.uplink.setting served)
+      let u = s.own.own.uplink in
+      let served = subst (λ l. slice_get l s.own.own.place ≡ Some u.setting) (sym h.devices) u.served in
+      own_by g a s (from_map (λ d. d.setting) r.world.reg.devices s.own.own.place u.setting served)

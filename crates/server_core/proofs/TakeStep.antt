@@ -1,13 +1,10 @@
 -- A ticket is given.
-use Rattle.server_core.proofs.Words.{ap, arith, inl, inr, subst, sym, true≢false, ◌∙◌, option_map_or, Err, List, Ok, Option}
-use Rattle.server_core.proofs.Words.{Result, Some, [], refl, slice_get, ℕ, ◌≡◌, ◌≤◌, ◌⊎◌, Gathering, copies_of, numbered}
-use Rattle.server_core.proofs.Words.{HeardCopy, IsWindowOf, IsWindowOf-ranked, on_gateways_that_heard, candidates_of, Candidate}
-use Rattle.server_core.proofs.Words.{Job, Open, Waiting, is_not_given, known_of, numbered-here, all_get, get_set_same, some_inj}
-use Rattle.server_core.proofs.Words.{Device, Register, AreSettings, SettingLists, after_taking, counter_given, head, job_of}
-use Rattle.server_core.proofs.Words.{plan_for, taken_from, with_counter_given, take_answer, World, known, Asked, TakeFault}
-use Rattle.server_core.proofs.Words.{DeviceSetting, take, take_by}
-use Rattle.server_core.proofs.Tickets.{IsTicket, ticket, still_waits}
-use Rattle.server_core.proofs.Holds.{IsOfDevice, IsJobFor, Holds, IsGivenAt, IsGood, IsGoodStep, IsNew, IsUsed, Holds-weaker}
+use Rattle.server_core.proofs.Words.{ap, arith, inl, inr, subst, sym, true≢false, ◌∙◌, Err, Ok, Result, Some, refl, slice_get}
+use Rattle.server_core.proofs.Words.{true, ℕ, ◌≡◌, ◌≢◌, ◌≤◌, ◌⊎◌, numbered, Job, Open, Waiting, numbered-here, get_set_same}
+use Rattle.server_core.proofs.Words.{some_inj, Device, Register, AreSettings, SettingLists, after_taking, counter_given, job_of}
+use Rattle.server_core.proofs.Words.{taken_from, with_counter_given, take_answer, World, known, Asked, TakeFault, take, take_by}
+use Rattle.server_core.proofs.Tickets.{IsTicket, ticket, still_waits, job_window}
+use Rattle.server_core.proofs.Holds.{IsJobAt, Holds, IsGivenAt, IsGood, IsGoodStep, IsNew, IsUsed, Holds-weaker, has_now}
 use Rattle.server_core.proofs.Holds.{unchanged, both_good}
 use Rattle.server_core.proofs.Served.{device_setting, one_device}
 use Rattle.server_core.proofs.Written.{with_device, device_written, with_answer, answer_written}
@@ -20,33 +17,27 @@ module _ (settings : SettingLists) (are : AreSettings settings.gateways settings
     abbrev job : Job
     job = job_of w.reg n asked device
 
-    uplink : IsOfDevice settings w.reg.gathered.list n asked.device
-    uplink = h.asked n asked there
-
-    -- the uplink's device is the one with its setting
-    same_setting : uplink.setting ≡ device.setting
-    same_setting = some_inj (sym uplink.served ∙ device_setting settings T w h asked.device device served)
-
-    same_copies : copies_of n w.reg.gathered.list ≡ uplink.gathering.copies
-    same_copies = ap (λ (o : Option Gathering). option_map_or (λ g. g.copies) o []) uplink.gathered
-
-    window_of : (c : Candidate) → IsWindowOf job.plan job.copies c → IsWindowOf job.plan uplink.gathering.copies c
-    window_of c x =
-        let P : List HeardCopy → Type 0 = λ l. IsWindowOf job.plan l c in
-        subst P same_copies (IsWindowOf-ranked job.plan (copies_of n w.reg.gathered.list) c x)
-
-    job_for : IsJobFor settings T w.reg.gathered.list n job
-    job_for =
+    job_at : IsJobAt settings T w.reg.gathered.list n job
+    job_at =
+        let u = h.asked n asked there in
+        let served_is = device_setting settings T w h asked.device device served in
+        let same : u.own.setting ≡ device.setting = some_inj (sym u.own.served ∙ served_is) in
         record {
           number = refl;
           given = told;
-          place = asked.device;
-          uplink = uplink;
-          addr = ap (λ (s : DeviceSetting). s.addr) (sym same_setting);
-          plan = ap (λ (s : DeviceSetting). plan_for s (head device.queue)) (sym same_setting);
-          windows = λ k c e.
-              window_of c (all_get (IsWindowOf job.plan job.copies) (candidates_of job.copies job.plan) k c
-              (on_gateways_that_heard job.plan job.copies) e);
+          gathering = u.now.member;
+          own = record {
+            place = asked.device;
+            uplink = record {
+              setting = device.setting;
+              served = served_is;
+              its_own = rw (← same, u.now.is.bytes) u.own.its_own;
+            };
+            addr = refl;
+            plan = refl;
+            windows = λ k c e. rw u.now.there at (job_window w.reg n asked device k c e);
+          };
+          now = has_now w.reg.gathered.list n u.now.member u.now.there;
         }
 
     abbrev counted : World
@@ -62,19 +53,17 @@ module _ (settings : SettingLists) (are : AreSettings settings.gateways settings
     given_good =
         both_good first
         (answer_written settings T counted first.holds n Waiting (Open 0 job) waits (λ s q. absurd (cc (q))) refl
-        (λ k j q. let same : job ≡ j = cc (q) in subst (IsJobFor settings T w.reg.gathered.list n) same job_for))
+        (λ k j q. let same : job ≡ j = cc (q) in subst (IsJobAt settings T w.reg.gathered.list n) same job_at))
 
     not_given : IsGivenAt w.answers n → ⊥
     not_given g =
-        let same : g.answer ≡ Waiting = some_inj (sym g.answered ∙ waits) in
-        true≢false (sym (ap (λ a. is_not_given (known_of a)) same) ∙ g.given)
+        let same : g.member ≡ Waiting = some_inj (sym g.there ∙ waits) in
+        true≢false (rw same at g.is)
 
     same_down : (p : ℕ) (d : Device) → slice_get w.reg.devices p ≡ Some d → p ≡ asked.device → d.down ≤ device.down
     same_down p d e q =
-        let there : slice_get w.reg.devices asked.device ≡ Some d = subst (λ i. slice_get w.reg.devices i ≡ Some d) q e in
-        let same : d ≡ device = some_inj (sym there ∙ served) in
-        let down : d.down ≡ device.down = ap (λ (x : Device). x.down) same in
-        omega arith
+        let same : d ≡ device = some_inj (sym (rw q at e) ∙ served) in
+        rw same (omega arith)
 
     new : IsNew w job
     new = record {
@@ -86,12 +75,7 @@ module _ (settings : SettingLists) (are : AreSettings settings.gateways settings
     used : IsUsed given job
     used =
         record {
-          number = record {
-            answer = Open 0 job;
-            answered = numbered-here (λ a. Open 0 job) n w.answers Waiting waits;
-            given =
-                refl;
-          };
+          number = record { member = Open 0 job; there = numbered-here (λ a. Open 0 job) n w.answers Waiting waits; is = refl };
           place = asked.device;
           device = with_counter_given device;
           there = get_set_same w.reg.devices asked.device device (with_counter_given device) served;

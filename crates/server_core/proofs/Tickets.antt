@@ -1,8 +1,9 @@
 -- What is known of an uplink for which a ticket is given.
 use Rattle.server_core.proofs.Words.{ap, ◌∙◌, Bool, Err, List, None, Ok, Option, Some, false, if◌then◌else◌, map, refl, slice_get}
-use Rattle.server_core.proofs.Words.{suc, true, zero, ℕ, ◌≡◌, is_closed_at, numbered, Job, Answer, Booked, Open, Out, Settled}
-use Rattle.server_core.proofs.Words.{Waiting, is_not_given, known_of, from_map, Device, Register, given_or, job_of, take_fault}
-use Rattle.server_core.proofs.Words.{take_known, take_answer, Asked, Known, TakeFault, NotReady, Taken}
+use Rattle.server_core.proofs.Words.{suc, true, zero, ℕ, ◌≡◌, copies_of, is_closed_at, numbered, IsWindowOf, IsWindowOf-ranked}
+use Rattle.server_core.proofs.Words.{on_gateways_that_heard, candidates_of, Candidate, Job, candidate_at, Answer, Booked, Open}
+use Rattle.server_core.proofs.Words.{Out, Settled, Waiting, is_not_given, known_of, all_get, from_map, Device, Register, given_or}
+use Rattle.server_core.proofs.Words.{job_of, take_fault, take_known, take_answer, Asked, Known, TakeFault, NotReady, Taken}
 use Rattle.server_desk.specs.Taking.{take_by}
 
 -- no ticket was given for it before, and the job is made of what is known of it and of its device
@@ -77,3 +78,13 @@ still_waits answers zero k e t = absurd (cc (e))
 still_waits answers (suc i) k e t =
     let a = from_map known_of answers i k e in
     a.1 ∙ ap (λ (x : Answer). Some x) (waits_only a.0 (ap is_not_given a.2 ∙ t))
+
+-- each candidate of such a job is RX1 or RX2 of a copy of the uplink
+pub job_window : (reg : Register) (n : ℕ) (asked : Asked) (device : Device) (k : ℕ) (c : Candidate)
+    → candidate_at (job_of reg n asked device) k ≡ Some c
+    → IsWindowOf (job_of reg n asked device).plan (copies_of n reg.gathered.list) c
+job_window reg n asked device k c e =
+    let job : Job = job_of reg n asked device in
+    IsWindowOf-ranked job.plan (copies_of n reg.gathered.list) c
+    (all_get (IsWindowOf job.plan job.copies) (candidates_of job.copies job.plan) k c
+    (on_gateways_that_heard job.plan job.copies) e)

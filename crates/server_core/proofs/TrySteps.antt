@@ -10,7 +10,6 @@ use Rattle.server_core.proofs.Words.{with_step, Try, refused, sent_by, terms, tr
 use Rattle.server_core.proofs.Words.{GoesOn, IsNext, IsOut, IsSame, tries_from}
 use Rattle.answer_ticket.specs.Tried.{IsNext as IsRefused, IsOut as IsRefusedLast}
 use Rattle.server_core.specs.declared.event.Step.TheVariants as made
-use Rattle.server_core.specs.Steps as replies
 use Rattle.server_core.proofs.BookFound.{IsFound, IsFoundIn, place_of, book_found, gateway_found, zip_set, zip_same, has_place}
 use Rattle.server_core.proofs.Accepted.{drop_past, try_is, tries_are}
 

@@ -3,7 +3,7 @@ pub use Rattle.std.proofs.Common.{ap, append-nil, append_assoc, arith, inl, inr,
 pub use Rattle.std.proofs.Math.ListN.{drop_of_length-le}
 pub use Rattle.std.proofs.Math.Seq.{drop-cons}
 pub use Rattle.std.proofs.lemmas.Bool.Decides.{nat_tests}
-pub use Rattle.std.proofs.lemmas.List.{map-append, map-set, set-set}
+pub use Rattle.std.proofs.lemmas.List.{map-append, set-set}
 pub use Rattle.std.proofs.lemmas.List.Elements.{All-cons, All-nil, All-weaker, Contains-append_left, Contains-append_right}
 pub use Rattle.std.proofs.lemmas.List.Elements.{Contains-push_cases}
 pub use Rattle.std.proofs.lemmas.List.Kept.{AllPairs-cons}
@@ -22,8 +22,7 @@ pub use Rattle.gateway_book.specs.Answer.{IsAsked, refusal_of}
 pub use Rattle.gateway_book.specs.AnswerLaws.{accepted, book_step-accepted}
 pub use Rattle.gateway_book.specs.Book.{Book, airtime_answer, state_of, with_booked, with_cancelled}
 pub use Rattle.gateway_book.specs.CancelLaws.{named_found, named_none, net_named}
-pub use Rattle.gateway_book.specs.Kept.{kept}
-pub use Rattle.gateway_book.specs.KeptLaws.{kept-own, net-place}
+pub use Rattle.gateway_book.specs.KeptLaws.{net-place}
 pub use Rattle.gateway_book.specs.Orderly.{IsOrderly}
 pub use Rattle.gateway_book.specs.OrderlyLaws.{may_join, orderly_filter, orderly_nil, orderly_placed}
 pub use Rattle.gateway_book.specs.Step.{State, after_cancel, book_step, cancel_answer, cancel_step, found_or, is_fit-IsFit}
@@ -33,7 +32,7 @@ pub use Rattle.gateway_book.specs.declared.cancel.CancelFault.{CancelFault}
 pub use Rattle.gateway_book.specs.declared.cancel.CancelFault.TheVariants.{Begun, NotHere}
 pub use Rattle.gateway_book.specs.declared.refusal.Refusal.{Refusal}
 pub use Rattle.gateway_book.specs.declared.totals.Totals.{Totals}
-pub use Rattle.gateway_book.specs.Remembers.{Remembers, orderly_booked, orderly_cancelled, remembers_answer, remembers_booked}
+pub use Rattle.gateway_book.specs.Remembers.{orderly_booked, orderly_cancelled, remembers_answer, remembers_booked}
 pub use Rattle.gateway_book.specs.Remembers.{remembers_cancel, remembers_cancelled, remembers_own, remembers_ticked}
 pub use Rattle.lora_frame.specs.Reading.{addr_of, uplink_of}
 pub use Rattle.lora_frame.specs.declared.reading.FrameFault.{FrameFault}
@@ -52,11 +51,10 @@ pub use Rattle.uplink_gather.specs.declared.limits.Limits.{Limits}
 pub use Rattle.rx_windows.specs.Laws.{IsWindowOf}
 pub use Rattle.rx_windows.specs.RankLaws.{AllPairs-head, AllPairs-tail}
 pub use Rattle.rx_windows.specs.WindowLaws.{IsWindowOf-ranked, on_gateways_that_heard}
-pub use Rattle.rx_windows.specs.Windows.{candidates_of, rx1_of, rx2_of}
+pub use Rattle.rx_windows.specs.Windows.{candidates_of}
 pub use Rattle.rx_windows.specs.declared.candidate.Candidate.{Candidate}
-pub use Rattle.rx_windows.specs.declared.plan.Plan.{Plan}
 pub use Rattle.answer_ticket.specs.Ended.{answered_as}
-pub use Rattle.answer_ticket.specs.Job.{Job, Payload, ask_for, candidate_at, candidates, frame_for}
+pub use Rattle.answer_ticket.specs.Job.{Job, Payload, ask_for, candidate_at, candidates}
 pub use Rattle.answer_ticket.specs.Ticket.{Standing, candidate_of}
 pub use Rattle.answer_ticket.specs.Tried.{IsBooked, IsReceipt, IsWrong, next_of, refusal_by}
 pub use Rattle.answer_ticket.specs.declared.outcome.Ending.{Ending}
@@ -83,7 +81,7 @@ pub use Rattle.server_desk.specs.Register.{Device, Register, device_with, next_p
 pub use Rattle.server_desk.specs.Settings.{AreSettings, SettingLists}
 pub use Rattle.server_desk.specs.Settling.{after_settling, delivered, has_carried, head_taken, is_here, kept_by, may_settle}
 pub use Rattle.server_desk.specs.Settling.{sent_of, without_head}
-pub use Rattle.server_desk.specs.Taking.{after_taking, counter_given, given_or, head, job_of, plan_for, take_fault, take_known}
+pub use Rattle.server_desk.specs.Taking.{after_taking, counter_given, given_or, job_of, plan_for, take_fault, take_known}
 pub use Rattle.server_desk.specs.Taking.{taken_from, with_counter_given}
 unfoldable pub use Rattle.server_desk.specs.Taking.{take_answer}
 pub use Rattle.server_desk.specs.World.{Gateway, World, gateway_with, ids, known, opened_gateway, opening}
@@ -101,17 +99,16 @@ pub use Rattle.server_desk.specs.declared.heard.Heard1.{Heard1}
 pub use Rattle.server_desk.specs.declared.setting.DeviceSetting.{DeviceSetting}
 pub use Rattle.server_desk.specs.declared.setting.GatewaySetting.{GatewaySetting}
 pub use Rattle.server_core.specs.DeskCalls.{DeskCallsAreSteps, told}
-pub use Rattle.server_core.specs.Entries.{entries, entry_at, event_lines, gateway_of, gateways_after, kept_gateway, lines_for}
-pub use Rattle.server_core.specs.Entries.{not_taken, sent_as, sent_lines}
+pub use Rattle.server_core.specs.Entries.{entries, entry_at, gateway_of, gateways_after, kept_gateway, lines_for, not_taken}
 unfoldable pub use Rattle.server_core.specs.Entries.{entries_from, step_lines}
 pub use Rattle.server_core.specs.Promise.{EveryInterleavingIsSafe, HaveOwnCounters, IsMember, IsOwnWindow, IsSafe, IsTaken}
 pub use Rattle.server_core.specs.Promise.{jobs_given, setting_of, with_given}
-pub use Rattle.server_core.specs.Schedule.{accepts, answer_steps, closing_steps, due_from, due_numbers, given_steps, is_accepted}
-pub use Rattle.server_core.specs.Schedule.{is_none, reached, schedule, step_of, up_to_first, usual_limits}
+pub use Rattle.server_core.specs.Schedule.{answer_steps, closing_steps, due_from, due_numbers, given_steps, is_accepted, is_none}
+pub use Rattle.server_core.specs.Schedule.{reached, schedule, step_of, up_to_first, usual_limits}
 unfoldable pub use Rattle.server_core.specs.Schedule.{event_steps, pass_steps, schedule_from}
-pub use Rattle.server_core.specs.Server.{AreAt, AreBooksOf, AreHeard, AreHere, AreReady, Does, Goes, IsAt, IsBookOf, IsCancelled}
-pub use Rattle.server_core.specs.Server.{IsIdle, IsOpened, IsReady, Makes, Moves, Seen, cancelled_line, heard_line, ids_of}
-pub use Rattle.server_core.specs.Server.{is_among, pass_whole, queued_line, seen, with_lines, with_step}
+pub use Rattle.server_core.specs.Server.{AreBooksOf, AreHeard, AreHere, Does, IsAt, IsBookOf, IsCancelled, IsIdle, IsOpened}
+pub use Rattle.server_core.specs.Server.{IsReady, Makes, Moves, Seen, cancelled_line, heard_line, ids_of, is_among, pass_whole}
+pub use Rattle.server_core.specs.Server.{queued_line, seen, with_lines, with_step}
 pub use Rattle.server_core.specs.Steps.{After, Cancel, Given, Hear, Heard, Pass, Queue, Queued, Reply, Run, Settle, Step, Take}
 pub use Rattle.server_core.specs.Steps.{Tick, Try, answers_after, cancel, cancel_at, cancel_of, cancel_sent, ending_of, hear}
 pub use Rattle.server_core.specs.Steps.{hear_by, pass, queue, refused, run, sent_by, sent_for, settle, settle_as, settle_of, take}
@@ -119,7 +116,6 @@ pub use Rattle.server_core.specs.Steps.{take_by, terms, tick, tick_at, tried_by,
 unfoldable pub use Rattle.server_core.specs.Steps.{run_from, step}
 pub use Rattle.server_core.specs.Turns.{AreTries, EndsTries, GoesOn, IsAnswered, IsGivenTo, IsNext, IsOut, IsSame, IsSettled}
 pub use Rattle.server_core.specs.Turns.{TurnIs, end_lines, tries_from}
-pub use Rattle.server_core.specs.declared.entry.Entry.{Entry}
 pub use Rattle.server_core.specs.declared.entry.Line.{Line}
 pub use Rattle.server_core.specs.declared.event.Event.{Event}
 pub use Rattle.server_core.specs.declared.trying.Ended.{Ended}

@@ -1,10 +1,10 @@
 -- A device, an answer or a gateway is written anew.
 use Rattle.server_core.proofs.Words.{ap, arith, inl, inr, subst, sym, ◌∙◌, Some, false, refl, slice_get, slice_set, ℕ, ◌≡◌, ◌≤◌}
-use Rattle.server_core.proofs.Words.{◌⊎◌, Reservation, numbered, rewritten, Job, Answer, Open, is_not_given, known_of}
-use Rattle.server_core.proofs.Words.{length-rewritten, numbered_after, numbered_cases, get_set_after, get_set_cases, map_set}
-use Rattle.server_core.proofs.Words.{Device, SettingLists, Gateway, World, Sent, setting_of, sent_for}
-use Rattle.server_core.proofs.Holds.{IsJobFor, IsKept, Stands, AllStand, IsInOrder, Holds, IsGivenAt, IsLater, IsGood}
-use Rattle.server_core.proofs.Holds.{Follows-refl}
+use Rattle.server_core.proofs.Words.{◌⊎◌, numbered, rewritten, Job, Answer, Open, is_not_given, known_of, length-rewritten}
+use Rattle.server_core.proofs.Words.{numbered_cases, get_set_after, get_set_cases, map_set, some_inj, Device, SettingLists}
+use Rattle.server_core.proofs.Words.{Gateway, World, Sent, setting_of, sent_for}
+use Rattle.server_core.proofs.Holds.{Has, IsJobAt, AllStand, IsInOrder, Holds, IsGivenAt, IsLater, IsGood, Follows-refl, stand_on}
+use Rattle.server_core.proofs.Holds.{Has-rewritten}
 
 module _ (settings : SettingLists) (T : Job → Type 0) (w : World) (h : Holds settings T w) where
   -- a device, which keeps its setting and its counters that were given
@@ -38,57 +38,30 @@ module _ (settings : SettingLists) (T : Job → Type 0) (w : World) (h : Holds s
   with_answer n new = record w { answers = rewritten (λ a. new) n w.answers }
 
   module _ (n : ℕ) (old new : Answer) (there : numbered n w.answers ≡ Some old) where
-    kept_by : (m : ℕ) (sent : Sent) (k : IsKept w.answers m sent) → ((s : Sent) → sent_for old ≡ Some s → sent_for new ≡ Some s)
-        → ((n ≡ m) × (k.answer ≡ old) × (numbered m (rewritten (λ a. new) n w.answers) ≡ Some new)) ⊎
-        (numbered m (rewritten (λ a. new) n w.answers) ≡ Some k.answer)
-        → IsKept (rewritten (λ a. new) n w.answers) m sent
-    kept_by m sent k s (inl g) = record { answer = new; answered = g.2; kept = s sent (ap sent_for (sym g.1) ∙ k.kept) }
-    kept_by m sent k s (inr g) = record { answer = k.answer; answered = g; kept = k.kept }
-
-    stand_by : (id : ℕ) (r : Reservation) → ((s : Sent) → sent_for old ≡ Some s → sent_for new ≡ Some s)
-        → Stands settings T w.reg.gathered.list w.answers id r
-        → Stands settings T w.reg.gathered.list (rewritten (λ a. new) n w.answers) id r
-    stand_by id r s t =
-        record {
-          sent = t.sent;
-          kept = kept_by r.number t.sent t.kept s (numbered_after
-              (λ a. new) n r.number w.answers old t.kept.answer there t.kept.answered);
-          start = t.start;
-          gateway = t.gateway;
-          job = t.job;
-          own = t.own;
-          place = t.place;
-          candidate = t.candidate;
-          tried = t.tried;
-          here = t.here;
-          taken = t.taken;
-        }
-
-    job_by : (m k : ℕ) (job : Job) → ((k : ℕ) (job : Job) → new ≡ Open k job → IsJobFor settings T w.reg.gathered.list n job)
+    job_by : (m k : ℕ) (job : Job) → ((k : ℕ) (job : Job) → new ≡ Open k job → IsJobAt settings T w.reg.gathered.list n job)
         → ((n ≡ m) × (Open k job ≡ new)) ⊎ (numbered m w.answers ≡ Some (Open k job))
-        → IsJobFor settings T w.reg.gathered.list m job
-    job_by m k job o (inl g) = subst (λ i. IsJobFor settings T w.reg.gathered.list i job) g.0 (o k job (sym g.1))
+        → IsJobAt settings T w.reg.gathered.list m job
+    job_by m k job o (inl g) = subst (λ i. IsJobAt settings T w.reg.gathered.list i job) g.0 (o k job (sym g.1))
     job_by m k job o (inr g) = h.jobs m k job g
 
-    given_by : (m : ℕ) → is_not_given (known_of new) ≡ false → (g : IsGivenAt w.answers m)
-        → ((n ≡ m) × (g.answer ≡ old) × (numbered m (rewritten (λ a. new) n w.answers) ≡ Some new)) ⊎
-        (numbered m (rewritten (λ a. new) n w.answers) ≡ Some g.answer)
-        → IsGivenAt (rewritten (λ a. new) n w.answers) m
-    given_by m i g (inl e) = record { answer = new; answered = e.2; given = i }
-    given_by m i g (inr e) = record { answer = g.answer; answered = e; given = g.given }
+    -- what holds of the old answer, and of the new one then, holds still
+    has_still : (P : Answer → Type 0) → (P old → P new) → (m : ℕ) → Has P w.answers m → Has P (rewritten (λ a. new) n w.answers) m
+    has_still P f m x =
+        Has-rewritten P w.answers (λ a. new) n m (λ y e p. f (subst P (some_inj (sym e ∙ there)) p)) x
 
     pub answer_written : ((s : Sent) → sent_for old ≡ Some s → sent_for new ≡ Some s) → is_not_given (known_of new) ≡ false
-        → ((k : ℕ) (job : Job) → new ≡ Open k job → IsJobFor settings T w.reg.gathered.list n job)
+        → ((k : ℕ) (job : Job) → new ≡ Open k job → IsJobAt settings T w.reg.gathered.list n job)
         → IsGood settings T w (with_answer n new)
     answer_written s i o =
         let answers = rewritten (λ a. new) n w.answers in
-        let jobs : (m k : ℕ) (job : Job) → numbered m answers ≡ Some (Open k job)
-        → IsJobFor settings T w.reg.gathered.list m job =
+        let l = w.reg.gathered.list in
+        let jobs : (m k : ℕ) (job : Job) → numbered m answers ≡ Some (Open k job) → IsJobAt settings T l m job =
         λ m k job e. job_by m k job o (numbered_cases (λ a. new) n m w.answers old (Open k job) there e) in
-        let stands : (j : ℕ) (g : Gateway) → slice_get w.gateways j ≡ Some g
-        → AllStand settings T w.reg.gathered.list answers g = λ j g e k r f. stand_by g.id r s (h.stands j g e k r f) in
+        let stands : (j : ℕ) (g : Gateway) → slice_get w.gateways j ≡ Some g → AllStand settings T l answers g =
+        λ j g e k r f. stand_on settings T T (λ x t. t) l l (λ m x y. y) w.answers answers
+        (λ m x. has_still (λ a. sent_for a ≡ Some x) (s x) m) g.id r (h.stands j g e k r f) in
         let given : (m : ℕ) → IsGivenAt w.answers m → IsGivenAt answers m =
-        λ m g. given_by m i g (numbered_after (λ a. new) n m w.answers old g.answer there g.answered) in
+        has_still (λ a. is_not_given (known_of a) ≡ false) (λ e. i) in
         assumption (length-rewritten (λ a. new) n w.answers ∙ h.answered, jobs, stands, given, (Follows-refl w).devices)
 
   -- a gateway, which keeps its setting, and whose members stand for their answers
