@@ -77,30 +77,42 @@ module _ {A : Type 0} (place n : ℕ) (old mid : Seen A) (noted : mid ≡ with_s
     d_is : d ≡ desk_taken (Ok t.job) n old.desk
     d_is = rw (stepped, given, mid_desk) refl
 
-    pub taken_here : AreHere d.ids t.job
+    taken_here : AreHere d.ids t.job
     taken_here = rw (d_is, ← mid_desk, ← taken.made)
         (job_here mid.desk.ids mid.desk.reg n taken.asked taken.device (rw mid_desk ready.heard))
 
-    pub taken_books : ids_of mid.books ≡ d.ids
+    taken_books : ids_of mid.books ≡ d.ids
     taken_books = rw (d_is, noted) ready.books
 
     stated : numbered n old.desk.known ≡ Some taken.state
     stated = ap (λ (x : DeskView). numbered n x.known) (sym mid_desk) ∙ taken.stated
 
-    pub taken_given : IsGivenTo d.known t.job.number
-    taken_given = rw (d_is, number) (numbered-here (λ x. Given) n old.desk.known taken.state stated)
+    -- it may be tried and settled
+    pub may_work : t.at ≡ 0 → record {
+      first : t.at ≡ 0;
+      here : AreHere d.ids t.job;
+      books : ids_of mid.books ≡ d.ids;
+      given : IsGivenTo d.known t.job.number;
+    }
+    may_work first =
+        record {
+          first = first;
+          here = taken_here;
+          books = taken_books;
+          given = rw (d_is, number) (numbered-here (λ x. Given) n old.desk.known taken.state stated);
+        }
 
     module _ (new : Seen A) (a : IsAnswered place t.job out new) where
       new_desk : new.desk ≡ desk_settled a.ending n (desk_taken (Ok t.job) n old.desk)
       new_desk = rw (a.desk, number, d_is) refl
 
-      pub answer_gathered : new.desk.reg.gathered ≡ old.desk.reg.gathered
+      answer_gathered : new.desk.reg.gathered ≡ old.desk.reg.gathered
       answer_gathered =
           rw new_desk
           (settled_gathered (has_carried a.ending) _ (taken_from (numbered n old.desk.reg.asked) old.desk.reg)
           ∙ taken_gathered (numbered n old.desk.reg.asked) old.desk.reg)
 
-      pub answer_ready : IsReady new
+      answer_ready : IsReady new
       answer_ready =
           let ids : new.desk.ids ≡ old.desk.ids = rw new_desk refl in
           record {
@@ -145,8 +157,12 @@ module _ {A : Type 0} (place n : ℕ) (old mid : Seen A) (noted : mid ≡ with_s
             (one_step place w (Take n) (made.Take n) [] old out refl at_out (rw noted refl) (rw (noted, append-nil) refl)
             (rw is_taken refl)) (rw rest_is at (a.goes v at_out stands))
 
-      pub answer_made : Makes place (λ w. answer_steps w n) old new
-      answer_made w at = answer_goes w at
+      pub answer_done : record {
+        ready : IsReady new;
+        gathered : new.desk.reg.gathered ≡ old.desk.reg.gathered;
+        made : Makes place (λ w. answer_steps w n) old new;
+      }
+      answer_done = record { ready = answer_ready; gathered = answer_gathered; made = answer_goes }
 
   -- none was given
   module _ (fault : TakeFault) (d : DeskView) (line : Line A) (new : Seen A)

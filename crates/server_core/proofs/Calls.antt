@@ -3,12 +3,11 @@ use Rattle.server_core.proofs.Words.{ap, sym, ◌∙◌, Err, IfOk, IsOkUnless, 
 use Rattle.server_core.proofs.Words.{◌≡◌, ◌≢◌, DeskView, desk_of, World, lines_for, step_of, AreHeard, IsAt, IsIdle, IsReady}
 use Rattle.server_core.proofs.Words.{Makes, Seen, with_lines, with_step, Reply, Step, step, Line}
 use Rattle.server_core.specs.declared.event.Step.{Step as Made}
-use Rattle.server_core.proofs.Going.{on_ok, one_step}
+use Rattle.server_core.proofs.Going.{one_step}
 
 -- what an event that is one step leaves
-pub record IsDone {A : Type 0} (place : ℕ) (s : Step) (old new : Seen A) : Type 0 where
-  pub ready : IsReady new
-  pub made : Makes place (λ w. s ∷ []) old new
+abbrev pub IsDone : {A : Type 0} → ℕ → Step → Seen A → Seen A → Type 0
+IsDone place s old new = record { ready : IsReady new; made : Makes place (λ w. s ∷ []) old new }
 
 -- what the call itself does, between the step's note and its line
 pub record IsMade {A : Type 0} (s : Step) (line : Line A) (mid next : Seen A) : Type 0 where
@@ -34,12 +33,6 @@ done {A} place s made line old mid next new same noted call told ready =
           (rw (told, call.outcomes, noted) refl) (call.lines w a);
     }
 
--- the two clauses of a call that found memory to tell its line
-pub both_done : {A X E : Type 0} (place : ℕ) (s : Step) (old new : Seen A) (r : Result X E) {P : Type 0}
-    → (P → IsDone place s old new) → OnOk r P
-    → record { ready : OnOk r (IsReady new); made : OnOk r (Makes place (λ w. s ∷ []) old new) }
-both_done place s old new r f told = record { ready = on_ok r (λ p. (f p).ready) told; made = on_ok r (λ p. (f p).made) told }
-
 -- a call of the desk answers `q` and leaves `after`, unless it found no memory; a fault changes nothing
 pub record IsCall {X E : Type 0} (none : E) (q : Result X E) (before after : DeskView) (r : Result X E)
     (d : DeskView) : Type 0 where
@@ -60,36 +53,31 @@ pub record IsDeskStep {A X E : Type 0} (s : Step) (q : DeskView → Result X E) 
   pub replied : (w : World) → (step w s).1 ≡ reply (q (desk_of w))
   pub lines : (w : World) (r : Result X E) → lines_for w s (reply r) ≡ say r ∷ []
 
-module _ {X E : Type 0} (none : E) where
-  -- a call that found memory gave the answer
-  answer_is : (q r : Result X E) → MatchResult q (λ _. IsOkUnless r none) (λ fault. r ≡ Err fault) → IfOk r (λ x. q ≡ Ok x)
-      → r ≢ Err none → q ≡ r
-  answer_is (Err fault) r m t n = sym m
-  answer_is (Ok x) (Ok y) m t n = t
-  answer_is (Ok x) (Err fault) m t n = absurd (n (ap Err m))
+-- a call that found memory gave the answer, and left what it leaves, also where it was refused
+outcome : {X E : Type 0} (none : E) (q r : Result X E) (before after d : DeskView) → IsCall none q before after r d
+    → ((fault : E) → q ≡ Err fault → after ≡ before) → r ≢ Err none → (q ≡ r) × (d ≡ after)
+outcome none (Ok x) (Ok y) before after d call f n = (call.told, call.step)
+outcome none (Ok x) (Err fault) before after d call f n = absurd (n (ap Err call.answer))
+outcome none (Err fault) (Ok y) before after d call f n = absurd (cc (call.answer))
+outcome none (Err fault) (Err other) before after d call f n = (sym call.answer, call.refused ∙ sym (f fault refl))
 
-  -- and left what it leaves, also where it was refused
-  left : (q r : Result X E) (before after d : DeskView) → q ≡ r → ((fault : E) → q ≡ Err fault → after ≡ before)
-      → OnOk r (d ≡ after) → OnErr r (d ≡ before) → d ≡ after
-  left q (Ok x) before after d e f o n = o
-  left q (Err fault) before after d e f o n = n ∙ sym (f fault e)
-
-  pub desk_made : {A : Type 0} (s : Step) (q : DeskView → Result X E) (after : DeskView → DeskView) (reply : Result X E → Reply)
-      (say : Result X E → Line A) (mid : Seen A) (r : Result X E) (d : DeskView) (line : Line A)
-      → IsDeskStep s q after reply say → IsCall none (q mid.desk) mid.desk (after mid.desk) r d → r ≢ Err none → line ≡ say r
-      → IsMade s line mid (record mid { desk = d })
-  desk_made {A} s q after reply say mid r d line is call memory said =
-      let same : q mid.desk ≡ r = answer_is (q mid.desk) r call.answer call.told memory in
-      let e : d ≡ after mid.desk = left (q mid.desk) r mid.desk (after mid.desk) d same
-      (is.refusal mid.desk) call.step call.refused in
-      record {
-        steps = refl;
-        outcomes = refl;
-        ready = λ old. rw e (record {
-          books = old.books ∙ sym (is.ids mid.desk);
-          heard = is.heard mid.desk old.heard;
-          idle = is.idle mid.desk old.idle;
-        });
-        at = λ w at. record { desk = e ∙ ap after at.desk ∙ sym (is.desk w); books = rw is.gateways at.books };
-        lines = λ w at. rw (is.replied, ← at.desk, same, is.lines, said) refl;
-      }
+pub call_done : {A X E : Type 0} {s : Step} {q : DeskView → Result X E} {after : DeskView → DeskView}
+    {reply : Result X E → Reply} {say : Result X E → Line A} (none : E) (place : ℕ) (made : Made A) (old mid new : Seen A)
+    (r : Result X E) (d : DeskView) (line : Line A) → IsDeskStep s q after reply say → step_of made ≡ s
+    → mid ≡ with_step made old → IsCall none (q mid.desk) mid.desk (after mid.desk) r d → r ≢ Err none → line ≡ say r
+    → IsReady old → new ≡ with_lines place (line ∷ []) (record mid { desk = d }) → IsDone place s old new
+call_done {A} {X} {E} {s} {q} {after} {reply} {say} none place made old mid new r d line is same noted call memory said ready told =
+    let o = outcome none (q mid.desk) r mid.desk (after mid.desk) d call (is.refusal mid.desk) memory in
+    done place s made line old mid (record mid { desk = d }) new same noted
+    (record {
+      steps = refl;
+      outcomes = refl;
+      ready = λ x. rw o.1 (record {
+        books = x.books ∙ sym (is.ids mid.desk);
+        heard = is.heard mid.desk x.heard;
+        idle = is.idle mid.desk x.idle;
+      });
+      at = λ w at. record { desk = o.1 ∙ ap after at.desk ∙ sym (is.desk w); books = rw is.gateways at.books };
+      lines = λ w at. rw (is.replied, ← at.desk, o.0, is.lines, said) refl;
+    })
+    told ready

@@ -24,6 +24,16 @@ pub on_ok : {X E : Type 0} {P Q : Type 0} (r : Result X E) → (P → Q) → OnO
 on_ok (Ok x) f p = f p
 on_ok (Err e) f p = tt
 
+pub both_ok : {X E P Q R : Type 0} (r : Result X E) → (P → record { ready : Q; made : R }) → OnOk r P
+    → record { ready : OnOk r Q; made : OnOk r R }
+both_ok (Ok x) f p = f p
+both_ok (Err e) f p = record { ready = tt; made = tt }
+
+pub all_ok : {X E P Q R S : Type 0} (r : Result X E) → (P → record { ready : Q; gathered : S; made : R }) → OnOk r P
+    → record { ready : OnOk r Q; gathered : OnOk r S; made : OnOk r R }
+all_ok (Ok x) f p = f p
+all_ok (Err e) f p = record { ready = tt; gathered = tt; made = tt }
+
 -- some steps, and then some more
 pub moves_on : {A : Type 0} (place : ℕ) (w : World) (ss ts : List Step) (old mid new : Seen A) → Moves place w ss old mid
     → Moves place (reached w ss) ts mid new → Moves place w (ss ++ ts) old new

@@ -178,14 +178,7 @@ module _ {A : Type 0} (place now n : ℕ) (old s mid : Seen A) (d : DeskView) (c
 
 -- nothing more is due
 module _ {A : Type 0} (place now : ℕ) (old s new : Seen A) (d : DeskView) (none : None ≡ pass_answer s.desk.reg now)
-    (stepped : d ≡ desk_pass s.desk now)
-    (noted : new ≡ with_step (made.Pass now) (record s { desk = d })) where
-  same_desk : d ≡ s.desk
-  same_desk = rw (stepped, ← none) refl
-
-  pub passed_ready : IsReady s → IsReady new
-  passed_ready r = rw (noted, same_desk) r
-
+    (stepped : d ≡ desk_pass s.desk now) where
   last_is : (w : World) → IsAt w s → pass_whole w now ≡ Pass now ∷ []
   unfolding pass_steps
   last_is w at =
@@ -193,7 +186,13 @@ module _ {A : Type 0} (place now : ℕ) (old s new : Seen A) (d : DeskView) (non
       ap (due_now now) (sym at.desk) ∙ due_none now s.desk.reg.gathered.list (sym none) in
       rw due refl
 
-  pub passed_made : ArePassing place now old s → Makes place (λ w. pass_whole w now) old new
-  passed_made p w at =
-      let q = p.passing w at in
-      q.back new (rw (last_is q.world q.at) (pass_goes place now s new d stepped noted q.world q.at))
+  pub passed_done : ArePassing place now old s → new ≡ with_step (made.Pass now) (record s { desk = d })
+      → record { ready : IsReady new; made : Makes place (λ w. pass_whole w now) old new }
+  passed_done p noted =
+      let same_desk : d ≡ s.desk = rw (stepped, ← none) refl in
+      record {
+        ready = rw (noted, same_desk) p.ready;
+        made = λ w at.
+            let q = p.passing w at in
+            q.back new (rw (last_is q.world q.at) (pass_goes place now s new d stepped noted q.world q.at));
+      }

@@ -1,39 +1,18 @@
 use Rattle.server_core.proofs.Words.{refl, take_answer, NoMemory, seen}
-use Rattle.server_core.proofs.Going.{on_ok}
-use Rattle.server_core.proofs.Answered.{taken_here, taken_books, taken_given, answer_gathered, answer_ready, answer_made}
-use Rattle.server_core.proofs.Answered.{refused_made, refused_is}
+use Rattle.server_core.proofs.Going.{on_ok, all_ok}
+use Rattle.server_core.proofs.Answered.{may_work, answer_done, refused_made, refused_is}
 use Rattle.server_core.proofs.server.Server.answer.Goals as goal
 
 pub work-requires : goal.work-requires
 work-requires g c =
-    let old = seen c.args.self.now in
-    let mid = seen c.did.new.self in
-    record {
-      first = c.in-Ok.ensures.first;
-      here = taken_here c.args.place c.args.number old mid c.in_ok-did.ensures c.requires c.in-Ok.ticket c.take.new.self
-          c.in-Ok.ensures.job c.in-Ok.ensures.step;
-      books = taken_books c.args.place c.args.number old mid c.in_ok-did.ensures c.requires c.in-Ok.ticket c.take.new.self
-          c.in-Ok.ensures.job c.in-Ok.ensures.step;
-      given = taken_given c.args.place c.args.number old mid c.in_ok-did.ensures c.requires c.in-Ok.ticket c.take.new.self
-          c.in-Ok.ensures.job c.in-Ok.ensures.step;
-    }
+    may_work c.args.place c.args.number (seen c.args.self.now) (seen c.did.new.self) c.in_ok-did.ensures c.requires
+    c.in-Ok.ticket c.take.new.self c.in-Ok.ensures.job c.in-Ok.ensures.step c.in-Ok.ensures.first
 
 pub returns-in-Ok : goal.returns-in-Ok
 returns-in-Ok g c =
-    let old = seen c.args.self.now in
-    let mid = seen c.did.new.self in
-    let new = seen c.work.new.self in
-    record {
-      ready = on_ok c.work.result
-          (λ a. answer_ready c.args.place c.args.number old mid c.in_ok-did.ensures c.requires c.in-Ok.ticket c.take.new.self
-          c.in-Ok.ensures.job c.in-Ok.ensures.step new a) c.work.ensures;
-      gathered = on_ok c.work.result
-          (λ a. answer_gathered c.args.place c.args.number old mid c.in_ok-did.ensures c.requires c.in-Ok.ticket c.take.new.self
-          c.in-Ok.ensures.job c.in-Ok.ensures.step new a) c.work.ensures;
-      made = on_ok c.work.result
-          (λ a. answer_made c.args.place c.args.number old mid c.in_ok-did.ensures c.requires c.in-Ok.ticket c.take.new.self
-          c.in-Ok.ensures.job c.in-Ok.ensures.step new a) c.work.ensures;
-    }
+    all_ok c.work.result
+    (answer_done c.args.place c.args.number (seen c.args.self.now) (seen c.did.new.self) c.in_ok-did.ensures c.requires
+    c.in-Ok.ticket c.take.new.self c.in-Ok.ensures.job c.in-Ok.ensures.step (seen c.work.new.self)) c.work.ensures
 
 pub returns-in_ok-not_taken_line-in-Err-clause-made : goal.returns-in_ok-not_taken_line-in-Err-clause-made
 returns-in_ok-not_taken_line-in-Err-clause-made g c =

@@ -1,5 +1,6 @@
 use Rattle.server_core.proofs.Words.{seen}
-use Rattle.server_core.proofs.Calls.{ready_noted, both_done}
+use Rattle.server_core.proofs.Going.{both_ok}
+use Rattle.server_core.proofs.Calls.{ready_noted}
 use Rattle.server_core.proofs.BookCalls.{cancel_done}
 use Rattle.server_core.proofs.server.Server.cancel.Goals as goal
 
@@ -8,7 +9,7 @@ cancelled-answer-requires g c = ready_noted _ (seen c.args.self.now) (seen c.did
 
 pub returns : goal.returns
 returns g c =
-    both_done c.args.place _ (seen c.args.self.now) (seen c.told.new.self) c.told.result
+    both_ok c.told.result
     (cancel_done c.args.place c.args.number (seen c.args.self.now) (seen c.did.new.self) (seen c.cancelled-answer.new.self)
     (seen c.told.new.self) c.cancelled-answer.result _ c.in_ok-did.ensures
     c.cancelled-answer.ensures c.cancelled_line.ensures c.requires)

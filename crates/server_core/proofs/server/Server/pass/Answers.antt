@@ -1,6 +1,6 @@
 use Rattle.server_core.proofs.Words.{seen}
-use Rattle.server_core.proofs.Going.{on_ok}
-use Rattle.server_core.proofs.Passes.{passing_first, closed_ready, fewer_due, passing_on, passed_ready, passed_made}
+use Rattle.server_core.proofs.Going.{both_ok}
+use Rattle.server_core.proofs.Passes.{passing_first, closed_ready, fewer_due, passing_on, passed_done}
 use Rattle.server_core.proofs.server.Server.pass.Goals as goal
 
 pub loop-number-init : goal.loop-number-init
@@ -28,14 +28,6 @@ loop-number-smaller g c =
 
 pub returns : goal.returns
 returns g c =
-    let old = seen c.args.self.now in
-    let s = seen c.loop-number.self in
-    let new = seen c.did-2.new.self in
-    record {
-      ready = on_ok c.did-2.result
-          (λ noted. passed_ready c.args.place c.args.now old s new c.pass.new.self c.in_default.ensures.answer
-          c.in_default.ensures.step noted c.loop-number.invariant.ready) c.did-2.ensures;
-      made = on_ok c.did-2.result
-          (λ noted. passed_made c.args.place c.args.now old s new c.pass.new.self c.in_default.ensures.answer
-          c.in_default.ensures.step noted c.loop-number.invariant) c.did-2.ensures;
-    }
+    both_ok c.did-2.result
+    (passed_done c.args.place c.args.now (seen c.args.self.now) (seen c.loop-number.self) (seen c.did-2.new.self) c.pass.new.self
+    c.in_default.ensures.answer c.in_default.ensures.step c.loop-number.invariant) c.did-2.ensures

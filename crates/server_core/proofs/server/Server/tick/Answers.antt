@@ -1,6 +1,5 @@
 use Rattle.server_core.proofs.Words.{ap, arith, Totals, seen}
-use Rattle.server_core.proofs.Going.{on_ok}
-use Rattle.server_core.proofs.Calls.{both_done}
+use Rattle.server_core.proofs.Going.{on_ok, both_ok}
 use Rattle.server_core.proofs.BookFound.{book_within}
 use Rattle.server_core.proofs.BookCalls.{not_ticked, ticked_done}
 use Rattle.server_core.proofs.server.Server.tick.Goals as goal
@@ -24,7 +23,7 @@ index_mut-book-requires g c =
 
 pub returns : goal.returns
 returns g c =
-    both_done c.args.place _ (seen c.args.self.now) (seen c.told-2.new.self) c.told-2.result
+    both_ok c.told-2.result
     (ticked_done c.args.place (seen c.args.self.now) (seen c.did.new.self)
     (seen c.told-2.new.self) c.args.gateway c.args.now c.in_ok-did.ensures c.requires
     c.in-Some.at c.index_mut-book.result.now c.tick.new.self c.totals-floor.result.floor
