@@ -1,18 +1,18 @@
 -- The calls of the desk are the world's steps on its part.
-use Rattle.server_core.proofs.Words.{ap, sym, ◌∙◌, map-append, option_and_then, option_map, option_map_or, Bool, Err, List, None}
-use Rattle.server_core.proofs.Words.{Ok, Option, Result, Some, [], false, if◌then◌else◌, map, refl, slice_set, true, ℕ, ◌+◌, ◌==◌}
-use Rattle.server_core.proofs.Words.{◌∷◌, ◌≡◌, refusal_of, State, book_step, cancel_step, tick_step, Refusal, numbered, Candidate}
-use Rattle.server_core.proofs.Words.{Job, ask_for, candidate_at, Ending, answer_airtime, answered_at, answered_in, known_airtime}
-use Rattle.server_core.proofs.Words.{Answer, Booked, Open, Out, Settled, Waiting, is_given, known_of, desk_of, desk_settled}
-use Rattle.server_core.proofs.Words.{desk_taken, known_after, found_there, Decision, Join, Refuse, register_after, decide}
-use Rattle.server_core.proofs.Words.{map-rewritten, numbered-map, same_rewritten, map_set, after_settling, is_here, may_settle}
-use Rattle.server_core.proofs.Words.{sent_of, after_taking, take_answer, Gateway, World, gateway_with, ids, known, Known, Done}
-use Rattle.server_core.proofs.Words.{Sent, TakeFault, DeskCallsAreSteps, told, answers_after, cancel_at, cancel_of, cancel_sent}
-use Rattle.server_core.proofs.Words.{ending_of, refused, sent_by, sent_for, settle_as, settle_of, take_by, terms, tick_at}
-use Rattle.server_core.proofs.Words.{tried_by, try_candidate, try_of, try_on, step}
+use Rattle.server_core.proofs.Words.{ap, sym, ◌∙◌, map-append, option_and_then, option_map, option_map_or, Err, List, None, Ok}
+use Rattle.server_core.proofs.Words.{Option, Result, Some, [], false, map, refl, slice_get, slice_set, true, ℕ, ◌+◌, ◌∷◌, ◌≡◌}
+use Rattle.server_core.proofs.Words.{State, book_step, cancel_step, tick_step, Refusal, numbered, Candidate, Job, ask_for}
+use Rattle.server_core.proofs.Words.{candidate_at, Ending, answer_airtime, answered_at, answered_in, known_airtime, Answer}
+use Rattle.server_core.proofs.Words.{Booked, Open, Out, Settled, Waiting, is_given, known_of, desk_of, desk_settled, desk_taken}
+use Rattle.server_core.proofs.Words.{known_after, Decision, Join, Refuse, register_after, decide, map-rewritten, numbered-map}
+use Rattle.server_core.proofs.Words.{same_rewritten, map_set, some_inj, after_settling, is_here, may_settle, sent_of}
+use Rattle.server_core.proofs.Words.{after_taking, take_answer, Gateway, World, ids, known, Known, Done, TakeFault}
+use Rattle.server_core.proofs.Words.{DeskCallsAreSteps, told, answers_after, ending_of, refused, sent_by, settle, settle_as}
+use Rattle.server_core.proofs.Words.{take_by, tried_by, step}
 use Rattle.server_desk.specs.declared.answers.Known.TheVariants.{Given}
 use Rattle.server_desk.specs.Hearing as hearing
 use Rattle.server_core.specs.Steps as replies
+use Rattle.server_core.proofs.Walks.{tick_walk, cancel_walk, try_walk, settle_walk}
 
 -- the desk's part, by its parts
 same_known : (w v : World) → w.reg ≡ v.reg → ids w ≡ ids v → known w ≡ known v → desk_of w ≡ desk_of v
@@ -34,26 +34,17 @@ take_told : (w : World) (n : ℕ) (r : Result Job TakeFault) → (take_by w n r)
 take_told w n (Err fault) = refl
 take_told w n (Ok job) = refl
 
-pub settle_desk : (w : World) (n : ℕ) (o : Option Answer) (ending : Ending) → option_and_then ending_of o ≡ Some ending
-    → desk_of (settle_of w n o).0 ≡ desk_settled ending n (desk_of w)
-settle_desk w n None ending e = absurd (cc)
-settle_desk w n (Some answer) ending e =
-    ap (λ (x : Option Ending). desk_of (settle_as w n x).0) e
-    ∙ ap (λ (l : List Known). record { ids = ids w; reg = after_settling ending n w.reg; known = l })
+settle_as_desk : (w : World) (n : ℕ) (ending : Ending) → desk_of (settle_as w n (Some ending)).0
+    ≡ desk_settled ending n (desk_of w)
+settle_as_desk w n ending =
+    ap (λ (l : List Known). record { ids = ids w; reg = after_settling ending n w.reg; known = l })
     (map-rewritten known_of (λ a. Settled (sent_of ending)) (λ k. Done (sent_of ending)) (λ x. refl) n w.answers)
 
-settle_nothing : (w : World) (n : ℕ) (o : Option Answer) → option_and_then ending_of o ≡ None
-    → desk_of (settle_of w n o).0 ≡ desk_of w
-settle_nothing w n None e = refl
-settle_nothing w n (Some answer) e = ap (λ (x : Option Ending). desk_of (settle_as w n x).0) e
-
-settle_told : (w : World) (n : ℕ) (o : Option Answer) → (settle_of w n o).1 ≡ replies.Ended (option_and_then ending_of o)
-settle_told w n None = refl
-settle_told w n (Some answer) = by_ending (ending_of answer)
-  where
-    by_ending : (x : Option Ending) → (settle_as w n x).1 ≡ replies.Ended x
-    by_ending None = refl
-    by_ending (Some ending) = refl
+pub settle_desk : (w : World) (n : ℕ) (ending : Ending) → told w n ≡ Some ending
+    → desk_of (settle w n).0 ≡ desk_settled ending n (desk_of w)
+settle_desk w n ending e =
+    settle_walk w (λ a. desk_of a.0 ≡ desk_settled ending n (desk_of w)) n (λ f. absurd (cc (e, f)))
+    (λ answer x q g f. rw (some_inj (sym e ∙ f)) (settle_as_desk w n x))
 
 -- an answer is known to be out exactly where it would end somehow
 out_known : (answer : Answer) (ending : Ending) → ending_of answer ≡ Some ending → is_given (known_of answer) ≡ true
@@ -89,68 +80,24 @@ may_not : (w : World) (n : ℕ) (ending : Ending) → told w n ≡ None → may_
 may_not w n ending e = rw (numbered-map known_of n w.answers, not_given_by (numbered n w.answers) e) refl
 
 -- a gateway's state alone changes
-same_ids : (w : World) (id : ℕ) (found : ℕ × Gateway) (s : State) → gateway_with id w.gateways ≡ Some found
-    → map (λ g. g.id) (slice_set w.gateways found.0 (record found.1 { state = s })) ≡ map (λ g. g.id) w.gateways
-same_ids w id found s e =
-    map_set (λ g. g.id) w.gateways found.0 found.1 (record found.1 { state = s })
-    (found_there (λ g. g.id == id) w.gateways found e).0 refl
+same_ids : (w : World) (i : ℕ) (g : Gateway) (s : State) → slice_get w.gateways i ≡ Some g
+    → map (λ g. g.id) (slice_set w.gateways i (record g { state = s })) ≡ map (λ g. g.id) w.gateways
+same_ids w i g s e = map_set (λ g. g.id) w.gateways i g (record g { state = s }) e refl
 
 refused_known : (k : ℕ) (job : Job) (refusal : Refusal) (o : Option Candidate) → known_of (refused k job refusal o) ≡ Given
 refused_known k job refusal None = refl
 refused_known k job refusal (Some c) = refl
 
-try_desk_by : (w : World) (n k : ℕ) (job : Job) (c : Candidate) (found : ℕ × Gateway) (o : Option Refusal)
-    → numbered n w.answers ≡ Some (Open k job) → gateway_with c.gateway w.gateways ≡ Some found
-    → desk_of (tried_by w n k job c found o).0 ≡ desk_of w
-try_desk_by w n k job c found (Some refusal) e g =
+try_desk : (w : World) (n k : ℕ) (job : Job) (c : Candidate) (i : ℕ) (g : Gateway) (o : Option Refusal)
+    → numbered n w.answers ≡ Some (Open k job) → slice_get w.gateways i ≡ Some g
+    → desk_of (tried_by w n k job c (i, g) o).0 ≡ desk_of w
+try_desk w n k job c i g (Some refusal) e there =
     let answer : Answer = refused k job refusal (candidate_at job (k + 1)) in
-    same_known (tried_by w n k job c found (Some refusal)).0 w refl refl
+    same_known (tried_by w n k job c (i, g) (Some refusal)).0 w refl refl
     (same_rewritten known_of (λ a. answer) n w.answers (Open k job) e (refused_known k job refusal (candidate_at job (k + 1))))
-try_desk_by w n k job c found None e g =
-    same_known (tried_by w n k job c found None).0 w refl
-    (same_ids w c.gateway found (book_step found.1.rules found.1.state (ask_for job c)) g)
+try_desk w n k job c i g None e there =
+    same_known (tried_by w n k job c (i, g) None).0 w refl (same_ids w i g (book_step g.rules g.state (ask_for job c)) there)
     (same_rewritten known_of (λ a. Booked (sent_by job c) c.window c.carries) n w.answers (Open k job) e refl)
-
-try_on_desk : (w : World) (n k : ℕ) (job : Job) (c : Candidate) (o : Option (ℕ × Gateway))
-    → numbered n w.answers ≡ Some (Open k job) → gateway_with c.gateway w.gateways ≡ o
-    → desk_of (try_on w n k job c o).0 ≡ desk_of w
-try_on_desk w n k job c None e g = refl
-try_on_desk w n k job c (Some found) e g =
-    try_desk_by w n k job c found (refusal_of (terms found.1) found.1.state.list (ask_for job c)) e g
-
-try_candidate_desk : (w : World) (n k : ℕ) (job : Job) (o : Option Candidate) → numbered n w.answers ≡ Some (Open k job)
-    → desk_of (try_candidate w n k job o).0 ≡ desk_of w
-try_candidate_desk w n k job None e = refl
-try_candidate_desk w n k job (Some c) e = try_on_desk w n k job c (gateway_with c.gateway w.gateways) e refl
-
-try_desk : (w : World) (n : ℕ) (o : Option Answer) → numbered n w.answers ≡ o → desk_of (try_of w n o).0 ≡ desk_of w
-try_desk w n None e = refl
-try_desk w n (Some Waiting) e = refl
-try_desk w n (Some (Open k job)) e = try_candidate_desk w n k job (candidate_at job k) e
-try_desk w n (Some (Booked sent window carried)) e = refl
-try_desk w n (Some (Out refusal)) e = refl
-try_desk w n (Some (Settled sent)) e = refl
-
-cancel_at_desk : (w : World) (n : ℕ) (sent : Sent) (o : Option (ℕ × Gateway)) → gateway_with sent.gateway w.gateways ≡ o
-    → desk_of (cancel_at w n sent o).0 ≡ desk_of w
-cancel_at_desk w n sent None g = refl
-cancel_at_desk w n sent (Some found) g =
-    same_known (cancel_at w n sent (Some found)).0 w refl (same_ids w sent.gateway found
-    (cancel_step found.1.state n sent.start) g) refl
-
-cancel_sent_desk : (w : World) (n : ℕ) (o : Option Sent) → desk_of (cancel_sent w n o).0 ≡ desk_of w
-cancel_sent_desk w n None = refl
-cancel_sent_desk w n (Some sent) = cancel_at_desk w n sent (gateway_with sent.gateway w.gateways) refl
-
-cancel_desk : (w : World) (n : ℕ) (o : Option Answer) → desk_of (cancel_of w n o).0 ≡ desk_of w
-cancel_desk w n None = refl
-cancel_desk w n (Some answer) = cancel_sent_desk w n (sent_for answer)
-
-tick_desk : (w : World) (id now : ℕ) (o : Option (ℕ × Gateway)) → gateway_with id w.gateways ≡ o
-    → desk_of (tick_at w now o).0 ≡ desk_of w
-tick_desk w id now None g = refl
-tick_desk w id now (Some found) g =
-    same_known (tick_at w now (Some found)).0 w refl (same_ids w id found (tick_step found.1.state now) g) refl
 
 same_airtime : (id : ℕ) (answer : Answer) → known_airtime id (known_of answer) ≡ answer_airtime id answer
 same_airtime id Waiting = refl
@@ -175,20 +122,21 @@ desk_calls_are_steps =
           (hear_known (decide (ids w) w.reg bytes heard arrived) w.answers);
       pass = λ w now. refl;
       take = λ w n. take_desk w n (take_answer w.reg (known w) n);
-      settle = λ w n ending e h.
-          settle_desk w n (numbered n w.answers) ending e
-          ∙ sym (ap (λ (t : Bool). if t then desk_settled ending n (desk_of w) else desk_of w) (may w n ending e h));
+      settle = λ w n ending e h. rw (may w n ending e h) (settle_desk w n ending e);
       settle_none = λ w n e. (
-        settle_nothing w n (numbered n w.answers) e,
-        λ ending. ap (λ (t : Bool). if t then desk_settled ending n (desk_of w) else desk_of w) (may_not w n ending e),
+        settle_walk w (λ a. desk_of a.0 ≡ desk_of w) n (λ f. refl) (λ answer ending q g f. absurd (cc (e, f))),
+        λ ending. rw (may_not w n ending e) refl,
       );
-      settled = λ w n. settle_told w n (numbered n w.answers);
+      settled = λ w n. settle_walk w (λ a. a.1 ≡ replies.Ended (told w n)) n (λ e. rw e refl) (λ answer ending q g e. rw e refl);
       queued = λ w addr payload. refl;
       heard = λ w bytes heard arrived. refl;
       passed = λ w now. refl;
       taken = λ w n. take_told w n (take_answer w.reg (known w) n);
-      try = λ w n. try_desk w n (numbered n w.answers) refl;
-      cancel = λ w n. cancel_desk w n (numbered n w.answers);
-      tick = λ w id now. tick_desk w id now (gateway_with id w.gateways) refl;
+      try = λ w n. try_walk w (λ a. desk_of a.0 ≡ desk_of w) n refl
+          (λ k job c i g e f there own o q. try_desk w n k job c i g o e there);
+      cancel = λ w n. cancel_walk w (λ a. desk_of a.0 ≡ desk_of w) n refl
+          (λ sent i g e. cc (same_ids w i g (cancel_step g.state n sent.start) e));
+      tick = λ w id now. tick_walk w (λ a. desk_of a.0 ≡ desk_of w) id now refl
+          (λ i g e. cc (same_ids w i g (tick_step g.state now) e));
       answered = λ w id. same_answered id w.answers;
     }

@@ -1,18 +1,16 @@
 -- Time passes for a gateway, a transmission is cancelled, a candidate is tried: what holds of the world holds then.
 use Rattle.server_core.proofs.Words.{arith, inl, inr, subst, sym, ◌∙◌, Bool, Err, List, None, Ok, Option, Result, Some, false}
-use Rattle.server_core.proofs.Words.{find, if◌then◌else◌, nat_le, not, refl, slice_get, true, ℕ, ◌+◌, ◌==◌, ◌≡◌, ◌⊎◌, IsByStart}
+use Rattle.server_core.proofs.Words.{find, if◌then◌else◌, nat_le, not, refl, slice_get, true, ℕ, ◌+◌, ◌≡◌, ◌⊎◌, IsByStart}
 use Rattle.server_core.proofs.Words.{airtime_us, member_from, place, start_of, without, Reservation, IsAsked, refusal_of}
 use Rattle.server_core.proofs.Words.{accepted, book_step-accepted, named_found, named_none, net_named, net-place, may_join}
 use Rattle.server_core.proofs.Words.{orderly_filter, orderly_placed, State, after_cancel, book_step, cancel_answer, found_or}
 use Rattle.server_core.proofs.Words.{is_fit-IsFit, is_named, tick_step, without_named, Ask, CancelFault, Begun, Refusal, numbered}
-use Rattle.server_core.proofs.Words.{Candidate, Job, ask_for, candidate_at, Answer, Booked, Open, Out, Settled, Waiting}
-use Rattle.server_core.proofs.Words.{found_there, numbered-here, SettingLists, Gateway, World, gateway_with, Sent, cancel}
-use Rattle.server_core.proofs.Words.{cancel_at, cancel_of, cancel_sent, refused, sent_by, sent_for, terms, tick, tick_at}
-use Rattle.server_core.proofs.Words.{tried_by, try, try_candidate, try_of, try_on}
+use Rattle.server_core.proofs.Words.{Candidate, Job, ask_for, candidate_at, Answer, Booked, Open, Out, numbered-here}
+use Rattle.server_core.proofs.Words.{SettingLists, Gateway, World, cancel, refused, sent_by, terms, tick, tried_by, try}
+use Rattle.server_core.proofs.Walks.{tick_walk, cancel_walk, try_walk}
 use Rattle.server_core.proofs.Holds.{IsInOrder, Holds, IsGoodStep, unchanged, AllStand, IsGood, IsJobAt, Stands, both_good}
 use Rattle.server_core.proofs.Written.{gateway_written, with_gateway, with_answer, answer_written}
 use Rattle.server_core.proofs.Members.{filter_member, IsIn, place_member}
-use Rattle.server_core.proofs.Served.{equal_where_tested}
 
 -- Time passes for a gateway.
 
@@ -24,19 +22,14 @@ ticked_in_order : (g : Gateway) (now : ℕ) → IsInOrder g → IsInOrder (ticke
 ticked_in_order g now o =
     record { orderly = o.orderly; balanced = o.balanced }
 
-module _ (settings : SettingLists) (T : Job → Type 0) (w : World) (h : Holds settings T w) (id now : ℕ) where
-  ticked_by : (o : Option (ℕ × Gateway)) → gateway_with id w.gateways ≡ o → IsGoodStep settings T w (tick_at w now o)
-  ticked_by None e = record { good = unchanged w h; used = tt }
-  ticked_by (Some found) e =
-      let there = found_there (λ (g : Gateway). g.id == id) w.gateways found e in
-      record {
-        good = gateway_written settings T w h found.0 found.1 (ticked found.1 now) there.0 refl
-            (ticked_in_order found.1 now (h.in_order found.0 found.1 there.0)) (h.stands found.0 found.1 there.0);
-        used = tt;
-      }
-
-  pub tick_good : IsGoodStep settings T w (tick w id now)
-  tick_good = ticked_by (gateway_with id w.gateways) refl
+pub tick_good : (settings : SettingLists) (T : Job → Type 0) (w : World) → Holds settings T w → (id now : ℕ)
+    → IsGoodStep settings T w (tick w id now)
+tick_good settings T w h id now =
+    tick_walk w (IsGoodStep settings T w) id now (record { good = unchanged w h; used = tt })
+    (λ i g e. record {
+      good = gateway_written settings T w h i g (ticked g now) e refl (ticked_in_order g now (h.in_order i g e)) (h.stands i g e);
+      used = tt;
+    })
 
 -- A transmission is cancelled.
 
@@ -92,27 +85,13 @@ module _ (settings : SettingLists) (T : Job → Type 0) (w : World) (h : Holds s
         gateway_written settings T w h i g (cancelled g (Ok r) n start) there refl
         (cancelled_in_order g n start r (h.in_order i g there) found) (cancelled_stand r)
 
-  at_by : (sent : Sent) (o : Option (ℕ × Gateway)) → gateway_with sent.gateway w.gateways ≡ o
-      → IsGoodStep settings T w (cancel_at w n sent o)
-  at_by sent None e = record { good = unchanged w h; used = tt }
-  at_by sent (Some found) e =
-      let there = found_there (λ (g : Gateway). g.id == sent.gateway) w.gateways found e in
-      record {
-        good = cancelled_by found.0 found.1 there.0 sent.start
-            (cancel_answer found.1.state.floor found.1.state.list n sent.start) refl;
-        used = tt;
-      }
-
-  found_by : (o : Option Sent) → IsGoodStep settings T w (cancel_sent w n o)
-  found_by None = record { good = unchanged w h; used = tt }
-  found_by (Some sent) = at_by sent (gateway_with sent.gateway w.gateways) refl
-
-  answer_by : (o : Option Answer) → IsGoodStep settings T w (cancel_of w n o)
-  answer_by None = record { good = unchanged w h; used = tt }
-  answer_by (Some answer) = found_by (sent_for answer)
-
   pub cancel_good : IsGoodStep settings T w (cancel w n)
-  cancel_good = answer_by (numbered n w.answers)
+  cancel_good =
+      cancel_walk w (IsGoodStep settings T w) n (record { good = unchanged w h; used = tt })
+      (λ sent i g e. record {
+        good = cancelled_by i g e sent.start (cancel_answer g.state.floor g.state.list n sent.start) refl;
+        used = tt;
+      })
 
 -- A gateway books a transmission for which it was asked.
 
@@ -222,26 +201,8 @@ module _ (settings : SettingLists) (T : Job → Type 0) (w : World) (h : Holds s
           used = tt;
         }
 
-  on_by : (c : Candidate) → candidate_at job k ≡ Some c → (o : Option (ℕ × Gateway)) → gateway_with c.gateway w.gateways ≡ o
-      → IsGoodStep settings T w (try_on w n k job c o)
-  on_by c at None e = record { good = unchanged w h; used = tt }
-  on_by c at (Some found) e =
-      let there = found_there (λ (g : Gateway). g.id == c.gateway) w.gateways found e in
-      tried_good c at found.0 found.1 there.0 (equal_where_tested found.1.id c.gateway there.1)
-      (refusal_of (terms found.1) found.1.state.list (ask_for job c)) refl
-
-  candidate_by : (o : Option Candidate) → candidate_at job k ≡ o → IsGoodStep settings T w (try_candidate w n k job o)
-  candidate_by None at = record { good = unchanged w h; used = tt }
-  candidate_by (Some c) at = on_by c at (gateway_with c.gateway w.gateways) refl
-
-module _ (settings : SettingLists) (T : Job → Type 0) (w : World) (h : Holds settings T w) (n : ℕ) where
-  looked_up : (o : Option Answer) → numbered n w.answers ≡ o → IsGoodStep settings T w (try_of w n o)
-  looked_up None e = record { good = unchanged w h; used = tt }
-  looked_up (Some Waiting) e = record { good = unchanged w h; used = tt }
-  looked_up (Some (Open k job)) e = candidate_by settings T w h n k job e (candidate_at job k) refl
-  looked_up (Some (Booked sent window carried)) e = record { good = unchanged w h; used = tt }
-  looked_up (Some (Out refusal)) e = record { good = unchanged w h; used = tt }
-  looked_up (Some (Settled sent)) e = record { good = unchanged w h; used = tt }
-
-  pub try_good : IsGoodStep settings T w (try w n)
-  try_good = looked_up (numbered n w.answers) refl
+pub try_good : (settings : SettingLists) (T : Job → Type 0) (w : World) → Holds settings T w → (n : ℕ)
+    → IsGoodStep settings T w (try w n)
+try_good settings T w h n =
+    try_walk w (IsGoodStep settings T w) n (record { good = unchanged w h; used = tt })
+    (λ k job c i g e at there own. tried_good settings T w h n k job e c at i g there own)

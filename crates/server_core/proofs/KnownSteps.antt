@@ -3,14 +3,15 @@ use Rattle.server_core.proofs.Words.{ap, arith, subst, sym, ◌∙◌, Contains-
 use Rattle.server_core.proofs.Words.{Option, Result, Some, [], false, if◌then◌else◌, length, refl, slice_get, true, ℕ, ◌++◌, ◌+◌}
 use Rattle.server_core.proofs.Words.{◌==◌, ◌∷◌, ◌≡◌, addr_of, Gathering, Gatherings, is_open_at, numbered, rewritten, answer_at}
 use Rattle.server_core.proofs.Words.{hear_step, is_crowded, place_of, with_copy, Opened, Place, Joins, Opens, HearFault, Crowded}
-use Rattle.server_core.proofs.Words.{HeardCopy, Job, Payload, Ending, Answered, GivenUp, Unanswered, Answer, Booked, Open, Out}
-use Rattle.server_core.proofs.Words.{Settled, Waiting, IsDecided, decided, found_there, Decision, Join, Opening, Refuse, asked_by}
-use Rattle.server_core.proofs.Words.{copy_of, decide, length-rewritten, closing, pass_answer, after_queueing, queue_answer}
-use Rattle.server_core.proofs.Words.{with_payload, Device, Register, device_with, SettingLists, after_settling, delivered}
-use Rattle.server_core.proofs.Words.{has_carried, head_taken, sent_of, without_head, World, ids, Asked, Sent, QueueFault, Heard1}
-use Rattle.server_core.proofs.Words.{hear, hear_by, pass, queue, sent_for, settle, settle_as, settle_of}
+use Rattle.server_core.proofs.Words.{HeardCopy, Job, Payload, Ending, Answer, Booked, Open, Out, Settled, Waiting, IsDecided}
+use Rattle.server_core.proofs.Words.{decided, found_there, Decision, Join, Opening, Refuse, asked_by, copy_of, decide}
+use Rattle.server_core.proofs.Words.{length-rewritten, closing, pass_answer, some_inj, after_queueing, queue_answer, with_payload}
+use Rattle.server_core.proofs.Words.{Device, Register, device_with, SettingLists, after_settling, delivered, has_carried}
+use Rattle.server_core.proofs.Words.{head_taken, sent_of, without_head, World, ids, Asked, Sent, QueueFault, Heard1, ending_of}
+use Rattle.server_core.proofs.Words.{hear, hear_by, pass, queue, sent_for, settle}
 use Rattle.uplink_gather.specs.Hearing as gathers
 use Rattle.server_desk.specs.Hearing as hearing
+use Rattle.server_core.proofs.Walks.{settle_walk}
 use Rattle.server_core.proofs.Holds.{Holds, IsGood, IsGoodStep, unchanged, IsOfDevice, both_good}
 use Rattle.server_core.proofs.Written.{device_written, with_device, answer_written}
 use Rattle.server_core.proofs.Gathered.{Grow-rewritten, gathered_grown, uplink_gathered}
@@ -128,6 +129,15 @@ module _ (settings : SettingLists) (T : Job → Type 0) (w : World) (h : Holds s
 
 -- An answer is settled.
 
+-- what was booked for it is kept
+ended_sent : (answer : Answer) (ending : Ending) → ending_of answer ≡ Some ending → (s : Sent) → sent_for answer ≡ Some s
+    → sent_of ending ≡ Some s
+ended_sent Waiting ending e s q = absurd (cc (e))
+ended_sent (Open k job) ending e s q = absurd (cc (q))
+ended_sent (Booked sent window carried) ending e s q = rw (← some_inj e) q
+ended_sent (Out refusal) ending e s q = absurd (cc (q))
+ended_sent (Settled sent) ending e s q = absurd (cc (e))
+
 module _ (settings : SettingLists) (T : Job → Type 0) (w : World) (h : Holds settings T w) (n : ℕ) where
   abbrev with_reg : Register → World
   with_reg reg = record w { reg = reg }
@@ -146,29 +156,16 @@ module _ (settings : SettingLists) (T : Job → Type 0) (w : World) (h : Holds s
   carried_by true = delivered_by (numbered n w.reg.asked)
   carried_by false = unchanged w h
 
-  settled_by : (answer : Answer) (ending : Ending) → numbered n w.answers ≡ Some answer
-      → ((s : Sent) → sent_for answer ≡ Some s → sent_of ending ≡ Some s) → IsGoodStep settings T w (settle_as w n (Some ending))
-  settled_by answer ending e s =
+  pub settle_good : IsGoodStep settings T w (settle w n)
+  settle_good =
+      settle_walk w (IsGoodStep settings T w) n (λ e. record { good = unchanged w h; used = tt })
+      (λ answer ending e f told.
       let v = with_reg (after_settling ending n w.reg) in
       let first : IsGood settings T w v = carried_by (has_carried ending) in
       let new : Answer = Settled (sent_of ending) in
       record {
-        good = both_good first (answer_written settings T v first.holds n answer new e s refl
+        good = both_good first
+            (answer_written settings T v first.holds n answer new e (ended_sent answer ending f) refl
             (λ k job q. absurd (cc (q))));
         used = tt;
-      }
-
-  ended_by : (answer : Answer) → numbered n w.answers ≡ Some answer → IsGoodStep settings T w (settle_of w n (Some answer))
-  ended_by Waiting e = record { good = unchanged w h; used = tt }
-  ended_by (Open k job) e = settled_by (Open k job) GivenUp e (λ s q. absurd (cc (q)))
-  ended_by (Booked sent window carried) e =
-      settled_by (Booked sent window carried) (Answered sent.gateway window sent.start sent.airtime carried) e (λ s q. q)
-  ended_by (Out refusal) e = settled_by (Out refusal) (Unanswered refusal) e (λ s q. absurd (cc (q)))
-  ended_by (Settled sent) e = record { good = unchanged w h; used = tt }
-
-  looked_up : (o : Option Answer) → numbered n w.answers ≡ o → IsGoodStep settings T w (settle_of w n o)
-  looked_up None e = record { good = unchanged w h; used = tt }
-  looked_up (Some answer) e = ended_by answer e
-
-  pub settle_good : IsGoodStep settings T w (settle w n)
-  settle_good = looked_up (numbered n w.answers) refl
+      })

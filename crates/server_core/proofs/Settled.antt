@@ -1,13 +1,13 @@
 -- A ticket is tried until it is booked or out, and settled.
 use Rattle.server_core.proofs.Words.{ap, append-nil, append_assoc, arith, sym, ◌∙◌, slice_get_within, IsSome, IsTrue, List, None}
 use Rattle.server_core.proofs.Words.{Ok, Option, Some, [], length, map, refl, slice_get, ℕ, ◌++◌, ◌+◌, ◌-◌, ◌<◌, ◌∷◌, ◌≡◌}
-use Rattle.server_core.proofs.Words.{numbered, Candidate, candidates, Standing, candidate_of, next_of, Ending, Answer, Open}
-use Rattle.server_core.proofs.Words.{desk_of, desk_settled, may_settle, World, step_lines, given_steps, reached, AreHere, IsAt}
-use Rattle.server_core.proofs.Words.{Moves, Seen, ids_of, Settle, Try, ending_of, settle_as, settle_of, run_from, step, AreTries}
-use Rattle.server_core.proofs.Words.{EndsTries, GoesOn, IsAnswered, IsGivenTo, IsNext, IsOut, IsSame, IsSettled, end_lines}
-use Rattle.server_core.proofs.Words.{tries_from, Ended}
+use Rattle.server_core.proofs.Words.{numbered, Candidate, candidates, Standing, candidate_of, next_of, Ending, Open, desk_of}
+use Rattle.server_core.proofs.Words.{desk_settled, may_settle, World, step_lines, given_steps, reached, AreHere, IsAt, Moves}
+use Rattle.server_core.proofs.Words.{Seen, ids_of, Settle, Try, settle, run_from, step, AreTries, EndsTries, GoesOn, IsAnswered}
+use Rattle.server_core.proofs.Words.{IsGivenTo, IsNext, IsOut, IsSame, IsSettled, end_lines, tries_from, Ended}
 use Rattle.server_core.specs.Steps as replies
 use Rattle.server_core.proofs.Going.{reached_append, lines_append}
+use Rattle.server_core.proofs.Walks.{settle_walk}
 use Rattle.server_core.proofs.DeskSteps.{settle_desk, desk_calls_are_steps}
 
 -- A ticket is tried until it is booked or out.
@@ -96,13 +96,8 @@ tries_desk w n [] = refl
 tries_desk w n (c ∷ cs) = tries_desk (step w (Try n)).0 n cs ∙ desk_calls_are_steps.try w n
 
 -- settling leaves the gateways
-settle_as_gateways : (w : World) (n : ℕ) (o : Option Ending) → (settle_as w n o).0.gateways ≡ w.gateways
-settle_as_gateways w n None = refl
-settle_as_gateways w n (Some ending) = refl
-
-settle_gateways : (w : World) (n : ℕ) (o : Option Answer) → (settle_of w n o).0.gateways ≡ w.gateways
-settle_gateways w n None = refl
-settle_gateways w n (Some answer) = settle_as_gateways w n (ending_of answer)
+settle_gateways : (w : World) (n : ℕ) → (settle w n).0.gateways ≡ w.gateways
+settle_gateways w n = settle_walk w (λ a. a.0.gateways ≡ w.gateways) n (λ e. refl) (λ answer ending q g e. refl)
 
 -- what is left of a ticket that is out may be settled
 pub may_settle_tried : {A : Type 0} (t : Standing) (old mid : Seen A) (ended : Ended A) → AreTries t old mid ended
@@ -135,8 +130,8 @@ module _ {A : Type 0} (place : ℕ) (t : Standing) (old mid new : Seen A) (ended
     settled_at =
         record {
           desk = desk_is ∙ ap (desk_settled ending n) (at.desk ∙ sym (tries_desk w n _))
-              ∙ sym (settle_desk v n (numbered n v.answers) ending ends.told);
-          books = rw (settled.books, settle_gateways v n (numbered n v.answers)) ends.books;
+              ∙ sym (settle_desk v n ending ends.told);
+          books = rw (settled.books, settle_gateways v n) ends.books;
         }
 
     lines : step_lines {A = A} w (tries_from w t ++ Settle n ∷ []) ≡ end_lines n ending ended.receipt
