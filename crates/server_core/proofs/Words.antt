@@ -63,19 +63,19 @@ pub use Rattle.answer_ticket.specs.declared.outcome.Outcome.{Outcome}
 pub use Rattle.answer_ticket.specs.declared.tried.Receipt.{Receipt}
 pub use Rattle.server_desk.specs.Airtime.{answer_airtime, answered_at, answered_in, known_airtime}
 pub use Rattle.server_desk.specs.Answers.{Answer, Booked, Open, Out, Settled, Waiting, is_given, is_not_given, known_of}
-pub use Rattle.server_desk.specs.Decided.{IsDecided, decided}
+pub use Rattle.server_desk.proofs.Decided.{IsDecided, decided}
 pub use Rattle.server_desk.specs.Desk.{DeskView, desk_hear, desk_of, desk_pass, desk_queue, desk_settled, desk_take, desk_taken}
 pub use Rattle.server_desk.specs.Desk.{known_after}
-pub use Rattle.server_desk.specs.Found.{found_there}
+pub use Rattle.server_desk.proofs.Found.{found_there}
 pub use Rattle.server_desk.specs.Hearing.{Decision, Join, Opening, Refuse, answer_to, asked_by, copy_fault, copy_of, decide_copy}
 pub use Rattle.server_desk.specs.Hearing.{decide_frame, decide_place, register_after}
 unfoldable pub use Rattle.server_desk.specs.Hearing.{decide}
-pub use Rattle.server_desk.specs.Numbers.{length-rewritten, map-rewritten, numbered-append, numbered-append_cases, numbered-here}
-pub use Rattle.server_desk.specs.Numbers.{numbered-map, numbered_after, numbered_cases, numbered_next, rewritten-found}
-pub use Rattle.server_desk.specs.Numbers.{rewritten-none, same_rewritten}
+pub use Rattle.server_desk.proofs.Numbers.{length-rewritten, map-rewritten, numbered-append, numbered-append_cases, numbered-here}
+pub use Rattle.server_desk.proofs.Numbers.{numbered-map, numbered_after, numbered_cases, numbered_next, rewritten-found}
+pub use Rattle.server_desk.proofs.Numbers.{rewritten-none, same_rewritten}
 pub use Rattle.server_desk.specs.Passing.{closing, pass_answer}
-pub use Rattle.server_desk.specs.Places.{all_get, from_map, get_contains, get_set_after, get_set_cases, get_set_same, map_set}
-pub use Rattle.server_desk.specs.Places.{map_there, some_inj}
+pub use Rattle.server_desk.proofs.Places.{all_get, from_map, get_contains, get_set_after, get_set_cases, get_set_same, map_set}
+pub use Rattle.server_desk.proofs.Places.{map_there, some_inj}
 pub use Rattle.server_desk.specs.Queueing.{after_queueing, queue_answer, with_payload}
 pub use Rattle.server_desk.specs.Register.{Device, Register, device_with, next_place, opened_device}
 pub use Rattle.server_desk.specs.Settings.{AreSettings, SettingLists}

@@ -19,7 +19,6 @@ pub use Rattle.server_desk.specs.Answers
 pub use Rattle.server_desk.specs.Taking
 pub use Rattle.server_desk.specs.Settling
 pub use Rattle.server_desk.specs.Airtime
-pub use Rattle.server_desk.specs.AirtimeLaws
 pub use Rattle.server_desk.specs.Passing
 pub use Rattle.server_desk.specs.World
 pub use Rattle.server_desk.specs.Desk

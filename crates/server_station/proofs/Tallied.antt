@@ -1,7 +1,7 @@
 -- The tally of settled answers, under the desk's steps.
 use Rattle.std.specs.Prelude.{◌≡◌, Result, Ok, Err, OnOk, OnErr}
 use Rattle.std.proofs.Common.{ap, ◌∙◌}
-use Rattle.server_core.specs.AirtimeLaws.{total_of}
+use Rattle.server_core.specs.Desk.{total_of}
 use Rattle.server_core.specs.Desk.{DeskView}
 
 -- a call that may be refused leaves the total as it is, if its step does

@@ -3,7 +3,7 @@
 ghost use Rattle.std.specs.Prelude.{◌≡◌, ◌≢◌, ◌≤◌, [], map, All, MatchBool, IfOk, IfErr, OnOk, IsErrAnd, vec_len, vec_capacity};
 ghost use Rattle.air_ledger.specs.Tills.{all_parts, parts_of, amount_of};
 ghost use Rattle.gateway_book.specs.Book.{totals_of};
-ghost use Rattle.server_core.specs.AirtimeLaws.{total_of};
+ghost use Rattle.server_core.specs.Desk.{total_of};
 ghost use Rattle.book_audit.specs.Audit.{airtime_at, kept_numbers, EachStandsOnce, IsAccountedFor};
 ghost use Rattle.server_station.specs.Closings.{shelved, counted};
 ghost use Rattle.book_audit.specs.Audit.{CauseTells};

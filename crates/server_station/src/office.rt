@@ -1,7 +1,7 @@
 ghost use Rattle.std.specs.Prelude.{◌≡◌, ◌+◌, Ok, Err, IfOk, OnOk, OnErr, MatchBool, MatchResult, IsOkUnless};
 ghost use Rattle.answer_ticket.specs.Ended.{IsOfCandidate};
 ghost use Rattle.server_core.specs.Airtime.{airtime_of_ending};
-ghost use Rattle.server_core.specs.AirtimeLaws.{total_of};
+ghost use Rattle.server_core.specs.Desk.{total_of};
 ghost use Rattle.server_core.specs.Desk.{desk_queue, desk_hear, desk_pass, desk_take, desk_settle};
 ghost use Rattle.server_core.specs.Hearing.{decide, answer_to};
 ghost use Rattle.server_core.specs.Passing.{pass_answer};

@@ -1,5 +1,5 @@
 use Rattle.std.proofs.Common.{sym, ◌∙◌}
-use Rattle.server_core.specs.AirtimeLaws.{total-take}
+use Rattle.server_desk.proofs.AirtimeLaws.{total-take}
 use Rattle.server_core.specs.Desk.{desk_take}
 use Rattle.server_station.proofs.Tallied.{same-total}
 use Rattle.server_station.proofs.office.Office.take.Goals as goal
