@@ -1,21 +1,22 @@
 -- Sums of airtimes over gateways and answers.
-use Rattle.server_desk.proofs.Words.{ℕ, zero, suc, ◌≡◌, ◌≢◌, ◌+◌, ◌*◌, ◌≤◌, ◌==◌, Bool, true, false, if◌then◌else◌, List, [], ◌∷◌}
-use Rattle.server_desk.proofs.Words.{map, length, slice_get, slice_set, get_or, All, AllPairs, Option, Some, None, refl, sym, ap}
-use Rattle.server_desk.proofs.Words.{◌∙◌, subst, arith, list_any, option_map, eq-eqb, ne_eqb, nat_tests, All-head, All-tail}
-use Rattle.server_desk.proofs.Words.{AllPairs-head, AllPairs-tail, longest_us, Known, NotGiven, Given, Done, Sent, own_airtime}
-use Rattle.server_desk.proofs.Words.{known_airtime, answered_at, answered_for, total_at, total_limit, whole_airtime, AreAirtimes}
-use Rattle.server_desk.proofs.Words.{raised_at, raised, first_at, next_place}
+use Rattle.server_desk.proofs.Words.{◌++◌, ℕ, zero, suc, ◌≡◌, ◌≢◌, ◌+◌, ◌*◌, ◌≤◌, ◌==◌, Bool, true, false, if◌then◌else◌, List}
+use Rattle.server_desk.proofs.Words.{[], ◌∷◌, map, length, slice_get, slice_set, get_or, All, AllPairs, Option, Some, None, refl}
+use Rattle.server_desk.proofs.Words.{sym, ap, ◌∙◌, subst, arith, list_any, option_map, eq-eqb, ne_eqb, nat_tests, All-head}
+use Rattle.server_desk.proofs.Words.{All-tail, AllPairs-head, AllPairs-tail, longest_us, Known, NotGiven, Given, Done, Sent}
+use Rattle.server_desk.proofs.Words.{own_airtime, known_airtime, answered_at, answered_for, total_at, total_limit, whole_airtime}
+use Rattle.server_desk.proofs.Words.{AreAirtimes, raised_at, raised, first_at, next_place}
 use Rattle.server_desk.proofs.Places.{some_inj}
-use Rattle.server_desk.proofs.AirtimeLaws.{total_nil}
 
--- what an answer that is settled adds to its gateway's airtime
-pub answered_more : (id : ℕ) (known : List Known) (i : ℕ) (sent : Option Sent) → slice_get known i ≡ Some Given
-    → answered_at id (slice_set known i (Done sent)) ≡ answered_at id known + own_airtime id sent
-answered_more id [] i sent e = absurd (cc)
-answered_more id (k ∷ known) zero sent e =
-    let nothing : known_airtime id k ≡ 0 = ap (known_airtime id) (some_inj e) in
-    omega (arith, nothing)
-answered_more id (k ∷ known) (suc i) sent e = omega (arith, answered_more id known i sent e)
+-- an answer is written anew, or one more comes
+pub answered_set : (id : ℕ) (known : List Known) (i : ℕ) (old new : Known) → slice_get known i ≡ Some old
+    → answered_at id (slice_set known i new) + known_airtime id old ≡ answered_at id known + known_airtime id new
+answered_set id [] i old new e = absurd (cc)
+answered_set id (k ∷ known) zero old new e = omega (arith, ap (known_airtime id) (some_inj e))
+answered_set id (k ∷ known) (suc i) old new e = omega (arith, answered_set id known i old new e)
+
+pub answered_push : (id : ℕ) (known : List Known) → answered_at id (known ++ NotGiven ∷ []) ≡ answered_at id known
+answered_push id [] = refl
+answered_push id (k ∷ known) = omega (arith, answered_push id known)
 
 pub same_airtimes : (f h : ℕ → ℕ) → ((id : ℕ) → f id ≡ h id) → (ids : List ℕ) → map f ids ≡ map h ids
 same_airtimes f h e [] = refl
@@ -27,6 +28,15 @@ pub total_more : (known more : List Known) (k : Known)
     → (ids : List ℕ) → total_at ids more ≡ total_at ids known + total_at ids (k ∷ [])
 total_more known more k e [] = refl
 total_more known more k e (id ∷ ids) = omega (arith, e id, total_more known more k e ids)
+
+-- before anything was heard there is none, nor is there where nothing was sent
+pub total_nil : (ids : List ℕ) → total_at ids [] ≡ 0
+total_nil [] = refl
+total_nil (id ∷ ids) = omega (arith, total_nil ids)
+
+pub total_none : (ids : List ℕ) (k : Known) → ((id : ℕ) → known_airtime id k ≡ 0) → total_at ids (k ∷ []) ≡ 0
+total_none [] k e = refl
+total_none (id ∷ ids) k e = omega (arith, e id, total_none ids k e)
 
 -- the airtime of a gateway, found by its number
 module _ (known : List Known) (gateway d : ℕ) where
@@ -90,11 +100,6 @@ module _ (f : ℕ → ℕ) (sent : Sent) where
   raises [] d = (refl, refl)
   raises (id ∷ ids) d = raises_by id ids (id == sent.gateway) refl (AllPairs-head (λ a b. a ≢ b) id ids d)
       (raises ids (AllPairs-tail (λ a b. a ≢ b) id ids d))
-
--- an answer by which nothing was sent adds nothing
-pub total_none : (ids : List ℕ) (k : Known) → ((id : ℕ) → known_airtime id k ≡ 0) → total_at ids (k ∷ []) ≡ 0
-total_none [] k e = refl
-total_none (id ∷ ids) k e = omega (arith, e id, total_none ids k e)
 
 -- no gateway was on air for longer than all answers
 share_short : (t : Bool) (airtime : ℕ) → (if t then airtime else 0) ≤ airtime

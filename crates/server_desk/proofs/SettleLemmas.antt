@@ -10,15 +10,15 @@ use Rattle.server_desk.proofs.DeskLemmas.{seen_reg, Holds, seen, written_holds}
 use Rattle.server_desk.proofs.OutLemmas.{out_settled}
 use Rattle.server_desk.proofs.TakeLemmas.{number_too, out_there}
 
--- what may be settled is out
-out_by : (o : Option Known) (here : Bool) → (option_map_or is_given o false && here) ≡ true → o ≡ Some Given
+-- what may be settled is out, and on one of the gateways
+out_by : (o : Option Known) (here : Bool) → (option_map_or is_given o false && here) ≡ true → (o ≡ Some Given) × (here ≡ true)
 out_by None here e = absurd (cc)
 out_by (Some NotGiven) here e = absurd (cc)
-out_by (Some Given) here e = refl
+out_by (Some Given) here e = (refl, e)
 out_by (Some (Done sent)) here e = absurd (cc)
 
 pub is_out : (ids : List ℕ) (known : List Known) (n : ℕ) (ending : Ending) → may_settle ids known n ending ≡ true
-    → numbered n known ≡ Some Given
+    → (numbered n known ≡ Some Given) × (is_here ids ending ≡ true)
 is_out ids known n ending e = out_by (numbered n known) (is_here ids ending) e
 
 -- a device without its payload is in its ranges

@@ -46,7 +46,7 @@ pub use Rattle.server_desk.specs.Settings.{AreSettings, IsDeviceInRange, IsGatew
 pub use Rattle.server_desk.specs.Settings.{device_fault, first_fault, gateway_fault, has_rx2_band, is_device_in_range}
 pub use Rattle.server_desk.specs.Settings.{is_gateway_in_range}
 unfoldable pub use Rattle.server_desk.specs.Settings.{settings_fault}
-pub use Rattle.server_desk.specs.Settling.{delivered, has_carried, is_here, may_settle, sent_of, without_head}
+pub use Rattle.server_desk.specs.Settling.{delivered, has_carried, is_here, kept_by, may_settle, sent_of, without_head}
 pub use Rattle.server_desk.specs.Taking.{fault_of, given_or, head, is_engaged, job_for, take_known, with_counter_given}
 unfoldable pub use Rattle.server_desk.specs.Taking.{take_answer}
 pub use Rattle.server_desk.specs.declared.device.Kept.{Kept}

@@ -13,6 +13,7 @@ use std::hash::BuildHasher;
 impl<S: BuildHasher, A: Allocator> Desk<S, A> {
     /// The airtime, in microseconds, of the settled answers that were booked on the gateway with this number; `None`
     /// where it isn't in the desk's settings. Takes no memory.
+    #[tactic(auto, using(crate::proofs::AirtimeLemmas::as_many))]
     pub fn answered(&self, gateway: u16) -> Option<u64>
         ensures { result ≡ answered_for self.now.ids self.now.known gateway }
     {

@@ -96,6 +96,7 @@ impl<S: BuildHasher, A: Allocator + Copy> Desk<S, A> {
     /// Queues a payload for the device with this address, FPort 1 to 223 (LoRaWAN L2 1.0.4, section 4.3.2) and FRMPayload
     /// of 0 to 242 bytes, not encrypted, and answers how many wait then, at most 16, or the first fault that holds, in the
     /// order of `QueueFault`. A fault changes nothing; `NoMemory` comes only where a growth was refused.
+    #[tactic(auto, using(crate::proofs::DeskLemmas::found_within, crate::proofs::DeskLemmas::found_kept))]
     pub fn queue(&mut self, addr: u32, port: u8, payload: &[u8]) -> Result<usize, QueueFault>
         ensures answer { MatchResult (queue_answer self.old.reg addr (port, payload.now))
             (λ _. IsOkUnless result QueueFault.NoMemory) (λ fault. result ≡ Err fault) }
@@ -194,6 +195,7 @@ impl<S: BuildHasher, A: Allocator> Desk<S, A> {
     }
 
     /// What is to be done with a copy of an uplink.
+    #[tactic(auto, unfolding(crate::specs::Hearing::decide))]
     fn verdict(&self, bytes: &[u8], heard: &Heard1, arrived: u64) -> Verdict
         ensures { result ≡ verdict_of bytes.now (decide self.now.ids self.now.reg bytes.now heard.now arrived) }
     {
@@ -212,6 +214,7 @@ impl<S: BuildHasher, A: Allocator> Desk<S, A> {
     }
 
     /// What is to be done with an uplink that would open a gathering.
+    #[tactic(auto, using(crate::proofs::DeskLemmas::found_within, crate::proofs::DeskLemmas::found_kept))]
     fn verdict_on(&self, bytes: &[u8], uplink: Uplink) -> Verdict
         requires { uplink_of bytes.now ≡ Ok uplink }
         ensures { result ≡ verdict_of bytes.now (decide_device (is_crowded self.now.reg.gathered) bytes.now uplink
@@ -242,6 +245,7 @@ impl<S: BuildHasher, A: Allocator> Desk<S, A> {
     }
 
     /// The place of the device with this address.
+    #[tactic(auto, using(crate::proofs::AddrLemmas::place_found))]
     fn place_of(&self, addr: u32) -> Option<usize>
         ensures { result ≡ option_map (λ found. found.0) (device_with addr self.now.reg.devices) }
     {

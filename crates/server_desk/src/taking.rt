@@ -61,6 +61,7 @@ impl<S: BuildHasher, A: Allocator + Copy> Desk<S, A> {
 
 impl<S: BuildHasher, A: Allocator> Desk<S, A> {
     /// What the uplink with this number says, where a ticket may be given for it, or why none is.
+    #[tactic(auto, using(crate::proofs::TakeLemmas::within_here), unfolding(crate::specs::Taking::take_answer))]
     fn owed(&self, n: u64) -> Result<Asked, TakeFault>
         ensures { MatchResult result (λ asked. IsReady self.now.reg self.now.known n asked)
             (λ fault. take_answer self.now.reg self.now.known n ≡ Err fault) }

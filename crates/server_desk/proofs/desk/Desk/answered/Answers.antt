@@ -1,16 +1,6 @@
-use Rattle.server_desk.proofs.Words.{ap, arith, length, Some, None}
-use Rattle.server_desk.proofs.AirtimeLemmas.{as_many, answered_is}
+use Rattle.server_desk.proofs.Words.{Some, None}
+use Rattle.server_desk.proofs.AirtimeLemmas.{answered_is}
 use Rattle.server_desk.proofs.desk.Desk.answered.Goals as goal
-
-pub index-requires : goal.index-requires
-index-requires g c =
-    omega (
-      arith,
-      c.in-Some.ensures.within,
-      ap length c.deref.ensures.value,
-      as_many _ _ _ _ c.self.invariant.1,
-      c.self.inside.answered.ok.0,
-    )
 
 pub returns : goal.returns
 returns g c =

@@ -1,7 +1,7 @@
-use Rattle.server_desk.proofs.Words.{sym, arith, slice_get_within, Given}
+use Rattle.server_desk.proofs.Words.{sym, arith, slice_get_within, Given, Done, refl}
 use Rattle.server_desk.proofs.Numbers.{at_number}
 use Rattle.server_desk.proofs.TakeLemmas.{at_here}
-use Rattle.server_desk.proofs.AirtimeLemmas.{can_raise, short_ending, sent_here, settled_airtimes, settled_total}
+use Rattle.server_desk.proofs.AirtimeLemmas.{can_raise, short_ending, set_airtimes, set_total, total_here}
 use Rattle.server_desk.proofs.AirtimeSums.{within_limit}
 use Rattle.server_desk.proofs.SettleLemmas.{its_uplink, settled_holds, settled_here, is_out}
 use Rattle.server_desk.proofs.desk.Desk.end.Goals as goal
@@ -9,22 +9,22 @@ use Rattle.server_desk.proofs.desk.Desk.end.Goals as goal
 pub invariant_of-self : goal.invariant_of-self
 invariant_of-self g c =
     let out = is_out _ _ c.args.outcome.now.number c.args.outcome.now.result (rw (← c.self.view_is) at c.requires.out) in
-    let uplink = its_uplink _ _ _ _ _ c.self.invariant.0 c.args.outcome.now.number out _ c.index.ensures in
+    let uplink = its_uplink _ _ _ _ _ c.self.invariant.0 c.args.outcome.now.number out.0 _ c.index.ensures in
     let at = at_here _ _ _ _ _ c.self.invariant.0 c.args.outcome.now.number _ uplink _ c.index_mut.ensures.value in (
-      settled_holds _ _ _ _ _ c.self.invariant.0 c.args.outcome.now.number out _ uplink _ _ at c.has_carried.result
+      settled_holds _ _ _ _ _ c.self.invariant.0 c.args.outcome.now.number out.0 _ uplink _ _ at c.has_carried.result
           c.settle.ensures.shown c.sent_of-sent.result c.settle.ensures.out,
       rw (c.raise.ensures, c.deref.ensures.value, c.sent_of-sent.ensures)
-          (settled_airtimes _ _ _ _ c.self.invariant.1 _ (at_number c.args.outcome.now.number _ Given out) _
+          (set_airtimes _ _ _ _ c.self.invariant.1 _ Given (Done _) (at_number c.args.outcome.now.number _ Given out.0) (λ id. refl)
           (short_ending c.args.outcome.now.result c.requires.short)),
     )
 
 pub returns-clause-step : goal.returns-clause-step
 returns-clause-step g c =
     let out = is_out _ _ c.args.outcome.now.number c.args.outcome.now.result (rw (← c.self.view_is) at c.requires.out) in
-    let uplink = its_uplink _ _ _ _ _ c.self.invariant.0 c.args.outcome.now.number out _ c.index.ensures in
+    let uplink = its_uplink _ _ _ _ _ c.self.invariant.0 c.args.outcome.now.number out.0 _ c.index.ensures in
     let at = at_here _ _ _ _ _ c.self.invariant.0 c.args.outcome.now.number _ uplink _ c.index_mut.ensures.value in
     rw (← c.self.view_is, c.sent_of-sent.ensures)
-    (settled_here _ _ _ _ _ c.self.invariant.0 c.args.outcome.now.number out _ uplink _ _ at c.has_carried.result
+    (settled_here _ _ _ _ _ c.self.invariant.0 c.args.outcome.now.number out.0 _ uplink _ _ at c.has_carried.result
     c.settle.ensures.shown _ c.args.outcome.now.result (sym c.has_carried.ensures))
 
 pub raise-requires : goal.raise-requires
@@ -35,19 +35,18 @@ raise-requires g c =
 pub index_mut-requires-2 : goal.index_mut-requires-2
 index_mut-requires-2 g c =
     let out = is_out _ _ c.args.outcome.now.number c.args.outcome.now.result (rw (← c.self.view_is) at c.requires.out) in
-    let there = at_number c.args.outcome.now.number c.self.inside.known.items Given out in
+    let there = at_number c.args.outcome.now.number c.self.inside.known.items Given out.0 in
     omega (arith, slice_get_within c.self.inside.known.items _ Given there, c.self.inside.known.ok.0)
 
 pub returns-clause-total : goal.returns-clause-total
 returns-clause-total g c =
-    let may = rw (← c.self.view_is) at c.requires.out in
-    let out = at_number c.args.outcome.now.number _ Given (is_out _ _ c.args.outcome.now.number c.args.outcome.now.result may) in
-    rw (← c.self.view_is, c.sent_of-sent.ensures)
-    (settled_total _ _ _ _ c.self.invariant.1 _ out _ (sent_here _ _ c.args.outcome.now.number c.args.outcome.now.result may))
+    let out = is_out _ _ c.args.outcome.now.number c.args.outcome.now.result (rw (← c.self.view_is) at c.requires.out) in
+    rw (← c.self.view_is, c.sent_of-sent.ensures, ← total_here _ _ _ _ c.self.invariant.1 c.args.outcome.now.result out.1)
+    (set_total _ _ _ _ c.self.invariant.1 _ Given (Done _) (at_number c.args.outcome.now.number _ Given out.0) (λ id. refl))
 
 pub returns-clause-limit : goal.returns-clause-limit
 returns-clause-limit g c =
     let out = is_out _ _ c.args.outcome.now.number c.args.outcome.now.result (rw (← c.self.view_is) at c.requires.out) in
-    rw c.sent_of-sent.ensures
-    (within_limit _ _ _ _ (settled_airtimes _ _ _ _ c.self.invariant.1 _ (at_number c.args.outcome.now.number _ Given out) _
+    rw c.sent_of-sent.ensures (within_limit _ _ _ _
+    (set_airtimes _ _ _ _ c.self.invariant.1 _ Given (Done _) (at_number c.args.outcome.now.number _ Given out.0) (λ id. refl)
     (short_ending c.args.outcome.now.result c.requires.short)))

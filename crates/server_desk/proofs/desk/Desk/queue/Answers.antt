@@ -1,12 +1,5 @@
-use Rattle.server_desk.proofs.Words.{arith}
-use Rattle.server_desk.proofs.DeskLemmas.{found_within, found_at, found_kept, queued_holds, pushed_servable, queued_step}
-use Rattle.server_desk.proofs.DeskLemmas.{queued_refused}
+use Rattle.server_desk.proofs.DeskLemmas.{found_at, found_kept, queued_holds, pushed_servable, queued_step, queued_refused}
 use Rattle.server_desk.proofs.desk.Desk.queue.Goals as goal
-
-pub index_mut-requires : goal.index_mut-requires
-index_mut-requires g c =
-    let p = rw (← c.self.view_is) at c.in-Some.ensures in
-    omega (arith, found_within c.self.inside.devices.items _ _ p, c.self.inside.devices.ok.0)
 
 pub invariant_of-self : goal.invariant_of-self
 invariant_of-self g c =
@@ -17,16 +10,6 @@ invariant_of-self g c =
           c.push.ensures.refused) c.push.ensures.out,
       c.self.invariant.1,
     )
-
-pub returns-in-Some-clause-answer : goal.returns-in-Some-clause-answer
-returns-in-Some-clause-answer g c =
-    let p = rw (← c.self.view_is) at c.in-Some.ensures in
-    rw (← c.self.view_is, found_kept _ _ _ _ c.index_mut.ensures.value p) c.push.ensures.answer
-
-pub returns-in-Some-clause-told : goal.returns-in-Some-clause-told
-returns-in-Some-clause-told g c =
-    let p = rw (← c.self.view_is) at c.in-Some.ensures in
-    rw (← c.self.view_is, found_kept _ _ _ _ c.index_mut.ensures.value p) c.push.ensures.told
 
 pub returns-in-Some-clause-step : goal.returns-in-Some-clause-step
 returns-in-Some-clause-step g c =
