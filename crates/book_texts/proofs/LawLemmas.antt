@@ -2,6 +2,7 @@
 use Rattle.std.proofs.Common.{◌≡◌, ◌↔◌, ℕ, ◌+◌, Bool, true, false, not, List, [], ◌∷◌, ◌++◌, length, filter, cond, Option, None}
 use Rattle.std.proofs.Common.{Some, refl, ap, ◌∙◌, arith, length-append}
 use Rattle.text_lines.specs.Line.{is_too_long}
+use Rattle.text_lines.specs.Turns.{reached as reached_by, answers as answers_by, answers-append}
 use Rattle.text_lines.specs.Words.{words_of, is_passed_over}
 use Rattle.gateway_book.specs.declared.ask.Ask.{Ask}
 use Rattle.gateway_book.specs.declared.refusal.Refusal.{Refusal}
@@ -14,8 +15,7 @@ use Rattle.book_texts.specs.Said.{said, order_or_malformed, command_of}
 use Rattle.book_texts.specs.Reply.{reply_line}
 use Rattle.text_words.specs.Words.{is_refusal}
 use Rattle.book_texts.specs.Answering.{booking_reply, reply_to, answer_to, state_after_line}
-use Rattle.book_texts.specs.Output.{is_starved, reached, answers}
-use Rattle.book_texts.proofs.RunLemmas.{answers-append}
+use Rattle.book_texts.specs.Output.{Standing, book_turns, is_starved, answers}
 
 answered_by : (starved : Bool) (ask : Ask) (o : Option Refusal)
     → (is_refusal (reply_line (booking_reply starved o ask)) ≡ false) ↔ ((o ≡ None) × (starved ≡ false))
@@ -58,7 +58,8 @@ one_answer_a_line rules starved number s (line ∷ more) =
 
 pub answers_come_first : (rules : Rules) (starved : List ℕ) (number : ℕ) (s : State) (lines more : List (List ℕ))
     → (rest : List (List ℕ)) × (answers rules starved number s (lines ++ more) ≡ answers rules starved number s lines ++ rest)
-answers_come_first rules starved number s lines more = (
-  answers rules starved (number + length lines) (reached rules starved number s lines) more,
-  answers-append rules starved number s lines more (number + length lines) refl,
-)
+answers_come_first rules starved number s lines more =
+    let at : Standing = record { rules = rules; state = s } in (
+      answers_by book_turns starved (number + length lines) (reached_by book_turns starved number at lines) more,
+      answers-append book_turns starved number at lines more (number + length lines) refl,
+    )

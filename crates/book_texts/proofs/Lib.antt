@@ -1,7 +1,5 @@
 pub mod LineLemmas
 pub mod AnsweringLemmas
-pub mod RunLemmas
-pub mod SoFar
 pub mod ReportLemmas
 pub mod LawLemmas
 pub mod Worked

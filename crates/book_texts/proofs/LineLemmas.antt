@@ -1,33 +1,11 @@
 -- Lemmas on what a line says, and on the lines of output.
-use Rattle.std.proofs.Common.{◌≡◌, ℕ, ◌<◌, ◌≤◌, Bool, true, false, nat_eq, List, [], ◌∷◌, length, map, get_or, None, refl, sym}
-use Rattle.std.proofs.Common.{ap, ◌∙◌, arith}
+use Rattle.std.proofs.Common.{◌≡◌, ℕ, ◌<◌, ◌≤◌, false, nat_eq, List, [], ◌∷◌, length, map, get_or, None, refl}
+use Rattle.std.proofs.Common.{arith}
 use Rattle.std.proofs.lemmas.Bool.Decides.{nat_tests}
-use Rattle.std.proofs.lemmas.Bool.{lt-ltb, ltb-true, ltb-false}
-use Rattle.std.proofs.lemmas.List.{take_all, length-take-le}
 use Rattle.std.specs.Char.{digit_value}
 use Rattle.std.specs.Str.Parse.{IsNumeral}
-use Rattle.text_lines.specs.Line.{is_too_long, kept}
-use Rattle.book_texts.specs.declared.command.Said.TheVariants.{Malformed}
-use Rattle.book_texts.specs.Said.{said, book_command}
+use Rattle.book_texts.specs.Said.{book_command}
 use Rattle.text_words.specs.Words.{is_refusal}
-
--- a line that is too long is malformed
-said-long : (line : List ℕ) → is_too_long line ≡ true → said line ≡ Malformed
-said-long line e = rw e refl
-
-kept-by : (line : List ℕ) (t : Bool) → is_too_long line ≡ t → said (kept line) ≡ said line
-kept-by line true e =
-    let long : 1024 < length line = ltb-true 1024 (length line) e in
-    let n : length (kept line) ≡ 1025 = length-take-le 1025 line (omega arith) in
-    let still : is_too_long (kept line) ≡ true = lt-ltb 1024 (length (kept line)) (omega arith) in
-    said-long (kept line) still ∙ sym (said-long line e)
-kept-by line false e =
-    let short : length line ≤ 1024 = ltb-false 1024 (length line) e in
-    ap said (take_all 1025 line (omega arith))
-
--- what is kept of a line says what the line does
-pub said-kept : (line : List ℕ) → said (kept line) ≡ said line
-said-kept line = kept-by line (is_too_long line) refl
 
 -- a booking has no more than five words after its name
 pub book_command-more : {X : Type 0} (f : X → List ℕ) (words : List X) → 5 < length words → book_command (map f words) ≡ None

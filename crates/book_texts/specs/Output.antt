@@ -1,5 +1,6 @@
-use Rattle.std.specs.Prelude.{ℕ, ◌+◌, Bool, ◌==◌, List, [], ◌∷◌, ◌++◌, length}
-use Rattle.std.specs.List.{list_any}
+use Rattle.std.specs.Prelude.{ℕ, List, [], ◌++◌, length}
+pub use Rattle.text_lines.specs.Turns.{is_starved}
+use Rattle.text_lines.specs.Turns.{Turns, reached as reached_by, answers as answers_by}
 use Rattle.resv_list.specs.Reservations.{net}
 use Rattle.gateway_book.specs.Answer.{Rules}
 use Rattle.gateway_book.specs.Kept.{kept}
@@ -9,31 +10,12 @@ use Rattle.book_texts.specs.Said.{said}
 use Rattle.book_texts.specs.Report.{report_of}
 use Rattle.book_texts.specs.Answering.{answer_to, state_after_line}
 
--- The output of `airbook book` as a list of lines: a function of the lines of the input, of what the book is opened with, and of
--- the
--- numbers of those lines at which a booking found no memory.
+-- The output of `airbook book` as a list of lines: a function of the lines of the input, of what the book is opened with, and
+-- of the numbers of those lines at which a booking found no memory.
 
 -- at first nothing is reserved
 abbrev pub opened : State
 opened = record { floor = 0; list = []; booked = 0; cancelled = 0 }
-
--- whether the booking at this line found no memory
-abbrev pub is_starved : List ℕ → ℕ → Bool
-is_starved starved number = list_any (λ other. other == number) starved
-
-module _ (rules : Rules) (starved : List ℕ) where
-  -- what is reserved after the lines, which are counted from `number`
-  abbrev pub reached : ℕ → State → List (List ℕ) → State
-  reached number s [] = s
-  reached number s (line ∷ more) =
-      reached (number + 1) (state_after_line rules (is_starved starved number) s (said line)) more
-
-  -- the lines that answer them, in turn
-  abbrev pub answers : ℕ → State → List (List ℕ) → List (List ℕ)
-  answers number s [] = []
-  answers number s (line ∷ more) =
-      answer_to rules (is_starved starved number) number s (said line)
-      ++ answers (number + 1) (state_after_line rules (is_starved starved number) s (said line)) more
 
 -- what a book has counted there: it keeps all that is booked and not cancelled
 abbrev pub counted : State → Totals
@@ -50,6 +32,32 @@ counted s =
 -- the report there
 abbrev pub report_at : State → List (List ℕ)
 report_at s = report_of (counted s) (kept s.list s.floor)
+
+-- what a book's answers hang on: what it is opened with, and what is reserved
+pub record Standing : Type 0 where
+  pub rules : Rules
+  pub state : State
+
+-- how a book answers each line, and ends with its report
+abbrev pub book_turns : Turns Standing
+book_turns =
+    record {
+      answer = λ starved number at line. answer_to at.rules starved number at.state (said line);
+      after = λ starved at line. record {
+        rules = at.rules;
+        state = state_after_line at.rules starved at.state (said line);
+      };
+      ending = λ at. report_at at.state;
+    }
+
+module _ (rules : Rules) (starved : List ℕ) where
+  -- what is reserved after the lines, which are counted from `number`
+  abbrev pub reached : ℕ → State → List (List ℕ) → State
+  reached number s lines = (reached_by book_turns starved number (record { rules = rules; state = s }) lines).state
+
+  -- the lines that answer them, in turn
+  abbrev pub answers : ℕ → State → List (List ℕ) → List (List ℕ)
+  answers number s lines = answers_by book_turns starved number (record { rules = rules; state = s }) lines
 
 -- the output from a state on: an answer to each line that is not passed over, and the report
 abbrev pub output_from : Rules → State → List ℕ → List (List ℕ) → List (List ℕ)

@@ -1,22 +1,21 @@
-use Rattle.std.specs.Prelude.{◌≡◌, ℕ, ◌+◌, ◌<◌, ◌≤◌, Bool, List, [], ◌∷◌, ◌++◌, length, All, Option, Some, None, Result, ⊤, IfOk}
-use Rattle.std.specs.Prelude.{OnOk, OnErr}
-use Rattle.std.specs.Io.KnownBytes.{Consumes}
-use Rattle.std.specs.Str.Lines.{lines}
-use Rattle.text_lines.specs.Line.{text_of}
-use Rattle.text_lines.specs.Writing.{WritesAllBut, WritesFront}
-use Rattle.text_lines.specs.declared.ahead.TheConstants.{INPUT_LIMIT}
-use Rattle.gateway_book.specs.Answer.{Rules}
+use Rattle.std.specs.Prelude.{◌≡◌, ℕ, Bool, List, [], ◌∷◌, Option, Some, None}
+use Rattle.std.proofs.Common.{ap, ◌∙◌}
+use Rattle.std.proofs.lemmas.List.Folds.{list_any-append}
+use Rattle.text_lines.specs.Turns.{TurnsByKept, EndsWithoutRefusal}
+use Rattle.resv_list.specs.declared.reservation.Reservation.{Reservation}
 use Rattle.gateway_book.specs.Book.{Book, state_of}
-use Rattle.gateway_book.specs.Step.{State}
+use Rattle.gateway_book.specs.Kept.{kept}
+use Rattle.text_words.specs.Busiest.{all_busiest_lines, busiest-refuses_nothing}
+use Rattle.text_words.specs.Words.{is_refusal}
 use Rattle.book_texts.specs.declared.command.Command.{Command}
 use Rattle.book_texts.specs.declared.reply.Reply.{Reply}
-use Rattle.book_texts.specs.Said.{said}
+use Rattle.book_texts.specs.Said.{said, said-kept}
 use Rattle.book_texts.specs.Reply.{reply_line}
+use Rattle.book_texts.specs.Report.{totals_lines}
 use Rattle.book_texts.specs.Answering.{reply_to, state_after, answer_to, state_after_line}
-use Rattle.book_texts.specs.Output.{reached, answers}
-use Rattle.text_words.specs.Words.{has_refusal}
+use Rattle.book_texts.specs.Output.{Standing, book_turns, counted}
 
--- How far a run over the lines of an input has come.
+-- What a book does with a line, and what stands then.
 
 -- the book is the same but for what it has reserved
 pub record SameBook (old new : Book) : Type 0 where
@@ -42,41 +41,21 @@ pub record IsReplied (old new : Book) (number : ℕ) (line : List ℕ) (reply : 
   pub reached : state_of new ≡ state_after_line old.rules starved (state_of old) (said line)
   pub same : SameBook old new
 
--- line number `number` was carried out, and its answer was written or is pending; on `Ok` the result says whether
--- the answer begins with `no` or `bad`
-pub record IsLineAnswered {E : Type 0} (old new : Book) (number : ℕ) (line : List ℕ) (pending pending_after : List ℕ)
-    (before after : Option (List ℕ)) (result : Result Bool E) : Type 0 where
-  pub starved : Bool
-  pub written : OnOk result (WritesAllBut before after (pending
-      ++ text_of (answer_to old.rules starved number (state_of old) (said line))) pending_after)
-  pub front : OnErr result (WritesFront before after (pending
-      ++ text_of (answer_to old.rules starved number (state_of old) (said line))))
-  pub told : IfOk result (λ refused. refused ≡ has_refusal (answer_to old.rules starved number (state_of old) (said line)))
-  pub reached : state_of new ≡ state_after_line old.rules starved (state_of old) (said line)
-  pub same : SameBook old new
+-- what stands in a book
+pub record StandsIn (book : Book) (at : Standing) : Type 0 where
+  pub rules : book.rules ≡ at.rules
+  pub state : state_of book ≡ at.state
+  pub retired : book.retired ≡ 0
 
--- the lines `read` were carried out from the state `s` on, and their answers were written or are pending; line
--- number `number` is next
-pub record AreAnswered (rules : Rules) (s : State) (read : List (List ℕ)) (number : ℕ) (state : State) (refused : Bool)
-    (before after : Option (List ℕ)) (pending : List ℕ) : Type 0 where
-  pub starved : List ℕ
-  pub earlier : All (λ other. other < number) starved
-  pub numbered : number ≡ 1 + length read
-  pub reached : state ≡ reached rules starved 1 s read
-  pub told : refused ≡ has_refusal (answers rules starved 1 s read)
-  pub written : WritesAllBut before after (text_of (answers rules starved 1 s read)) pending
+-- what is kept of a line does what the line does
+pub book_turns_by_kept : TurnsByKept book_turns
+book_turns_by_kept starved number at line = (
+  ap (answer_to at.rules starved number at.state) (said-kept line),
+  ap (λ what. record { rules = at.rules; state = state_after_line at.rules starved at.state what }) (said-kept line),
+)
 
--- all lines of these bytes were, and all these bytes were read
-pub record IsWhollyAnswered (rules : Rules) (s : State) (bytes : List ℕ) (left_after : Option (List ℕ)) (state : State)
-    (refused : Bool) (before after : Option (List ℕ)) (pending : List ℕ) : Type 0 where
-  pub number : ℕ
-  pub answered : AreAnswered rules s (lines bytes) number state refused before after pending
-  pub consumed : Consumes (Some bytes) left_after bytes
-  pub within : length bytes ≤ INPUT_LIMIT
-
--- the same where the reader tells what it has left
-abbrev pub AnswersLines : Rules → State → Option (List ℕ) → Option (List ℕ) → State → Bool → Option (List ℕ) → Option (List ℕ)
-    → List ℕ → Type 0
-AnswersLines rules s None left_after state refused before after pending = ⊤
-AnswersLines rules s (Some bytes) left_after state refused before after pending =
-    IsWhollyAnswered rules s bytes left_after state refused before after pending
+-- no line of the report begins with `no` or `bad`
+pub book_ends_without_refusal : EndsWithoutRefusal book_turns
+book_ends_without_refusal at =
+    let l : List Reservation = kept at.state.list at.state.floor in
+    list_any-append is_refusal (totals_lines (counted at.state)) (all_busiest_lines None l) ∙ busiest-refuses_nothing None l

@@ -1,7 +1,11 @@
-use Rattle.std.specs.Prelude.{ℕ, ◌^◌, if◌then◌else◌, List, [], ◌∷◌, Option, Some, None, option_and_then, codes}
+use Rattle.std.specs.Prelude.{◌≡◌, ℕ, ◌<◌, ◌≤◌, ◌^◌, Bool, true, false, if◌then◌else◌, List, [], ◌∷◌, length, codes, Option, Some}
+use Rattle.std.specs.Prelude.{None, option_and_then}
 use Rattle.std.specs.Option.{option_map}
+use Rattle.std.proofs.Common.{refl, sym, ap, ◌∙◌, arith}
+use Rattle.std.proofs.lemmas.Bool.{lt-ltb, ltb-true, ltb-false}
+use Rattle.std.proofs.lemmas.List.{take_all, length-take-le}
 use Rattle.radio_airtime.specs.declared.data_rate.DataRate.{DataRate}
-use Rattle.text_lines.specs.Line.{is_too_long}
+use Rattle.text_lines.specs.Line.{is_too_long, kept}
 use Rattle.text_lines.specs.Number.{number_below}
 use Rattle.text_lines.specs.Words.{words_of, is_passed_over}
 use Rattle.gateway_book.specs.declared.ask.Ask.{Ask}
@@ -63,3 +67,21 @@ abbrev pub said : List ℕ → Said
 said line =
     if is_passed_over line then Nothing
     else (if is_too_long line then Malformed else order_or_malformed (command_of (words_of line)))
+
+-- a line that is too long is malformed
+said-long : (line : List ℕ) → is_too_long line ≡ true → said line ≡ Malformed
+said-long line e = rw e refl
+
+kept-by : (line : List ℕ) (t : Bool) → is_too_long line ≡ t → said (kept line) ≡ said line
+kept-by line true e =
+    let long : 1024 < length line = ltb-true 1024 (length line) e in
+    let n : length (kept line) ≡ 1025 = length-take-le 1025 line (omega arith) in
+    let still : is_too_long (kept line) ≡ true = lt-ltb 1024 (length (kept line)) (omega arith) in
+    said-long (kept line) still ∙ sym (said-long line e)
+kept-by line false e =
+    let short : length line ≤ 1024 = ltb-false 1024 (length line) e in
+    ap said (take_all 1025 line (omega arith))
+
+-- what is kept of a line says what the line does
+pub said-kept : (line : List ℕ) → said (kept line) ≡ said line
+said-kept line = kept-by line (is_too_long line) refl

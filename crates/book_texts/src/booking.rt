@@ -1,15 +1,9 @@
 // The text of `airbook book`: one pass over the input, which holds one line at a time.
-ghost use Rattle.std.specs.Prelude.{◌≡◌, [], ◌++◌, IfOk, IfErr, OnOk, OnErr};
-ghost use Rattle.std.specs.Io.KnownBytes.{Appends};
-ghost use Rattle.text_lines.specs.Calls.{CountsFailure};
-ghost use Rattle.text_lines.specs.Line.{text_of};
-ghost use Rattle.text_lines.specs.Writing.{WritesFront};
-ghost use Rattle.gateway_book.specs.Book.{state_of, totals_of};
+ghost use Rattle.std.specs.Prelude.{◌≡◌, IfOk, OnErr};
 ghost use Rattle.text_words.specs.Fault.{CountsReads, CountsWrites};
 ghost use Rattle.book_texts.specs.Output.{opened};
-ghost use Rattle.book_texts.specs.Progress.{SameBook, IsCarriedOut, IsReplied, IsLineAnswered, AnswersLines};
-ghost use Rattle.book_texts.specs.Promise.{AnswersAll, AnswersFront, AnswersRead, KeepsLimit, IsCap, IsSettingOf, HasBegun};
-ghost use Rattle.book_texts.specs.Report.{report_of};
+ghost use Rattle.book_texts.specs.Progress.{IsCarriedOut, IsReplied};
+ghost use Rattle.book_texts.specs.Promise.{AnswersAll, AnswersFront, AnswersRead, KeepsLimit, IsCap, IsSettingOf};
 
 use crate::command::{Command, Said, read_line};
 use crate::reply::Reply;
@@ -17,10 +11,7 @@ use crate::report::write_report;
 use gateway_book::{Ask, GatewayBook};
 use resv_list::{Roster, VecRoster};
 use std::alloc::Allocator;
-use text_lines::{
-    ByteIn, ByteOut, CallFailed, HeldLine, INPUT_LIMIT, InFault, NextLine, ReadAhead, TextLine,
-    WriteBehind,
-};
+use text_lines::{ByteIn, ByteOut, CallFailed, LineAnswerer, TextLine, WriteBehind, answer_text};
 use text_words::TextFault;
 
 /// The number of the gateway whose book the lines speak of.
@@ -51,90 +42,48 @@ pub fn book_text<A: Allocator, R: ByteIn, W: ByteOut>(
     ensures read { CountsReads (R.failed_calls reader.old) (R.failed_calls reader.new) result }
     ensures write { CountsWrites (W.failed_calls writer.old) (W.failed_calls writer.new) result }
 {
-    let Ok(mut book) = GatewayBook::new(VecRoster::new(alloc), GATEWAY, cap) else {
+    let Ok(book) = GatewayBook::new(VecRoster::new(alloc), GATEWAY, cap) else {
         return Err(TextFault::Settings("BadCap"));
     };
-    let mut output = WriteBehind::new();
-    let refused = match answer_lines(&mut book, reader, &mut output, writer) {
-        Err(fault) => return Err(fault),
-        Ok(refused) => refused,
-    };
-    match report(&book, &mut output, writer) {
-        Err(_) => Err(TextFault::Write),
-        Ok(()) => Ok(refused),
+    match answer_text(BookLines { book }, reader, writer) {
+        Err(fault) => Err(TextFault::from(fault)),
+        Ok(refused) => Ok(refused),
     }
 }
 
-/// Answers each line of the input, and says whether an answer begins with `no` or `bad`. A line has at least one byte, its
-/// end counted, so there are no more lines than the count goes up to.
-fn answer_lines<B: Roster, R: ByteIn, W: ByteOut>(
-    book: &mut GatewayBook<B>,
-    reader: &mut R,
-    output: &mut WriteBehind,
-    writer: &mut W,
-) -> Result<bool, TextFault>
-    requires { output.old ≡ [] }
-    ensures ok { IfOk result (λ refused. AnswersLines book.old.rules (state_of book.old) (R.left reader.old) (R.left reader.new)
-        (state_of book.new) refused (W.taken writer.old) (W.taken writer.new) output.new) }
-    ensures same { SameBook book.old book.new }
-    ensures front { OnErr result (AnswersFront book.old.rules (state_of book.old) (R.left reader.old) (W.taken writer.old) (W.taken writer.new)) }
-    ensures read_front { OnErr result (AnswersRead book.old.rules (state_of book.old) (R.left reader.old) (R.left reader.new)
-        (W.taken writer.old) (W.taken writer.new)) }
-    ensures limit { KeepsLimit (R.left reader.old) result }
-    ensures begun { HasBegun result }
-    ensures read { CountsReads (R.failed_calls reader.old) (R.failed_calls reader.new) result }
-    ensures write { CountsWrites (W.failed_calls writer.old) (W.failed_calls writer.new) result }
-{
-    let mut input = ReadAhead::new();
-    let mut line = HeldLine::new();
-    let mut refused = false;
-    for number in 1..INPUT_LIMIT + 2 {
-        match input.next_line(reader, &mut line) {
-            Err(InFault::Read) => return Err(TextFault::Read),
-            Err(InFault::TooMuch) => return Err(TextFault::TooMuch),
-            Ok(NextLine::End) => return Ok(refused),
-            Ok(NextLine::Last) => {
-                return match answer_line(book, number, line.as_slice(), output, writer) {
-                    Err(_) => Err(TextFault::Write),
-                    Ok(is_refusal) => Ok(refused | is_refusal),
-                };
-            }
-            Ok(NextLine::Whole) => match answer_line(
-                book,
-                number,
-                line.as_slice(),
-                output,
-                writer,
-            ) {
-                Err(_) => return Err(TextFault::Write),
-                Ok(is_refusal) => refused |= is_refusal,
-            },
-        }
-    }
-    Err(TextFault::TooMuch)
+/// A book that answers lines.
+#[derive(Drop)]
+struct BookLines<B: Roster> {
+    book: GatewayBook<B>,
 }
 
-/// Answers line `number`, and says whether the answer begins with `no` or `bad`.
-fn answer_line<B: Roster, W: ByteOut>(
-    book: &mut GatewayBook<B>,
-    number: u64,
-    line: &[u8],
-    output: &mut WriteBehind,
-    writer: &mut W,
-) -> Result<bool, CallFailed>
-    ensures line { IsLineAnswered book.old book.new number line.now output.old output.new (W.taken writer.old)
-        (W.taken writer.new) result }
-    ensures failed { CountsFailure (W.failed_calls writer.old) (W.failed_calls writer.new) result }
-{
-    let Some(reply) = reply_to_line(book, number, line) else {
-        return Ok(false);
-    };
-    let mut text = TextLine::new();
-    reply.write(&mut text);
-    match output.put(writer, text.as_slice()) {
-        Err(failed) => Err(failed),
-        Ok(()) => Ok(reply.is_refusal()),
+impl<B: Roster + Drop> LineAnswerer for BookLines<B> {
+    ghost use Rattle.book_texts.specs.Output.{Standing, book_turns};
+    ghost use Rattle.book_texts.specs.Progress.{StandsIn, book_turns_by_kept, book_ends_without_refusal};
+
+    ghost State = { Standing };
+
+    ghost turns = { book_turns };
+
+    ghost Stands = { λ lines. StandsIn lines.book };
+
+    fn answer(&mut self, number: u64, line: &[u8], text: &mut TextLine) -> bool {
+        let Some(reply) = reply_to_line(&mut self.book, number, line) else {
+            return false;
+        };
+        reply.write(text);
+        reply.is_refusal()
     }
+
+    fn end<W: ByteOut>(self, output: &mut WriteBehind, writer: &mut W) -> Result<(), CallFailed> {
+        let mut text = TextLine::new();
+        write_report(&self.book, &mut text);
+        output.put(writer, text.as_slice())
+    }
+
+    ghost by_kept = { book_turns_by_kept };
+
+    ghost no_refusal_at_the_end = { book_ends_without_refusal };
 }
 
 /// Carries out line `number`, and gives the answer, if the line is not passed over.
@@ -193,25 +142,5 @@ fn advance<B: Roster>(book: &mut GatewayBook<B>, now: u64) -> Reply
     book.tick(now);
     Reply::Floor {
         floor: book.totals().floor,
-    }
-}
-
-/// Writes the report, and with it all that was gathered.
-fn report<B: Roster, W: ByteOut>(
-    book: &GatewayBook<B>,
-    output: &mut WriteBehind,
-    writer: &mut W,
-) -> Result<(), CallFailed>
-    ensures ok { OnOk result (Appends (W.taken writer.old) (W.taken writer.new)
-        (output.old ++ text_of (report_of (totals_of book.now) book.now.list))) }
-    ensures err { OnErr result (WritesFront (W.taken writer.old) (W.taken writer.new)
-        (output.old ++ text_of (report_of (totals_of book.now) book.now.list))) }
-    ensures failed { CountsFailure (W.failed_calls writer.old) (W.failed_calls writer.new) result }
-{
-    let mut text = TextLine::new();
-    write_report(book, &mut text);
-    match output.put(writer, text.as_slice()) {
-        Err(failed) => Err(failed),
-        Ok(()) => output.flush(writer),
     }
 }

@@ -1,4 +1,7 @@
+pub mod Endings
 pub mod Held
 pub mod NumberLemmas
 pub mod Parts
+pub mod SoFar
+pub mod TurnLemmas
 pub mod WordLemmas

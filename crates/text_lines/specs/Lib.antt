@@ -2,6 +2,9 @@ pub mod Ahead
 pub mod Calls
 pub mod Line
 pub mod Number
+pub mod Progress
+pub mod Promise
 pub mod Reading
+pub mod Turns
 pub mod Words
 pub mod Writing

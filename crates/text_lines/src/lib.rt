@@ -3,6 +3,7 @@
 #![tactic(auto)]
 
 mod ahead;
+mod answering;
 mod byte_in;
 mod byte_out;
 mod held_line;
@@ -13,6 +14,7 @@ mod words;
 mod write_behind;
 
 pub use ahead::{INPUT_LIMIT, InFault, NextLine, READ_SIZE, ReadAhead};
+pub use answering::{LineAnswerer, LineFault, answer_text};
 pub use byte_in::{ByteIn, CallFailed, StdIn};
 pub use byte_out::{ByteOut, StdOut};
 pub use held_line::{HeldLine, KEPT_LIMIT, LINE_LIMIT};

@@ -1,5 +1,8 @@
 use Rattle.std.specs.Prelude.{◌≡◌, ℕ, List, Result, Ok, Err, codes}
 use Rattle.text_lines.specs.Calls.{next_count}
+use Rattle.text_lines.specs.declared.answering.LineFault.{LineFault}
+use Rattle.text_lines.specs.declared.answering.LineFault.TheVariants.{Read as LinesRead, Write as LinesWrite}
+use Rattle.text_lines.specs.declared.answering.LineFault.TheVariants.{TooMuch as LinesTooMuch}
 use Rattle.text_words.specs.declared.fault.TextFault.{TextFault}
 use Rattle.text_words.specs.declared.fault.TextFault.TheVariants.{Read, Write, TooMuch, Settings, NoMemory}
 
@@ -24,3 +27,9 @@ abbrev pub CountsWrites : {T : Type 0} → ℕ → ℕ → Result T TextFault �
 CountsWrites old new (Ok _) = new ≡ old
 CountsWrites old new (Err Write) = new ≡ next_count old
 CountsWrites old new (Err _) = new ≡ old
+
+-- why lines were not answered to their end
+abbrev pub fault_of : LineFault → TextFault
+fault_of LinesRead = Read
+fault_of LinesWrite = Write
+fault_of LinesTooMuch = TooMuch

@@ -1,6 +1,6 @@
-use Rattle.std.specs.Prelude.{ℕ, Bool, ◌||◌, nat_eq, List, [], ◌∷◌, codes, decimal}
+use Rattle.std.specs.Prelude.{ℕ, Bool, nat_eq, List, [], ◌∷◌, codes, decimal}
 use Rattle.std.specs.Cmp.Lexicographic.{pointwise}
-use Rattle.std.specs.List.{join_with_byte, list_any, starts_with}
+use Rattle.std.specs.List.{join_with_byte}
 use Rattle.radio_bands.specs.declared.band.Band.{Band}
 use Rattle.radio_bands.specs.declared.band.Band.TheVariants.{K, L, M, N, P, Q}
 use Rattle.gateway_book.specs.declared.cancel.CancelFault.{CancelFault}
@@ -8,6 +8,7 @@ use Rattle.gateway_book.specs.declared.cancel.CancelFault.TheVariants.{Begun, No
 use Rattle.gateway_book.specs.declared.refusal.Refusal.{Refusal}
 use Rattle.gateway_book.specs.declared.refusal.Refusal.TheVariants.{NoBand, TooLong, PastEnd, Passed, Taken, DutyFull, Full}
 use Rattle.gateway_book.specs.declared.refusal.Refusal.TheVariants.{TotalsFull, NoMemory}
+pub use Rattle.text_lines.specs.Turns.{is_refusal, has_refusal}
 
 -- The words of lines: of those that are read, and of those that answer and report.
 
@@ -18,14 +19,6 @@ is_named name word = pointwise nat_eq word name
 -- a line of output: its words, with a space between two
 abbrev pub spaced : List (List ℕ) → List ℕ
 spaced words = join_with_byte 32 words
-
--- whether a line of output begins with `no` or `bad`
-abbrev pub is_refusal : List ℕ → Bool
-is_refusal line = starts_with nat_eq line (codes "no") || starts_with nat_eq line (codes "bad")
-
--- whether one of these lines does
-abbrev pub has_refusal : List (List ℕ) → Bool
-has_refusal lines = list_any is_refusal lines
 
 -- the letter of a sub-band
 abbrev pub band_word : Band → List ℕ

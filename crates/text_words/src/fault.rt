@@ -1,6 +1,7 @@
 // Why a text call stopped.
 ghost use Rattle.std.specs.Prelude.{◌≡◌};
 
+use text_lines::LineFault;
 use thiserror::Error;
 
 /// Why a text call stopped. What was written before is a front of the output.
@@ -36,6 +37,20 @@ impl TextFault {
             TextFault::TooMuch => "TooMuch",
             TextFault::Settings(name) => *name,
             TextFault::NoMemory => "NoMemory",
+        }
+    }
+}
+
+impl From<LineFault> for TextFault {
+    ghost use Rattle.text_words.specs.Fault.{fault_of};
+
+    ghost from_gives = { λ fault made. made ≡ fault_of fault };
+
+    fn from(fault: LineFault) -> TextFault {
+        match fault {
+            LineFault::Read => TextFault::Read,
+            LineFault::Write => TextFault::Write,
+            LineFault::TooMuch => TextFault::TooMuch,
         }
     }
 }

@@ -1,0 +1,78 @@
+-- What a text promises of a reader and a writer that tell their bytes. `output` is a function of the numbers of those lines
+-- that found no memory, and of the lines of the input.
+use Rattle.std.specs.Prelude.{◌≡◌, ◌<◌, ◌≤◌, ℕ, Bool, List, [], length, refl, Option, Some, None, Result, Ok, Err, ⊤}
+use Rattle.std.specs.Io.KnownBytes.{Appends, Consumes}
+use Rattle.std.specs.Str.Lines.{lines}
+use Rattle.text_lines.specs.Calls.{next_count}
+use Rattle.text_lines.specs.Line.{text_of}
+use Rattle.text_lines.specs.Turns.{has_refusal}
+use Rattle.text_lines.specs.Writing.{WritesFront, WritesAllBut-refl}
+use Rattle.text_lines.specs.declared.ahead.TheConstants.{INPUT_LIMIT}
+use Rattle.text_lines.specs.declared.answering.LineFault.{LineFault}
+use Rattle.text_lines.specs.declared.answering.LineFault.TheVariants.{Read, Write, TooMuch}
+
+-- all these bytes were read, the writer took the output for them, and `refused` says whether a line of it begins
+-- with `no` or `bad`
+pub record IsAnswered (output : List ℕ → List (List ℕ) → List (List ℕ)) (bytes : List ℕ)
+    (left_after before after : Option (List ℕ)) (refused : Bool) : Type 0 where
+  pub starved : List ℕ
+  pub consumed : Consumes (Some bytes) left_after bytes
+  pub written : Appends before after (text_of (output starved (lines bytes)))
+  pub told : refused ≡ has_refusal (output starved (lines bytes))
+
+-- the writer took a front of the output for these bytes
+pub record IsAnsweredInPart (output : List ℕ → List (List ℕ) → List (List ℕ)) (bytes : List ℕ)
+    (before after : Option (List ℕ)) : Type 0 where
+  pub starved : List ℕ
+  pub written : WritesFront before after (text_of (output starved (lines bytes)))
+
+-- the writer took a front of the output for the bytes that were read
+pub record IsAnsweredSoFar (output : List ℕ → List (List ℕ) → List (List ℕ)) (bytes : List ℕ)
+    (left_after before after : Option (List ℕ)) : Type 0 where
+  pub read : List ℕ
+  pub consumed : Consumes (Some bytes) left_after read
+  pub answered : IsAnsweredInPart output read before after
+
+module _ (output : List ℕ → List (List ℕ) → List (List ℕ)) where
+  -- the same three where the reader tells what it has left
+  abbrev pub AnswersAll : Option (List ℕ) → Option (List ℕ) → Option (List ℕ) → Option (List ℕ) → Bool → Type 0
+  AnswersAll None left_after before after refused = ⊤
+  AnswersAll (Some bytes) left_after before after refused = IsAnswered output bytes left_after before after refused
+
+  abbrev pub AnswersFront : Option (List ℕ) → Option (List ℕ) → Option (List ℕ) → Type 0
+  AnswersFront None before after = ⊤
+  AnswersFront (Some bytes) before after = IsAnsweredInPart output bytes before after
+
+  abbrev pub AnswersRead : Option (List ℕ) → Option (List ℕ) → Option (List ℕ) → Option (List ℕ) → Type 0
+  AnswersRead None left_after before after = ⊤
+  AnswersRead (Some bytes) left_after before after = IsAnsweredSoFar output bytes left_after before after
+
+  -- a front was written where nothing was
+  pub AnswersFront-nothing : (left before : Option (List ℕ)) → AnswersFront left before before
+  AnswersFront-nothing None before = tt
+  AnswersFront-nothing (Some bytes) before =
+      record { starved = []; written = (text_of (output [] (lines bytes)), WritesAllBut-refl before _) }
+
+  pub AnswersRead-nothing : (left before : Option (List ℕ)) → AnswersRead left left before before
+  AnswersRead-nothing None before = tt
+  AnswersRead-nothing (Some bytes) before =
+      record { read = []; consumed = refl; answered = AnswersFront-nothing (Some []) before }
+
+-- the input's length, where it is known: at most 2^28 bytes on `Ok`, and more where `TooMuch` is answered
+abbrev pub KeepsLimit : Option (List ℕ) → Result Bool LineFault → Type 0
+KeepsLimit None result = ⊤
+KeepsLimit (Some bytes) (Ok _) = length bytes ≤ INPUT_LIMIT
+KeepsLimit (Some bytes) (Err TooMuch) = INPUT_LIMIT < length bytes
+KeepsLimit (Some bytes) (Err _) = ⊤
+
+-- a call of the reader failed exactly where `Read` is answered
+abbrev pub CountsReads : {T : Type 0} → ℕ → ℕ → Result T LineFault → Type 0
+CountsReads old new (Ok _) = new ≡ old
+CountsReads old new (Err Read) = new ≡ next_count old
+CountsReads old new (Err _) = new ≡ old
+
+-- a call of the writer failed exactly where `Write` is answered
+abbrev pub CountsWrites : {T : Type 0} → ℕ → ℕ → Result T LineFault → Type 0
+CountsWrites old new (Ok _) = new ≡ old
+CountsWrites old new (Err Write) = new ≡ next_count old
+CountsWrites old new (Err _) = new ≡ old

@@ -1,0 +1,169 @@
+// The one loop that reads the lines of an input, has each answered, and writes the answers.
+ghost use Rattle.std.specs.Prelude.{◌≡◌, [], ◌++◌, IfOk, OnOk, OnErr};
+ghost use Rattle.std.specs.Io.KnownBytes.{Appends};
+ghost use Rattle.text_lines.specs.Calls.{CountsFailure};
+ghost use Rattle.text_lines.specs.Line.{text_of};
+ghost use Rattle.text_lines.specs.Progress.{IsTurn, IsTurnPut, AreTurns, AreTurnsInPart, ReadsAll, ReadsPart};
+ghost use Rattle.text_lines.specs.Promise.{AnswersAll, AnswersFront, AnswersRead, KeepsLimit, CountsReads, CountsWrites};
+ghost use Rattle.text_lines.specs.Turns.{Turns, TurnsByKept, EndsWithoutRefusal, output_of};
+ghost use Rattle.text_lines.specs.Writing.{WritesAllBut, WritesFront};
+
+use super::ahead::{INPUT_LIMIT, InFault, NextLine, ReadAhead};
+use super::byte_in::{ByteIn, CallFailed};
+use super::byte_out::ByteOut;
+use super::held_line::HeldLine;
+use super::text_line::TextLine;
+use super::write_behind::WriteBehind;
+use thiserror::Error;
+
+/// Why a text of lines was not answered to its end.
+#[derive(Clone, Copy, Debug, PartialEq, Eq, Error)]
+pub enum LineFault {
+    /// A call of the reader failed.
+    #[error("the input could not be read")]
+    Read,
+    /// A call of the writer failed.
+    #[error("the output could not be written")]
+    Write,
+    /// The input has more than 268,435,456 bytes.
+    #[error("the input has more than 268435456 bytes")]
+    TooMuch,
+}
+
+/// One who answers lines in turn, each by some lines or by none, and has the last word.
+pub trait LineAnswerer {
+    // What the answers hang on.
+    ghost State: { Type 0 };
+
+    // The answer to each line, and what stands after it.
+    ghost turns: { Turns State };
+
+    // Whether this stands now.
+    ghost Stands: { Self → State → Type 0 };
+
+    /// Makes an empty `text` the lines that answer line `number`, each with its end, and says whether one of them
+    /// begins with `no` or `bad`. The line comes without its end, as far as it is kept.
+    fn answer(&mut self, number: u64, line: &[u8], text: &mut TextLine) -> bool
+        requires { text.old ≡ [] }
+        ensures { IsTurn turns (Stands self.old) (Stands self.new) number line.now text.new result };
+
+    /// Puts the lines that follow the last answer.
+    fn end<W: ByteOut>(self, output: &mut WriteBehind, writer: &mut W) -> Result<(), CallFailed>
+        ensures ok { OnOk result ((s : State) → Stands self s → WritesAllBut (W.taken writer.old) (W.taken writer.new)
+            (output.old ++ text_of (turns.ending s)) output.new) }
+        ensures err { OnErr result ((s : State) → Stands self s → WritesFront (W.taken writer.old) (W.taken writer.new)
+            (output.old ++ text_of (turns.ending s))) }
+        ensures failed { CountsFailure (W.failed_calls writer.old) (W.failed_calls writer.new) result };
+
+    // What is kept of a line does what the line does.
+    ghost by_kept: { TurnsByKept turns };
+
+    // No line after the last answer begins with `no` or `bad`.
+    ghost no_refusal_at_the_end: { EndsWithoutRefusal turns };
+}
+
+/// Answers each line of the input, and writes what follows the last answer. It says whether a line of the output
+/// begins with `no` or `bad`. After an Err a front of the output was written.
+pub fn answer_text<T: LineAnswerer + Drop, R: ByteIn, W: ByteOut>(
+    mut answerer: T,
+    reader: &mut R,
+    writer: &mut W,
+) -> Result<bool, LineFault>
+    ensures ok { IfOk result (λ refused. (s : T.State) → T.Stands answerer s → AnswersAll (output_of T.turns s)
+        (R.left reader.old) (R.left reader.new) (W.taken writer.old) (W.taken writer.new) refused) }
+    ensures front { OnErr result ((s : T.State) → T.Stands answerer s → AnswersFront (output_of T.turns s)
+        (R.left reader.old) (W.taken writer.old) (W.taken writer.new)) }
+    ensures read_front { OnErr result ((s : T.State) → T.Stands answerer s → AnswersRead (output_of T.turns s)
+        (R.left reader.old) (R.left reader.new) (W.taken writer.old) (W.taken writer.new)) }
+    ensures limit { KeepsLimit (R.left reader.old) result }
+    ensures read { CountsReads (R.failed_calls reader.old) (R.failed_calls reader.new) result }
+    ensures write { CountsWrites (W.failed_calls writer.old) (W.failed_calls writer.new) result }
+{
+    let mut output = WriteBehind::new();
+    let refused = match answer_lines(&mut answerer, reader, &mut output, writer) {
+        Err(fault) => return Err(fault),
+        Ok(refused) => refused,
+    };
+    match end_text(answerer, &mut output, writer) {
+        Err(_) => Err(LineFault::Write),
+        Ok(()) => Ok(refused),
+    }
+}
+
+/// Answers each line of the input, and says whether an answer begins with `no` or `bad`. A line has at least one byte,
+/// its end counted, so there are no more lines than the count goes up to.
+fn answer_lines<T: LineAnswerer, R: ByteIn, W: ByteOut>(
+    answerer: &mut T,
+    reader: &mut R,
+    output: &mut WriteBehind,
+    writer: &mut W,
+) -> Result<bool, LineFault>
+    requires { output.old ≡ [] }
+    ensures ok { IfOk result (λ refused. ReadsAll (R.left reader.old) (R.left reader.new) (AreTurns T.turns
+        (T.Stands answerer.old) (T.Stands answerer.new) refused (W.taken writer.old) (W.taken writer.new) output.new)) }
+    ensures part { OnErr result (ReadsPart (R.left reader.old) (R.left reader.new) (AreTurnsInPart T.turns (T.Stands answerer.old)
+        (W.taken writer.old) (W.taken writer.new))) }
+    ensures limit { KeepsLimit (R.left reader.old) result }
+    ensures read { CountsReads (R.failed_calls reader.old) (R.failed_calls reader.new) result }
+    ensures write { CountsWrites (W.failed_calls writer.old) (W.failed_calls writer.new) result }
+{
+    let mut input = ReadAhead::new();
+    let mut line = HeldLine::new();
+    let mut refused = false;
+    for number in 1..INPUT_LIMIT + 2 {
+        let found = match input.next_line(reader, &mut line) {
+            Err(InFault::Read) => return Err(LineFault::Read),
+            Err(InFault::TooMuch) => return Err(LineFault::TooMuch),
+            Ok(found) => found,
+        };
+        if let NextLine::End = found {
+            return Ok(refused);
+        }
+        match answer_line(answerer, number, line.as_slice(), output, writer) {
+            Err(_) => return Err(LineFault::Write),
+            Ok(is_refusal) => refused |= is_refusal,
+        }
+        if let NextLine::Last = found {
+            return Ok(refused);
+        }
+    }
+    Err(LineFault::TooMuch)
+}
+
+/// Answers line `number`, and says whether the answer begins with `no` or `bad`.
+fn answer_line<T: LineAnswerer, W: ByteOut>(
+    answerer: &mut T,
+    number: u64,
+    line: &[u8],
+    output: &mut WriteBehind,
+    writer: &mut W,
+) -> Result<bool, CallFailed>
+    ensures line { IsTurnPut T.turns (T.Stands answerer.old) (T.Stands answerer.new) number line.now output.old output.new
+        (W.taken writer.old) (W.taken writer.new) result }
+    ensures failed { CountsFailure (W.failed_calls writer.old) (W.failed_calls writer.new) result }
+{
+    let mut text = TextLine::new();
+    let is_refusal = answerer.answer(number, line, &mut text);
+    match output.put(writer, text.as_slice()) {
+        Err(failed) => Err(failed),
+        Ok(()) => Ok(is_refusal),
+    }
+}
+
+/// Writes what follows the last answer, and with it all that was gathered.
+fn end_text<T: LineAnswerer, W: ByteOut>(
+    answerer: T,
+    output: &mut WriteBehind,
+    writer: &mut W,
+) -> Result<(), CallFailed>
+    ensures ok { OnOk result ((s : T.State) → T.Stands answerer s → Appends (W.taken writer.old) (W.taken writer.new)
+        (output.old ++ text_of (T.turns.ending s))) }
+    ensures err { OnErr result ((s : T.State) → T.Stands answerer s → WritesFront (W.taken writer.old) (W.taken writer.new)
+        (output.old ++ text_of (T.turns.ending s))) }
+    ensures failed { CountsFailure (W.failed_calls writer.old) (W.failed_calls writer.new) result }
+{
+    match answerer.end(output, writer) {
+        Err(failed) => Err(failed),
+        Ok(()) => output.flush(writer),
+    }
+}
