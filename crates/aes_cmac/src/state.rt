@@ -7,6 +7,7 @@ ghost use Rattle.aes_cmac.specs.Progress.{HasTaken};
 
 use crate::cipher::encrypt;
 use crate::keys::Key;
+use std::fmt;
 use std::marker::Model;
 
 const BLOCK_LEN: usize = 16;
@@ -36,7 +37,7 @@ fn block_from(bytes: &[u8], at: usize) -> [u8; 16]
 
 /// A message under a key, taken in by pieces: `new`, an `update` for each piece, and `finish`.
 /// No call needs memory.
-#[derive(Debug, Drop)]
+#[derive(Drop)]
 pub struct Cmac<'a> {
     key: &'a Key,
     // X after the blocks that were added.
@@ -55,6 +56,13 @@ impl<'a> Model for Cmac<'a> {
     ghost view = { λ s. record { key = s.key.now; chain = s.chain; tail = take s.held s.buffer } };
 
     ghost invariant = { λ s. s.held ≤ 16 };
+}
+
+/// Shows no byte of the key, nor of what was made of it.
+impl<'a> fmt::Debug for Cmac<'a> {
+    fn fmt<W: fmt::Write>(&self, f: &mut fmt::Formatter<W>) -> fmt::Result {
+        f.write_str("Cmac { .. }")
+    }
 }
 
 impl<'a> Cmac<'a> {

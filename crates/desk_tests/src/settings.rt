@@ -90,3 +90,13 @@ fn the_first_fault_of_the_devices_is_named(rt: HostRuntime) -> Result<(), Fail> 
     }
     Ok(())
 }
+
+#[test]
+fn a_device_is_shown_without_its_keys(rt: HostRuntime) -> Result<(), Fail> {
+    let shown = format!(in rt.alloc(); "{DEVICE:?}")?;
+    assert!(rt; shown.as_str().starts_with("DeviceSetting { addr: "));
+    assert!(rt; shown.as_str().ends_with(", .. }"));
+    assert!(rt; !shown.as_str().contains("nwk"));
+    assert!(rt; !shown.as_str().contains("["));
+    Ok(())
+}

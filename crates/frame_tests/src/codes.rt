@@ -1,6 +1,7 @@
 // Vectors of FIPS 197 (appendices B and C.1) and of RFC 4493 (section 4).
 
 use aes_cmac::{Cmac, Key, cmac, encrypt};
+use std::test::Fail;
 
 const KEY: [u8; 16] = [
     0x2b, 0x7e, 0x15, 0x16, 0x28, 0xae, 0xd2, 0xa6, 0xab, 0xf7, 0x15, 0x88, 0x09, 0xcf, 0x4f, 0x3c,
@@ -112,4 +113,14 @@ fn codes_of_pieces(rt: HostRuntime) {
         state.update(&[*byte]);
     }
     assert!(rt; state.finish() == CODE_OF_64);
+}
+
+#[test]
+fn keys_are_not_shown(rt: HostRuntime) -> Result<(), Fail> {
+    let key = Key::new(KEY);
+    let mut state = Cmac::new(&key);
+    state.update(&MESSAGE);
+    let shown = format!(in rt.alloc(); "{key:?} {state:?}")?;
+    assert!(rt; shown.as_str() == "Key { .. } Cmac { .. }");
+    Ok(())
 }

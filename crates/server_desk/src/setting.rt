@@ -1,6 +1,7 @@
 // What is set for one gateway and for one device.
 
 use radio_airtime::DataRate;
+use std::fmt;
 
 /// One gateway, as it is set.
 #[derive(Clone, Copy, Debug, PartialEq, Eq)]
@@ -12,7 +13,7 @@ pub struct GatewaySetting {
 }
 
 /// One device with its session (LoRaWAN L2 1.0.4, Class A), as it is set.
-#[derive(Clone, Copy, Debug, PartialEq, Eq)]
+#[derive(Clone, Copy, PartialEq, Eq)]
 pub struct DeviceSetting {
     /// DevAddr.
     pub addr: u32,
@@ -32,4 +33,19 @@ pub struct DeviceSetting {
     pub up: Option<u32>,
     /// The next downlink counter, 0 to 2^32; at 2^32 all are spent.
     pub down: u64,
+}
+
+/// Shows all but the keys.
+impl fmt::Debug for DeviceSetting {
+    fn fmt<W: fmt::Write>(&self, f: &mut fmt::Formatter<W>) -> fmt::Result {
+        f.debug_struct("DeviceSetting")
+            .field("addr", &self.addr)
+            .field("delay", &self.delay)
+            .field("offset", &self.offset)
+            .field("rx2_freq", &self.rx2_freq)
+            .field("rx2_rate", &self.rx2_rate)
+            .field("up", &self.up)
+            .field("down", &self.down)
+            .finish_non_exhaustive()
+    }
 }
