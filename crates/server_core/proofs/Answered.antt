@@ -1,18 +1,19 @@
 -- An uplink is answered: a ticket is taken, tried and settled.
-use Rattle.server_core.proofs.Words.{ap, append-nil, arith, inl, inr, subst, sym, ◌∙◌, set-set, option_map_or, Bool, Contains}
-use Rattle.server_core.proofs.Words.{Err, IsOkUnless, IsTrue, List, MatchResult, None, Ok, Option, Result, Some, [], false}
-use Rattle.server_core.proofs.Words.{if◌then◌else◌, refl, slice_set, true, ℕ, ◌-◌, ◌∷◌, ◌≡◌, ◌≢◌, ◌⊎◌, Gathering, numbered}
-use Rattle.server_core.proofs.Words.{rewritten, HeardCopy, Standing, Answer, Open, Waiting, is_given, DeskView, desk_settled}
-use Rattle.server_core.proofs.Words.{desk_take, desk_taken, numbered-here, numbered_cases, rewritten-found, Device, Register}
-use Rattle.server_core.proofs.Words.{delivered, has_carried, sent_of, job_of, taken_from, take_answer, World, known, Asked, Known}
-use Rattle.server_core.proofs.Words.{Done, TakeFault, not_taken, answer_steps, given_steps, AreBooksOf, AreHeard, AreHere, IsAt}
-use Rattle.server_core.proofs.Words.{IsIdle, IsReady, Makes, Moves, Seen, ids_of, is_among, with_lines, with_step, After, Step}
-use Rattle.server_core.proofs.Words.{Take, take_by, run_from, step, IsAnswered, IsGivenTo, Line}
+use Rattle.server_core.proofs.Words.{ap, append-nil, arith, subst, sym, ◌∙◌, set-set, option_map_or, Bool, Contains, Err}
+use Rattle.server_core.proofs.Words.{IsOkUnless, IsTrue, List, MatchResult, None, Ok, Option, Result, Some, [], false}
+use Rattle.server_core.proofs.Words.{if◌then◌else◌, refl, slice_set, true, ℕ, ◌-◌, ◌∷◌, ◌≡◌, ◌≢◌, Gathering, numbered, rewritten}
+use Rattle.server_core.proofs.Words.{HeardCopy, Standing, Answer, Open, Waiting, is_given, DeskView, desk_settled, desk_take}
+use Rattle.server_core.proofs.Words.{desk_taken, numbered-here, rewritten-found, Device, Register, delivered, has_carried}
+use Rattle.server_core.proofs.Words.{sent_of, job_of, taken_from, take_answer, World, known, Asked, Known, Done, TakeFault}
+use Rattle.server_core.proofs.Words.{not_taken, answer_steps, given_steps, AreBooksOf, AreHeard, AreHere, IsAt, IsIdle, IsReady}
+use Rattle.server_core.proofs.Words.{Makes, Moves, Seen, ids_of, is_among, with_lines, with_step, After, Step, Take, take_by}
+use Rattle.server_core.proofs.Words.{run_from, step, IsAnswered, IsGivenTo, Line}
 use Rattle.server_desk.specs.declared.answers.Known.TheVariants.{Given}
 use Rattle.server_core.specs.declared.event.Step.TheVariants as made
 use Rattle.server_core.specs.Steps as replies
 use Rattle.server_core.proofs.Tickets.{IsTicket, ticket, still_waits, job_window}
 use Rattle.server_core.proofs.DeskSteps.{desk_calls_are_steps}
+use Rattle.server_core.proofs.Ready.{all_rewritten}
 use Rattle.server_core.proofs.Going.{one_step, moves_on}
 
 -- the desk's part after a ticket was taken and settled
@@ -39,18 +40,14 @@ rewritten_twice known n k a b e =
 idle_settled : (known : List Known) (n : ℕ) (k done : Known) → IsIdle known → numbered n known ≡ Some k → is_given done ≡ false
     → IsIdle (rewritten (λ x. done) n (rewritten (λ x. Given) n known))
 idle_settled known n k done idle e d =
-    subst IsIdle (sym (rewritten_twice known n k Given done e)) (λ m z f. by m z (numbered_cases (λ x. done) n m known k z e f))
-  where
-    by : (m : ℕ) (z : Known) → ((n ≡ m) × (z ≡ done)) ⊎ (numbered m known ≡ Some z) → is_given z ≡ false
-    by m z (inl g) = ap is_given g.1 ∙ d
-    by m z (inr g) = idle m z g
+    rw (rewritten_twice known n k Given done e) (all_rewritten (λ x. is_given x ≡ false) known idle (λ x. done) n (λ x q. d))
 
 -- each candidate of an uplink's job is on a gateway that heard it
 copies_heard : (ids : List ℕ) (l : List Gathering) (n : ℕ) (o : Option Gathering) → numbered n l ≡ o → AreHeard ids l
     → (copy : HeardCopy) → Contains (option_map_or (λ g. g.copies) o []) copy
     → IsTrue (is_among ids copy.gateway)
 copies_heard ids l n None e h copy k = absurd (omega (arith, k.1))
-copies_heard ids l n (Some g) e h copy k = h n g copy e k
+copies_heard ids l n (Some g) e h copy k = h n g e copy k
 
 job_here : (ids : List ℕ) (reg : Register) (n : ℕ) (asked : Asked) (device : Device) → AreHeard ids reg.gathered.list
     → AreHere ids (job_of reg n asked device)

@@ -38,7 +38,7 @@ server_opened settings s d b t o are =
       at = record { desk = d; books = opened_books s.books settings.gateways b };
       ready = rw d (record {
         books = ids_are s.books ∙ ap (map (λ (g : Gateway). g.id)) b;
-        heard = λ n g c e k. absurd (none_of n g e);
+        heard = λ n g e c k. absurd (none_of n g e);
         idle = λ n k e. absurd (none_of n k e);
       });
       steps = t;

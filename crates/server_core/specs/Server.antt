@@ -94,9 +94,11 @@ abbrev pub is_among : List ℕ → ℕ → Bool
 is_among ids gateway = list_any (λ id. id == gateway) ids
 
 -- each copy was heard by a gateway with one of these ids
+abbrev pub HasHeard : List ℕ → Gathering → Type 0
+HasHeard ids g = (c : HeardCopy) → Contains g.copies c → IsTrue (is_among ids c.gateway)
+
 abbrev pub AreHeard : List ℕ → List Gathering → Type 0
-AreHeard ids l =
-    (n : ℕ) (g : Gathering) (c : HeardCopy) → numbered n l ≡ Some g → Contains g.copies c → IsTrue (is_among ids c.gateway)
+AreHeard ids l = (n : ℕ) (g : Gathering) → numbered n l ≡ Some g → HasHeard ids g
 
 -- each candidate of the job is on a gateway with one of these ids
 abbrev pub AreHere : List ℕ → Job → Type 0
