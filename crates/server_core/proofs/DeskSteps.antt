@@ -1,7 +1,7 @@
 -- The calls of the desk are the world's steps on its part.
 use Rattle.server_core.proofs.Words.{ap, sym, ◌∙◌, map-append, option_and_then, option_map, option_map_or, Err, List, None, Ok}
-use Rattle.server_core.proofs.Words.{Option, Result, Some, [], false, map, refl, slice_get, slice_set, true, ℕ, ◌+◌, ◌∷◌, ◌≡◌}
-use Rattle.server_core.proofs.Words.{State, book_step, cancel_step, tick_step, Refusal, numbered, Candidate, Job, ask_for}
+use Rattle.server_core.proofs.Words.{Option, Result, Some, [], false, is_some, map, refl, slice_get, slice_set, true, ℕ, ◌+◌, ◌∷◌}
+use Rattle.server_core.proofs.Words.{◌≡◌, State, book_step, cancel_step, tick_step, Refusal, numbered, Candidate, Job, ask_for}
 use Rattle.server_core.proofs.Words.{candidate_at, Ending, answer_airtime, answered_at, answered_in, known_airtime, Answer}
 use Rattle.server_core.proofs.Words.{Booked, Open, Out, Settled, Waiting, is_given, known_of, desk_of, desk_settled, desk_taken}
 use Rattle.server_core.proofs.Words.{known_after, Decision, Join, Refuse, register_after, decide, map-rewritten, numbered-map}
@@ -47,37 +47,21 @@ settle_desk w n ending e =
     (λ answer x q g f. rw (some_inj (sym e ∙ f)) (settle_as_desk w n x))
 
 -- an answer is known to be out exactly where it would end somehow
-out_known : (answer : Answer) (ending : Ending) → ending_of answer ≡ Some ending → is_given (known_of answer) ≡ true
-out_known Waiting ending e = absurd (cc)
-out_known (Open k job) ending e = refl
-out_known (Booked sent window carried) ending e = refl
-out_known (Out refusal) ending e = refl
-out_known (Settled sent) ending e = absurd (cc)
-
-in_known : (answer : Answer) → ending_of answer ≡ None → is_given (known_of answer) ≡ false
-in_known Waiting e = refl
-in_known (Open k job) e = absurd (cc)
-in_known (Booked sent window carried) e = absurd (cc)
-in_known (Out refusal) e = absurd (cc)
-in_known (Settled sent) e = refl
-
-given_by : (o : Option Answer) (ending : Ending) → option_and_then ending_of o ≡ Some ending
-    → option_map_or is_given (option_map known_of o) false ≡ true
-given_by None ending e = absurd (cc)
-given_by (Some answer) ending e = out_known answer ending e
-
-not_given_by : (o : Option Answer) → option_and_then ending_of o ≡ None
-    → option_map_or is_given (option_map known_of o) false ≡ false
-not_given_by None e = refl
-not_given_by (Some answer) e = in_known answer e
+known_out : (o : Option Answer) → option_map_or is_given (option_map known_of o) false ≡ is_some (option_and_then ending_of o)
+known_out None = refl
+known_out (Some Waiting) = refl
+known_out (Some (Open k job)) = refl
+known_out (Some (Booked sent window carried)) = refl
+known_out (Some (Out refusal)) = refl
+known_out (Some (Settled sent)) = refl
 
 -- what is out and on a gateway of the settings may be settled
 may : (w : World) (n : ℕ) (ending : Ending) → told w n ≡ Some ending → is_here (ids w) ending ≡ true
     → may_settle (ids w) (known w) n ending ≡ true
-may w n ending e h = rw (numbered-map known_of n w.answers, given_by (numbered n w.answers) ending e) h
+may w n ending e h = rw (numbered-map known_of n w.answers, known_out (numbered n w.answers), e) h
 
 may_not : (w : World) (n : ℕ) (ending : Ending) → told w n ≡ None → may_settle (ids w) (known w) n ending ≡ false
-may_not w n ending e = rw (numbered-map known_of n w.answers, not_given_by (numbered n w.answers) e) refl
+may_not w n ending e = rw (numbered-map known_of n w.answers, known_out (numbered n w.answers), e) refl
 
 -- a gateway's state alone changes
 same_ids : (w : World) (i : ℕ) (g : Gateway) (s : State) → slice_get w.gateways i ≡ Some g

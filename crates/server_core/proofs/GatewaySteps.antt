@@ -3,31 +3,26 @@ use Rattle.server_core.proofs.Words.{arith, inl, inr, subst, sym, ◌∙◌, Boo
 use Rattle.server_core.proofs.Words.{find, if◌then◌else◌, nat_le, not, refl, slice_get, true, ℕ, ◌+◌, ◌≡◌, ◌⊎◌, IsByStart}
 use Rattle.server_core.proofs.Words.{airtime_us, member_from, place, start_of, without, Reservation, IsAsked, refusal_of}
 use Rattle.server_core.proofs.Words.{accepted, book_step-accepted, named_found, named_none, net_named, net-place, may_join}
-use Rattle.server_core.proofs.Words.{orderly_filter, orderly_placed, State, after_cancel, book_step, cancel_answer, found_or}
+use Rattle.server_core.proofs.Words.{orderly_filter, orderly_placed, after_cancel, book_step, cancel_answer, found_or}
 use Rattle.server_core.proofs.Words.{is_fit-IsFit, is_named, tick_step, without_named, Ask, CancelFault, Begun, Refusal, numbered}
 use Rattle.server_core.proofs.Words.{Candidate, Job, ask_for, candidate_at, Answer, Booked, Open, Out, numbered-here}
 use Rattle.server_core.proofs.Words.{SettingLists, Gateway, World, cancel, refused, sent_by, terms, tick, tried_by, try}
-use Rattle.server_core.proofs.Walks.{tick_walk, cancel_walk, try_walk}
+use Rattle.server_core.proofs.Walks.{by_option, tick_walk, cancel_walk, try_walk}
 use Rattle.server_core.proofs.Holds.{IsInOrder, Holds, IsGoodStep, unchanged, AllStand, IsGood, IsJobAt, Stands, both_good}
 use Rattle.server_core.proofs.Written.{gateway_written, with_gateway, with_answer, answer_written}
 use Rattle.server_core.proofs.Members.{filter_member, IsIn, place_member}
 
 -- Time passes for a gateway.
 
-abbrev ticked : Gateway → ℕ → Gateway
-ticked g now = record g { state = tick_step g.state now }
-
--- the list stays
-ticked_in_order : (g : Gateway) (now : ℕ) → IsInOrder g → IsInOrder (ticked g now)
-ticked_in_order g now o =
-    record { orderly = o.orderly; balanced = o.balanced }
-
 pub tick_good : (settings : SettingLists) (T : Job → Type 0) (w : World) → Holds settings T w → (id now : ℕ)
     → IsGoodStep settings T w (tick w id now)
 tick_good settings T w h id now =
     tick_walk w (IsGoodStep settings T w) id now (record { good = unchanged w h; used = tt })
-    (λ i g e. record {
-      good = gateway_written settings T w h i g (ticked g now) e refl (ticked_in_order g now (h.in_order i g e)) (h.stands i g e);
+    (λ i g e.
+    let o = h.in_order i g e in
+    record {
+      good = gateway_written settings T w h i g (record g { state = tick_step g.state now }) e refl
+          (record { orderly = o.orderly; balanced = o.balanced }) (h.stands i g e);
       used = tt;
     })
 
@@ -41,12 +36,9 @@ module _ (number start : ℕ) (l : List Reservation) (r : Reservation) (o : IsBy
   named_by m true e i = sym (named_found number start l m true e o i).1
   named_by m false e i = absurd (cc (f, (named_found number start l m false e o i).0))
 
-  same_by : (p : Option Reservation) → member_from start l ≡ p → without start l ≡ without_named l number start
-  same_by None e = absurd (cc (f, named_none number start l e))
-  same_by (Some m) e = named_by m (is_named number start m) refl e
-
   same_without : without start l ≡ without_named l number start
-  same_without = same_by (member_from start l) refl
+  same_without = by_option (λ p. without start l ≡ without_named l number start) (member_from start l)
+      (λ e. absurd (cc (f, named_none number start l e))) (λ m e. named_by m (is_named number start m) refl e)
 
 was_found : (o : Option Reservation) (t : Bool) (r : Reservation) → (if t then Err Begun else found_or o) ≡ Ok r → o ≡ Some r
 was_found None true r e = absurd (cc)
@@ -119,12 +111,9 @@ module _ (g : Gateway) (ask : Ask) (e : refusal_of (terms g) g.state.list ask �
 
   pub booked_in_order : IsInOrder g → (b : IsBooked g ask) → IsInOrder (record g { state = book_step g.rules g.state ask })
   booked_in_order o b =
-      let r = b.made in
-      let P : State → Type 0 = λ s. IsInOrder (record g { state = s }) in
-      subst P (sym b.state)
-      (record {
-        orderly = orderly_placed g.state.list r o.orderly (may_join (terms g) g.state.list ask r b.asked e);
-        balanced = omega (arith, net-place r g.state.list, o.balanced);
+      rw b.state (record {
+        orderly = orderly_placed g.state.list b.made o.orderly (may_join (terms g) g.state.list ask b.made b.asked e);
+        balanced = omega (arith, net-place b.made g.state.list, o.balanced);
       })
 
 -- A gateway is asked for the candidate at which an answer stands.
@@ -184,9 +173,7 @@ module _ (settings : SettingLists) (T : Job → Type 0) (w : World) (h : Holds s
 
       booked_stand : AllStand settings T w.reg.gathered.list asked.answers
           (record g { state = book_step g.rules g.state (ask_for job c) })
-      booked_stand =
-          let P : State → Type 0 = λ s. AllStand settings T w.reg.gathered.list asked.answers (record g { state = s }) in
-          subst P (sym b.state) (λ m r e. member_by r (place_member start_of b.made g.state.list m r e))
+      booked_stand = rw b.state (λ m r e. member_by r (place_member start_of b.made g.state.list m r e))
 
     tried_good : (o : Option Refusal) → refusal_of (terms g) g.state.list (ask_for job c) ≡ o
         → IsGoodStep settings T w (tried_by w n k job c (i, g) o)

@@ -1,14 +1,12 @@
 -- A payload is queued, a copy is heard, time passes for the gatherings, an answer is settled: what holds of the world holds then.
-use Rattle.server_core.proofs.Words.{ap, arith, subst, sym, ◌∙◌, Contains-append_left, Bool, Contains, Err, List, None, Ok}
-use Rattle.server_core.proofs.Words.{Option, Result, Some, [], false, if◌then◌else◌, length, refl, slice_get, true, ℕ, ◌++◌, ◌+◌}
-use Rattle.server_core.proofs.Words.{◌==◌, ◌∷◌, ◌≡◌, addr_of, Gathering, Gatherings, is_open_at, numbered, rewritten, answer_at}
-use Rattle.server_core.proofs.Words.{hear_step, is_crowded, place_of, with_copy, Opened, Place, Joins, Opens, HearFault, Crowded}
-use Rattle.server_core.proofs.Words.{HeardCopy, Job, Payload, Ending, Answer, Booked, Open, Out, Settled, Waiting, IsDecided}
-use Rattle.server_core.proofs.Words.{decided, found_there, Decision, Join, Opening, Refuse, asked_by, copy_of, decide}
-use Rattle.server_core.proofs.Words.{length-rewritten, closing, pass_answer, some_inj, after_queueing, queue_answer, with_payload}
-use Rattle.server_core.proofs.Words.{Device, Register, device_with, SettingLists, after_settling, delivered, has_carried}
-use Rattle.server_core.proofs.Words.{head_taken, sent_of, without_head, World, ids, Asked, Sent, QueueFault, Heard1, ending_of}
-use Rattle.server_core.proofs.Words.{hear, hear_by, pass, queue, sent_for, settle}
+use Rattle.server_core.proofs.Words.{arith, sym, Contains-append_left, Bool, Contains, Err, List, None, Ok, Option, Result, Some}
+use Rattle.server_core.proofs.Words.{[], false, if◌then◌else◌, refl, slice_get, true, ℕ, ◌++◌, ◌==◌, ◌∷◌, ◌≡◌, addr_of, Gathering}
+use Rattle.server_core.proofs.Words.{is_open_at, numbered, rewritten, place_of, with_copy, Joins, HeardCopy, Job, Payload, Ending}
+use Rattle.server_core.proofs.Words.{Answer, Booked, Open, Out, Settled, Waiting, IsDecided, decided, found_there, Decision, Join}
+use Rattle.server_core.proofs.Words.{Opening, Refuse, asked_by, copy_of, decide, length-rewritten, closing, pass_answer, some_inj}
+use Rattle.server_core.proofs.Words.{after_queueing, queue_answer, with_payload, Device, Register, device_with, SettingLists}
+use Rattle.server_core.proofs.Words.{after_settling, delivered, has_carried, head_taken, sent_of, without_head, World, ids, Asked}
+use Rattle.server_core.proofs.Words.{Sent, QueueFault, Heard1, ending_of, hear, hear_by, pass, queue, sent_for, settle}
 use Rattle.uplink_gather.specs.Hearing as gathers
 use Rattle.server_desk.specs.Hearing as hearing
 use Rattle.server_core.proofs.Walks.{settle_walk}
@@ -59,22 +57,6 @@ module _ (settings : SettingLists) (T : Job → Type 0) (w : World) (h : Holds s
 
 -- A copy of an uplink is heard.
 
--- what the gatherings are then
-joined : (s : Gatherings) (bytes : List ℕ) (copy : HeardCopy) (arrived n : ℕ)
-    → place_of s bytes copy.gateway arrived ≡ Ok (Joins n)
-    → record s { list = rewritten (with_copy copy) n s.list } ≡ hear_step s bytes copy arrived
-joined s bytes copy arrived n p = sym (ap (λ (r : Result Place HearFault). gathers.after_hearing
-    (answer_at s r) s bytes copy arrived) p)
-
-opened : (s : Gatherings) (bytes : List ℕ) (copy : HeardCopy) (arrived : ℕ) → place_of s bytes copy.gateway arrived ≡ Ok Opens
-    → is_crowded s ≡ false
-    → record s { list = s.list ++ gathers.opening bytes copy arrived ∷ [] } ≡ hear_step s bytes copy arrived
-opened s bytes copy arrived p c =
-    sym
-    (ap (λ (r : Result Place HearFault). gathers.after_hearing (answer_at s r) s bytes copy arrived) p
-    ∙ ap (λ (t : Bool). gathers.after_hearing (if t then Err Crowded else Ok (Opened (length s.list + 1))) s bytes copy arrived)
-    c)
-
 -- a gathering with one copy more
 more_copies : (copy : HeardCopy) (g : Gathering) (c : HeardCopy) → Contains g.copies c → Contains (g.copies ++ copy ∷ []) c
 more_copies copy g c k = Contains-append_left g.copies (copy ∷ []) c k
@@ -86,8 +68,7 @@ module _ (settings : SettingLists) (T : Job → Type 0) (w : World) (h : Holds s
   joined_good n p =
       let copy = copy_of heard in
       let l = rewritten (with_copy copy) n w.reg.gathered.list in
-      let P : Gatherings → Type 0 = λ s. IsGood settings T w (record w { reg = record (w.reg) { gathered = s } }) in
-      subst P (joined w.reg.gathered bytes copy arrived n p)
+      rw p
       (gathered_grown settings T w h l (sym (length-rewritten (with_copy copy) n w.reg.gathered.list))
       (Grow-rewritten (with_copy copy) (λ g. record { bytes = refl; copies = more_copies copy g }) n w.reg.gathered.list))
 
@@ -106,13 +87,7 @@ module _ (settings : SettingLists) (T : Job → Type 0) (w : World) (h : Holds s
         served = device_setting settings T w h o.place o.device there.0;
         its_own = equal_where_tested o.device.setting.addr (addr_of bytes) there.1;
       } in
-      let P : Gatherings → Type 0 = λ s.
-      IsGood settings T w
-      (record w {
-        reg = record { devices = v.reg.devices; gathered = s; asked = w.reg.asked ++ asked_by o bytes ∷ [] };
-        answers = w.answers ++ Waiting ∷ [];
-      }) in
-      subst P (opened w.reg.gathered bytes copy arrived d.0 d.1)
+      rw (d.0, d.1)
       (both_good first (uplink_gathered settings T v first.holds g (asked_by o bytes) own))
 
   heard_good : (d : Decision) → IsDecided w.reg bytes heard.gateway arrived d

@@ -1,9 +1,9 @@
 -- A ticket is given.
-use Rattle.server_core.proofs.Words.{ap, arith, inl, inr, subst, sym, true≢false, ◌∙◌, Err, Ok, Result, Some, refl, slice_get}
-use Rattle.server_core.proofs.Words.{true, ℕ, ◌≡◌, ◌≢◌, ◌≤◌, ◌⊎◌, numbered, Job, Open, Waiting, numbered-here, get_set_same}
-use Rattle.server_core.proofs.Words.{some_inj, Device, Register, AreSettings, SettingLists, after_taking, counter_given, job_of}
-use Rattle.server_core.proofs.Words.{taken_from, with_counter_given, take_answer, World, known, Asked, TakeFault, take, take_by}
-use Rattle.server_core.proofs.Tickets.{IsTicket, ticket, still_waits, job_window}
+use Rattle.server_core.proofs.Words.{arith, inl, inr, subst, sym, true≢false, ◌∙◌, Err, Ok, Result, Some, refl, slice_get, true}
+use Rattle.server_core.proofs.Words.{ℕ, ◌≡◌, ◌≢◌, ◌≤◌, ◌⊎◌, numbered, Job, Open, Waiting, numbered-here, get_set_same, some_inj}
+use Rattle.server_core.proofs.Words.{Device, AreSettings, SettingLists, job_of, with_counter_given, take_answer, World, known}
+use Rattle.server_core.proofs.Words.{Asked, TakeFault, take, take_by}
+use Rattle.server_core.proofs.Tickets.{ticket, still_waits, job_window}
 use Rattle.server_core.proofs.Holds.{IsJobAt, Holds, IsGivenAt, IsGood, IsGoodStep, IsNew, IsUsed, Holds-weaker, has_now}
 use Rattle.server_core.proofs.Holds.{unchanged, both_good}
 use Rattle.server_core.proofs.Served.{device_setting, one_device}
@@ -83,17 +83,8 @@ module _ (settings : SettingLists) (are : AreSettings settings.gateways settings
           counter = omega arith;
         }
 
-    same_reg : counted.reg ≡ after_taking (Ok job) n w.reg
-    same_reg =
-        sym
-        (ap (λ o. taken_from o w.reg) there
-        ∙ ap (λ o. record (w.reg) { devices = counter_given asked.device o w.reg.devices }) served)
-
-    abbrev IsGoodWith : Register → Type 0
-    IsGoodWith reg = IsGood settings T w (record given { reg = reg }) × (IsNew w job × IsUsed (record given { reg = reg }) job)
-
-    taken_good : IsGoodWith (after_taking (Ok job) n w.reg)
-    taken_good = subst IsGoodWith same_reg (given_good, (new, used))
+    taken_good : IsGood settings T w (take_by w n (Ok job)).0 × (IsNew w job × IsUsed (take_by w n (Ok job)).0 job)
+    taken_good = rw (there, served) (given_good, (new, used))
 
 module _ (settings : SettingLists) (are : AreSettings settings.gateways settings.devices) (T : Job → Type 0) (w : World)
     (h : Holds settings T w) (n : ℕ) where
@@ -108,14 +99,12 @@ module _ (settings : SettingLists) (are : AreSettings settings.gateways settings
       (inr refl) in
       record { good = all.0; used = all.1 }
 
-  ticket_by : (made : Job) → IsTicket w.reg (known w) n made → IsGoodStep settings T w (take_by w n (Ok made))
-  ticket_by made t =
-      subst (λ j. IsGoodStep settings T w (take_by w n (Ok j))) t.made
-      (given_step t.asked t.device t.there (still_waits w.answers n t.state t.stated t.waits) t.served)
-
   taken_by : (r : Result Job TakeFault) → take_answer w.reg (known w) n ≡ r → IsGoodStep settings T w (take_by w n r)
   taken_by (Err fault) e = record { good = unchanged w h; used = tt }
-  taken_by (Ok made) e = ticket_by made (ticket w.reg (known w) n made e)
+  taken_by (Ok made) e =
+      let t = ticket w.reg (known w) n made e in
+      subst (λ j. IsGoodStep settings T w (take_by w n (Ok j))) t.made
+      (given_step t.asked t.device t.there (still_waits w.answers n t.state t.stated t.waits) t.served)
 
   pub take_good : IsGoodStep settings T w (take w n)
   take_good = taken_by (take_answer w.reg (known w) n) refl

@@ -12,8 +12,8 @@ pub use Rattle.std.specs.List.{AllZip, position_from}
 pub use Rattle.std.specs.Option.{IsSomeAnd, option_and_then, option_map, option_map_or}
 pub use Rattle.std.specs.Prelude.{All, AllPairs, Bool, Contains, Err, IfOk, IsOkUnless, IsSome, IsTrue, List, MatchResult, None}
 pub use Rattle.std.specs.Prelude.{Ok, OnErr, OnOk, Option, Result, Some, [], cond, drop, false, filter, find, get_or}
-pub use Rattle.std.specs.Prelude.{if◌then◌else◌, length, map, max, nat_le, nat_lt, not, refl, slice_get, slice_set, suc, true}
-pub use Rattle.std.specs.Prelude.{zero, ℕ, ⊤, ◌&&◌, ◌++◌, ◌+◌, ◌-◌, ◌<◌, ◌==◌, ◌||◌, ◌∷◌, ◌≡◌, ◌≢◌, ◌≤◌, ◌⊎◌}
+pub use Rattle.std.specs.Prelude.{if◌then◌else◌, is_some, length, map, max, nat_le, nat_lt, not, refl, slice_get, slice_set, suc}
+pub use Rattle.std.specs.Prelude.{true, zero, ℕ, ⊤, ◌&&◌, ◌++◌, ◌+◌, ◌-◌, ◌<◌, ◌==◌, ◌||◌, ◌∷◌, ◌≡◌, ◌≢◌, ◌≤◌, ◌⊎◌}
 pub use Rattle.resv_list.specs.Reservations.{IsByStart, airtime_us, member_from, place, start_of, without}
 unfoldable pub use Rattle.resv_list.specs.Reservations.{net}
 pub use Rattle.resv_list.specs.Sorted.{RisesFrom, place_by}
@@ -40,12 +40,10 @@ pub use Rattle.lora_frame.specs.declared.reading.Uplink.{Uplink}
 pub use Rattle.uplink_gather.specs.Gatherings.{Gathering, Gatherings, close_step, copies_of, is_closed_at, is_due, is_open}
 pub use Rattle.uplink_gather.specs.Gatherings.{is_open_at, join_us, numbered, rewritten}
 unfoldable pub use Rattle.uplink_gather.specs.Gatherings.{due_of}
-pub use Rattle.uplink_gather.specs.Hearing.{answer_at, hear_answer, hear_step, is_crowded, place_of, with_copy}
+pub use Rattle.uplink_gather.specs.Hearing.{hear_answer, place_of, with_copy}
 pub use Rattle.uplink_gather.specs.declared.answers.Heard.TheVariants.{Joined, Opened}
-pub use Rattle.uplink_gather.specs.declared.answers.Place.{Place}
-pub use Rattle.uplink_gather.specs.declared.answers.Place.TheVariants.{Joins, Opens}
+pub use Rattle.uplink_gather.specs.declared.answers.Place.TheVariants.{Joins}
 pub use Rattle.uplink_gather.specs.declared.fault.HearFault.{HearFault}
-pub use Rattle.uplink_gather.specs.declared.fault.HearFault.TheVariants.{Crowded}
 pub use Rattle.uplink_gather.specs.declared.heard.HeardCopy.{HeardCopy}
 pub use Rattle.uplink_gather.specs.declared.limits.Limits.{Limits}
 pub use Rattle.rx_windows.specs.Laws.{IsWindowOf}
@@ -58,7 +56,7 @@ pub use Rattle.answer_ticket.specs.Job.{Job, Payload, ask_for, candidate_at, can
 pub use Rattle.answer_ticket.specs.Ticket.{Standing, candidate_of}
 pub use Rattle.answer_ticket.specs.Tried.{IsBooked, IsReceipt, IsWrong, next_of, refusal_by}
 pub use Rattle.answer_ticket.specs.declared.outcome.Ending.{Ending}
-pub use Rattle.answer_ticket.specs.declared.outcome.Ending.TheVariants.{Answered, GivenUp, Unanswered}
+pub use Rattle.answer_ticket.specs.declared.outcome.Ending.TheVariants.{Unanswered}
 pub use Rattle.answer_ticket.specs.declared.outcome.Outcome.{Outcome}
 pub use Rattle.answer_ticket.specs.declared.tried.Receipt.{Receipt}
 pub use Rattle.server_desk.specs.Airtime.{answer_airtime, answered_at, answered_in, known_airtime}
@@ -68,7 +66,7 @@ pub use Rattle.server_desk.specs.Desk.{DeskView, desk_hear, desk_of, desk_pass, 
 pub use Rattle.server_desk.specs.Desk.{known_after}
 pub use Rattle.server_desk.proofs.Found.{found_there}
 pub use Rattle.server_desk.specs.Hearing.{Decision, Join, Opening, Refuse, answer_to, asked_by, copy_fault, copy_of, decide_copy}
-pub use Rattle.server_desk.specs.Hearing.{decide_frame, decide_place, register_after}
+pub use Rattle.server_desk.specs.Hearing.{decide_frame, register_after}
 unfoldable pub use Rattle.server_desk.specs.Hearing.{decide}
 pub use Rattle.server_desk.proofs.Numbers.{length-rewritten, map-rewritten, numbered-append, numbered-append_cases, numbered-here}
 pub use Rattle.server_desk.proofs.Numbers.{numbered-map, numbered_after, numbered_cases, numbered_next, rewritten-found}
@@ -81,8 +79,8 @@ pub use Rattle.server_desk.specs.Register.{Device, Register, device_with, next_p
 pub use Rattle.server_desk.specs.Settings.{AreSettings, SettingLists}
 pub use Rattle.server_desk.specs.Settling.{after_settling, delivered, has_carried, head_taken, is_here, kept_by, may_settle}
 pub use Rattle.server_desk.specs.Settling.{sent_of, without_head}
-pub use Rattle.server_desk.specs.Taking.{after_taking, counter_given, given_or, job_of, plan_for, take_fault, take_known}
-pub use Rattle.server_desk.specs.Taking.{taken_from, with_counter_given}
+pub use Rattle.server_desk.specs.Taking.{after_taking, given_or, job_of, plan_for, take_fault, take_known, taken_from}
+pub use Rattle.server_desk.specs.Taking.{with_counter_given}
 unfoldable pub use Rattle.server_desk.specs.Taking.{take_answer}
 pub use Rattle.server_desk.specs.World.{Gateway, World, gateway_with, ids, known, opened_gateway, opening}
 pub use Rattle.server_desk.specs.declared.answers.Asked.{Asked}
