@@ -3,7 +3,7 @@ use Rattle.server_core.proofs.Words.{ap, sym, ◌∙◌, get_or_from_slice_get, 
 use Rattle.server_core.proofs.Words.{Option, Some, [], false, get_or, if◌then◌else◌, length, map, refl, slice_get, slice_set, suc}
 use Rattle.server_core.proofs.Words.{true, zero, ℕ, ◌<◌, ◌==◌, ◌||◌, ◌∷◌, ◌≡◌, Book, found_there, from_map, some_inj, next_place}
 use Rattle.server_core.proofs.Words.{Gateway, gateway_with, gateway_of, AreBooksOf, IsBookOf, ids_of, is_among}
-use Rattle.server_core.proofs.Served.{equal_where_tested}
+use Rattle.server_core.proofs.Members.{equal_where_tested}
 
 module _ {X Y : Type 0} (R : X → Y → Type 0) where
   pub zip_at : (xs : List X) (ys : List Y) (i : ℕ) (x : X) (y : Y) → AllZip R xs ys → slice_get xs i ≡ Some x

@@ -10,10 +10,10 @@ use Rattle.server_core.proofs.Words.{Sent, QueueFault, Heard1, ending_of, hear, 
 use Rattle.uplink_gather.specs.Hearing as gathers
 use Rattle.server_desk.specs.Hearing as hearing
 use Rattle.server_core.proofs.Walks.{settle_walk}
-use Rattle.server_core.proofs.Holds.{Holds, IsGood, IsGoodStep, unchanged, IsOfDevice, both_good}
-use Rattle.server_core.proofs.Written.{device_written, with_device, answer_written}
-use Rattle.server_core.proofs.Gathered.{Grow-rewritten, gathered_grown, uplink_gathered}
-use Rattle.server_core.proofs.Served.{equal_where_tested, device_setting}
+use Rattle.server_core.proofs.Holds.{Holds, IsGood, IsGoodStep, unchanged, IsOfDevice, both_good, device_setting}
+use Rattle.server_core.proofs.Written.{device_written, with_device, answer_written, Grow-rewritten, gathered_grown}
+use Rattle.server_core.proofs.Written.{uplink_gathered}
+use Rattle.server_core.proofs.Members.{equal_where_tested}
 
 -- A payload is queued.
 

@@ -1,7 +1,7 @@
 -- Members of lists that are filtered, sorted by a key, or of which no two share a key.
-use Rattle.server_core.proofs.Words.{ap, arith, inl, inr, sym, ◌∙◌, AllPairs, Bool, List, Some, [], cond, false, filter, nat_lt}
-use Rattle.server_core.proofs.Words.{refl, slice_get, suc, true, zero, ℕ, ◌+◌, ◌∷◌, ◌≡◌, ◌≢◌, ◌≤◌, ◌⊎◌, RisesFrom, place_by}
-use Rattle.server_core.proofs.Words.{AllPairs-head, AllPairs-tail, all_get, some_inj}
+use Rattle.server_core.proofs.Words.{ap, arith, inl, inr, sym, ◌∙◌, nat_tests, AllPairs, Bool, List, Some, [], cond, false}
+use Rattle.server_core.proofs.Words.{filter, nat_lt, refl, slice_get, suc, true, zero, ℕ, ◌+◌, ◌==◌, ◌∷◌, ◌≡◌, ◌≢◌, ◌≤◌, ◌⊎◌}
+use Rattle.server_core.proofs.Words.{RisesFrom, place_by, AllPairs-head, AllPairs-tail, all_get, some_inj}
 
 module _ {X : Type 0} where
   -- a member of what is left of a list is one of the list
@@ -72,3 +72,6 @@ module _ {X : Type 0} (key : X → ℕ) where
   apart_once (x ∷ xs) (suc i) zero a b r e f q =
       absurd (all_get (Differ x) xs i a (AllPairs-head Differ x xs r) e (ap key (some_inj f) ∙ sym q))
   apart_once (x ∷ xs) (suc i) (suc j) a b r e f q = ap suc (apart_once xs i j a b (AllPairs-tail Differ x xs r) e f q)
+
+pub equal_where_tested : (m n : ℕ) → (m == n) ≡ true → m ≡ n
+equal_where_tested m n e = grind (arith, nat_tests)

@@ -1,17 +1,49 @@
--- A ticket is tried on the book of its gateway.
-use Rattle.server_core.proofs.Words.{ap, subst, sym, ◌∙◌, map-append, IsSomeAnd, option_map, IsSome, None, Option, Some, [], drop}
-use Rattle.server_core.proofs.Words.{get_or, if◌then◌else◌, map, refl, slice_set, ℕ, ◌++◌, ◌+◌, ◌∷◌, ◌≡◌, IsAsked, refusal_of}
-use Rattle.server_core.proofs.Words.{Book, with_booked, State, book_step, Refusal, orderly_booked, remembers_answer}
-use Rattle.server_core.proofs.Words.{remembers_booked, numbered, Candidate, answered_as, ask_for, candidates, Standing}
-use Rattle.server_core.proofs.Words.{candidate_of, IsBooked, IsReceipt, IsWrong, next_of, refusal_by, Unanswered, Outcome}
-use Rattle.server_core.proofs.Words.{Receipt, Answer, Booked, Open, numbered-here, map_set, some_inj, World, step_lines}
-use Rattle.server_core.proofs.Words.{is_accepted, is_none, step_of, up_to_first, AreBooksOf, AreHere, IsBookOf, Seen, ids_of}
-use Rattle.server_core.proofs.Words.{with_step, Try, refused, sent_by, terms, tried_by, run_from, step, AreTries, EndsTries}
-use Rattle.server_core.proofs.Words.{GoesOn, IsNext, IsOut, IsSame, tries_from}
+-- The candidates of a ticket are tried on the books of their gateways.
+use Rattle.server_core.proofs.Words.{ap, arith, subst, sym, ◌∙◌, map-append, IsSomeAnd, option_map, IsSome, List, None, Option}
+use Rattle.server_core.proofs.Words.{Some, [], drop, get_or, if◌then◌else◌, map, refl, slice_get, slice_set, suc, zero, ℕ, ◌++◌}
+use Rattle.server_core.proofs.Words.{◌+◌, ◌∷◌, ◌≡◌, IsAsked, refusal_of, Book, with_booked, State, book_step, Refusal}
+use Rattle.server_core.proofs.Words.{orderly_booked, remembers_answer, remembers_booked, numbered, Candidate, answered_as}
+use Rattle.server_core.proofs.Words.{ask_for, candidates, Standing, candidate_of, IsBooked, IsReceipt, IsWrong, next_of}
+use Rattle.server_core.proofs.Words.{refusal_by, Unanswered, Outcome, Receipt, Answer, Booked, Open, numbered-here, map_set}
+use Rattle.server_core.proofs.Words.{some_inj, Gateway, World, gateway_with, step_lines, is_accepted, is_none, step_of}
+use Rattle.server_core.proofs.Words.{up_to_first, AreBooksOf, AreHere, IsBookOf, Seen, ids_of, with_step, Try, refused, sent_by}
+use Rattle.server_core.proofs.Words.{terms, tried_by, run_from, step, AreTries, EndsTries, GoesOn, IsNext, IsOut, IsSame}
+use Rattle.server_core.proofs.Words.{tries_from}
 use Rattle.answer_ticket.specs.Tried.{IsNext as IsRefused, IsOut as IsRefusedLast}
 use Rattle.server_core.specs.declared.event.Step.TheVariants as made
 use Rattle.server_core.proofs.BookFound.{IsFound, IsFoundIn, place_of, book_found, gateway_found, zip_set, zip_same, has_place}
-use Rattle.server_core.proofs.Accepted.{drop_past, try_is, tries_are}
+
+module _ {X : Type 0} where
+  -- what is left from a place on
+  drop_at : (xs : List X) (k : ℕ) (x : X) → slice_get xs k ≡ Some x → drop k xs ≡ x ∷ drop (suc k) xs
+  drop_at [] k x e = absurd (cc (e))
+  drop_at (y ∷ xs) zero x e = ap (λ z. z ∷ xs) (some_inj e)
+  drop_at (y ∷ xs) (suc k) x e = drop_at xs k x e
+
+  pub drop_past : (xs : List X) (k : ℕ) → slice_get xs k ≡ None → drop k xs ≡ []
+  drop_past [] zero e = refl
+  drop_past [] (suc k) e = refl
+  drop_past (y ∷ xs) zero e = absurd (cc (e))
+  drop_past (y ∷ xs) (suc k) e = drop_past xs k e
+
+module _ (w : World) (t : Standing) (stands : numbered t.job.number w.answers ≡ Some (Open t.at t.job)) (c : Candidate)
+    (at : candidate_of t ≡ Some c) (i : ℕ) (g : Gateway) (found : gateway_with c.gateway w.gateways ≡ Some (i, g)) where
+  abbrev answer : Option Refusal
+  answer = refusal_of (terms g) g.state.list (ask_for t.job c)
+
+  -- the world's try asks the gateway
+  pub try_is : (o : Option Refusal) → answer ≡ o → step w (Try t.job.number)
+      ≡ tried_by w t.job.number t.at t.job c (i, g) o
+  unfolding step
+  try_is o e = rw (stands, at, found, e) refl
+
+  -- the first that is accepted ends it
+  pub tries_are : (o : Option Refusal) → answer ≡ o → tries_from w t ≡ Try t.job.number
+      ∷ map (λ (x : Candidate). Try t.job.number)
+      (if is_none o then [] else up_to_first (is_accepted w t.job) (drop (t.at + 1) (candidates t.job)))
+  tries_are o e =
+      let next : suc t.at ≡ t.at + 1 = omega arith in
+      rw (drop_at (candidates t.job) t.at c at ∙ ap (λ (j : ℕ). c ∷ drop j (candidates t.job)) next, found, e) refl
 
 some_and : {X : Type 0} (P : X → Type 0) (o : Option X) → IsSomeAnd o P → (x : X) × (o ≡ Some x) × P x
 some_and P None h = absurd h

@@ -5,7 +5,7 @@ use Rattle.server_core.proofs.Words.{Waiting, found_there, Gateway, World, gatew
 use Rattle.server_core.proofs.Words.{cancel_of, cancel_sent, ending_of, sent_for, settle, settle_as, settle_of, terms, tick}
 use Rattle.server_core.proofs.Words.{tick_at, tried_by, try, try_candidate, try_of, try_on}
 use Rattle.server_core.specs.Steps as replies
-use Rattle.server_core.proofs.Served.{equal_where_tested}
+use Rattle.server_core.proofs.Members.{equal_where_tested}
 
 pub by_option : {X : Type 0} (P : Option X → Type 0) (o : Option X) → (o ≡ None → P None)
     → ((x : X) → o ≡ Some x → P (Some x)) → P o
