@@ -14,14 +14,14 @@ use Rattle.server_core.proofs.Members.{filter_member, IsIn, place_member}
 
 -- Time passes for a gateway.
 
-pub tick_good : (settings : SettingLists) (T : Job → Type 0) (w : World) → Holds settings T w → (id now : ℕ)
+pub tick_good : {settings : SettingLists} {T : Job → Type 0} {w : World} → Holds settings T w → (id now : ℕ)
     → IsGoodStep settings T w (tick w id now)
-tick_good settings T w h id now =
-    tick_walk w (IsGoodStep settings T w) id now (record { good = unchanged w h; used = tt })
+tick_good {settings} {T} {w} h id now =
+    tick_walk w (IsGoodStep settings T w) id now (record { good = unchanged h; used = tt })
     (λ i g e.
     let o = h.in_order i g e in
     record {
-      good = gateway_written settings T w h i g (record g { state = tick_step g.state now }) e refl
+      good = gateway_written h i g (record g { state = tick_step g.state now }) e refl
           (record { orderly = o.orderly; balanced = o.balanced }) (h.stands i g e);
       used = tt;
     })
@@ -62,7 +62,7 @@ cancelled_in_order g number start r o f =
       );
     }
 
-module _ (settings : SettingLists) (T : Job → Type 0) (w : World) (h : Holds settings T w) (n : ℕ) where
+module _ {settings : SettingLists} {T : Job → Type 0} {w : World} (h : Holds settings T w) (n : ℕ) where
   module _ (i : ℕ) (g : Gateway) (there : slice_get w.gateways i ≡ Some g) (start : ℕ) where
     cancelled_stand : (r : Reservation) → AllStand settings T w.reg.gathered.list w.answers (cancelled g (Ok r) n start)
     cancelled_stand r k s e =
@@ -70,16 +70,16 @@ module _ (settings : SettingLists) (T : Job → Type 0) (w : World) (h : Holds s
         h.stands i g there m.0 s m.1
 
     cancelled_by : (r : Result Reservation CancelFault) → cancel_answer g.state.floor g.state.list n start ≡ r
-        → IsGood settings T w (with_gateway settings T w h i (cancelled g r n start))
-    cancelled_by (Err fault) e = gateway_written settings T w h i g g there refl (h.in_order i g there) (h.stands i g there)
+        → IsGood settings T w (with_gateway h i (cancelled g r n start))
+    cancelled_by (Err fault) e = gateway_written h i g g there refl (h.in_order i g there) (h.stands i g there)
     cancelled_by (Ok r) e =
         let found = was_found (find (is_named n start) g.state.list) (nat_le start g.state.floor) r e in
-        gateway_written settings T w h i g (cancelled g (Ok r) n start) there refl
+        gateway_written h i g (cancelled g (Ok r) n start) there refl
         (cancelled_in_order g n start r (h.in_order i g there) found) (cancelled_stand r)
 
   pub cancel_good : IsGoodStep settings T w (cancel w n)
   cancel_good =
-      cancel_walk w (IsGoodStep settings T w) n (record { good = unchanged w h; used = tt })
+      cancel_walk w (IsGoodStep settings T w) n (record { good = unchanged h; used = tt })
       (λ sent i g e. record {
         good = cancelled_by i g e sent.start (cancel_answer g.state.floor g.state.list n sent.start) refl;
         used = tt;
@@ -118,15 +118,15 @@ module _ (g : Gateway) (ask : Ask) (e : refusal_of (terms g) g.state.list ask �
 
 -- A gateway is asked for the candidate at which an answer stands.
 
-module _ (settings : SettingLists) (T : Job → Type 0) (w : World) (h : Holds settings T w) (n k : ℕ) (job : Job)
+module _ {settings : SettingLists} {T : Job → Type 0} {w : World} (h : Holds settings T w) (n k : ℕ) (job : Job)
     (at_job : numbered n w.answers ≡ Some (Open k job)) where
   -- a refused answer goes on to the next candidate of its job
   next_by : (refusal : Refusal) (o : Option Candidate) → IsGood settings T w
-      (with_answer settings T w h n (refused k job refusal o))
-  next_by refusal None = answer_written settings T w h n (Open k job) (Out refusal) at_job (λ s q. absurd (cc (q))) refl
+      (with_answer h n (refused k job refusal o))
+  next_by refusal None = answer_written h n (Open k job) (Out refusal) at_job (λ s q. absurd (cc (q))) refl
       (λ i j q. absurd (cc (q)))
   next_by refusal (Some c) =
-      answer_written settings T w h n (Open k job) (Open (k + 1) job) at_job (λ s q. absurd (cc (q))) refl
+      answer_written h n (Open k job) (Open (k + 1) job) at_job (λ s q. absurd (cc (q))) refl
       (λ i j q. let same : job ≡ j = cc (q) in subst (IsJobAt settings T w.reg.gathered.list n) same (h.jobs n k job at_job))
 
   module _ (c : Candidate) (at : candidate_at job k ≡ Some c) (i : ℕ) (g : Gateway) (there : slice_get w.gateways i ≡ Some g)
@@ -135,10 +135,10 @@ module _ (settings : SettingLists) (T : Job → Type 0) (w : World) (h : Holds s
     new = Booked (sent_by job c) c.window c.carries
 
     abbrev asked : World
-    asked = with_answer settings T w h n new
+    asked = with_answer h n new
 
     first : IsGood settings T w asked
-    first = answer_written settings T w h n (Open k job) new at_job (λ s q. absurd (cc (q))) refl (λ i j q. absurd (cc (q)))
+    first = answer_written h n (Open k job) new at_job (λ s q. absurd (cc (q))) refl (λ i j q. absurd (cc (q)))
 
     module _ (b : IsBooked g (ask_for job c)) where
       made_stands : Stands settings T w.reg.gathered.list asked.answers g.id b.made
@@ -183,13 +183,13 @@ module _ (settings : SettingLists) (T : Job → Type 0) (w : World) (h : Holds s
         let v : Gateway = record g { state = book_step g.rules g.state (ask_for job c) } in
         record {
           good = both_good first
-              (gateway_written settings T asked first.holds i g v there refl
+              (gateway_written first.holds i g v there refl
               (booked_in_order g (ask_for job c) e (h.in_order i g there) b) (booked_stand b));
           used = tt;
         }
 
-pub try_good : (settings : SettingLists) (T : Job → Type 0) (w : World) → Holds settings T w → (n : ℕ)
+pub try_good : {settings : SettingLists} {T : Job → Type 0} {w : World} → Holds settings T w → (n : ℕ)
     → IsGoodStep settings T w (try w n)
-try_good settings T w h n =
-    try_walk w (IsGoodStep settings T w) n (record { good = unchanged w h; used = tt })
-    (λ k job c i g e at there own. tried_good settings T w h n k job e c at i g there own)
+try_good {settings} {T} {w} h n =
+    try_walk w (IsGoodStep settings T w) n (record { good = unchanged h; used = tt })
+    (λ k job c i g e at there own. tried_good h n k job e c at i g there own)

@@ -162,8 +162,8 @@ pub both_good : {settings : SettingLists} {T : Job → Type 0} {u v w : World} �
     → IsGood settings T u w
 both_good {settings} {T} {u} {v} {w} a b = record { holds = b.holds; follows = Follows-trans u v w a.follows b.follows }
 
-pub unchanged : {settings : SettingLists} {T : Job → Type 0} (w : World) → Holds settings T w → IsGood settings T w w
-unchanged w h = record { holds = h; follows = Follows-refl w }
+pub unchanged : {settings : SettingLists} {T : Job → Type 0} {w : World} → Holds settings T w → IsGood settings T w w
+unchanged {settings} {T} {w} h = record { holds = h; follows = Follows-refl w }
 
 -- what holds also holds where tickets were given for more jobs, and where gatherings have grown
 
@@ -225,7 +225,7 @@ module _ {X : Type 0} (P : X → Type 0) (xs : List X) where
     pub Has-rewritten : (m : ℕ) → ((y : X) → numbered n xs ≡ Some y → P y → P (f y)) → Has P xs m → Has P (rewritten f n xs) m
     Has-rewritten m k x = has_by m (numbered n xs) refl k x
 
-module _ (settings : SettingLists) (T : Job → Type 0) (w : World) (h : Holds settings T w) where
+module _ {settings : SettingLists} {T : Job → Type 0} {w : World} (h : Holds settings T w) where
   pub device_setting : (p : ℕ) (d : Device) → slice_get w.reg.devices p ≡ Some d → slice_get settings.devices p ≡ Some d.setting
   device_setting p d e = subst (λ l. slice_get l p ≡ Some d.setting) h.devices (map_there (λ x. x.setting) w.reg.devices p d e)
 

@@ -17,21 +17,21 @@ use Rattle.server_core.proofs.Members.{equal_where_tested}
 
 -- A payload is queued.
 
-module _ (settings : SettingLists) (T : Job → Type 0) (w : World) (h : Holds settings T w) (addr : ℕ) (payload : Payload) where
+module _ {settings : SettingLists} {T : Job → Type 0} {w : World} (h : Holds settings T w) (addr : ℕ) (payload : Payload) where
   queued_by : (r : Result ℕ QueueFault) (o : Option (ℕ × Device)) → device_with addr w.reg.devices ≡ o
       → IsGood settings T w (record w { reg = after_queueing r o payload w.reg })
-  queued_by (Err fault) o e = unchanged w h
-  queued_by (Ok count) None e = unchanged w h
+  queued_by (Err fault) o e = unchanged h
+  queued_by (Ok count) None e = unchanged h
   queued_by (Ok count) (Some found) e =
       let there = found_there (λ (d : Device). d.setting.addr == addr) w.reg.devices found e in
-      device_written settings T w h found.0 found.1 (with_payload payload found.1) there.0 refl (omega arith)
+      device_written h found.0 found.1 (with_payload payload found.1) there.0 refl (omega arith)
 
   pub queue_good : IsGoodStep settings T w (queue w addr payload)
   queue_good = record { good = queued_by (queue_answer w.reg addr payload) (device_with addr w.reg.devices) refl; used = tt }
 
 -- Time passes for the gatherings.
 
-module _ (settings : SettingLists) (T : Job → Type 0) (w : World) (h : Holds settings T w) where
+module _ {settings : SettingLists} {T : Job → Type 0} {w : World} (h : Holds settings T w) where
   abbrev closed : Gathering → Gathering
   closed g = record g { closed = true }
 
@@ -44,12 +44,12 @@ module _ (settings : SettingLists) (T : Job → Type 0) (w : World) (h : Holds s
         };
       })
   closed_by n true =
-      gathered_grown settings T w h (rewritten closed n w.reg.gathered.list) (sym (length-rewritten closed n w.reg.gathered.list))
+      gathered_grown h (rewritten closed n w.reg.gathered.list) (sym (length-rewritten closed n w.reg.gathered.list))
       (Grow-rewritten closed (λ g. record { bytes = refl; copies = λ c k. k }) n w.reg.gathered.list)
-  closed_by n false = unchanged w h
+  closed_by n false = unchanged h
 
   passed_by : (o : Option ℕ) → IsGood settings T w (record w { reg = closing o w.reg })
-  passed_by None = unchanged w h
+  passed_by None = unchanged h
   passed_by (Some n) = closed_by n (is_open_at n w.reg.gathered.list)
 
   pub pass_good : (now : ℕ) → IsGoodStep settings T w (pass w now)
@@ -61,7 +61,7 @@ module _ (settings : SettingLists) (T : Job → Type 0) (w : World) (h : Holds s
 more_copies : (copy : HeardCopy) (g : Gathering) (c : HeardCopy) → Contains g.copies c → Contains (g.copies ++ copy ∷ []) c
 more_copies copy g c k = Contains-append_left g.copies (copy ∷ []) c k
 
-module _ (settings : SettingLists) (T : Job → Type 0) (w : World) (h : Holds settings T w) (bytes : List ℕ) (heard : Heard1)
+module _ {settings : SettingLists} {T : Job → Type 0} {w : World} (h : Holds settings T w) (bytes : List ℕ) (heard : Heard1)
     (arrived : ℕ) where
   joined_good : (n : ℕ) → place_of w.reg.gathered bytes heard.gateway arrived ≡ Ok (Joins n)
       → IsGood settings T w (hear_by w bytes heard arrived (Join n)).0
@@ -69,7 +69,7 @@ module _ (settings : SettingLists) (T : Job → Type 0) (w : World) (h : Holds s
       let copy = copy_of heard in
       let l = rewritten (with_copy copy) n w.reg.gathered.list in
       rw p
-      (gathered_grown settings T w h l (sym (length-rewritten (with_copy copy) n w.reg.gathered.list))
+      (gathered_grown h l (sym (length-rewritten (with_copy copy) n w.reg.gathered.list))
       (Grow-rewritten (with_copy copy) (λ g. record { bytes = refl; copies = more_copies copy g }) n w.reg.gathered.list))
 
   opened_good : (o : Opening) → IsDecided w.reg bytes heard.gateway arrived (hearing.Open o)
@@ -79,20 +79,20 @@ module _ (settings : SettingLists) (T : Job → Type 0) (w : World) (h : Holds s
       let g : Gathering = gathers.opening bytes copy arrived in
       let device : Device = record (o.device) { up = Some o.counter } in
       let there = found_there (λ (x : Device). x.setting.addr == addr_of bytes) w.reg.devices (o.place, o.device) d.2 in
-      let v = with_device settings T w h o.place device in
-      let first : IsGood settings T w v = device_written settings T w h o.place o.device device there.0 refl (omega arith) in
+      let v = with_device h o.place device in
+      let first : IsGood settings T w v = device_written h o.place o.device device there.0 refl (omega arith) in
       let own : IsOfDevice settings o.place g =
       record {
         setting = o.device.setting;
-        served = device_setting settings T w h o.place o.device there.0;
+        served = device_setting h o.place o.device there.0;
         its_own = equal_where_tested o.device.setting.addr (addr_of bytes) there.1;
       } in
       rw (d.0, d.1)
-      (both_good first (uplink_gathered settings T v first.holds g (asked_by o bytes) own))
+      (both_good first (uplink_gathered first.holds g (asked_by o bytes) own))
 
   heard_good : (d : Decision) → IsDecided w.reg bytes heard.gateway arrived d
       → IsGood settings T w (hear_by w bytes heard arrived d).0
-  heard_good (Refuse fault) d = unchanged w h
+  heard_good (Refuse fault) d = unchanged h
   heard_good (Join n) d = joined_good n d
   heard_good (hearing.Open o) d = opened_good o d
 
@@ -113,34 +113,34 @@ ended_sent (Booked sent window carried) ending e s q = rw (← some_inj e) q
 ended_sent (Out refusal) ending e s q = absurd (cc (q))
 ended_sent (Settled sent) ending e s q = absurd (cc (e))
 
-module _ (settings : SettingLists) (T : Job → Type 0) (w : World) (h : Holds settings T w) (n : ℕ) where
+module _ {settings : SettingLists} {T : Job → Type 0} {w : World} (h : Holds settings T w) (n : ℕ) where
   abbrev with_reg : Register → World
   with_reg reg = record w { reg = reg }
 
   -- the device's queue may lose its head
   head_by : (place : ℕ) (o : Option Device) → slice_get w.reg.devices place ≡ o
       → IsGood settings T w (with_reg (record (w.reg) { devices = head_taken place o w.reg.devices }))
-  head_by place None e = unchanged w h
-  head_by place (Some device) e = device_written settings T w h place device (without_head device) e refl (omega arith)
+  head_by place None e = unchanged h
+  head_by place (Some device) e = device_written h place device (without_head device) e refl (omega arith)
 
   delivered_by : (o : Option Asked) → IsGood settings T w (with_reg (delivered o w.reg))
-  delivered_by None = unchanged w h
+  delivered_by None = unchanged h
   delivered_by (Some asked) = head_by asked.device (slice_get w.reg.devices asked.device) refl
 
   carried_by : (t : Bool) → IsGood settings T w (with_reg (if t then delivered (numbered n w.reg.asked) w.reg else w.reg))
   carried_by true = delivered_by (numbered n w.reg.asked)
-  carried_by false = unchanged w h
+  carried_by false = unchanged h
 
   pub settle_good : IsGoodStep settings T w (settle w n)
   settle_good =
-      settle_walk w (IsGoodStep settings T w) n (λ e. record { good = unchanged w h; used = tt })
+      settle_walk w (IsGoodStep settings T w) n (λ e. record { good = unchanged h; used = tt })
       (λ answer ending e f told.
       let v = with_reg (after_settling ending n w.reg) in
       let first : IsGood settings T w v = carried_by (has_carried ending) in
       let new : Answer = Settled (sent_of ending) in
       record {
         good = both_good first
-            (answer_written settings T v first.holds n answer new e (ended_sent answer ending f) refl
+            (answer_written first.holds n answer new e (ended_sent answer ending f) refl
             (λ k job q. absurd (cc (q))));
         used = tt;
       })

@@ -14,7 +14,7 @@ use Rattle.server_core.proofs.KnownSteps.{queue_good, hear_good, pass_good, sett
 use Rattle.server_core.proofs.TakeStep.{take_good}
 use Rattle.server_core.proofs.GatewaySteps.{try_good, cancel_good, tick_good}
 
-module _ (settings : SettingLists) (are : AreSettings settings.gateways settings.devices) (T : Job → Type 0) (w : World)
+module _ {settings : SettingLists} (are : AreSettings settings.gateways settings.devices) {T : Job → Type 0} {w : World}
     (h : Holds settings T w) where
   pub counted_at : (i : ℕ) (g : Gateway) → slice_get w.gateways i ≡ Some g → g.state.booked ≡ g.state.cancelled + net g.state.list
   counted_at i g e = (h.in_order i g e).balanced
@@ -27,7 +27,7 @@ module _ (settings : SettingLists) (are : AreSettings settings.gateways settings
   module _ (i j k l : ℕ) (g f : Gateway) (a b : Reservation) (m : IsMember w i k g a) (o : IsMember w j l f b) where
     place_by : g.id ≡ f.id → a.start ≡ b.start → (i ≡ j) × (k ≡ l)
     place_by d s =
-        let p : i ≡ j = one_gateway settings T w h are i j g f m.gateway o.gateway d in
+        let p : i ≡ j = one_gateway h are i j g f m.gateway o.gateway d in
         let there : slice_get w.gateways j ≡ Some g = subst (λ x. slice_get w.gateways x ≡ Some g) p m.gateway in
         let same : f ≡ g = some_inj (sym o.gateway ∙ there) in
         let other : slice_get g.state.list l ≡ Some b = subst
@@ -180,14 +180,14 @@ only_given (inr x) = x
 module _ (settings : SettingLists) (are : AreSettings settings.gateways settings.devices) where
   step_good : (T : Job → Type 0) (w : World) → Holds settings T w → (s : Step) → IsGoodStep settings T w (step w s)
   unfolding step
-  step_good T w h (Queue addr payload) = queue_good settings T w h addr payload
-  step_good T w h (Hear bytes heard arrived) = hear_good settings T w h bytes heard arrived
-  step_good T w h (Pass now) = pass_good settings T w h now
-  step_good T w h (Take n) = take_good settings are T w h n
-  step_good T w h (Settle n) = settle_good settings T w h n
-  step_good T w h (Try n) = try_good settings T w h n
-  step_good T w h (Cancel n) = cancel_good settings T w h n
-  step_good T w h (Tick id now) = tick_good settings T w h id now
+  step_good T w h (Queue addr payload) = queue_good h addr payload
+  step_good T w h (Hear bytes heard arrived) = hear_good h bytes heard arrived
+  step_good T w h (Pass now) = pass_good h now
+  step_good T w h (Take n) = take_good are h n
+  step_good T w h (Settle n) = settle_good h n
+  step_good T w h (Try n) = try_good h n
+  step_good T w h (Cancel n) = cancel_good h n
+  step_good T w h (Tick id now) = tick_good h id now
 
   -- what is known of a run from a world in which all of this holds
   pub record IsGoodRun (T : Job → Type 0) (w : World) (r : Run) : Type 0 where
@@ -229,8 +229,8 @@ module _ (settings : SettingLists) (are : AreSettings settings.gateways settings
         told = h.together;
         answered = h.answered;
         lawful = λ i x e. (h.in_order i x e).orderly.lawful;
-        counted = counted_at settings are T r.world h;
-        once = once_by settings are T r.world h;
+        counted = counted_at are h;
+        once = once_by are h;
         own = own_at settings r h;
         tickets = g.given.tickets;
         counters = g.given.counters;

@@ -95,7 +95,7 @@ job_window reg n asked device k c e =
     (all_get (IsWindowOf job.plan job.copies) (candidates_of job.copies job.plan) k c
     (on_gateways_that_heard job.plan job.copies) e)
 
-module _ (settings : SettingLists) (are : AreSettings settings.gateways settings.devices) (T : Job → Type 0) (w : World)
+module _ {settings : SettingLists} (are : AreSettings settings.gateways settings.devices) {T : Job → Type 0} {w : World}
     (h : Holds settings T w) (n : ℕ) where
   module _ (asked : Asked) (there : numbered n w.reg.asked ≡ Some asked) (waits : numbered n w.answers ≡ Some Waiting)
       (device : Device) (served : slice_get w.reg.devices asked.device ≡ Some device)
@@ -106,7 +106,7 @@ module _ (settings : SettingLists) (are : AreSettings settings.gateways settings
     job_at : IsJobAt settings T w.reg.gathered.list n job
     job_at =
         let u = h.asked n asked there in
-        let served_is = device_setting settings T w h asked.device device served in
+        let served_is = device_setting h asked.device device served in
         let same : u.own.setting ≡ device.setting = some_inj (sym u.own.served ∙ served_is) in
         record {
           number = refl;
@@ -127,18 +127,18 @@ module _ (settings : SettingLists) (are : AreSettings settings.gateways settings
         }
 
     abbrev counted : World
-    counted = with_device settings T w h asked.device (with_counter_given device)
+    counted = with_device h asked.device (with_counter_given device)
 
     first : IsGood settings T w counted
-    first = device_written settings T w h asked.device device (with_counter_given device) served refl (omega arith)
+    first = device_written h asked.device device (with_counter_given device) served refl (omega arith)
 
     abbrev given : World
-    given = with_answer settings T counted first.holds n (Open 0 job)
+    given = with_answer first.holds n (Open 0 job)
 
     given_good : IsGood settings T w given
     given_good =
         both_good first
-        (answer_written settings T counted first.holds n Waiting (Open 0 job) waits (λ s q. absurd (cc (q))) refl
+        (answer_written first.holds n Waiting (Open 0 job) waits (λ s q. absurd (cc (q))) refl
         (λ k j q. let same : job ≡ j = cc (q) in subst (IsJobAt settings T w.reg.gathered.list n) same job_at))
 
     not_given : IsGivenAt w.answers n → ⊥
@@ -155,7 +155,7 @@ module _ (settings : SettingLists) (are : AreSettings settings.gateways settings
     new = record {
       number = not_given;
       counter = λ p d e a. same_down p d e
-          (one_device settings T w h are p asked.device d device e served a);
+          (one_device h are p asked.device d device e served a);
     }
 
     used : IsUsed given job
@@ -172,7 +172,7 @@ module _ (settings : SettingLists) (are : AreSettings settings.gateways settings
     taken_good : IsGood settings T w (take_by w n (Ok job)).0 × (IsNew w job × IsUsed (take_by w n (Ok job)).0 job)
     taken_good = rw (there, served) (given_good, (new, used))
 
-module _ (settings : SettingLists) (are : AreSettings settings.gateways settings.devices) (T : Job → Type 0) (w : World)
+module _ {settings : SettingLists} (are : AreSettings settings.gateways settings.devices) {T : Job → Type 0} {w : World}
     (h : Holds settings T w) (n : ℕ) where
   -- a ticket was given for one job more
   given_step : (asked : Asked) (device : Device) → numbered n w.reg.asked ≡ Some asked → numbered n w.answers ≡ Some Waiting
@@ -181,12 +181,12 @@ module _ (settings : SettingLists) (are : AreSettings settings.gateways settings
   given_step asked device there waits served =
       let job = job_of w.reg n asked device in
       let U : Job → Type 0 = λ j. T j ⊎ (j ≡ job) in
-      let all = taken_good settings are U w (Holds-weaker settings T U (λ j t. inl t) w h) n asked there waits device served
+      let all = taken_good are (Holds-weaker settings T U (λ j t. inl t) w h) n asked there waits device served
       (inr refl) in
       record { good = all.0; used = all.1 }
 
   taken_by : (r : Result Job TakeFault) → take_answer w.reg (known w) n ≡ r → IsGoodStep settings T w (take_by w n r)
-  taken_by (Err fault) e = record { good = unchanged w h; used = tt }
+  taken_by (Err fault) e = record { good = unchanged h; used = tt }
   taken_by (Ok made) e =
       let t = ticket w.reg (known w) n made e in
       subst (λ j. IsGoodStep settings T w (take_by w n (Ok j))) t.made

@@ -7,7 +7,7 @@ use Rattle.server_core.proofs.Words.{SettingLists, Gateway, World, Asked, Sent, 
 use Rattle.server_core.proofs.Holds.{IsGrown, IsOfDevice, IsAskedAt, IsJobAt, AllStand, Holds, Grow, IsGivenAt, IsGood}
 use Rattle.server_core.proofs.Holds.{Follows-refl, job_on, stand_on, Has-append, Has-rewritten, has_now, Has, IsInOrder, IsLater}
 
-module _ (settings : SettingLists) (T : Job → Type 0) (w : World) (h : Holds settings T w) where
+module _ {settings : SettingLists} {T : Job → Type 0} {w : World} (h : Holds settings T w) where
   -- a device, which keeps its setting and its counters that were given
 
   abbrev pub with_device : ℕ → Device → World
@@ -99,7 +99,7 @@ Grow-rewritten f grown n l m before x =
     Has-rewritten (IsGrown before) l f n m
     (λ g e k. record { bytes = (grown g).bytes ∙ k.bytes; copies = λ c q. (grown g).copies c (k.copies c q) }) x
 
-module _ (settings : SettingLists) (T : Job → Type 0) (w : World) (h : Holds settings T w) where
+module _ {settings : SettingLists} {T : Job → Type 0} {w : World} (h : Holds settings T w) where
   asked_on : (l : List Gathering) → Grow w.reg.gathered.list l → (n : ℕ) (a : Asked) → numbered n w.reg.asked ≡ Some a
       → IsAskedAt settings l n a.device
   asked_on l grow n a e = let u = h.asked n a e in record { gathering = u.gathering; own = u.own; now = grow n u.gathering u.now }
