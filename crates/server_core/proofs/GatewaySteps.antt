@@ -1,16 +1,16 @@
 -- Time passes for a gateway, a transmission is cancelled, a candidate is tried: what holds of the world holds then.
-use Rattle.server_core.proofs.Words.{arith, inl, inr, subst, sym, ◌∙◌, Bool, Err, List, None, Ok, Option, Result, Some, false}
-use Rattle.server_core.proofs.Words.{find, if◌then◌else◌, nat_le, not, refl, slice_get, true, ℕ, ◌+◌, ◌≡◌, ◌⊎◌, IsByStart}
-use Rattle.server_core.proofs.Words.{airtime_us, member_from, place, start_of, without, Reservation, IsAsked, refusal_of}
-use Rattle.server_core.proofs.Words.{accepted, book_step-accepted, named_found, named_none, net_named, net-place, may_join}
-use Rattle.server_core.proofs.Words.{orderly_filter, orderly_placed, after_cancel, book_step, cancel_answer, found_or}
-use Rattle.server_core.proofs.Words.{is_fit-IsFit, is_named, tick_step, without_named, Ask, CancelFault, Begun, Refusal, numbered}
-use Rattle.server_core.proofs.Words.{Candidate, Job, ask_for, candidate_at, Answer, Booked, Open, Out, numbered-here}
-use Rattle.server_core.proofs.Words.{SettingLists, Gateway, World, cancel, refused, sent_by, terms, tick, tried_by, try}
+use Rattle.server_core.proofs.Words.{arith, subst, sym, ◌∙◌, All-filter, Bool, Err, List, None, Ok, Option, Result, Some, false}
+use Rattle.server_core.proofs.Words.{find, if◌then◌else◌, nat_le, not, refl, slice_get, true, ℕ, ◌+◌, ◌≡◌, IsByStart, airtime_us}
+use Rattle.server_core.proofs.Words.{member_from, place, start_of, without, Reservation, IsAsked, refusal_of, accepted}
+use Rattle.server_core.proofs.Words.{book_step-accepted, named_found, named_none, net_named, net-place, may_join, orderly_filter}
+use Rattle.server_core.proofs.Words.{orderly_placed, after_cancel, book_step, cancel_answer, found_or, is_fit-IsFit, is_named}
+use Rattle.server_core.proofs.Words.{tick_step, without_named, Ask, CancelFault, Begun, Refusal, numbered, Candidate, Job}
+use Rattle.server_core.proofs.Words.{ask_for, candidate_at, Answer, Booked, Open, Out, numbered-here, SettingLists, Gateway}
+use Rattle.server_core.proofs.Words.{World, cancel, refused, sent_by, terms, tick, tried_by, try}
 use Rattle.server_core.proofs.Walks.{by_option, tick_walk, cancel_walk, try_walk}
 use Rattle.server_core.proofs.Holds.{IsInOrder, Holds, IsGoodStep, unchanged, AllStand, IsGood, IsJobAt, Stands, both_good}
 use Rattle.server_core.proofs.Written.{gateway_written, with_gateway, with_answer, answer_written}
-use Rattle.server_core.proofs.Members.{filter_member, IsIn, place_member}
+use Rattle.server_core.proofs.Members.{All-place_by}
 
 -- Time passes for a gateway.
 
@@ -65,9 +65,8 @@ cancelled_in_order g number start r o f =
 module _ {settings : SettingLists} {T : Job → Type 0} {w : World} (h : Holds settings T w) (n : ℕ) where
   module _ (i : ℕ) (g : Gateway) (there : slice_get w.gateways i ≡ Some g) (start : ℕ) where
     cancelled_stand : (r : Reservation) → AllStand settings T w.reg.gathered.list w.answers (cancelled g (Ok r) n start)
-    cancelled_stand r k s e =
-        let m = filter_member (λ x. not (is_named n start x)) g.state.list k s e in
-        h.stands i g there m.0 s m.1
+    cancelled_stand r = All-filter (λ x. not (is_named n start x)) (Stands settings T w.reg.gathered.list w.answers g.id)
+        g.state.list (h.stands i g there)
 
     cancelled_by : (r : Result Reservation CancelFault) → cancel_answer g.state.floor g.state.list n start ≡ r
         → IsGood settings T w (with_gateway h i (cancelled g r n start))
@@ -166,14 +165,10 @@ module _ {settings : SettingLists} {T : Job → Type 0} {w : World} (h : Holds s
             };
           }
 
-      member_by : (r : Reservation) → (r ≡ b.made) ⊎ IsIn g.state.list r
-          → Stands settings T w.reg.gathered.list asked.answers g.id r
-      member_by r (inl e) = subst (Stands settings T w.reg.gathered.list asked.answers g.id) (sym e) made_stands
-      member_by r (inr e) = first.holds.stands i g there e.0 r e.1
-
       booked_stand : AllStand settings T w.reg.gathered.list asked.answers
           (record g { state = book_step g.rules g.state (ask_for job c) })
-      booked_stand = rw b.state (λ m r e. member_by r (place_member start_of b.made g.state.list m r e))
+      booked_stand = rw b.state (All-place_by start_of (Stands settings T w.reg.gathered.list asked.answers g.id) b.made
+          g.state.list made_stands (first.holds.stands i g there))
 
     tried_good : (o : Option Refusal) → refusal_of (terms g) g.state.list (ask_for job c) ≡ o
         → IsGoodStep settings T w (tried_by w n k job c (i, g) o)

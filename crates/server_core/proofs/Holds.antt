@@ -1,10 +1,10 @@
 -- What the system keeps at every step.
-use Rattle.server_core.proofs.Words.{arith, inl, inr, subst, sym, ◌∙◌, Contains, List, None, Ok, Option, Some, false, length, map}
-use Rattle.server_core.proofs.Words.{refl, slice_get, ℕ, ⊤, ◌++◌, ◌+◌, ◌<◌, ◌≡◌, ◌≤◌, ◌⊎◌, net, Reservation, IsOrderly, addr_of}
-use Rattle.server_core.proofs.Words.{Gathering, numbered, rewritten, HeardCopy, IsWindowOf, Candidate, Job, candidate_at, Answer}
-use Rattle.server_core.proofs.Words.{Open, is_not_given, known_of, numbered-append, numbered_after, rewritten-none, map_there}
-use Rattle.server_core.proofs.Words.{Device, AreSettings, SettingLists, plan_for, Gateway, World, Asked, Sent, DeviceSetting}
-use Rattle.server_core.proofs.Words.{IsTaken, setting_of, Given, Reply, sent_for}
+use Rattle.server_core.proofs.Words.{arith, inl, inr, subst, sym, ◌∙◌, All-weaker, All, Contains, List, None, Ok, Option, Some}
+use Rattle.server_core.proofs.Words.{false, length, map, refl, slice_get, ℕ, ⊤, ◌++◌, ◌+◌, ◌<◌, ◌≡◌, ◌≤◌, ◌⊎◌, net, Reservation}
+use Rattle.server_core.proofs.Words.{IsOrderly, addr_of, Gathering, numbered, rewritten, HeardCopy, IsWindowOf, Candidate, Job}
+use Rattle.server_core.proofs.Words.{candidate_at, Answer, Open, is_not_given, known_of, numbered-append, numbered_after}
+use Rattle.server_core.proofs.Words.{rewritten-none, all_get, map_there, Device, AreSettings, SettingLists, plan_for, Gateway}
+use Rattle.server_core.proofs.Words.{World, Asked, Sent, DeviceSetting, IsMember, IsTaken, setting_of, Given, Reply, sent_for}
 use Rattle.server_core.proofs.Members.{apart_once}
 
 -- a member with this number, of which this holds
@@ -78,8 +78,7 @@ pub record IsInOrder (g : Gateway) : Type 0 where
 
 -- each reservation of the gateway stands for its uplink's answer
 abbrev pub AllStand : SettingLists → (Job → Type 0) → List Gathering → List Answer → Gateway → Type 0
-AllStand settings T l answers g = (k : ℕ) (r : Reservation) → slice_get g.state.list k ≡ Some r
-    → Stands settings T l answers g.id r
+AllStand settings T l answers g = All (Stands settings T l answers g.id) g.state.list
 
 pub record Holds (settings : SettingLists) (T : Job → Type 0) (w : World) : Type 0 where
   pub gateways : map setting_of w.gateways ≡ settings.gateways
@@ -183,7 +182,7 @@ module _ (settings : SettingLists) (T U : Job → Type 0) (more : (job : Job) �
       }
 
   -- and an answer keeps what was booked for it
-  pub stand_on : (answers others : List Answer) → ((n : ℕ) (sent : Sent) → IsKept answers n sent → IsKept others n sent)
+  stand_on : (answers others : List Answer) → ((n : ℕ) (sent : Sent) → IsKept answers n sent → IsKept others n sent)
       → (id : ℕ) (r : Reservation) → Stands settings T l answers id r → Stands settings U m others id r
   stand_on answers others f id r s =
       record {
@@ -194,6 +193,11 @@ module _ (settings : SettingLists) (T U : Job → Type 0) (more : (job : Job) �
         kept = f r.number s.sent s.kept;
       }
 
+  pub stands_on : (answers others : List Answer) → ((n : ℕ) (sent : Sent) → IsKept answers n sent → IsKept others n sent)
+      → (g : Gateway) → AllStand settings T l answers g → AllStand settings U m others g
+  stands_on answers others f g a = All-weaker (Stands settings T l answers g.id) (Stands settings U m others g.id)
+      (stand_on answers others f g.id) g.state.list a
+
 pub Holds-weaker : (settings : SettingLists) (T U : Job → Type 0) → ((job : Job) → T job → U job) → (w : World)
     → Holds settings T w → Holds settings U w
 Holds-weaker settings T U more w h =
@@ -201,7 +205,7 @@ Holds-weaker settings T U more w h =
     let jobs : (n k : ℕ) (job : Job) → numbered n w.answers ≡ Some (Open k job) → IsJobAt settings U l n job =
     λ n k job e. job_on settings T U more l l (λ m g x. x) n job (h.jobs n k job e) in
     let stands : (i : ℕ) (g : Gateway) → slice_get w.gateways i ≡ Some g → AllStand settings U l w.answers g =
-    λ i g e k r f. stand_on settings T U more l l (λ m x y. y) w.answers w.answers (λ m x y. y) g.id r (h.stands i g e k r f) in
+    λ i g e. stands_on settings T U more l l (λ m x y. y) w.answers w.answers (λ m x y. y) g (h.stands i g e) in
     assumption (jobs, stands)
 
 -- What has a number has it still in a list that goes on, or in which a member was written anew.
@@ -245,3 +249,9 @@ module _ {settings : SettingLists} {T : Job → Type 0} {w : World} (h : Holds s
   one_gateway s i j g k e f a =
       apart_once (λ x. x.id) settings.gateways i j (setting_of g) (setting_of k) s.ids_differ (gateway_setting i g e)
       (gateway_setting j k f) a
+
+  -- each member of a gateway stands
+  pub member_stands : (i k : ℕ) (g : Gateway) (r : Reservation) → IsMember w i k g r
+      → Stands settings T w.reg.gathered.list w.answers g.id r
+  member_stands i k g r m = all_get (Stands settings T w.reg.gathered.list w.answers g.id) g.state.list k r
+      (h.stands i g m.gateway) m.member

@@ -1,45 +1,20 @@
--- Members of lists that are filtered, sorted by a key, or of which no two share a key.
-use Rattle.server_core.proofs.Words.{ap, arith, inl, inr, sym, ◌∙◌, nat_tests, AllPairs, Bool, List, Some, [], cond, false}
-use Rattle.server_core.proofs.Words.{filter, nat_lt, refl, slice_get, suc, true, zero, ℕ, ◌+◌, ◌==◌, ◌∷◌, ◌≡◌, ◌≢◌, ◌≤◌, ◌⊎◌}
-use Rattle.server_core.proofs.Words.{RisesFrom, place_by, AllPairs-head, AllPairs-tail, all_get, some_inj}
-
-module _ {X : Type 0} where
-  -- a member of what is left of a list is one of the list
-  abbrev pub IsIn : List X → X → Type 0
-  IsIn xs x = (j : ℕ) × (slice_get xs j ≡ Some x)
-
-  later : (y x : X) (ys : List X) → IsIn ys x → IsIn (y ∷ ys) x
-  later y x ys h = (suc h.0, h.1)
-
-  filter_by : (test : X → Bool) (y : X) (ys : List X) (t : Bool) (k : ℕ) (x : X)
-      → ((m : ℕ) → slice_get (filter test ys) m ≡ Some x → IsIn ys x)
-      → slice_get (cond t (y ∷ filter test ys) (filter test ys)) k ≡ Some x → IsIn (y ∷ ys) x
-  filter_by test y ys true zero x rest e = (zero, e)
-  filter_by test y ys true (suc k) x rest e = later y x ys (rest k e)
-  filter_by test y ys false k x rest e = later y x ys (rest k e)
-
-  pub filter_member : (test : X → Bool) (xs : List X) (k : ℕ) (x : X) → slice_get (filter test xs) k ≡ Some x → IsIn xs x
-  filter_member test [] k x e = absurd (cc)
-  filter_member test (y ∷ ys) k x e = filter_by test y ys (test y) k x (λ m f. filter_member test ys m x f) e
+-- Members of lists that are sorted by a key, or of which no two share a key.
+use Rattle.server_core.proofs.Words.{ap, arith, sym, ◌∙◌, nat_tests, All-cons, All-head, All-tail, All, AllPairs, Bool, List}
+use Rattle.server_core.proofs.Words.{Some, [], cond, false, nat_lt, refl, slice_get, suc, true, zero, ℕ, ◌+◌, ◌==◌, ◌∷◌, ◌≡◌, ◌≢◌}
+use Rattle.server_core.proofs.Words.{◌≤◌, RisesFrom, place_by, AllPairs-head, AllPairs-tail, all_get, some_inj}
 
 module _ {X : Type 0} (key : X → ℕ) where
-  -- a member of a list with one more in its place is that one or one of the list
-  after : (x y z : X) (ys : List X) → (z ≡ x) ⊎ IsIn ys z → (z ≡ x) ⊎ IsIn (y ∷ ys) z
-  after x y z ys (inl h) = inl h
-  after x y z ys (inr h) = inr (later y z ys h)
+  -- what holds of all members holds of all with one more in its place
+  placed_by : (P : X → Type 0) (x y : X) (ys : List X) (t : Bool) → P x → P y → All P ys → All P (place_by key x ys)
+      → All P (cond t (y ∷ place_by key x ys) (x ∷ y ∷ ys))
+  placed_by P x y ys true p q h rest = All-cons P y (place_by key x ys) q rest
+  placed_by P x y ys false p q h rest = All-cons P x (y ∷ ys) p (All-cons P y ys q h)
 
-  place_cases : (x y : X) (ys : List X) (t : Bool) (k : ℕ) (z : X)
-      → ((m : ℕ) → slice_get (place_by key x ys) m ≡ Some z → (z ≡ x) ⊎ IsIn ys z)
-      → slice_get (cond t (y ∷ place_by key x ys) (x ∷ y ∷ ys)) k ≡ Some z → (z ≡ x) ⊎ IsIn (y ∷ ys) z
-  place_cases x y ys true zero z rest e = inr (zero, e)
-  place_cases x y ys true (suc k) z rest e = after x y z ys (rest k e)
-  place_cases x y ys false zero z rest e = inl (sym (some_inj e))
-  place_cases x y ys false (suc k) z rest e = inr (k, e)
-
-  pub place_member : (x : X) (xs : List X) (k : ℕ) (z : X) → slice_get (place_by key x xs) k ≡ Some z → (z ≡ x) ⊎ IsIn xs z
-  place_member x [] zero z e = inl (sym (some_inj e))
-  place_member x [] (suc k) z e = absurd (cc)
-  place_member x (y ∷ ys) k z e = place_cases x y ys (nat_lt (key y) (key x)) k z (λ m f. place_member x ys m z f) e
+  pub All-place_by : (P : X → Type 0) (x : X) (xs : List X) → P x → All P xs → All P (place_by key x xs)
+  All-place_by P x [] p h = All-cons P x [] p h
+  All-place_by P x (y ∷ ys) p h =
+      let rest = All-tail P y ys h in
+      placed_by P x y ys (nat_lt (key y) (key x)) p (All-head P y ys h) rest (All-place_by P x ys p rest)
 
   -- no two members of a rising list have one key
   rises_above : (low : ℕ) (xs : List X) (k : ℕ) (x : X) → RisesFrom key low xs → slice_get xs k ≡ Some x → low ≤ key x

@@ -9,7 +9,7 @@ use Rattle.server_core.proofs.Words.{jobs_given, setting_of, with_given, Cancel,
 use Rattle.server_core.proofs.Words.{Step, Take, Tick, Try, run, sent_for, run_from, step}
 use Rattle.server_core.proofs.Members.{rises_once}
 use Rattle.server_core.proofs.Holds.{IsKept, Stands, Holds, IsInOrder, AllStand, IsGivenAt, Follows, IsGoodStep, IsNew, IsUsed}
-use Rattle.server_core.proofs.Holds.{UsesUp, given_after, Holds-weaker, one_gateway}
+use Rattle.server_core.proofs.Holds.{UsesUp, given_after, Holds-weaker, one_gateway, member_stands}
 use Rattle.server_core.proofs.KnownSteps.{queue_good, hear_good, pass_good, settle_good}
 use Rattle.server_core.proofs.TakeStep.{take_good}
 use Rattle.server_core.proofs.GatewaySteps.{try_good, cancel_good, tick_good}
@@ -36,8 +36,8 @@ module _ {settings : SettingLists} (are : AreSettings settings.gateways settings
 
     pub once_by : a.number ≡ b.number → (i ≡ j) × (k ≡ l)
     once_by q =
-        let s = h.stands i g m.gateway k a m.member in
-        let t = h.stands j f o.gateway l b o.member in
+        let s = member_stands h i k g a m in
+        let t = member_stands h j l f b o in
         let same = same_sent a.number b.number s.sent t.sent q s.kept t.kept in
         place_by (sym s.booking.gateway ∙ ap (λ (x : Sent). x.gateway) same ∙ t.booking.gateway)
         (sym s.booking.start ∙ ap (λ (x : Sent). x.start) same ∙ t.booking.start)
@@ -76,7 +76,7 @@ module _ (settings : SettingLists) (r : Run) (h : Holds settings (Contains (jobs
 
   pub own_at : (i k : ℕ) (g : Gateway) (a : Reservation) → IsMember r.world i k g a → IsOwnWindow r g a
   own_at i k g a m =
-      let s = h.stands i g m.gateway k a m.member in
+      let s = member_stands h i k g a m in
       let u = s.own.own.uplink in
       let served = subst (λ l. slice_get l s.own.own.place ≡ Some u.setting) (sym h.devices) u.served in
       own_by g a s (from_map (λ d. d.setting) r.world.reg.devices s.own.own.place u.setting served)
@@ -105,7 +105,7 @@ module _ (settings : SettingLists) (are : AreSettings settings.gateways settings
   stand_at : (i : ℕ) (g : Gateway) → slice_get (map opened_gateway settings.gateways) i ≡ Some g → AllStand settings T [] [] g
   stand_at i g e =
       let s = from_map opened_gateway settings.gateways i g e in
-      subst (AllStand settings T [] []) s.2 (λ k r q. absurd (cc (q)))
+      subst (AllStand settings T [] []) s.2 (All-nil (Stands settings T [] [] s.0.id))
 
   pub opened : Holds settings T (opening settings limits)
   opened =

@@ -5,7 +5,7 @@ use Rattle.server_core.proofs.Words.{Answer, Open, Waiting, is_not_given, known_
 use Rattle.server_core.proofs.Words.{numbered_cases, numbered_next, get_set_after, get_set_cases, map_set, some_inj, Device}
 use Rattle.server_core.proofs.Words.{SettingLists, Gateway, World, Asked, Sent, setting_of, sent_for}
 use Rattle.server_core.proofs.Holds.{IsGrown, IsOfDevice, IsAskedAt, IsJobAt, AllStand, Holds, Grow, IsGivenAt, IsGood}
-use Rattle.server_core.proofs.Holds.{Follows-refl, job_on, stand_on, Has-append, Has-rewritten, has_now, Has, IsInOrder, IsLater}
+use Rattle.server_core.proofs.Holds.{Follows-refl, job_on, stands_on, Has-append, Has-rewritten, has_now, Has, IsInOrder, IsLater}
 
 module _ {settings : SettingLists} {T : Job → Type 0} {w : World} (h : Holds settings T w) where
   -- a device, which keeps its setting and its counters that were given
@@ -59,8 +59,8 @@ module _ {settings : SettingLists} {T : Job → Type 0} {w : World} (h : Holds s
         let jobs : (m k : ℕ) (job : Job) → numbered m answers ≡ Some (Open k job) → IsJobAt settings T l m job =
         λ m k job e. job_by m k job o (numbered_cases (λ a. new) n m w.answers old (Open k job) there e) in
         let stands : (j : ℕ) (g : Gateway) → slice_get w.gateways j ≡ Some g → AllStand settings T l answers g =
-        λ j g e k r f. stand_on settings T T (λ x t. t) l l (λ m x y. y) w.answers answers
-        (λ m x. has_still (λ a. sent_for a ≡ Some x) (s x) m) g.id r (h.stands j g e k r f) in
+        λ j g e. stands_on settings T T (λ x t. t) l l (λ m x y. y) w.answers answers
+        (λ m x. has_still (λ a. sent_for a ≡ Some x) (s x) m) g (h.stands j g e) in
         let given : (m : ℕ) → IsGivenAt w.answers m → IsGivenAt answers m =
         has_still (λ a. is_not_given (known_of a) ≡ false) (λ e. i) in
         assumption (length-rewritten (λ a. new) n w.answers ∙ h.answered, jobs, stands, given, (Follows-refl w).devices)
@@ -113,8 +113,7 @@ module _ {settings : SettingLists} {T : Job → Type 0} {w : World} (h : Holds s
       let jobs : (m k : ℕ) (job : Job) → numbered m w.answers ≡ Some (Open k job) → IsJobAt settings T l m job =
       λ m k job e. job_on settings T T (λ j t. t) w.reg.gathered.list l grow m job (h.jobs m k job e) in
       let stands : (i : ℕ) (g : Gateway) → slice_get w.gateways i ≡ Some g → AllStand settings T l w.answers g =
-      λ i g e k r f. stand_on settings T T (λ j t. t) w.reg.gathered.list l grow w.answers w.answers (λ m s q. q) g.id r
-      (h.stands i g e k r f) in
+      λ i g e. stands_on settings T T (λ j t. t) w.reg.gathered.list l grow w.answers w.answers (λ m s q. q) g (h.stands i g e) in
       assumption (h.together ∙ n, h.answered ∙ n, asked_on l grow, jobs, stands, (Follows-refl w).devices)
 
   -- one more uplink is gathered, and its answer waits
@@ -158,8 +157,8 @@ module _ {settings : SettingLists} {T : Job → Type 0} {w : World} (h : Holds s
         → IsJobAt settings T more n job = λ n k job e. waiting_by n k job (numbered-append_cases n w.answers Waiting (Open k job) e) in
         let stands : (i : ℕ) (x : Gateway) → slice_get w.gateways i ≡ Some x
         → AllStand settings T more (w.answers ++ Waiting ∷ []) x =
-        λ i x e k r f. stand_on settings T T (λ j t. t) l more grow w.answers (w.answers ++ Waiting ∷ [])
-        (λ n s q. Has-append (λ b. sent_for b ≡ Some s) w.answers (Waiting ∷ []) n q) x.id r (h.stands i x e k r f) in
+        λ i x e. stands_on settings T T (λ j t. t) l more grow w.answers (w.answers ++ Waiting ∷ [])
+        (λ n s q. Has-append (λ b. sent_for b ≡ Some s) w.answers (Waiting ∷ []) n q) x (h.stands i x e) in
         let given : (n : ℕ) → IsGivenAt w.answers n → IsGivenAt (w.answers ++ Waiting ∷ []) n =
         λ n k. Has-append (λ b. is_not_given (known_of b) ≡ false) w.answers (Waiting ∷ []) n k in
         assumption (together, answered, asked, jobs, stands, given, (Follows-refl w).devices)
