@@ -1,8 +1,8 @@
 -- The world before the first step and after every list of steps, and what is promised of a run.
 use Rattle.server_core.proofs.Words.{ap, arith, inl, inr, subst, sym, ◌∙◌, All-cons, All-nil, All-weaker, Contains-append_right}
 use Rattle.server_core.proofs.Words.{AllPairs-cons, All, AllPairs, Contains, List, Ok, Some, [], map, refl, slice_get, suc, zero}
-use Rattle.server_core.proofs.Words.{ℕ, ◌+◌, ◌∷◌, ◌≡◌, ◌≢◌, ◌⊎◌, start_of, net, Reservation, orderly_nil, addr_of, numbered}
-use Rattle.server_core.proofs.Words.{Limits, Job, candidates, from_map, get_contains, some_inj, Device, opened_device}
+use Rattle.server_core.proofs.Words.{ℕ, ◌+◌, ◌∷◌, ◌≡◌, ◌≢◌, ◌⊎◌, start_of, net, Reservation, orderly_nil, IsLawful, addr_of}
+use Rattle.server_core.proofs.Words.{numbered, Limits, Job, candidates, from_map, get_contains, some_inj, Device, opened_device}
 use Rattle.server_core.proofs.Words.{AreSettings, SettingLists, plan_for, Gateway, World, opened_gateway, opening, Sent}
 use Rattle.server_core.proofs.Words.{GatewaySetting, EveryInterleavingIsSafe, HaveOwnCounters, IsMember, IsOwnWindow, IsSafe}
 use Rattle.server_core.proofs.Words.{jobs_given, setting_of, with_given, Cancel, Given, Hear, Pass, Queue, Reply, Run, Settle}
@@ -16,9 +16,6 @@ use Rattle.server_core.proofs.GatewaySteps.{try_good, cancel_good, tick_good}
 
 module _ {settings : SettingLists} (are : AreSettings settings.gateways settings.devices) {T : Job → Type 0} {w : World}
     (h : Holds settings T w) where
-  pub counted_at : (i : ℕ) (g : Gateway) → slice_get w.gateways i ≡ Some g → g.state.booked ≡ g.state.cancelled + net g.state.list
-  counted_at i g e = (h.in_order i g e).balanced
-
   -- one number has one answer
   same_sent : (m n : ℕ) (s t : Sent) → m ≡ n → IsKept w.answers m s → IsKept w.answers n t → s ≡ t
   same_sent m n s t q a b =
@@ -223,18 +220,11 @@ module _ (settings : SettingLists) (are : AreSettings settings.gateways settings
       let T : Job → Type 0 = Contains (jobs_given r.replies) in
       let h : Holds settings T r.world = Holds-weaker settings (WithGiven (λ j. ⊥) (jobs_given r.replies)) T
       (λ j. only_given) r.world g.holds in
-      record {
-        gateways = h.gateways;
-        devices = h.devices;
-        told = h.together;
-        answered = h.answered;
-        lawful = λ i x e. (h.in_order i x e).orderly.lawful;
-        counted = counted_at are h;
-        once = once_by are h;
-        own = own_at settings r h;
-        tickets = g.given.tickets;
-        counters = g.given.counters;
-      }
+      let lawful : (i : ℕ) (x : Gateway) → slice_get r.world.gateways i ≡ Some x → IsLawful x.state.list =
+      λ i x e. (h.in_order i x e).orderly.lawful in
+      let counted : (i : ℕ) (x : Gateway) → slice_get r.world.gateways i ≡ Some x
+      → x.state.booked ≡ x.state.cancelled + net x.state.list = λ i x e. (h.in_order i x e).balanced in
+      assumption (h, g.given, lawful, counted, once_by are h, own_at settings r h)
 
   pub run_safe : (limits : Limits) (steps : List Step) → IsSafe settings (run settings limits steps)
   run_safe limits steps =

@@ -34,6 +34,7 @@ pub use Rattle.gateway_book.specs.declared.refusal.Refusal.{Refusal}
 pub use Rattle.gateway_book.specs.declared.totals.Totals.{Totals}
 pub use Rattle.gateway_book.specs.Remembers.{orderly_booked, orderly_cancelled, remembers_answer, remembers_booked}
 pub use Rattle.gateway_book.specs.Remembers.{remembers_cancel, remembers_cancelled, remembers_own, remembers_ticked}
+pub use Rattle.gateway_book.specs.Lawful.{IsLawful}
 pub use Rattle.lora_frame.specs.Reading.{addr_of, uplink_of}
 pub use Rattle.lora_frame.specs.declared.reading.FrameFault.{FrameFault}
 pub use Rattle.lora_frame.specs.declared.reading.Uplink.{Uplink}

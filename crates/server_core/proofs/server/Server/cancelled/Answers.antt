@@ -13,12 +13,9 @@ returns-in_default-place_of g c =
 
 pub index_mut-requires : goal.index_mut-requires
 index_mut-requires g c =
-    omega (
-      arith,
-      book_within c.in-Some.sent.gateway c.args.self.now.books.items c.in-Some-place_of.at
-          (rw c.deref.ensures.value at c.in-Some-place_of.ensures),
-      c.args.self.now.books.ok.0,
-    )
+    let within = book_within c.in-Some.sent.gateway c.args.self.now.books.items c.in-Some-place_of.at
+    (rw c.deref.ensures.value at c.in-Some-place_of.ensures) in
+    omega (arith, c.args.self.now.books.ok.0)
 
 pub returns : goal.returns
 returns g c =

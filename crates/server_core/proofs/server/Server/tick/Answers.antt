@@ -14,12 +14,9 @@ returns-in_default-clause-made g c =
 
 pub index_mut-book-requires : goal.index_mut-book-requires
 index_mut-book-requires g c =
-    omega (
-      arith,
-      book_within c.args.gateway c.did.new.self.books.items c.in-Some.at
-          (rw c.deref.ensures.value at c.in-Some.ensures),
-      c.did.new.self.books.ok.0,
-    )
+    let within = book_within c.args.gateway c.did.new.self.books.items c.in-Some.at
+    (rw c.deref.ensures.value at c.in-Some.ensures) in
+    omega (arith, c.did.new.self.books.ok.0)
 
 pub returns : goal.returns
 returns g c =

@@ -1,5 +1,4 @@
-use Rattle.server_core.proofs.Words.{ap, arith, ◌∙◌, ℕ, seen, with_step}
-use Rattle.server_core.specs.declared.event.Step.TheVariants as made
+use Rattle.server_core.proofs.Words.{arith, seen}
 use Rattle.server_core.proofs.BookFound.{book_within}
 use Rattle.server_core.proofs.TrySteps.{has_book, not_wrong, next_turn, out_turn, booked_turn}
 use Rattle.server_core.proofs.server.Server.tried_once.Goals as goal
@@ -7,45 +6,37 @@ use Rattle.server_core.proofs.server.Server.tried_once.Goals as goal
 pub unreachable-requires : goal.unreachable-requires
 unreachable-requires g c =
     has_book c.args.ticket (seen c.args.self.now) (seen c.did.new.self) c.gateway.result
-    (c.in-Ok.ensures ∙ ap (λ (x : ℕ). with_step (made.Try x) (seen c.args.self.now)) c.number-number.ensures.number) c.requires
-    c.gateway.ensures.gateway
-    (rw c.deref.ensures.value at c.in_default-place_of.ensures)
+    (rw c.number-number.ensures.number at c.in-Ok.ensures)
+    c.requires c.gateway.ensures.gateway (rw c.deref.ensures.value at c.in_default-place_of.ensures)
 
 pub index_mut-requires : goal.index_mut-requires
 index_mut-requires g c =
-    omega (
-      arith,
-      book_within c.gateway.result c.did.new.self.books.items c.in-Some.place
-          (rw c.deref.ensures.value at c.in-Some.ensures),
-      c.did.new.self.books.ok.0,
-    )
+    let within = book_within c.gateway.result c.did.new.self.books.items c.in-Some.place
+    (rw c.deref.ensures.value at c.in-Some.ensures) in
+    omega (arith, c.did.new.self.books.ok.0)
 
 pub unreachable-requires-in-Wrong : goal.unreachable-requires-in-Wrong
 unreachable-requires-in-Wrong g c =
     not_wrong c.args.ticket (seen c.args.self.now) (seen c.did.new.self) c.gateway.result c.in-Some.place c.index_mut.result.now
-    c.try_on.new.book
-    (c.in-Ok.ensures ∙ ap (λ (x : ℕ). with_step (made.Try x) (seen c.args.self.now)) c.number-number.ensures.number)
+    c.try_on.new.book (rw c.number-number.ensures.number at c.in-Ok.ensures)
     (rw c.deref.ensures.value at c.in-Some.ensures) c.index_mut.ensures.value c.gateway.ensures.gateway c.in-Wrong.ticket
     c.in-Wrong.ensures
 
 pub returns-in-Booked : goal.returns-in-Booked
 returns-in-Booked g c =
     booked_turn c.args.ticket (seen c.args.self.now) (seen c.did.new.self) c.gateway.result c.in-Some.place c.index_mut.result.now
-    c.try_on.new.book
-    (c.in-Ok.ensures ∙ ap (λ (x : ℕ). with_step (made.Try x) (seen c.args.self.now)) c.number-number.ensures.number)
+    c.try_on.new.book (rw c.number-number.ensures.number at c.in-Ok.ensures)
     (rw c.deref.ensures.value at c.in-Some.ensures) c.index_mut.ensures.value c.requires c.in-Booked.stub c.in-Booked.receipt
     c.in-Booked.ensures
 
 pub returns-in-Next : goal.returns-in-Next
 returns-in-Next g c =
     next_turn c.args.ticket (seen c.args.self.now) (seen c.did.new.self) c.gateway.result c.in-Some.place c.index_mut.result.now
-    c.try_on.new.book
-    (c.in-Ok.ensures ∙ ap (λ (x : ℕ). with_step (made.Try x) (seen c.args.self.now)) c.number-number.ensures.number)
+    c.try_on.new.book (rw c.number-number.ensures.number at c.in-Ok.ensures)
     (rw c.deref.ensures.value at c.in-Some.ensures) c.index_mut.ensures.value c.in-Next.ticket c.in-Next.field-1 c.in-Next.ensures
 
 pub returns-in-Out : goal.returns-in-Out
 returns-in-Out g c =
     out_turn c.args.ticket (seen c.args.self.now) (seen c.did.new.self) c.gateway.result c.in-Some.place c.index_mut.result.now
-    c.try_on.new.book
-    (c.in-Ok.ensures ∙ ap (λ (x : ℕ). with_step (made.Try x) (seen c.args.self.now)) c.number-number.ensures.number)
+    c.try_on.new.book (rw c.number-number.ensures.number at c.in-Ok.ensures)
     (rw c.deref.ensures.value at c.in-Some.ensures) c.index_mut.ensures.value c.in-Out.stub c.in-Out.field-1 c.in-Out.ensures
