@@ -43,22 +43,12 @@ module _ {A : Type 0} (place : ℕ) (old mid new : Seen A) (gateway now : ℕ) (
       (record {
         steps = refl;
         outcomes = refl;
-        ready = λ r.
-            record {
-              books = map_set (λ (x : Book). x.id) mid.books i book after b.there (cc (ticked)) ∙ r.books;
-              heard = r.heard;
-              idle = r.idle;
-            };
+        ready = λ r. assumption (map_set (λ (x : Book). x.id) mid.books i book after b.there (cc (ticked)) ∙ r.books, r);
         at = λ w at.
             let g = gateway_found gateway mid.books w.gateways at.books i book f b in
             let k = g.keeps in
             let now_keeps : IsBookOf after (record g.gateway { state = tick_step g.gateway.state now }) =
-            rw ticked (record {
-              id = k.id;
-              rules = k.rules;
-              orderly = k.orderly;
-              remembers = remembers_ticked book g.gateway.state k.orderly k.remembers now;
-            }) in
+            rw ticked (assumption (k, remembers_ticked book g.gateway.state k.orderly k.remembers now)) in
             record {
               desk = at.desk ∙ sym (desk_calls_are_steps.tick w gateway now);
               books = rw g.found (zip_set IsBookOf mid.books w.gateways i after _ at.books now_keeps);

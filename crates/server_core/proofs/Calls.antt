@@ -79,11 +79,7 @@ call_done {A} {X} {E} {s} {q} {after} {reply} {say} none place made old mid new 
     (record {
       steps = refl;
       outcomes = refl;
-      ready = λ x. rw o.1 (record {
-        books = x.books ∙ sym (is.ids mid.desk);
-        heard = is.heard mid.desk x.heard;
-        idle = is.idle mid.desk x.idle;
-      });
+      ready = λ x. rw o.1 (assumption (x.books ∙ sym (is.ids mid.desk), is.heard mid.desk x.heard, is.idle mid.desk x.idle));
       at = λ w at. record { desk = o.1 ∙ ap after at.desk ∙ sym (is.desk w); books = rw is.gateways at.books };
       lines = λ w at. rw (is.replied, ← at.desk, o.0, is.lines, said) refl;
     })

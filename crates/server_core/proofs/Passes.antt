@@ -130,11 +130,7 @@ module _ {A : Type 0} (place now n : ℕ) (old s mid : Seen A) (d : DeskView) (c
 
   pub closed_ready : IsReady s → IsReady mid
   closed_ready r =
-      rw (noted, d_is) (record {
-        books = r.books;
-        heard = heard_closed s.desk.ids s.desk.reg.gathered n r.heard;
-        idle = r.idle;
-      })
+      rw (noted, d_is) (assumption (heard_closed s.desk.ids s.desk.reg.gathered n r.heard, r))
 
   -- and answered
   module _ (next : Seen A) (ready : IsReady next) (same : next.desk.reg.gathered ≡ mid.desk.reg.gathered)

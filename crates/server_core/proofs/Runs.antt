@@ -152,11 +152,7 @@ module _ (w v : World) (f : Follows w v) where
         counters = AllPairs-cons HaveOwnCounters job jobs (All-weaker (IsNew v) (HaveOwnCounters job)
             (λ b x. own_counter v job b u.1 x) jobs t.new) t.counters;
       }
-  one_more reply jobs u t = record {
-    new = All-weaker (IsNew v) (IsNew w) (still_new w v f) jobs t.new;
-    tickets = t.tickets;
-    counters = t.counters;
-  }
+  one_more reply jobs u t = assumption (All-weaker (IsNew v) (IsNew w) (still_new w v f) jobs t.new, t)
 
 -- a ticket was given for a job before, or it is among those for which one was given then
 abbrev pub WithGiven : (Job → Type 0) → List Job → Job → Type 0

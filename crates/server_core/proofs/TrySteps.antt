@@ -143,12 +143,11 @@ module _ {A : Type 0} (t : Standing) (old mid : Seen A) (gateway i : ℕ) (book 
         let s : State = g.gateway.state in
         let keeps : IsBookOf (with_booked book receipt.reservation)
         (record g.gateway { state = book_step g.gateway.rules s (ask_for t.job c) }) =
-        rw (← k.rules) (record {
-          id = k.id;
-          rules = refl;
-          orderly = orderly_booked book s k.orderly k.remembers (ask_for t.job c) receipt.reservation a e;
-          remembers = remembers_booked book s k.orderly k.remembers (ask_for t.job c) receipt.reservation a e;
-        }) in
+        rw (← k.rules) (assumption (
+          k,
+          orderly_booked book s k.orderly k.remembers (ask_for t.job c) receipt.reservation a e,
+          remembers_booked book s k.orderly k.remembers (ask_for t.job c) receipt.reservation a e,
+        )) in
         let books : AreBooksOf (new (with_booked book receipt.reservation)).books (step w (Try n)).0.gateways =
         rw (is None e) (zip_set IsBookOf mid.books w.gateways i _ _ mid_books keeps) in
         let answer : Answer = Booked (sent_by t.job c) c.window c.carries in
