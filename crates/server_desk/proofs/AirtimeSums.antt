@@ -1,10 +1,10 @@
 -- Sums of airtimes over gateways and answers.
 use Rattle.server_desk.proofs.Words.{◌++◌, ℕ, zero, suc, ◌≡◌, ◌≢◌, ◌+◌, ◌*◌, ◌≤◌, ◌==◌, Bool, true, false, if◌then◌else◌, List}
 use Rattle.server_desk.proofs.Words.{[], ◌∷◌, map, length, slice_get, slice_set, get_or, All, AllPairs, Option, Some, None, refl}
-use Rattle.server_desk.proofs.Words.{sym, ap, ◌∙◌, subst, arith, list_any, option_map, eq-eqb, ne_eqb, nat_tests, All-head}
-use Rattle.server_desk.proofs.Words.{All-tail, AllPairs-head, AllPairs-tail, longest_us, Known, NotGiven, Given, Done, Sent}
-use Rattle.server_desk.proofs.Words.{own_airtime, known_airtime, answered_at, answered_for, total_at, total_limit, whole_airtime}
-use Rattle.server_desk.proofs.Words.{AreAirtimes, raised_at, raised, first_at, next_place}
+use Rattle.server_desk.proofs.Words.{ap, ◌∙◌, subst, arith, list_any, option_map, nat_tests, All-head, All-tail, AllPairs-head}
+use Rattle.server_desk.proofs.Words.{AllPairs-tail, longest_us, Known, NotGiven, Given, Done, Sent, own_airtime, known_airtime}
+use Rattle.server_desk.proofs.Words.{answered_at, answered_for, total_at, total_limit, whole_airtime, AreAirtimes, raised_at}
+use Rattle.server_desk.proofs.Words.{raised, first_at, next_place}
 use Rattle.server_desk.proofs.Places.{some_inj}
 
 -- an answer is written anew, or one more comes
@@ -70,8 +70,8 @@ module _ (f : ℕ → ℕ) (sent : Sent) where
       → (map f ids ≡ map (λ id. f id + own_airtime id (Some sent)) ids) × (total_at ids (Done (Some sent) ∷ []) ≡ 0)
   elsewhere [] a = (refl, refl)
   elsewhere (id ∷ ids) a =
-      let none : own_airtime id (Some sent) ≡ 0 =
-      ap (λ (t : Bool). if t then sent.airtime else 0) (ne_eqb sent.gateway id (All-head (λ y. sent.gateway ≢ y) id ids a)) in
+      let other = All-head (λ y. sent.gateway ≢ y) id ids a in
+      let none : own_airtime id (Some sent) ≡ 0 = grind (arith, nat_tests, other) in
       let rest = elsewhere ids (All-tail (λ y. sent.gateway ≢ y) id ids a) in
       let here : f id ≡ f id + own_airtime id (Some sent) = omega (arith, none) in
       (cc (here, rest.0), omega (arith, none, rest.1))
@@ -85,14 +85,12 @@ module _ (f : ℕ → ℕ) (sent : Sent) where
       → Raises (id ∷ ids)
   raises_by id ids true q a rest =
       let same : id ≡ sent.gateway = grind (arith, nat_tests, q) in
-      let own : own_airtime id (Some sent) ≡ sent.airtime =
-      ap (λ (t : Bool). if t then sent.airtime else 0) (eq-eqb sent.gateway id (sym same)) in
+      let own : own_airtime id (Some sent) ≡ sent.airtime = grind (arith, nat_tests, same) in
       let others = elsewhere ids (subst (λ x. All (λ y. x ≢ y) ids) same a) in
       let here : f id + sent.airtime ≡ f id + own_airtime id (Some sent) = omega (arith, own) in
       rw q (cc (here, others.0), omega (arith, own, others.1))
   raises_by id ids false q a rest =
-      let none : own_airtime id (Some sent) ≡ 0 =
-      ap (λ (t : Bool). if t then sent.airtime else 0) (ne_eqb sent.gateway id (λ s. grind (arith, nat_tests, q))) in
+      let none : own_airtime id (Some sent) ≡ 0 = grind (arith, nat_tests, q) in
       let here : f id ≡ f id + own_airtime id (Some sent) = omega (arith, none) in
       rw q (later (first_at (λ x. x == sent.gateway) ids) (f id) (map f ids) ∙ cc (here, rest.0), omega (arith, none, rest.1))
 
@@ -102,15 +100,11 @@ module _ (f : ℕ → ℕ) (sent : Sent) where
       (raises ids (AllPairs-tail (λ a b. a ≢ b) id ids d))
 
 -- no gateway was on air for longer than all answers
-share_short : (t : Bool) (airtime : ℕ) → (if t then airtime else 0) ≤ airtime
-share_short true airtime = omega arith
-share_short false airtime = omega arith
-
 known_short : (id : ℕ) (k : Known) → known_airtime id k ≤ whole_airtime k
 known_short id NotGiven = omega arith
 known_short id Given = omega arith
 known_short id (Done None) = omega arith
-known_short id (Done (Some sent)) = share_short (sent.gateway == id) sent.airtime
+known_short id (Done (Some sent)) = grind (arith, nat_tests)
 
 pub answered_short : (id : ℕ) (known : List Known) → All (λ k. whole_airtime k ≤ longest_us) known
     → answered_at id known ≤ longest_us * length known
@@ -127,8 +121,7 @@ one_short : (ids : List ℕ) (k : Known) → AllPairs (λ a b. a ≢ b) ids → 
 one_short ids NotGiven d = omega (arith, total_none ids NotGiven (λ id. refl))
 one_short ids Given d = omega (arith, total_none ids Given (λ id. refl))
 one_short ids (Done None) d = omega (arith, total_none ids (Done None) (λ id. refl))
-one_short ids (Done (Some sent)) d =
-    omega (arith, (raises (λ id. 0) sent ids d).1, share_short (list_any (λ id. id == sent.gateway) ids) sent.airtime)
+one_short ids (Done (Some sent)) d = grind (arith, (raises (λ id. 0) sent ids d).1)
 
 total_short : (ids : List ℕ) (known : List Known) → AllPairs (λ a b. a ≢ b) ids → All (λ k. whole_airtime k ≤ longest_us) known
     → total_at ids known ≤ longest_us * length known

@@ -1,8 +1,8 @@
 -- How many tickets and stubs of a device are out.
-use Rattle.server_desk.proofs.Words.{ℕ, ◌⊎◌, zero, suc, ◌≡◌, ◌≢◌, ◌+◌, ◌==◌, nat_lt, Bool, true, false, ◌&&◌, ◌||◌, if◌then◌else◌}
-use Rattle.server_desk.proofs.Words.{List, [], ◌∷◌, ◌++◌, length, slice_get, slice_set, Option, Some, refl, inl, inr, sym, ap}
-use Rattle.server_desk.proofs.Words.{◌∙◌, subst, arith, eq-eqb, nat_tests, Asked, Known, NotGiven, Given, Done, Sent, is_given}
-use Rattle.server_desk.proofs.Words.{is_engaged, own_out, count_out, AreOut}
+use Rattle.server_desk.proofs.Words.{ℕ, ◌⊎◌, zero, suc, ◌≡◌, ◌≢◌, ◌+◌, nat_lt, Bool, true, false, if◌then◌else◌, List, [], ◌∷◌}
+use Rattle.server_desk.proofs.Words.{◌++◌, length, slice_get, slice_set, Option, Some, refl, inl, inr, sym, ap, ◌∙◌, subst, arith}
+use Rattle.server_desk.proofs.Words.{eq-eqb, nat_tests, Asked, Known, NotGiven, Given, Done, Sent, is_engaged, own_out, count_out}
+use Rattle.server_desk.proofs.Words.{AreOut}
 use Rattle.server_desk.proofs.Places.{some_inj, get_set_cases}
 
 abbrev as_count : Bool → ℕ
@@ -15,12 +15,7 @@ module _ (place : ℕ) where
       → count_out place asked (slice_set known i new) + own_out place a k ≡ count_out place asked known + own_out place a new
   count_set [] known i a k new e f = absurd (cc)
   count_set (b ∷ asked) [] i a k new e f = absurd (cc)
-  count_set (b ∷ asked) (l ∷ known) zero a k new e f =
-      let same : b ≡ a = some_inj e in
-      let state : l ≡ k = some_inj f in
-      let first : own_out place b l ≡ own_out place a k = ap (λ x. own_out place x l) same ∙ ap (own_out place a) state in
-      let then_ : own_out place b new ≡ own_out place a new = ap (λ x. own_out place x new) same in
-      omega (arith, first, then_)
+  count_set (b ∷ asked) (l ∷ known) zero a k new e f = rw (some_inj e, some_inj f) (omega arith)
   count_set (b ∷ asked) (l ∷ known) (suc i) a k new e f = omega (arith, count_set asked known i a k new e f)
 
   -- of one more uplink no ticket is out
@@ -31,27 +26,17 @@ module _ (place : ℕ) where
   count_push (b ∷ asked) [] a e = absurd (omega (arith, e))
   count_push (b ∷ asked) (k ∷ known) a e = ap (λ n. own_out place b k + n) (count_push asked known a (omega (arith, e)))
 
-  engaged_by : (t e : Bool) (c : ℕ) → e ≡ nat_lt 0 c → (t || e) ≡ nat_lt 0 ((if t then 1 else 0) + c)
-  engaged_by true e c h = grind (arith, nat_tests)
-  engaged_by false e c h = h ∙ ap (nat_lt 0) (omega arith)
-
   -- a device is engaged where one is out
   engaged_count : (asked : List Asked) (known : List Known) → is_engaged place asked known
       ≡ nat_lt 0 (count_out place asked known)
   engaged_count [] known = refl
   engaged_count (a ∷ asked) [] = refl
-  engaged_count (a ∷ asked) (k ∷ known) = engaged_by (is_given k && (a.device == place)) (is_engaged place asked known)
-      (count_out place asked known) (engaged_count asked known)
-
-as_counted : (b : Bool) → nat_lt 0 (as_count b) ≡ b
-as_counted true = refl
-as_counted false = refl
+  engaged_count (a ∷ asked) (k ∷ known) = grind (arith, nat_tests, engaged_count asked known)
 
 -- a device is engaged as it says
 pub engaged_is : (outs : List Bool) (asked : List Asked) (known : List Known) (place : ℕ) (out : Bool) → AreOut outs asked known
-    → slice_get outs place ≡ Some out
-    → is_engaged place asked known ≡ out
-engaged_is outs asked known place out h e = engaged_count place asked known ∙ ap (nat_lt 0) (h place out e) ∙ as_counted out
+    → slice_get outs place ≡ Some out → is_engaged place asked known ≡ out
+engaged_is outs asked known place out h e = grind (arith, nat_tests, engaged_count place asked known, h place out e)
 
 -- of another device's uplink none is out
 own_other : (place : ℕ) (a : Asked) (k : Known) → a.device ≢ place → own_out place a k ≡ 0
@@ -84,13 +69,9 @@ module _ (outs : List Bool) (asked : List Asked) (known : List Known) (i : ℕ) 
   out_given stated was =
       out_written outs asked known i a NotGiven Given false true there stated was h (λ c d e f. omega (arith, e, f, own_given a))
 
-  settled_count : (old : Bool) (c d : ℕ) → d + 1 ≡ c → c ≡ as_count old → d ≡ 0
-  settled_count true c d e f = omega (arith, e, f)
-  settled_count false c d e f = absurd (omega (arith, e, f))
-
   -- the answer that was out is settled
   pub out_settled : (sent : Option Sent) (old : Bool) → slice_get known i ≡ Some Given → slice_get outs a.device ≡ Some old
       → AreOut (slice_set outs a.device false) asked (slice_set known i (Done sent))
   out_settled sent old stated was =
       out_written outs asked known i a Given (Done sent) old false there stated was h
-      (λ c d e f. settled_count old c d (omega (arith, e, own_given a)) f)
+      (λ c d e f. grind (arith, e, f, own_given a))

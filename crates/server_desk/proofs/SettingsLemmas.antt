@@ -52,38 +52,28 @@ IsNew-from_AllPairs key xs h k d k<n =
     let i<n : i < length xs = omega arith in
     rw (get_or-take k xs i e i<k, get_or_default xs i e d i<n) (ne_eqb _ _ (h i k d i<k k<n)))
 
--- the tests say what the facts say
-IsGatewayInRange-test : (g : GatewaySetting) → is_gateway_in_range g ≡ true → IsGatewayInRange g
-IsGatewayInRange-test g h =
-    record {
-      id = (grind (arith, nat_tests), grind (arith, nat_tests));
-      cap =
-          (grind (arith, nat_tests), grind (arith, nat_tests));
-    }
-
-is_gateway_in_range-true : (g : GatewaySetting) → IsGatewayInRange g → is_gateway_in_range g ≡ true
-is_gateway_in_range-true g h = grind (arith, nat_tests)
-
-IsDeviceInRange-test : (d : DeviceSetting) → is_device_in_range d ≡ true → IsDeviceInRange d
-IsDeviceInRange-test d h =
-    record {
-      delay = (grind (arith, nat_tests), grind (arith, nat_tests));
-      offset = (grind (arith, nat_tests), grind (arith, nat_tests));
-      down = (grind (arith, nat_tests), grind (arith, nat_tests));
-    }
-
-is_device_in_range-true : (d : DeviceSetting) → IsDeviceInRange d → is_device_in_range d ≡ true
-is_device_in_range-true d h = grind (arith, nat_tests)
-
 -- a gateway without a fault is in range and new
 gateway_passed : (earlier : List GatewaySetting) (g : GatewaySetting) → gateway_fault earlier g ≡ None
     → IsGatewayInRange g × (list_any (λ e. e.id == g.id) earlier ≡ false)
-gateway_passed earlier g h = (IsGatewayInRange-test g (grind (arith, h)), grind (arith, h))
+gateway_passed earlier g h =
+    let t : is_gateway_in_range g ≡ true = grind (arith, h) in (
+      record { id = (grind (arith, nat_tests), grind (arith, nat_tests)); cap = (grind (arith, nat_tests), grind (arith, nat_tests)) },
+      grind (arith, h),
+    )
 
 -- a device without a fault is in range and new, and the channel of its RX2 lies in a sub-band
 device_passed : (earlier : List DeviceSetting) (d : DeviceSetting) → device_fault earlier d ≡ None
     → IsDeviceInRange d × (has_rx2_band d ≡ true) × (list_any (λ e. e.addr == d.addr) earlier ≡ false)
-device_passed earlier d h = (IsDeviceInRange-test d (grind (arith, h)), grind (arith, h), grind (arith, h))
+device_passed earlier d h =
+    let t : is_device_in_range d ≡ true = grind (arith, h) in (
+      record {
+        delay = (grind (arith, nat_tests), grind (arith, nat_tests));
+        offset = (grind (arith, nat_tests), grind (arith, nat_tests));
+        down = (grind (arith, nat_tests), grind (arith, nat_tests));
+      },
+      grind (arith, h),
+      grind (arith, h),
+    )
 
 -- settings without a fault are what the type keeps
 pub AreSettings-from_none : (gateways : List GatewaySetting) (devices : List DeviceSetting)
@@ -93,12 +83,10 @@ AreSettings-from_none gateways devices h =
     let counts : are_counts_in_range (length gateways) (length devices) ≡ true = grind (arith, h) in
     let faultless = rw counts at h in
     let both = both_none (first_fault gateway_fault [] gateways) (first_fault device_fault [] devices) faultless in
-    let gateway_free = FaultFree-from_none gateway_fault [] gateways both.0 in
-    let device_free = FaultFree-from_none device_fault [] devices both.1 in
     let gateway_at = λ (k : ℕ) (d : GatewaySetting) (l : k < length gateways). gateway_passed (take k gateways)
-    (get_or gateways k d) (gateway_free k d l) in
+    (get_or gateways k d) (FaultFree-from_none gateway_fault [] gateways both.0 k d l) in
     let device_at = λ (k : ℕ) (d : DeviceSetting) (l : k < length devices). device_passed (take k devices) (get_or devices k d)
-    (device_free k d l) in
+    (FaultFree-from_none device_fault [] devices both.1 k d l) in
     record {
       gateway_count = (grind (arith, nat_tests), grind (arith, nat_tests));
       device_count = (grind (arith, nat_tests), grind (arith, nat_tests));
@@ -117,8 +105,10 @@ none-from_AreSettings gateways devices h =
     let ids = IsNew-from_AllPairs (λ g. g.id) gateways h.ids_differ in
     let addrs = IsNew-from_AllPairs (λ d. d.addr) devices h.addrs_differ in
     let counts : are_counts_in_range (length gateways) (length devices) ≡ true = grind (arith, nat_tests) in
-    let gateway_none = first_fault-none gateway_fault [] gateways
-    (λ k d l. rw (is_gateway_in_range-true _ (h.gateways_in_range k d l), ids k d l)) in
-    let device_none = first_fault-none device_fault [] devices
-    (λ k d l. rw (is_device_in_range-true _ (h.devices_in_range k d l), h.rx2_in_bands k d l, addrs k d l)) in
-    rw (counts, gateway_none) device_none
+    let gateway_free : FaultFree gateway_fault [] gateways = λ k d l.
+    let here : is_gateway_in_range (get_or gateways k d) ≡ true = grind (arith, nat_tests, h.gateways_in_range k d l) in
+    rw (here, ids k d l) refl in
+    let device_free : FaultFree device_fault [] devices = λ k d l.
+    let here : is_device_in_range (get_or devices k d) ≡ true = grind (arith, nat_tests, h.devices_in_range k d l) in
+    rw (here, h.rx2_in_bands k d l, addrs k d l) refl in
+    rw (counts, first_fault-none gateway_fault [] gateways gateway_free) (first_fault-none device_fault [] devices device_free)
