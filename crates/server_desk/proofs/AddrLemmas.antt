@@ -14,7 +14,8 @@ flipped a b true e = grind (arith, nat_tests)
 flipped a b false e = grind (arith, nat_tests)
 
 -- the place of an address among the addresses is that of its device
-next_from : (n : ℕ) (o : Option (ℕ × Device)) → option_map (λ p. n + 1 + p.0) o ≡ option_map (λ p. n + p.0) (option_map next_place o)
+next_from : (n : ℕ) (o : Option (ℕ × Device)) → option_map (λ p. n + 1 + p.0) o
+    ≡ option_map (λ p. n + p.0) (option_map next_place o)
 next_from n None = refl
 next_from n (Some p) = ap Some (omega arith)
 

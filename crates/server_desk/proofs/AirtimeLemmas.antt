@@ -1,12 +1,13 @@
 -- The airtimes of the gateways, as the desk keeps them.
-use Rattle.server_desk.proofs.Words.{known_airtime, map-map, ℕ, ◌≡◌, ◌≢◌, ◌+◌, ◌^◌, ◌<◌, ◌≤◌, ◌==◌, true, List, [], ◌∷◌, ◌++◌}
-use Rattle.server_desk.proofs.Words.{map, length, slice_get, slice_set, get_or, All, AllPairs, Option, Some, None, Result, Ok}
+use Rattle.server_desk.proofs.Words.{◌-◌, numbered, known_airtime, map-map, ℕ, ◌≡◌, ◌≢◌, ◌+◌, ◌^◌, ◌<◌, ◌≤◌, ◌==◌, true, List, []}
+use Rattle.server_desk.proofs.Words.{◌∷◌, ◌++◌, map, length, slice_set, get_or, All, AllPairs, Option, Some, None, Result, Ok}
 use Rattle.server_desk.proofs.Words.{Err, refl, option_map, sym, ap, ◌∙◌, subst, arith, length-map, length-append, length-set}
 use Rattle.server_desk.proofs.Words.{All-nil, All-map, All-push, All-set, AllPairs-head, AllPairs-tail, longest_us}
 use Rattle.server_desk.proofs.Words.{IsWithinLongest, Ending, HeardCopy, HearFault, Heard, Opened, Joined, Gatherings}
 use Rattle.server_desk.proofs.Words.{after_hearing, GatewaySetting, Known, NotGiven, Given, Done, Sent, first_at, sent_of}
 use Rattle.server_desk.proofs.Words.{is_here, answered_at, total_at, answered_for, sent_airtime, airtime_of_ending, total_limit}
 use Rattle.server_desk.proofs.Words.{whole_airtime, AreAirtimes, raised, CanRaise, kept_by}
+use Rattle.server_desk.proofs.Numbers.{at_number}
 use Rattle.answer_ticket.specs.declared.outcome.Ending.TheVariants.{Answered, Unanswered, GivenUp}
 use Rattle.std.proofs.lemmas.List.Kept.{AllPairs-cons}
 use Rattle.server_desk.proofs.AirtimeSums.{answered_set, answered_push, same_airtimes, total_more, answered_found, raises}
@@ -45,21 +46,22 @@ module _ (ids airtimes : List ℕ) (limit : ℕ) (known : List Known) (i : AreAi
       (omega (arith, length-append known (NotGiven ∷ []), h))
 
   -- where an answer that added nothing is written anew: a ticket is given, or the answer is settled
-  module _ (place : ℕ) (old new : Known) (at : slice_get known place ≡ Some old) (none : (id : ℕ) → known_airtime id old ≡ 0) where
-    adds : (id : ℕ) → answered_at id (slice_set known place new) ≡ answered_at id known + known_airtime id new
-    adds id = omega (arith, answered_set id known place old new at, none id)
+  module _ (n : ℕ) (old new : Known) (there : numbered n known ≡ Some old) (none : (id : ℕ) → known_airtime id old ≡ 0) where
+    adds : (id : ℕ) → answered_at id (slice_set known (n - 1) new) ≡ answered_at id known + known_airtime id new
+    adds id = omega (arith, answered_set id known (n - 1) old new (at_number n known old there), none id)
 
     pub set_airtimes : whole_airtime new ≤ longest_us
-        → AreAirtimes ids (raised ids (kept_by (Some new)) airtimes) limit (slice_set known place new)
+        → AreAirtimes ids (raised ids (kept_by (Some new)) airtimes) limit (slice_set known (n - 1) new)
     set_airtimes short =
-        more_airtimes _ new adds (All-set (λ k. whole_airtime k ≤ longest_us) known place new short i.short)
-        (omega (arith, length-set known place new, i.few))
+        more_airtimes _ new adds (All-set (λ k. whole_airtime k ≤ longest_us) known (n - 1) new short i.short)
+        (omega (arith, length-set known (n - 1) new, i.few))
 
-    pub set_total : total_at ids (slice_set known place new) ≡ total_at ids known + total_at ids (new ∷ [])
-    set_total = total_more known (slice_set known place new) new adds ids
+    pub set_total : total_at ids (slice_set known (n - 1) new) ≡ total_at ids known + total_at ids (new ∷ [])
+    set_total = total_more known (slice_set known (n - 1) new) new adds ids
 
   -- what was sent is on air once, if it is on one of the gateways
-  pub total_here : (ending : Ending) → is_here ids ending ≡ true → total_at ids (Done (sent_of ending) ∷ []) ≡ airtime_of_ending ending
+  pub total_here : (ending : Ending) → is_here ids ending ≡ true
+      → total_at ids (Done (sent_of ending) ∷ []) ≡ airtime_of_ending ending
   total_here (Answered gateway window start airtime carried) here =
       let sent : Sent = record { gateway = gateway; start = start; airtime = airtime } in
       rw here at (raises (λ id. 0) sent ids i.differ).1

@@ -1,11 +1,10 @@
 -- A copy of an uplink, as the desk hears it.
-use Rattle.server_desk.proofs.Words.{length_push, true, nat_tests, ◌||◌, slice_get_within, decide, ℕ, ◌≡◌, ◌+◌, ◌<◌, nat_le, ◌==◌}
-use Rattle.server_desk.proofs.Words.{Bool, false, List, [], ◌∷◌, ◌++◌, map, length, slice_get, slice_set, Some, Result, Ok, Err}
-use Rattle.server_desk.proofs.Words.{IfOk, OnErr, MatchResult, IsOkUnless, refl, sym, ap, ◌∙◌, arith, addr_of, Heard, HearFault}
-use Rattle.server_desk.proofs.Words.{Gatherings, hear_answer, after_hearing, with_copy, hear_step, Kept, Known, NotGiven}
-use Rattle.server_desk.proofs.Words.{NewUplink, Heard1, Device, Asked, Register, copy_of, named_fault, answer_to, shown}
-use Rattle.server_desk.proofs.Words.{IsServable, IsDesk, desk_answer, desk_hear, length-map, length-set, map-set, All-push}
-use Rattle.server_desk.proofs.Words.{DeskFault, NoMemory}
+use Rattle.server_desk.proofs.Words.{length_push, nat_tests, slice_get_within, decide, ℕ, ◌≡◌, ◌+◌, ◌<◌, ◌==◌, Bool, false, List}
+use Rattle.server_desk.proofs.Words.{[], ◌∷◌, ◌++◌, map, length, slice_get, slice_set, Some, Result, Ok, Err, IfOk, OnErr}
+use Rattle.server_desk.proofs.Words.{MatchResult, IsOkUnless, refl, sym, ap, ◌∙◌, arith, addr_of, Heard, HearFault, Gatherings}
+use Rattle.server_desk.proofs.Words.{hear_answer, after_hearing, with_copy, hear_step, Kept, Known, NotGiven, NewUplink, Heard1}
+use Rattle.server_desk.proofs.Words.{Device, Asked, Register, copy_of, named_fault, answer_to, shown, IsServable, IsDesk}
+use Rattle.server_desk.proofs.Words.{desk_answer, desk_hear, length-map, length-set, map-set, All-push, DeskFault, NoMemory}
 use Rattle.uplink_gather.specs.Hearing.{opening}
 use Rattle.server_desk.proofs.Places.{map_there, some_inj}
 use Rattle.server_desk.proofs.Numbers.{length-rewritten}
@@ -106,13 +105,8 @@ module _ {A : Type 0} (ids : List ℕ) (kepts : List (Kept A)) (gathered : Gathe
   open_within = omega (arith, slice_get_within (map shown kepts) new.asked.device n.opening.device there, length-map kepts shown)
 
   -- and there is room for it
-  room_by : (full ever : Bool) → (full || ever) ≡ false → nat_le gathered.limits.max_ever (length gathered.list) ≡ ever
-      → length gathered.list < gathered.limits.max_ever
-  room_by true ever e q = absurd (cc)
-  room_by false ever e q = grind (arith, nat_tests, q)
-
   pub open_room : length gathered.list < gathered.limits.max_ever
-  open_room = room_by _ (nat_le gathered.limits.max_ever (length gathered.list)) n.room refl
+  open_room = let room = n.room in grind (arith, nat_tests, room)
 
   module _ (known : List Known) (k new_kept : Kept A) (at : slice_get kepts new.asked.device ≡ Some k)
       (s : shown new_kept ≡ record (shown k) { up = Some new.counter }) where

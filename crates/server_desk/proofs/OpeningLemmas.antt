@@ -1,9 +1,9 @@
 -- A desk before anything was heard.
-use Rattle.server_desk.proofs.Words.{map_push, map_more, map-map, ℕ, ◌≡◌, ◌≢◌, ◌+◌, ◌<◌, ◌==◌, nat_eq, Bool, false, ◌||◌}
-use Rattle.server_desk.proofs.Words.{if◌then◌else◌, List, [], ◌∷◌, ◌++◌, map, length, take, get_or, All, AllPairs, refl, list_any}
-use Rattle.server_desk.proofs.Words.{sym, ap, ◌∙◌, All-nil, All-push, All-map, All-weaker, DeviceSetting, Kept, SettingLists}
-use Rattle.server_desk.proofs.Words.{IsDeviceInRange, AreSettings, Asked, opened_device, shown, outs, IsSendable, IsServable}
-use Rattle.server_desk.proofs.Words.{IsGathered, AreOut, desk_of, Limits}
+use Rattle.server_desk.proofs.Words.{map_push, map_more, map-map, ℕ, ◌≡◌, ◌≢◌, ◌+◌, ◌<◌, ◌==◌, nat_eq, false, if◌then◌else◌, List}
+use Rattle.server_desk.proofs.Words.{[], ◌∷◌, ◌++◌, map, length, take, get_or, All, AllPairs, refl, list_any, sym, ◌∙◌, All-nil}
+use Rattle.server_desk.proofs.Words.{All-push, All-map, All-weaker, DeviceSetting, Kept, SettingLists, IsDeviceInRange}
+use Rattle.server_desk.proofs.Words.{AreSettings, Asked, opened_device, shown, outs, IsSendable, IsServable, IsGathered, AreOut}
+use Rattle.server_desk.proofs.Words.{desk_of, Limits}
 use Rattle.server_desk.proofs.Places.{from_map, all_get}
 use Rattle.server_desk.proofs.DeskLemmas.{Holds, seen}
 use Rattle.server_desk.specs.World.{opening}
@@ -15,9 +15,7 @@ addr_of d = d.addr
 
 any_addr : (v : ℕ) (xs : List DeviceSetting) → list_any (nat_eq v) (map addr_of xs) ≡ list_any (λ e. e.addr == v) xs
 any_addr v [] = refl
-any_addr v (x ∷ xs) =
-    ap (λ (t : Bool). t || list_any (nat_eq v) (map addr_of xs)) (flipped v x.addr (nat_eq x.addr v) refl)
-    ∙ ap (λ (t : Bool). (x.addr == v) || t) (any_addr v xs)
+any_addr v (x ∷ xs) = rw (flipped v x.addr (nat_eq x.addr v) refl, any_addr v xs) refl
 
 -- an address that is put behind those of the devices before it is new
 pub addr_added : (devices : List DeviceSetting) (i : ℕ) (d : DeviceSetting) (keys after : List ℕ)

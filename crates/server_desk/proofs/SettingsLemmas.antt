@@ -57,7 +57,10 @@ gateway_passed : (earlier : List GatewaySetting) (g : GatewaySetting) → gatewa
     → IsGatewayInRange g × (list_any (λ e. e.id == g.id) earlier ≡ false)
 gateway_passed earlier g h =
     let t : is_gateway_in_range g ≡ true = grind (arith, h) in (
-      record { id = (grind (arith, nat_tests), grind (arith, nat_tests)); cap = (grind (arith, nat_tests), grind (arith, nat_tests)) },
+      record {
+        id = (grind (arith, nat_tests), grind (arith, nat_tests));
+        cap = (grind (arith, nat_tests), grind (arith, nat_tests));
+      },
       grind (arith, h),
     )
 

@@ -2,9 +2,9 @@
 pub use Rattle.std.proofs.Common.{All, AllPairs, Bool, Contains, Err, IfOk, IsOkUnless, List, MatchResult, None, Ok, OnErr, OnOk}
 pub use Rattle.std.proofs.Common.{Option, Result, Some, [], ap, append-nil, append_assoc, arith, drop, eq-eqb, false, get_or}
 pub use Rattle.std.proofs.Common.{get_or-take, if◌then◌else◌, inl, inr, length, length-append, length-set, length-take, map}
-pub use Rattle.std.proofs.Common.{nat_eq, nat_le, nat_lt, ne_eqb, position, refl, slice_get, slice_set, subst, suc, sym, take}
-pub use Rattle.std.proofs.Common.{true, true≢false, unwrap_or, zero, zero-add, ℕ, ◌&&◌, ◌*◌, ◌++◌, ◌+◌, ◌-◌, ◌<◌, ◌==◌, ◌^◌, ◌||◌}
-pub use Rattle.std.proofs.Common.{◌∙◌, ◌∷◌, ◌≡◌, ◌≢◌, ◌≤◌, ◌⊎◌}
+pub use Rattle.std.proofs.Common.{nat_eq, nat_lt, ne_eqb, position, refl, slice_get, slice_set, subst, suc, sym, take, true}
+pub use Rattle.std.proofs.Common.{true≢false, unwrap_or, zero, zero-add, ℕ, ◌&&◌, ◌*◌, ◌++◌, ◌+◌, ◌-◌, ◌<◌, ◌==◌, ◌^◌, ◌∙◌, ◌∷◌}
+pub use Rattle.std.proofs.Common.{◌≡◌, ◌≢◌, ◌≤◌, ◌⊎◌}
 pub use Rattle.std.proofs.lemmas.Bool.Decides.{nat_tests}
 pub use Rattle.std.proofs.lemmas.List.{get_or_default, length-map, length_push, map-set, map_more, map_push}
 pub use Rattle.std.proofs.lemmas.List.Elements.{All-cons, All-drop, All-head, All-map, All-nil, All-push, All-set, All-tail}

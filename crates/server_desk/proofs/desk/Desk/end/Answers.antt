@@ -14,7 +14,7 @@ invariant_of-self g c =
       settled_holds _ _ _ _ _ c.self.invariant.0 c.args.outcome.now.number out.0 _ uplink _ _ at c.has_carried.result
           c.settle.ensures.shown c.sent_of-sent.result c.settle.ensures.out,
       rw (c.raise.ensures, c.deref.ensures.value, c.sent_of-sent.ensures)
-          (set_airtimes _ _ _ _ c.self.invariant.1 _ Given (Done _) (at_number c.args.outcome.now.number _ Given out.0) (λ id. refl)
+          (set_airtimes _ _ _ _ c.self.invariant.1 c.args.outcome.now.number Given (Done _) out.0 (λ id. refl)
           (short_ending c.args.outcome.now.result c.requires.short)),
     )
 
@@ -42,11 +42,11 @@ pub returns-clause-total : goal.returns-clause-total
 returns-clause-total g c =
     let out = is_out _ _ c.args.outcome.now.number c.args.outcome.now.result (rw (← c.self.view_is) at c.requires.out) in
     rw (← c.self.view_is, c.sent_of-sent.ensures, ← total_here _ _ _ _ c.self.invariant.1 c.args.outcome.now.result out.1)
-    (set_total _ _ _ _ c.self.invariant.1 _ Given (Done _) (at_number c.args.outcome.now.number _ Given out.0) (λ id. refl))
+    (set_total _ _ _ _ c.self.invariant.1 c.args.outcome.now.number Given (Done _) out.0 (λ id. refl))
 
 pub returns-clause-limit : goal.returns-clause-limit
 returns-clause-limit g c =
     let out = is_out _ _ c.args.outcome.now.number c.args.outcome.now.result (rw (← c.self.view_is) at c.requires.out) in
     rw c.sent_of-sent.ensures (within_limit _ _ _ _
-    (set_airtimes _ _ _ _ c.self.invariant.1 _ Given (Done _) (at_number c.args.outcome.now.number _ Given out.0) (λ id. refl)
+    (set_airtimes _ _ _ _ c.self.invariant.1 c.args.outcome.now.number Given (Done _) out.0 (λ id. refl)
     (short_ending c.args.outcome.now.result c.requires.short)))
