@@ -4,7 +4,7 @@ pub mod Numbers
 pub mod Found
 pub mod Decided
 pub mod AirtimeLaws
-mod SettingsLemmas
+pub mod SettingsLemmas
 pub mod OutLemmas
 pub mod CopyLemmas
 pub mod DeskLemmas

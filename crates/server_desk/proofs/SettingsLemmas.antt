@@ -79,10 +79,10 @@ device_passed earlier d h =
     )
 
 -- settings without a fault are what the type keeps
-pub AreSettings-from_none : (gateways : List GatewaySetting) (devices : List DeviceSetting)
+pub are_settings : (gateways : List GatewaySetting) (devices : List DeviceSetting)
     → settings_fault gateways devices ≡ None → AreSettings gateways devices
 unfolding settings_fault
-AreSettings-from_none gateways devices h =
+are_settings gateways devices h =
     let counts : are_counts_in_range (length gateways) (length devices) ≡ true = grind (arith, h) in
     let faultless = rw counts at h in
     let both = both_none (first_fault gateway_fault [] gateways) (first_fault device_fault [] devices) faultless in
@@ -101,10 +101,10 @@ AreSettings-from_none gateways devices h =
     }
 
 -- what the type keeps has no fault
-pub none-from_AreSettings : (gateways : List GatewaySetting) (devices : List DeviceSetting) → AreSettings gateways devices
+pub no_fault : (gateways : List GatewaySetting) (devices : List DeviceSetting) → AreSettings gateways devices
     → settings_fault gateways devices ≡ None
 unfolding settings_fault
-none-from_AreSettings gateways devices h =
+no_fault gateways devices h =
     let ids = IsNew-from_AllPairs (λ g. g.id) gateways h.ids_differ in
     let addrs = IsNew-from_AllPairs (λ d. d.addr) devices h.addrs_differ in
     let counts : are_counts_in_range (length gateways) (length devices) ≡ true = grind (arith, nat_tests) in

@@ -6,7 +6,7 @@ use Rattle.server_desk.proofs.Words.{All-head, HeardCopy, Gatherings, numbered, 
 use Rattle.server_desk.proofs.Words.{All-ranked, IsHeard, Job, Payload, IsJob, IsPort, payload_len, Kept, Known, NotGiven, Given}
 use Rattle.server_desk.proofs.Words.{Done, is_not_given, Device, Asked, head, is_engaged, job_for, fault_of, given_or}
 use Rattle.server_desk.proofs.Words.{take_answer, with_counter_given, shown, outs, IsSendable, IsServable, IsGathered, IsReady}
-use Rattle.server_desk.proofs.Words.{desk_take, TakeFault}
+use Rattle.server_desk.proofs.Words.{desk_take, TakeFault, slice_get_cases, slice_get_within, inl, inr}
 use Rattle.server_desk.proofs.Places.{map_there, some_inj, all_get}
 use Rattle.server_desk.proofs.Numbers.{at_number}
 use Rattle.server_desk.proofs.DeskLemmas.{seen_reg, Holds, seen, written_holds}
@@ -40,17 +40,11 @@ is_job device n a copies s some h =
     }
 
 -- a list that is as long has this number too
-get_too : {X Y : Type 0} (xs : List X) (ys : List Y) (i : ℕ) (x : X) → length xs ≡ length ys → slice_get xs i ≡ Some x
-    → (y : Y) × (slice_get ys i ≡ Some y)
-get_too [] ys i x l e = absurd (cc)
-get_too (z ∷ xs) [] i x l e = absurd (omega (arith, l))
-get_too (z ∷ xs) (y ∷ ys) zero x l e = (y, refl)
-get_too (z ∷ xs) (y ∷ ys) (suc i) x l e = get_too xs ys i x (omega (arith, l)) e
-
 pub number_too : {X Y : Type 0} (n : ℕ) (xs : List X) (ys : List Y) (x : X) → length xs ≡ length ys → numbered n xs ≡ Some x
     → (y : Y) × (numbered n ys ≡ Some y)
 number_too zero xs ys x l e = absurd (cc)
-number_too (suc i) xs ys x l e = get_too xs ys i x l e
+number_too (suc i) xs ys x l e = elim (slice_get_cases ys i).1
+    [ inl h ↦ (h.0, h.2) | inr h ↦ absurd (omega (arith, h.0, l, slice_get_within xs i x e)) ]
 
 -- what is true of a known uplink on a desk
 module _ {A : Type 0} (keys : List ℕ) (kepts : List (Kept A)) (gathered : Gatherings) (asked : List Asked) (known : List Known)

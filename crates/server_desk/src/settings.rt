@@ -37,6 +37,7 @@ impl<A: Allocator> Settings<A> {
     /// The settings of these lists, or the first fault: that of the counts, then those of the gateways in
     /// order, then those of the devices in order, each in the order of `SettingsFault`. Where there is
     /// one, the lists are dropped. Needs no memory.
+    #[tactic(auto, using(crate::proofs::SettingsLemmas::are_settings, crate::proofs::SettingsLemmas::no_fault))]
     pub fn new(
         gateways: Vec<GatewaySetting, A>,
         devices: Vec<DeviceSetting, A>,
