@@ -92,6 +92,9 @@ module _ {A : Type 0} (kepts : List (Kept A)) (gathered : Gatherings) (asked : L
   queued_refused ids (Ok count) s = tt
   queued_refused ids (Err fault) s = rw (map_set shown kepts place k new at s) refl
 
+-- what is said of the device with an address
+pub ruleset by_address = (found_within, found_kept, found_at, queued_refused)
+
 -- a payload that is queued is in its ranges
 sendable : (device : Device) (payload : Payload) (count : ℕ) (o : Option QueueFault) → queue_fault device payload ≡ o
     → queued_or device o ≡ Ok count → IsSendable payload

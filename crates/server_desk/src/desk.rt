@@ -96,7 +96,7 @@ impl<S: BuildHasher, A: Allocator + Copy> Desk<S, A> {
     /// Queues a payload for the device with this address, FPort 1 to 223 (LoRaWAN L2 1.0.4, section 4.3.2) and FRMPayload
     /// of 0 to 242 bytes, not encrypted, and answers how many wait then, at most 16, or the first fault that holds, in the
     /// order of `QueueFault`. A fault changes nothing; `NoMemory` comes only where a growth was refused.
-    #[tactic(auto, using(crate::proofs::DeskLemmas::found_within, crate::proofs::DeskLemmas::found_kept))]
+    #[tactic(auto, using(crate::proofs::DeskLemmas::by_address))]
     pub fn queue(&mut self, addr: u32, port: u8, payload: &[u8]) -> Result<usize, QueueFault>
         ensures answer { MatchResult (queue_answer self.old.reg addr (port, payload.now))
             (λ _. IsOkUnless result QueueFault.NoMemory) (λ fault. result ≡ Err fault) }
@@ -149,6 +149,7 @@ impl<S: BuildHasher, A: Allocator + Copy> Desk<S, A> {
     }
 
     /// Opens a gathering with a copy. All growths come before the first change.
+    #[tactic(auto, using(crate::proofs::HearLemmas::was_fault))]
     fn open(
         &mut self,
         new: NewUplink,
@@ -214,7 +215,7 @@ impl<S: BuildHasher, A: Allocator> Desk<S, A> {
     }
 
     /// What is to be done with an uplink that would open a gathering.
-    #[tactic(auto, using(crate::proofs::DeskLemmas::found_within, crate::proofs::DeskLemmas::found_kept))]
+    #[tactic(auto, using(crate::proofs::DeskLemmas::by_address))]
     fn verdict_on(&self, bytes: &[u8], uplink: Uplink) -> Verdict
         requires { uplink_of bytes.now ≡ Ok uplink }
         ensures { result ≡ verdict_of bytes.now (decide_device (is_crowded self.now.reg.gathered) bytes.now uplink

@@ -13,12 +13,6 @@ returns-in-Err-clause-answer g c =
     let fault = sym c.desk_answer.ensures ∙ c.in-Err.is in
     rw (← c.self.view_is, open_answer _ _ _ _ n) (rw fault at (answered c.args.new.repeat _ c.hear-answer.result answer))
 
-pub returns-in-Err-clause-refused : goal.returns-in-Err-clause-refused
-returns-in-Err-clause-refused g c =
-    let same = was_fault _ c.args.new.repeat c.hear-answer.result c.in-Err.fault (sym c.desk_answer.ensures ∙ c.in-Err.is)
-    c.hear-answer.ensures.refused in
-    rw (same, c.reserve.ensures.items, c.reserve-2.ensures.items) c.self.view_is
-
 pub invariant_of-self-in-Err : goal.invariant_of-self-in-Err
 invariant_of-self-in-Err g c =
     let same = was_fault _ c.args.new.repeat c.hear-answer.result c.in-Err.fault (sym c.desk_answer.ensures ∙ c.in-Err.is)

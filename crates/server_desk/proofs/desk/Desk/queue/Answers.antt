@@ -1,4 +1,4 @@
-use Rattle.server_desk.proofs.DeskLemmas.{found_at, found_kept, queued_holds, pushed_servable, queued_step, queued_refused}
+use Rattle.server_desk.proofs.DeskLemmas.{found_at, found_kept, queued_holds, pushed_servable, queued_step}
 use Rattle.server_desk.proofs.desk.Desk.queue.Goals as goal
 
 pub invariant_of-self : goal.invariant_of-self
@@ -17,9 +17,3 @@ returns-in-Some-clause-step g c =
     let at = found_at _ _ _ _ c.index_mut.ensures.value p in
     rw (← c.self.view_is) (queued_step _ _ _ _ _ _ _ at _ _ (c.args.port, c.args.payload.now) c.push.result
     (found_kept _ _ _ _ c.index_mut.ensures.value p) c.push.ensures.told c.push.ensures.pushed)
-
-pub returns-in-Some-clause-refused : goal.returns-in-Some-clause-refused
-returns-in-Some-clause-refused g c =
-    let p = rw (← c.self.view_is) at c.in-Some.ensures in
-    let at = found_at _ _ _ _ c.index_mut.ensures.value p in
-    rw (← c.self.view_is) (queued_refused _ _ _ _ _ _ _ at _ c.push.result c.push.ensures.refused)
