@@ -22,7 +22,7 @@ refused_by old ask refusal None is h =
       starved = true;
       answered = ap (λ e. Refused ask.number e) h ∙ sym (ap (λ o. booking_reply true o ask) is);
       reached = refl;
-      same = record { rules = refl; retired = refl };
+      rules = refl;
     }
 refused_by old ask refusal (Some e) is h =
     let same : refusal ≡ e = cc in
@@ -30,7 +30,7 @@ refused_by old ask refusal (Some e) is h =
       starved = false;
       answered = ap (λ e. Refused ask.number e) same ∙ sym (ap (λ o. booking_reply false o ask) is);
       reached = sym (ap (λ o. after_answer o (state_of old) ask) is);
-      same = record { rules = refl; retired = refl };
+      rules = refl;
     }
 
 -- a booking that is refused changes nothing

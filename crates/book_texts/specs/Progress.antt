@@ -17,11 +17,6 @@ use Rattle.book_texts.specs.Output.{Standing, book_turns, counted}
 
 -- What a book does with a line, and what stands then.
 
--- the book is the same but for what it has reserved
-pub record SameBook (old new : Book) : Type 0 where
-  pub rules : new.rules ≡ old.rules
-  pub retired : new.retired ≡ old.retired
-
 -- the lines of an answer, if there is one
 abbrev pub reply_lines : Option Reply → List (List ℕ)
 reply_lines None = []
@@ -32,20 +27,19 @@ pub record IsCarriedOut (old new : Book) (command : Command) (reply : Reply) : T
   pub starved : Bool
   pub answered : reply ≡ reply_to old.rules starved (state_of old) command
   pub reached : state_of new ≡ state_after old.rules starved (state_of old) command
-  pub same : SameBook old new
+  pub rules : new.rules ≡ old.rules
 
 -- a line was carried out, and this is the answer, if it has one
 pub record IsReplied (old new : Book) (number : ℕ) (line : List ℕ) (reply : Option Reply) : Type 0 where
   pub starved : Bool
   pub answered : answer_to old.rules starved number (state_of old) (said line) ≡ reply_lines reply
   pub reached : state_of new ≡ state_after_line old.rules starved (state_of old) (said line)
-  pub same : SameBook old new
+  pub rules : new.rules ≡ old.rules
 
 -- what stands in a book
 pub record StandsIn (book : Book) (at : Standing) : Type 0 where
   pub rules : book.rules ≡ at.rules
   pub state : state_of book ≡ at.state
-  pub retired : book.retired ≡ 0
 
 -- what is kept of a line does what the line does
 pub book_turns_by_kept : TurnsByKept book_turns
