@@ -1,16 +1,69 @@
--- A call that is one step: one thread notes the step, makes it, and tells its line.
-use Rattle.server_core.proofs.Words.{ap, sym, ◌∙◌, Err, IfOk, IsOkUnless, List, MatchResult, None, Ok, OnErr, OnOk, Option}
-use Rattle.server_core.proofs.Words.{Result, Some, [], refl, ℕ, ◌∷◌, ◌≡◌, ◌≢◌, Payload, DeskView, desk_hear, desk_of, desk_queue}
-use Rattle.server_core.proofs.Words.{known_after, Decision, Join, Refuse, answer_to, copy_of, decide, after_queueing}
-use Rattle.server_core.proofs.Words.{queue_answer, Device, Register, device_with, World, DeskFault, QueueFault, DeskHeard, Heard1}
-use Rattle.server_core.proofs.Words.{lines_for, step_of, AreHeard, IsAt, IsIdle, IsReady, Makes, Seen, heard_line, queued_line}
-use Rattle.server_core.proofs.Words.{with_lines, with_step, Hear, Heard, Queue, Queued, Reply, Step, step, Line}
-use Rattle.server_desk.specs.Hearing.{after_hearing}
+-- Steps one after another, and a call that is one step: one thread notes the step, makes it, and tells its line.
+use Rattle.server_core.proofs.Words.{ap, append-nil, append_assoc, sym, ◌∙◌, map-append, Err, IfOk, IsOkUnless, List, MatchResult}
+use Rattle.server_core.proofs.Words.{None, Ok, OnErr, OnOk, Option, Result, Some, [], map, refl, ℕ, ◌++◌, ◌∷◌, ◌≡◌, ◌≢◌, Payload}
+use Rattle.server_core.proofs.Words.{DeskView, desk_hear, desk_of, desk_queue, known_after, Decision, Join, Refuse, answer_to}
+use Rattle.server_core.proofs.Words.{copy_of, decide, after_queueing, queue_answer, Device, Register, device_with, World}
+use Rattle.server_core.proofs.Words.{DeskFault, QueueFault, DeskHeard, Heard1, entry_at, lines_for, step_lines, reached, step_of}
+use Rattle.server_core.proofs.Words.{AreHeard, IsAt, IsIdle, IsReady, Makes, Moves, Seen, heard_line, queued_line, with_lines}
+use Rattle.server_core.proofs.Words.{with_step, Hear, Heard, Queue, Queued, Reply, Step, run_from, step, Line}
 use Rattle.server_core.specs.declared.event.Step.{Step as Made}
+use Rattle.server_desk.specs.Hearing.{after_hearing}
 use Rattle.server_desk.specs.Hearing as hearing
 use Rattle.server_core.proofs.DeskSteps.{desk_calls_are_steps}
 use Rattle.server_core.proofs.Ready.{heard_after, idle_hear}
-use Rattle.server_core.proofs.Going.{one_step}
+
+-- Steps one after another, and the lines for them.
+
+pub reached_append : (w : World) (ss ts : List Step) → reached w (ss ++ ts) ≡ reached (reached w ss) ts
+unfolding run_from
+reached_append w [] ts = refl
+reached_append w (s ∷ ss) ts = reached_append (step w s).0 ss ts
+
+pub lines_append : {A : Type 0} (w : World) (ss ts : List Step)
+    → step_lines {A = A} w (ss ++ ts) ≡ step_lines w ss ++ step_lines (reached w ss) ts
+unfolding run_from step_lines
+lines_append w [] ts = refl
+lines_append {A} w (s ∷ ss) ts = rw (lines_append {A = A} (step w s).0 ss ts, append_assoc) refl
+
+-- What a server on one thread does, one thing after another.
+
+-- what is promised of success, from another promise of it
+pub on_ok : {X E : Type 0} {P Q : Type 0} (r : Result X E) → (P → Q) → OnOk r P → OnOk r Q
+on_ok (Ok x) f p = f p
+on_ok (Err e) f p = tt
+
+pub both_ok : {X E P Q R : Type 0} (r : Result X E) → (P → record { ready : Q; made : R }) → OnOk r P
+    → record { ready : OnOk r Q; made : OnOk r R }
+both_ok (Ok x) f p = f p
+both_ok (Err e) f p = record { ready = tt; made = tt }
+
+pub all_ok : {X E P Q R S : Type 0} (r : Result X E) → (P → record { ready : Q; gathered : S; made : R }) → OnOk r P
+    → record { ready : OnOk r Q; gathered : OnOk r S; made : OnOk r R }
+all_ok (Ok x) f p = f p
+all_ok (Err e) f p = record { ready = tt; gathered = tt; made = tt }
+
+-- some steps, and then some more
+pub moves_on : {A : Type 0} (place : ℕ) (w : World) (ss ts : List Step) (old mid new : Seen A) → Moves place w ss old mid
+    → Moves place (reached w ss) ts mid new → Moves place w (ss ++ ts) old new
+moves_on {A} place w ss ts old mid new a b =
+    record {
+      at = rw reached_append b.at;
+      steps = rw (b.steps, a.steps, append_assoc) refl;
+      outcomes = rw (b.outcomes, a.outcomes, lines_append {A = A} w ss ts, map-append, append_assoc) refl;
+    }
+
+-- one step that was noted, and its lines
+pub one_step : {A : Type 0} (place : ℕ) (w : World) (s : Step) (made : Made A) (lines : List (Line A)) (old new : Seen A)
+    → step_of made ≡ s → IsAt (step w s).0 new → new.steps ≡ old.steps ++ made ∷ []
+    → new.outcomes ≡ old.outcomes ++ map (entry_at place) lines → lines_for w s (step w s).1 ≡ lines
+    → Moves place w (s ∷ []) old new
+unfolding run_from step_lines
+one_step {A} place w s made lines old new f at t o l =
+    record {
+      at = at;
+      steps = rw (t, ← f) (map-append step_of old.steps (made ∷ []));
+      outcomes = rw (o, append-nil, l) refl;
+    }
 
 -- what an event that is one step leaves
 abbrev pub IsDone : {A : Type 0} → ℕ → Step → Seen A → Seen A → Type 0

@@ -8,9 +8,7 @@ pub mod TakeStep
 pub mod Runs
 pub mod DeskSteps
 pub mod Ready
-pub mod Going
 pub mod Calls
-pub mod BookFound
 pub mod BookCalls
 pub mod TrySteps
 pub mod Settled

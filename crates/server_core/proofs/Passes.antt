@@ -1,12 +1,12 @@
 -- Time passes for the gatherings: all that are due are closed and answered.
-use Rattle.server_core.proofs.Words.{ap, append-nil, arith, sym, ◌∙◌, position_from, Bool, List, None, Some, [], false}
+use Rattle.server_core.proofs.Words.{ap, append-nil, arith, sym, ◌∙◌, position_from, Bool, List, None, Option, Some, [], false}
 use Rattle.server_core.proofs.Words.{if◌then◌else◌, length, nat_lt, refl, slice_get, slice_set, suc, true, ℕ, ◌&&◌, ◌++◌, ◌+◌}
 use Rattle.server_core.proofs.Words.{◌<◌, ◌∷◌, ◌≡◌, Gathering, Gatherings, close_step, is_due, is_open, join_us, due_of, DeskView}
-use Rattle.server_core.proofs.Words.{desk_pass, closing, pass_answer, some_inj, World, answer_steps, closing_steps, due_from}
-use Rattle.server_core.proofs.Words.{due_numbers, reached, pass_steps, IsAt, IsReady, Makes, Moves, Seen, pass_whole, with_step}
-use Rattle.server_core.proofs.Words.{Pass, run_from, step}
+use Rattle.server_core.proofs.Words.{desk_pass, closing, pass_answer, World, answer_steps, closing_steps, due_from, due_numbers}
+use Rattle.server_core.proofs.Words.{reached, pass_steps, IsAt, IsReady, Makes, Moves, Seen, pass_whole, with_step, Pass}
+use Rattle.server_core.proofs.Words.{run_from, step}
 use Rattle.server_core.specs.declared.event.Step.TheVariants as made
-use Rattle.server_core.proofs.Going.{one_step, moves_on}
+use Rattle.server_core.proofs.Calls.{one_step, moves_on}
 use Rattle.server_core.proofs.Ready.{heard_closed}
 
 -- The gatherings that are due, one after another.
@@ -31,21 +31,15 @@ module _ (now : ℕ) where
       open_by true t e = refl
       open_by false t e = absurd (cc (e))
 
-  first_by : (k : ℕ) (g : Gathering) (gs : List Gathering) (m : ℕ) (t : Bool) → is_due now g ≡ t
-      → (if t then Some k else position_from (is_due now) (k + 1) gs) ≡ Some m
-      → (position_from (is_due now) (k + 1) gs ≡ Some m → IsFirst (k + 1) gs m)
-      → IsFirst k (g ∷ gs) m
-  first_by k g gs m true e p rest =
-      record {
-        place = 0;
-        gathering = g;
-        number = sym (some_inj p) ∙ omega arith;
-        there = refl;
-        is_open = was_open g e;
-        rest = rw (e, some_inj p) refl;
-      }
-  first_by k g gs m false e p rest =
-      let r = rest p in
+  -- none is due, or this is the first
+  abbrev IsNextDue : ℕ → List Gathering → Option ℕ → Type 0
+  IsNextDue k l None = due_from k now l ≡ []
+  IsNextDue k l (Some m) = IsFirst k l m
+
+  later_due : (k : ℕ) (g : Gathering) (gs : List Gathering) (o : Option ℕ) → is_due now g ≡ false → IsNextDue (k + 1) gs o
+      → IsNextDue k (g ∷ gs) o
+  later_due k g gs None e r = rw e r
+  later_due k g gs (Some m) e r =
       record {
         place = suc r.place;
         gathering = r.gathering;
@@ -55,23 +49,19 @@ module _ (now : ℕ) where
         rest = rw (e, r.rest) refl;
       }
 
-  first_due : (k : ℕ) (l : List Gathering) (m : ℕ) → position_from (is_due now) k l ≡ Some m → IsFirst k l m
-  first_due k [] m e = absurd (cc (e))
-  first_due k (g ∷ gs) m e = first_by k g gs m (is_due now g) refl e (first_due (k + 1) gs m)
+  next_by : (k : ℕ) (g : Gathering) (gs : List Gathering) (o : Option ℕ) (t : Bool) → is_due now g ≡ t → IsNextDue (k + 1) gs o
+      → IsNextDue k (g ∷ gs) (if t then Some k else o)
+  next_by k g gs o true e r =
+      record { place = 0; gathering = g; number = omega arith; there = refl; is_open = was_open g e; rest = rw e refl }
+  next_by k g gs o false e r = later_due k g gs o e r
 
-  none_by : (k : ℕ) (g : Gathering) (gs : List Gathering) (t : Bool) → is_due now g ≡ t
-      → (if t then Some k else position_from (is_due now) (k + 1) gs) ≡ None
-      → (position_from (is_due now) (k + 1) gs ≡ None → due_from (k + 1) now gs ≡ []) → due_from k now (g ∷ gs) ≡ []
-  none_by k g gs true e p rest = absurd (cc (p))
-  none_by k g gs false e p rest = rw e (rest p)
-
-  none_due : (k : ℕ) (l : List Gathering) → position_from (is_due now) k l ≡ None → due_from k now l ≡ []
-  none_due k [] e = refl
-  none_due k (g ∷ gs) e = none_by k g gs (is_due now g) refl e (none_due (k + 1) gs)
+  next_due : (k : ℕ) (l : List Gathering) → IsNextDue k l (position_from (is_due now) k l)
+  next_due k [] = refl
+  next_due k (g ∷ gs) = next_by k g gs (position_from (is_due now) (k + 1) gs) (is_due now g) refl (next_due (k + 1) gs)
 
   pub due_none : (l : List Gathering) → due_of now l ≡ None → due_numbers now l ≡ []
   unfolding due_of
-  due_none l e = none_due 1 l e
+  due_none l e = rw e at (next_due 1 l)
 
   closed_at : (s : Gatherings) (i : ℕ) (g : Gathering) → slice_get s.list i ≡ Some g → is_open g ≡ true
       → (close_step s (suc i)).list ≡ slice_set s.list i (closed g)
@@ -89,7 +79,7 @@ module _ (now : ℕ) where
   pub due_some : (s : Gatherings) (n : ℕ) → due_of now s.list ≡ Some n
       → due_numbers now s.list ≡ n ∷ due_numbers now (close_step s n).list
   unfolding due_of
-  due_some s n e = closed_first s n (first_due 1 s.list n e)
+  due_some s n e = closed_first s n (rw e at (next_due 1 s.list))
 
 -- All that is due is closed and answered, one after another.
 

@@ -7,7 +7,7 @@ use Rattle.server_core.proofs.Words.{reached, schedule, step_of, usual_limits, e
 use Rattle.server_core.proofs.Words.{IsOpened, IsReady, Seen, ids_of, with_lines, Step, run_from, Event}
 use Rattle.server_core.specs.declared.event.Event.TheVariants as events
 use Rattle.server_core.specs.declared.entry.Line.TheVariants as says
-use Rattle.server_core.proofs.Going.{reached_append}
+use Rattle.server_core.proofs.Calls.{reached_append}
 
 -- a server that has heard nothing
 

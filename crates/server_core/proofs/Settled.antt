@@ -6,7 +6,7 @@ use Rattle.server_core.proofs.Words.{desk_settled, may_settle, World, step_lines
 use Rattle.server_core.proofs.Words.{Seen, ids_of, Settle, Try, settle, run_from, step, AreTries, EndsTries, GoesOn, IsAnswered}
 use Rattle.server_core.proofs.Words.{IsGivenTo, IsNext, IsOut, IsSame, IsSettled, end_lines, tries_from, Ended}
 use Rattle.server_core.specs.Steps as replies
-use Rattle.server_core.proofs.Going.{reached_append, lines_append}
+use Rattle.server_core.proofs.Calls.{reached_append, lines_append}
 use Rattle.server_core.proofs.Walks.{settle_walk}
 use Rattle.server_core.proofs.DeskSteps.{settle_desk, desk_calls_are_steps}
 

@@ -11,7 +11,7 @@ use Rattle.server_core.proofs.Words.{terms, tried_by, run_from, step, AreTries, 
 use Rattle.server_core.proofs.Words.{tries_from}
 use Rattle.answer_ticket.specs.Tried.{IsNext as IsRefused, IsOut as IsRefusedLast}
 use Rattle.server_core.specs.declared.event.Step.TheVariants as made
-use Rattle.server_core.proofs.BookFound.{IsFound, IsFoundIn, place_of, book_found, gateway_found, zip_set, zip_same, has_place}
+use Rattle.server_core.proofs.BookCalls.{IsFound, IsFoundIn, place_of, book_found, gateway_found, zip_set, zip_same, has_place}
 
 module _ {X : Type 0} where
   -- what is left from a place on

@@ -1,6 +1,5 @@
 use Rattle.server_core.proofs.Words.{seen}
-use Rattle.server_core.proofs.Going.{both_ok}
-use Rattle.server_core.proofs.Calls.{ready_noted}
+use Rattle.server_core.proofs.Calls.{both_ok, ready_noted}
 use Rattle.server_core.proofs.BookCalls.{cancel_done}
 use Rattle.server_core.proofs.server.Server.cancel.Goals as goal
 

@@ -1,6 +1,5 @@
 use Rattle.server_core.proofs.Words.{arith, refl, seen}
-use Rattle.server_core.proofs.BookFound.{book_within}
-use Rattle.server_core.proofs.BookCalls.{nothing_sent, not_here, was_cancelled}
+use Rattle.server_core.proofs.BookCalls.{book_within, nothing_sent, not_here, was_cancelled}
 use Rattle.server_core.proofs.server.Server.cancelled.Goals as goal
 
 pub returns-in_default : goal.returns-in_default

@@ -1,5 +1,5 @@
 use Rattle.server_core.proofs.Words.{seen}
-use Rattle.server_core.proofs.Going.{on_ok}
+use Rattle.server_core.proofs.Calls.{on_ok}
 use Rattle.server_core.proofs.Replays.{bad_told}
 use Rattle.server_core.proofs.server.Server.event.Goals as goal
 

@@ -1,6 +1,5 @@
 use Rattle.server_core.proofs.Words.{ap, ◌∙◌, List, ℕ, seen, Hear}
-use Rattle.server_core.proofs.Going.{both_ok}
-use Rattle.server_core.proofs.Calls.{call_done, hear_is}
+use Rattle.server_core.proofs.Calls.{both_ok, call_done, hear_is}
 use Rattle.server_core.proofs.server.Server.hear.Goals as goal
 
 pub returns : goal.returns

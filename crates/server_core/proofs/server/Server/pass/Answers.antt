@@ -1,5 +1,5 @@
 use Rattle.server_core.proofs.Words.{seen}
-use Rattle.server_core.proofs.Going.{both_ok}
+use Rattle.server_core.proofs.Calls.{both_ok}
 use Rattle.server_core.proofs.Passes.{passing_first, closed_ready, fewer_due, passing_on, passed_done}
 use Rattle.server_core.proofs.server.Server.pass.Goals as goal
 

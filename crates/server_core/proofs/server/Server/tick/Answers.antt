@@ -1,7 +1,6 @@
 use Rattle.server_core.proofs.Words.{ap, arith, Totals, seen}
-use Rattle.server_core.proofs.Going.{on_ok, both_ok}
-use Rattle.server_core.proofs.BookFound.{book_within}
-use Rattle.server_core.proofs.BookCalls.{not_ticked, ticked_done}
+use Rattle.server_core.proofs.Calls.{on_ok, both_ok}
+use Rattle.server_core.proofs.BookCalls.{book_within, not_ticked, ticked_done}
 use Rattle.server_core.proofs.server.Server.tick.Goals as goal
 
 pub returns-in_default-clause-made : goal.returns-in_default-clause-made

@@ -1,4 +1,4 @@
-use Rattle.server_core.proofs.Words.{subst, seen, TurnIs}
+use Rattle.server_core.proofs.Words.{seen}
 use Rattle.server_core.proofs.Settled.{trying_first, here_still, trying_next, fewer_left, tries_over}
 use Rattle.server_core.proofs.server.Server.tried.Goals as goal
 
@@ -12,16 +12,14 @@ tried_once-requires g c =
 pub returns-in-Over : goal.returns-in-Over
 returns-in-Over g c =
     tries_over c.args.ticket c.loop-ended.ticket (seen c.args.self.now) (seen c.loop-ended.self)
-    (seen c.tried_once.new.self) c.in-Over.ended c.loop-ended.invariant
-    (subst (TurnIs c.loop-ended.ticket (seen c.loop-ended.self) (seen c.tried_once.new.self)) c.in-Over.is c.in_ok-ended.ensures)
+    (seen c.tried_once.new.self) c.in-Over.ended c.loop-ended.invariant (rw c.in-Over.is at c.in_ok-ended.ensures)
 
 pub loop-ended-preserved : goal.loop-ended-preserved
 loop-ended-preserved g c =
     trying_next c.args.ticket c.loop-ended.ticket c.in-On.next (seen c.args.self.now) (seen c.loop-ended.self)
-    (seen c.tried_once.new.self) c.loop-ended.invariant
-    (subst (TurnIs c.loop-ended.ticket (seen c.loop-ended.self) (seen c.tried_once.new.self)) c.in-On.is c.in_ok-ended.ensures)
+    (seen c.tried_once.new.self) c.loop-ended.invariant (rw c.in-On.is at c.in_ok-ended.ensures)
 
 pub loop-ended-smaller : goal.loop-ended-smaller
 loop-ended-smaller g c =
     fewer_left c.loop-ended.ticket c.in-On.next (seen c.loop-ended.self) (seen c.tried_once.new.self)
-    (subst (TurnIs c.loop-ended.ticket (seen c.loop-ended.self) (seen c.tried_once.new.self)) c.in-On.is c.in_ok-ended.ensures)
+    (rw c.in-On.is at c.in_ok-ended.ensures)

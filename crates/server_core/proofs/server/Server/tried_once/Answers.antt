@@ -1,5 +1,5 @@
 use Rattle.server_core.proofs.Words.{arith, seen}
-use Rattle.server_core.proofs.BookFound.{book_within}
+use Rattle.server_core.proofs.BookCalls.{book_within}
 use Rattle.server_core.proofs.TrySteps.{has_book, not_wrong, next_turn, out_turn, booked_turn}
 use Rattle.server_core.proofs.server.Server.tried_once.Goals as goal
 
