@@ -194,19 +194,24 @@ module _ (settings : SettingLists) (T U : Job → Type 0) (more : (job : Job) �
       }
 
   pub stands_on : (answers others : List Answer) → ((n : ℕ) (sent : Sent) → IsKept answers n sent → IsKept others n sent)
-      → (g : Gateway) → AllStand settings T l answers g → AllStand settings U m others g
-  stands_on answers others f g a = All-weaker (Stands settings T l answers g.id) (Stands settings U m others g.id)
-      (stand_on answers others f g.id) g.state.list a
+      → (gs : List Gateway) → ((i : ℕ) (g : Gateway) → slice_get gs i ≡ Some g → AllStand settings T l answers g)
+      → (i : ℕ) (g : Gateway) → slice_get gs i ≡ Some g → AllStand settings U m others g
+  stands_on answers others f gs h i g e = All-weaker (Stands settings T l answers g.id) (Stands settings U m others g.id)
+      (stand_on answers others f g.id) g.state.list (h i g e)
+
+  pub jobs_on : (answers : List Answer) → ((n k : ℕ) (job : Job) → numbered n answers ≡ Some (Open k job)
+      → IsJobAt settings T l n job) → (n k : ℕ) (job : Job) → numbered n answers ≡ Some (Open k job)
+      → IsJobAt settings U m n job
+  jobs_on answers h n k job e = job_on n job (h n k job e)
 
 pub Holds-weaker : (settings : SettingLists) (T U : Job → Type 0) → ((job : Job) → T job → U job) → (w : World)
     → Holds settings T w → Holds settings U w
 Holds-weaker settings T U more w h =
     let l = w.reg.gathered.list in
-    let jobs : (n k : ℕ) (job : Job) → numbered n w.answers ≡ Some (Open k job) → IsJobAt settings U l n job =
-    λ n k job e. job_on settings T U more l l (λ m g x. x) n job (h.jobs n k job e) in
-    let stands : (i : ℕ) (g : Gateway) → slice_get w.gateways i ≡ Some g → AllStand settings U l w.answers g =
-    λ i g e. stands_on settings T U more l l (λ m x y. y) w.answers w.answers (λ m x y. y) g (h.stands i g e) in
-    assumption (jobs, stands)
+    assumption (
+      jobs_on settings T U more l l (λ m g x. x) w.answers h.jobs,
+      stands_on settings T U more l l (λ m x y. y) w.answers w.answers (λ m x y. y) w.gateways h.stands,
+    )
 
 -- What has a number has it still in a list that goes on, or in which a member was written anew.
 

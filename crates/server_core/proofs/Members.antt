@@ -1,7 +1,7 @@
 -- Members of lists that are sorted by a key, or of which no two share a key.
 use Rattle.server_core.proofs.Words.{ap, arith, sym, ◌∙◌, nat_tests, All-cons, All-head, All-tail, All, AllPairs, Bool, List}
 use Rattle.server_core.proofs.Words.{Some, [], cond, false, nat_lt, refl, slice_get, suc, true, zero, ℕ, ◌+◌, ◌==◌, ◌∷◌, ◌≡◌, ◌≢◌}
-use Rattle.server_core.proofs.Words.{◌≤◌, RisesFrom, place_by, AllPairs-head, AllPairs-tail, all_get, some_inj}
+use Rattle.server_core.proofs.Words.{◌≤◌, RisesFrom, place_by, numbered, AllPairs-head, AllPairs-tail, all_get, some_inj}
 
 module _ {X : Type 0} (key : X → ℕ) where
   -- what holds of all members holds of all with one more in its place
@@ -50,3 +50,8 @@ module _ {X : Type 0} (key : X → ℕ) where
 
 pub equal_where_tested : (m n : ℕ) → (m == n) ≡ true → m ≡ n
 equal_where_tested m n e = grind (arith, nat_tests)
+
+-- no list at all has a member
+pub none_numbered : {X : Type 0} (n : ℕ) (x : X) → numbered n [] ≡ Some x → ⊥
+none_numbered zero x e = cc
+none_numbered (suc i) x e = cc

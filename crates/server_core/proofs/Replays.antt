@@ -1,13 +1,14 @@
 -- Events, one after another, from a server that has heard nothing.
-use Rattle.server_core.proofs.Words.{ap, append-nil, append_assoc, arith, ◌∙◌, drop_of_length-le, drop-cons, List, Some, [], drop}
-use Rattle.server_core.proofs.Words.{get_or, length, map, refl, suc, zero, ℕ, ◌++◌, ◌+◌, ◌<◌, ◌∷◌, ◌≡◌, ◌≤◌, Book, orderly_nil}
-use Rattle.server_core.proofs.Words.{remembers_own, numbered, desk_of, AreSettings, SettingLists, Gateway, World, opened_gateway}
-use Rattle.server_core.proofs.Words.{opening, GatewaySetting, entries, gateway_of, gateways_after, kept_gateway, entries_from}
-use Rattle.server_core.proofs.Words.{reached, schedule, step_of, usual_limits, event_steps, schedule_from, AreBooksOf, Does, IsAt}
+use Rattle.server_core.proofs.Words.{ap, append-nil, append_assoc, arith, ◌∙◌, drop_of_length-le, drop-cons, List, [], drop}
+use Rattle.server_core.proofs.Words.{get_or, length, map, refl, suc, ℕ, ◌++◌, ◌+◌, ◌<◌, ◌∷◌, ◌≡◌, ◌≤◌, Book, orderly_nil}
+use Rattle.server_core.proofs.Words.{remembers_own, desk_of, AreSettings, SettingLists, Gateway, World, opened_gateway, opening}
+use Rattle.server_core.proofs.Words.{GatewaySetting, entries, gateway_of, gateways_after, kept_gateway, entries_from, reached}
+use Rattle.server_core.proofs.Words.{schedule, step_of, usual_limits, event_steps, schedule_from, AreBooksOf, Does, IsAt}
 use Rattle.server_core.proofs.Words.{IsOpened, IsReady, Seen, ids_of, with_lines, Step, run_from, Event}
 use Rattle.server_core.specs.declared.event.Event.TheVariants as events
 use Rattle.server_core.specs.declared.entry.Line.TheVariants as says
 use Rattle.server_core.proofs.Calls.{reached_append}
+use Rattle.server_core.proofs.Members.{none_numbered}
 
 -- a server that has heard nothing
 
@@ -25,10 +26,6 @@ opened_books (b ∷ bs) (g ∷ gs) e = (
   opened_books bs gs (cc (e)),
 )
 
-none_of : {X : Type 0} (n : ℕ) (x : X) → numbered n [] ≡ Some x → ⊥
-none_of zero x e = cc (e)
-none_of (suc i) x e = cc (e)
-
 pub server_opened : {A : Type 0} (settings : SettingLists) (s : Seen A) → s.desk ≡ desk_of (opening settings usual_limits)
     → map gateway_of s.books ≡ map opened_gateway settings.gateways
     → s.steps ≡ [] → s.outcomes ≡ [] → AreSettings settings.gateways settings.devices → IsOpened settings s
@@ -38,8 +35,8 @@ server_opened settings s d b t o are =
       at = record { desk = d; books = opened_books s.books settings.gateways b };
       ready = rw d (record {
         books = ids_are s.books ∙ ap (map (λ (g : Gateway). g.id)) b;
-        heard = λ n g e c k. absurd (none_of n g e);
-        idle = λ n k e. absurd (none_of n k e);
+        heard = λ n g e c k. absurd (none_numbered n g e);
+        idle = λ n k e. absurd (none_numbered n k e);
       });
       steps = t;
       outcomes = o;
@@ -109,16 +106,23 @@ books_kept (b ∷ bs) (g ∷ gs) z =
 
 module _ {A : Type 0} (settings : SettingLists) (es : List (Event A)) (i : ℕ) (s : Seen A) (over : length es ≤ i)
     (r : IsReplaying settings es i s) where
-  pub replayed_steps : map step_of s.steps ≡ schedule settings es
+  replayed_steps : map step_of s.steps ≡ schedule settings es
   unfolding schedule_from
   replayed_steps = rw (drop_of_length-le es over, append-nil) at r.steps
 
-  pub replayed_outcomes : s.outcomes ≡ entries settings es
+  replayed_outcomes : s.outcomes ≡ entries settings es
   unfolding entries_from
   replayed_outcomes = rw (drop_of_length-le es over, append-nil) at r.outcomes
 
-  pub replayed_books : map gateway_of s.books ≡ map kept_gateway (gateways_after settings es)
-  replayed_books =
-      books_kept s.books r.world.gateways r.at.books
-      ∙ ap (λ (w : World). map kept_gateway w.gateways)
-      (r.run ∙ ap (reached (opening settings usual_limits)) replayed_steps)
+  pub replayed : record {
+    steps : map step_of s.steps ≡ schedule settings es;
+    outcomes : s.outcomes ≡ entries settings es;
+    books : map gateway_of s.books ≡ map kept_gateway (gateways_after settings es);
+  }
+  replayed =
+      record {
+        steps = replayed_steps;
+        outcomes = replayed_outcomes;
+        books = books_kept s.books r.world.gateways r.at.books ∙ ap (λ (w : World). map kept_gateway w.gateways)
+            (r.run ∙ ap (reached (opening settings usual_limits)) replayed_steps);
+      }

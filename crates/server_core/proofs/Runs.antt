@@ -1,13 +1,13 @@
 -- The world before the first step and after every list of steps, and what is promised of a run.
 use Rattle.server_core.proofs.Words.{ap, arith, inl, inr, subst, sym, ◌∙◌, All-cons, All-nil, All-weaker, Contains-append_right}
-use Rattle.server_core.proofs.Words.{AllPairs-cons, All, AllPairs, Contains, List, Ok, Some, [], map, refl, slice_get, suc, zero}
-use Rattle.server_core.proofs.Words.{ℕ, ◌+◌, ◌∷◌, ◌≡◌, ◌≢◌, ◌⊎◌, start_of, net, Reservation, orderly_nil, IsLawful, addr_of}
-use Rattle.server_core.proofs.Words.{numbered, Limits, Job, candidates, from_map, get_contains, some_inj, Device, opened_device}
-use Rattle.server_core.proofs.Words.{AreSettings, SettingLists, plan_for, Gateway, World, opened_gateway, opening, Sent}
-use Rattle.server_core.proofs.Words.{GatewaySetting, EveryInterleavingIsSafe, HaveOwnCounters, IsMember, IsOwnWindow, IsSafe}
-use Rattle.server_core.proofs.Words.{jobs_given, setting_of, with_given, Cancel, Given, Hear, Pass, Queue, Reply, Run, Settle}
-use Rattle.server_core.proofs.Words.{Step, Take, Tick, Try, run, sent_for, run_from, step}
-use Rattle.server_core.proofs.Members.{rises_once}
+use Rattle.server_core.proofs.Words.{AllPairs-cons, All, AllPairs, Contains, List, Ok, Some, [], map, refl, slice_get, ℕ, ◌+◌}
+use Rattle.server_core.proofs.Words.{◌∷◌, ◌≡◌, ◌≢◌, ◌⊎◌, start_of, net, Reservation, orderly_nil, IsLawful, addr_of, Limits, Job}
+use Rattle.server_core.proofs.Words.{candidates, from_map, get_contains, some_inj, Device, opened_device, AreSettings}
+use Rattle.server_core.proofs.Words.{SettingLists, plan_for, Gateway, World, opened_gateway, opening, Sent}
+use Rattle.server_core.proofs.Words.{EveryInterleavingIsSafe, HaveOwnCounters, IsMember, IsOwnWindow, IsSafe, jobs_given}
+use Rattle.server_core.proofs.Words.{setting_of, with_given, Cancel, Given, Hear, Pass, Queue, Reply, Run, Settle, Step, Take}
+use Rattle.server_core.proofs.Words.{Tick, Try, run, sent_for, run_from, step}
+use Rattle.server_core.proofs.Members.{rises_once, none_numbered}
 use Rattle.server_core.proofs.Holds.{IsKept, Stands, Holds, IsInOrder, AllStand, IsGivenAt, Follows, IsGoodStep, IsNew, IsUsed}
 use Rattle.server_core.proofs.Holds.{UsesUp, given_after, Holds-weaker, one_gateway, member_stands}
 use Rattle.server_core.proofs.KnownSteps.{queue_good, hear_good, pass_good, settle_good}
@@ -84,37 +84,26 @@ map_back : {X Y : Type 0} (f : Y → X) (g : X → Y) → ((x : X) → f (g x) �
 map_back f g e [] = refl
 map_back f g e (x ∷ xs) = ap (λ y. y ∷ map f (map g xs)) (e x) ∙ ap (λ ys. x ∷ ys) (map_back f g e xs)
 
-none_numbered : {X : Type 0} (n : ℕ) (x : X) → numbered n [] ≡ Some x → ⊥
-none_numbered zero x e = cc
-none_numbered (suc i) x e = cc
-
-opened_in_order : (s : GatewaySetting) → IsInOrder (opened_gateway s)
-unfolding net
-opened_in_order s = record { orderly = orderly_nil; balanced = refl }
-
-module _ (settings : SettingLists) (are : AreSettings settings.gateways settings.devices) (T : Job → Type 0)
-    (limits : Limits) where
-  in_order_at : (i : ℕ) (g : Gateway) → slice_get (map opened_gateway settings.gateways) i ≡ Some g → IsInOrder g
-  in_order_at i g e =
+module _ (settings : SettingLists) (T : Job → Type 0) (limits : Limits) where
+  opened_at : (i : ℕ) (g : Gateway) → slice_get (map opened_gateway settings.gateways) i ≡ Some g
+      → IsInOrder g × AllStand settings T [] [] g
+  unfolding net
+  opened_at i g e =
       let s = from_map opened_gateway settings.gateways i g e in
-      subst IsInOrder s.2 (opened_in_order s.0)
-
-  stand_at : (i : ℕ) (g : Gateway) → slice_get (map opened_gateway settings.gateways) i ≡ Some g → AllStand settings T [] [] g
-  stand_at i g e =
-      let s = from_map opened_gateway settings.gateways i g e in
-      subst (AllStand settings T [] []) s.2 (All-nil (Stands settings T [] [] s.0.id))
+      subst (λ x. IsInOrder x × AllStand settings T [] [] x) s.2
+      (record { orderly = orderly_nil; balanced = refl }, All-nil (Stands settings T [] [] s.0.id))
 
   pub opened : Holds settings T (opening settings limits)
   opened =
       record {
         gateways = map_back setting_of opened_gateway (λ s. refl) settings.gateways;
         devices = map_back (λ d. d.setting) opened_device (λ s. refl) settings.devices;
-        in_order = in_order_at;
+        in_order = λ i g e. (opened_at i g e).0;
         together = refl;
         answered = refl;
         asked = λ n a e. absurd (none_numbered n a e);
         jobs = λ n k job e. absurd (none_numbered n _ e);
-        stands = stand_at;
+        stands = λ i g e. (opened_at i g e).1;
       }
 
 -- Every run is safe.
@@ -225,7 +214,7 @@ module _ (settings : SettingLists) (are : AreSettings settings.gateways settings
   pub run_safe : (limits : Limits) (steps : List Step) → IsSafe settings (run settings limits steps)
   run_safe limits steps =
       let w = opening settings limits in
-      safe_by w (run_from w steps) (run_good (λ j. ⊥) w (opened settings are (λ j. ⊥) limits) steps)
+      safe_by w (run_from w steps) (run_good (λ j. ⊥) w (opened settings (λ j. ⊥) limits) steps)
 
 pub every_interleaving_is_safe : EveryInterleavingIsSafe
 every_interleaving_is_safe settings are limits steps = run_safe settings are limits steps

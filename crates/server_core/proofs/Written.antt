@@ -5,7 +5,8 @@ use Rattle.server_core.proofs.Words.{Answer, Open, Waiting, is_not_given, known_
 use Rattle.server_core.proofs.Words.{numbered_cases, numbered_next, get_set_after, get_set_cases, map_set, some_inj, Device}
 use Rattle.server_core.proofs.Words.{SettingLists, Gateway, World, Asked, Sent, setting_of, sent_for}
 use Rattle.server_core.proofs.Holds.{IsGrown, IsOfDevice, IsAskedAt, IsJobAt, AllStand, Holds, Grow, IsGivenAt, IsGood}
-use Rattle.server_core.proofs.Holds.{Follows-refl, job_on, stands_on, Has-append, Has-rewritten, has_now, Has, IsInOrder, IsLater}
+use Rattle.server_core.proofs.Holds.{Follows-refl, job_on, jobs_on, stands_on, Has-append, Has-rewritten, has_now, Has, IsInOrder}
+use Rattle.server_core.proofs.Holds.{IsLater}
 
 module _ {settings : SettingLists} {T : Job → Type 0} {w : World} (h : Holds settings T w) where
   -- a device, which keeps its setting and its counters that were given
@@ -58,9 +59,8 @@ module _ {settings : SettingLists} {T : Job → Type 0} {w : World} (h : Holds s
         let l = w.reg.gathered.list in
         let jobs : (m k : ℕ) (job : Job) → numbered m answers ≡ Some (Open k job) → IsJobAt settings T l m job =
         λ m k job e. job_by m k job o (numbered_cases (λ a. new) n m w.answers old (Open k job) there e) in
-        let stands : (j : ℕ) (g : Gateway) → slice_get w.gateways j ≡ Some g → AllStand settings T l answers g =
-        λ j g e. stands_on settings T T (λ x t. t) l l (λ m x y. y) w.answers answers
-        (λ m x. has_still (λ a. sent_for a ≡ Some x) (s x) m) g (h.stands j g e) in
+        let stands = stands_on settings T T (λ x t. t) l l (λ m x y. y) w.answers answers
+        (λ m x. has_still (λ a. sent_for a ≡ Some x) (s x) m) w.gateways h.stands in
         let given : (m : ℕ) → IsGivenAt w.answers m → IsGivenAt answers m =
         has_still (λ a. is_not_given (known_of a) ≡ false) (λ e. i) in
         assumption (length-rewritten (λ a. new) n w.answers ∙ h.answered, jobs, stands, given, (Follows-refl w).devices)
@@ -110,10 +110,9 @@ module _ {settings : SettingLists} {T : Job → Type 0} {w : World} (h : Holds s
   pub gathered_grown : (l : List Gathering) → length w.reg.gathered.list ≡ length l → Grow w.reg.gathered.list l
       → IsGood settings T w (with_gathered l)
   gathered_grown l n grow =
-      let jobs : (m k : ℕ) (job : Job) → numbered m w.answers ≡ Some (Open k job) → IsJobAt settings T l m job =
-      λ m k job e. job_on settings T T (λ j t. t) w.reg.gathered.list l grow m job (h.jobs m k job e) in
-      let stands : (i : ℕ) (g : Gateway) → slice_get w.gateways i ≡ Some g → AllStand settings T l w.answers g =
-      λ i g e. stands_on settings T T (λ j t. t) w.reg.gathered.list l grow w.answers w.answers (λ m s q. q) g (h.stands i g e) in
+      let was = w.reg.gathered.list in
+      let jobs = jobs_on settings T T (λ j t. t) was l grow w.answers h.jobs in
+      let stands = stands_on settings T T (λ j t. t) was l grow w.answers w.answers (λ m s q. q) w.gateways h.stands in
       assumption (h.together ∙ n, h.answered ∙ n, asked_on l grow, jobs, stands, (Follows-refl w).devices)
 
   -- one more uplink is gathered, and its answer waits
@@ -155,10 +154,8 @@ module _ {settings : SettingLists} {T : Job → Type 0} {w : World} (h : Holds s
         λ n b e. asked_by n b (numbered-append_cases n w.reg.asked a b e) in
         let jobs : (n k : ℕ) (job : Job) → numbered n (w.answers ++ Waiting ∷ []) ≡ Some (Open k job)
         → IsJobAt settings T more n job = λ n k job e. waiting_by n k job (numbered-append_cases n w.answers Waiting (Open k job) e) in
-        let stands : (i : ℕ) (x : Gateway) → slice_get w.gateways i ≡ Some x
-        → AllStand settings T more (w.answers ++ Waiting ∷ []) x =
-        λ i x e. stands_on settings T T (λ j t. t) l more grow w.answers (w.answers ++ Waiting ∷ [])
-        (λ n s q. Has-append (λ b. sent_for b ≡ Some s) w.answers (Waiting ∷ []) n q) x (h.stands i x e) in
+        let stands = stands_on settings T T (λ j t. t) l more grow w.answers (w.answers ++ Waiting ∷ [])
+        (λ n s q. Has-append (λ b. sent_for b ≡ Some s) w.answers (Waiting ∷ []) n q) w.gateways h.stands in
         let given : (n : ℕ) → IsGivenAt w.answers n → IsGivenAt (w.answers ++ Waiting ∷ []) n =
         λ n k. Has-append (λ b. is_not_given (known_of b) ≡ false) w.answers (Waiting ∷ []) n k in
         assumption (together, answered, asked, jobs, stands, given, (Follows-refl w).devices)

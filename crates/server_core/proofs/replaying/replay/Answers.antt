@@ -1,5 +1,5 @@
 use Rattle.server_core.proofs.Words.{seen}
-use Rattle.server_core.proofs.Replays.{replaying_first, replaying_on, replayed_steps, replayed_outcomes, replayed_books}
+use Rattle.server_core.proofs.Replays.{replaying_first, replaying_on, replayed}
 use Rattle.server_core.proofs.replaying.replay.Goals as goal
 
 pub loop-place-init : goal.loop-place-init
@@ -11,14 +11,6 @@ loop-place-preserved g c =
     (seen c.event.new.self) c.loop-place-test.true
     c.index-events-place.is c.in_ok-event.ensures.done c.in_ok-event.ensures.ready c.loop-place.invariant
 
-pub returns-clause-steps : goal.returns-clause-steps
-returns-clause-steps g c = replayed_steps c.args.settings.now c.args.events.now c.loop-place.place
-    (seen c.loop-place.server) c.loop-place-test.false c.loop-place.invariant
-
-pub returns-clause-outcomes : goal.returns-clause-outcomes
-returns-clause-outcomes g c = replayed_outcomes c.args.settings.now c.args.events.now c.loop-place.place
-    (seen c.loop-place.server) c.loop-place-test.false c.loop-place.invariant
-
-pub returns-clause-books : goal.returns-clause-books
-returns-clause-books g c = replayed_books c.args.settings.now c.args.events.now c.loop-place.place
-    (seen c.loop-place.server) c.loop-place-test.false c.loop-place.invariant
+pub returns : goal.returns
+returns g c = replayed c.args.settings.now c.args.events.now c.loop-place.place (seen c.loop-place.server)
+    c.loop-place-test.false c.loop-place.invariant
