@@ -31,10 +31,8 @@ settled_gathered false o reg = refl
 -- once it is settled, no ticket is out again
 rewritten_twice : (known : List Known) (n : ℕ) (k a b : Known) → numbered n known ≡ Some k
     → rewritten (λ x. b) n (rewritten (λ x. a) n known) ≡ rewritten (λ x. b) n known
-rewritten_twice known n k a b e =
-    rewritten-found (λ x. b) n (rewritten (λ x. a) n known) a (numbered-here (λ x. a) n known k e)
-    ∙ ap (λ (l : List Known). slice_set l (n - 1) b) (rewritten-found (λ x. a) n known k e)
-    ∙ set-set known (n - 1) a b
+rewritten_twice known n k a b e = rewritten-found (λ x. b) n (rewritten (λ x. a) n known) a (numbered-here (λ x. a) n known k e)
+    ∙ ap (λ (l : List Known). slice_set l (n - 1) b) (rewritten-found (λ x. a) n known k e) ∙ set-set known (n - 1) a b
     ∙ sym (rewritten-found (λ x. b) n known k e)
 
 idle_settled : (known : List Known) (n : ℕ) (k done : Known) → IsIdle known → numbered n known ≡ Some k → is_given done ≡ false
@@ -44,8 +42,7 @@ idle_settled known n k done idle e d =
 
 -- each candidate of an uplink's job is on a gateway that heard it
 copies_heard : (ids : List ℕ) (l : List Gathering) (n : ℕ) (o : Option Gathering) → numbered n l ≡ o → AreHeard ids l
-    → (copy : HeardCopy) → Contains (option_map_or (λ g. g.copies) o []) copy
-    → IsTrue (is_among ids copy.gateway)
+    → (copy : HeardCopy) → Contains (option_map_or (λ g. g.copies) o []) copy → IsTrue (is_among ids copy.gateway)
 copies_heard ids l n None e h copy k = absurd (omega (arith, k.1))
 copies_heard ids l n (Some g) e h copy k = h n g e copy k
 
@@ -104,8 +101,7 @@ module _ {A : Type 0} (place n : ℕ) (old mid : Seen A) (noted : mid ≡ with_s
       new_desk = rw (a.desk, number, d_is) refl
 
       answer_gathered : new.desk.reg.gathered ≡ old.desk.reg.gathered
-      answer_gathered =
-          rw new_desk
+      answer_gathered = rw new_desk
           (settled_gathered (has_carried a.ending) _ (taken_from (numbered n old.desk.reg.asked) old.desk.reg)
           ∙ taken_gathered (numbered n old.desk.reg.asked) old.desk.reg)
 
@@ -115,8 +111,7 @@ module _ {A : Type 0} (place n : ℕ) (old mid : Seen A) (noted : mid ≡ with_s
           record {
             books = rw (a.books, noted, ids) ready.books;
             heard = rw (ids, answer_gathered) ready.heard;
-            idle = rw new_desk
-                (idle_settled old.desk.known n taken.state (Done (sent_of a.ending)) ready.idle stated refl);
+            idle = rw new_desk (idle_settled old.desk.known n taken.state (Done (sent_of a.ending)) ready.idle stated refl);
           }
 
       module _ (w : World) (at : IsAt w old) where
@@ -149,8 +144,7 @@ module _ {A : Type 0} (place n : ℕ) (old mid : Seen A) (noted : mid ≡ with_s
 
         answer_goes : Moves place w (answer_steps w n) old new
         unfolding run_from
-        answer_goes =
-            moves_on place w (Take n ∷ []) rest old out new
+        answer_goes = moves_on place w (Take n ∷ []) rest old out new
             (one_step place w (Take n) (made.Take n) [] old out refl at_out (rw noted refl) (rw (noted, append-nil) refl)
             (rw is_taken refl)) (rw rest_is at (a.goes v at_out stands))
 

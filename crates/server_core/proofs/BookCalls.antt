@@ -131,8 +131,7 @@ module _ {A : Type 0} (place : ℕ) (old mid new : Seen A) (gateway now : ℕ) (
   pub not_ticked : None ≡ place_of gateway mid.books → new ≡ with_lines place (says.NotTicked ∷ []) mid
       → IsDone place (Tick gateway now) old new
   unfolding step
-  not_ticked f told =
-      done place (Tick gateway now) (made.Tick gateway now) says.NotTicked old mid mid new refl noted
+  not_ticked f told = done place (Tick gateway now) (made.Tick gateway now) says.NotTicked old mid mid new refl noted
       (record {
         steps = refl;
         outcomes = refl;
@@ -185,8 +184,7 @@ cancel_by w n (Some a) f = ap (cancel_sent w n) (sent_same a (f a refl))
 
 cancel_is : (w : World) (n : ℕ) → IsIdle (known w) → step w (Cancel n) ≡ cancel_sent w n (kept_by (numbered n (known w)))
 unfolding step
-cancel_is w n idle =
-    cancel_by w n (numbered n w.answers) (λ a e. idle n (known_of a)
+cancel_is w n idle = cancel_by w n (numbered n w.answers) (λ a e. idle n (known_of a)
     (numbered-map known_of n w.answers ∙ ap (option_map known_of) e))
     ∙ ap (λ (o : Option Known). cancel_sent w n (kept_by o)) (sym (numbered-map known_of n w.answers))
 
@@ -255,8 +253,7 @@ module _ {A : Type 0} (n : ℕ) (old new : Seen A) (ready : IsReady old) where
         reply : (step w (Cancel n)).1 ≡ replies.Cancelled result
         reply = rw step_is (cc (
           answer,
-          remembers_cancel book g.gateway.state g.keeps.orderly g.keeps.remembers n
-              sent.start,
+          remembers_cancel book g.gateway.state g.keeps.orderly g.keeps.remembers n sent.start,
         ))
 
       pub was_cancelled : new ≡ record old { books = slice_set old.books i after } → IsCancelled n old new result

@@ -1,18 +1,66 @@
--- The calls of the desk are the world's steps on its part.
+-- What a step comes to, and that the calls of the desk are the world's steps on its part.
 use Rattle.server_core.proofs.Words.{ap, sym, ◌∙◌, map-append, option_and_then, option_map, option_map_or, Err, List, None, Ok}
-use Rattle.server_core.proofs.Words.{Option, Result, Some, [], false, is_some, map, refl, slice_get, slice_set, true, ℕ, ◌+◌, ◌∷◌}
-use Rattle.server_core.proofs.Words.{◌≡◌, State, book_step, cancel_step, tick_step, Refusal, numbered, Candidate, Job, ask_for}
-use Rattle.server_core.proofs.Words.{candidate_at, Ending, answer_airtime, answered_at, answered_in, known_airtime, Answer}
-use Rattle.server_core.proofs.Words.{Booked, Open, Out, Settled, Waiting, is_given, known_of, desk_of, desk_settled, desk_taken}
-use Rattle.server_core.proofs.Words.{known_after, Decision, Join, Refuse, register_after, decide, map-rewritten, numbered-map}
-use Rattle.server_core.proofs.Words.{same_rewritten, map_set, some_inj, after_settling, is_here, may_settle, sent_of}
-use Rattle.server_core.proofs.Words.{after_taking, take_answer, Gateway, World, ids, known, Known, Done, TakeFault}
-use Rattle.server_core.proofs.Words.{DeskCallsAreSteps, told, answers_after, ending_of, refused, sent_by, settle, settle_as}
-use Rattle.server_core.proofs.Words.{take_by, tried_by, step}
+use Rattle.server_core.proofs.Words.{Option, Result, Some, [], false, is_some, map, refl, slice_get, slice_set, true, ℕ, ◌+◌}
+use Rattle.server_core.proofs.Words.{◌==◌, ◌∷◌, ◌≡◌, refusal_of, State, book_step, cancel_step, tick_step, NotHere, Refusal}
+use Rattle.server_core.proofs.Words.{numbered, Candidate, Job, ask_for, candidate_at, Ending, answer_airtime, answered_at}
+use Rattle.server_core.proofs.Words.{answered_in, known_airtime, Answer, Booked, Open, Out, Settled, Waiting, is_given, known_of}
+use Rattle.server_core.proofs.Words.{desk_of, desk_settled, desk_taken, known_after, found_there, Decision, Join, Refuse}
+use Rattle.server_core.proofs.Words.{register_after, decide, map-rewritten, numbered-map, same_rewritten, map_set, some_inj}
+use Rattle.server_core.proofs.Words.{after_settling, is_here, may_settle, sent_of, after_taking, take_answer, Gateway, World}
+use Rattle.server_core.proofs.Words.{gateway_with, ids, known, Known, Done, Sent, TakeFault, DeskCallsAreSteps, told, After}
+use Rattle.server_core.proofs.Words.{answers_after, cancel, cancel_at, cancel_of, cancel_sent, ending_of, refused, sent_by}
+use Rattle.server_core.proofs.Words.{sent_for, settle, settle_as, settle_of, take_by, terms, tick, tick_at, tried_by, try}
+use Rattle.server_core.proofs.Words.{try_candidate, try_of, try_on, step}
 use Rattle.server_desk.specs.declared.answers.Known.TheVariants.{Given}
-use Rattle.server_desk.specs.Hearing as hearing
 use Rattle.server_core.specs.Steps as replies
-use Rattle.server_core.proofs.Walks.{tick_walk, cancel_walk, try_walk, settle_walk}
+use Rattle.server_desk.specs.Hearing as hearing
+use Rattle.server_core.proofs.Members.{equal_where_tested}
+
+pub by_option : {X : Type 0} (P : Option X → Type 0) (o : Option X) → (o ≡ None → P None)
+    → ((x : X) → o ≡ Some x → P (Some x)) → P o
+by_option P None n s = n refl
+by_option P (Some x) n s = s x refl
+
+module _ (w : World) (P : After → Type 0) where
+  -- by the gateway with this id
+  gateway_walk : (id : ℕ) (Q : Option (ℕ × Gateway) → Type 0) → Q None
+      → ((i : ℕ) (g : Gateway) → slice_get w.gateways i ≡ Some g → g.id ≡ id → Q (Some (i, g))) → Q (gateway_with id w.gateways)
+  gateway_walk id Q none there = by_option Q (gateway_with id w.gateways) (λ e. none) (λ found e.
+      let f = found_there (λ (g : Gateway). g.id == id) w.gateways found e in
+      there found.0 found.1 f.0 (equal_where_tested found.1.id id f.1))
+
+  pub tick_walk : (id now : ℕ) → P (w, replies.Ticked None)
+      → ((i : ℕ) (g : Gateway) → slice_get w.gateways i ≡ Some g → P (tick_at w now (Some (i, g)))) → P (tick w id now)
+  tick_walk id now none there = gateway_walk id (λ o. P (tick_at w now o)) none (λ i g e own. there i g e)
+
+  pub cancel_walk : (n : ℕ) → P (w, replies.Cancelled (Err NotHere))
+      → ((sent : Sent) (i : ℕ) (g : Gateway) → slice_get w.gateways i ≡ Some g → P (cancel_at w n sent (Some (i, g)))) → P (cancel w n)
+  cancel_walk n none there = by_option (λ o. P (cancel_of w n o)) (numbered n w.answers) (λ e. none)
+      (λ answer e. by_option (λ o. P (cancel_sent w n o)) (sent_for answer) (λ f. none)
+      (λ sent f. gateway_walk sent.gateway (λ o. P (cancel_at w n sent o)) none (λ i g q own. there sent i g q)))
+
+  module _ (n : ℕ) (none : P (w, replies.Tried None)) (asked : (k : ℕ) (job : Job) (c : Candidate) (i : ℕ) (g : Gateway)
+      → numbered n w.answers ≡ Some (Open k job) → candidate_at job k ≡ Some c → slice_get w.gateways i ≡ Some g
+      → g.id ≡ c.gateway → (o : Option Refusal) → refusal_of (terms g) g.state.list (ask_for job c) ≡ o
+      → P (tried_by w n k job c (i, g) o)) where
+    tried_walk : (o : Option Answer) → numbered n w.answers ≡ o → P (try_of w n o)
+    tried_walk None e = none
+    tried_walk (Some Waiting) e = none
+    tried_walk (Some (Open k job)) e = by_option (λ o. P (try_candidate w n k job o)) (candidate_at job k) (λ f. none)
+        (λ c f. gateway_walk c.gateway (λ o. P (try_on w n k job c o)) none (λ i g q own. asked k job c i g e f q own _ refl))
+    tried_walk (Some (Booked sent window carried)) e = none
+    tried_walk (Some (Out refusal)) e = none
+    tried_walk (Some (Settled sent)) e = none
+
+    pub try_walk : P (try w n)
+    try_walk = tried_walk (numbered n w.answers) refl
+
+  pub settle_walk : (n : ℕ) → (told w n ≡ None → P (w, replies.Ended None))
+      → ((answer : Answer) (ending : Ending) → numbered n w.answers ≡ Some answer → ending_of answer ≡ Some ending
+      → told w n ≡ Some ending → P (settle_as w n (Some ending))) → P (settle w n)
+  settle_walk n none there = by_option (λ o. P (settle_of w n o)) (numbered n w.answers) (λ e. none (rw e refl))
+      (λ answer e. by_option (λ o. P (settle_as w n o)) (ending_of answer) (λ f. none (rw (e, f) refl))
+      (λ ending f. there answer ending e f (rw (e, f) refl)))
 
 -- the desk's part, by its parts
 same_known : (w v : World) → w.reg ≡ v.reg → ids w ≡ ids v → known w ≡ known v → desk_of w ≡ desk_of v
@@ -26,8 +74,7 @@ hear_known (hearing.Open o) answers = map-append known_of answers (Waiting ∷ [
 
 take_desk : (w : World) (n : ℕ) (r : Result Job TakeFault) → desk_of (take_by w n r).0 ≡ desk_taken r n (desk_of w)
 take_desk w n (Err fault) = refl
-take_desk w n (Ok job) =
-    ap (λ (l : List Known). record { ids = ids w; reg = after_taking (Ok job) n w.reg; known = l })
+take_desk w n (Ok job) = ap (λ (l : List Known). record { ids = ids w; reg = after_taking (Ok job) n w.reg; known = l })
     (map-rewritten known_of (λ a. Open 0 job) (λ k. Given) (λ x. refl) n w.answers)
 
 take_told : (w : World) (n : ℕ) (r : Result Job TakeFault) → (take_by w n r).1 ≡ replies.Given r
@@ -36,14 +83,12 @@ take_told w n (Ok job) = refl
 
 settle_as_desk : (w : World) (n : ℕ) (ending : Ending) → desk_of (settle_as w n (Some ending)).0
     ≡ desk_settled ending n (desk_of w)
-settle_as_desk w n ending =
-    ap (λ (l : List Known). record { ids = ids w; reg = after_settling ending n w.reg; known = l })
+settle_as_desk w n ending = ap (λ (l : List Known). record { ids = ids w; reg = after_settling ending n w.reg; known = l })
     (map-rewritten known_of (λ a. Settled (sent_of ending)) (λ k. Done (sent_of ending)) (λ x. refl) n w.answers)
 
 pub settle_desk : (w : World) (n : ℕ) (ending : Ending) → told w n ≡ Some ending
     → desk_of (settle w n).0 ≡ desk_settled ending n (desk_of w)
-settle_desk w n ending e =
-    settle_walk w (λ a. desk_of a.0 ≡ desk_settled ending n (desk_of w)) n (λ f. absurd (cc (e, f)))
+settle_desk w n ending e = settle_walk w (λ a. desk_of a.0 ≡ desk_settled ending n (desk_of w)) n (λ f. absurd (cc (e, f)))
     (λ answer x q g f. rw (some_inj (sym e ∙ f)) (settle_as_desk w n x))
 
 -- an answer is known to be out exactly where it would end somehow
@@ -92,8 +137,7 @@ same_airtime id (Settled sent) = refl
 
 same_answered : (id : ℕ) (answers : List Answer) → answered_at id (map known_of answers) ≡ answered_in id answers
 same_answered id [] = refl
-same_answered id (answer ∷ answers) =
-    ap (λ (n : ℕ). n + answered_at id (map known_of answers)) (same_airtime id answer)
+same_answered id (answer ∷ answers) = ap (λ (n : ℕ). n + answered_at id (map known_of answers)) (same_airtime id answer)
     ∙ ap (λ (n : ℕ). answer_airtime id answer + n) (same_answered id answers)
 
 pub desk_calls_are_steps : DeskCallsAreSteps

@@ -7,7 +7,7 @@ use Rattle.server_core.proofs.Words.{orderly_placed, after_cancel, book_step, ca
 use Rattle.server_core.proofs.Words.{tick_step, without_named, Ask, CancelFault, Begun, Refusal, numbered, Candidate, Job}
 use Rattle.server_core.proofs.Words.{ask_for, candidate_at, Answer, Booked, Open, Out, numbered-here, SettingLists, Gateway}
 use Rattle.server_core.proofs.Words.{World, cancel, refused, sent_by, terms, tick, tried_by, try}
-use Rattle.server_core.proofs.Walks.{by_option, tick_walk, cancel_walk, try_walk}
+use Rattle.server_core.proofs.DeskSteps.{by_option, tick_walk, cancel_walk, try_walk}
 use Rattle.server_core.proofs.Holds.{IsInOrder, Holds, IsGoodStep, unchanged, AllStand, IsGood, IsJobAt, Stands, both_good}
 use Rattle.server_core.proofs.Written.{gateway_written, with_gateway, with_answer, answer_written}
 use Rattle.server_core.proofs.Members.{All-place_by}
@@ -16,8 +16,7 @@ use Rattle.server_core.proofs.Members.{All-place_by}
 
 pub tick_good : {settings : SettingLists} {T : Job → Type 0} {w : World} → Holds settings T w → (id now : ℕ)
     → IsGoodStep settings T w (tick w id now)
-tick_good {settings} {T} {w} h id now =
-    tick_walk w (IsGoodStep settings T w) id now (record { good = unchanged h; used = tt })
+tick_good {settings} {T} {w} h id now = tick_walk w (IsGoodStep settings T w) id now (record { good = unchanged h; used = tt })
     (λ i g e.
     let o = h.in_order i g e in
     record {
@@ -77,8 +76,7 @@ module _ {settings : SettingLists} {T : Job → Type 0} {w : World} (h : Holds s
         (cancelled_in_order g n start r (h.in_order i g there) found) (cancelled_stand r)
 
   pub cancel_good : IsGoodStep settings T w (cancel w n)
-  cancel_good =
-      cancel_walk w (IsGoodStep settings T w) n (record { good = unchanged h; used = tt })
+  cancel_good = cancel_walk w (IsGoodStep settings T w) n (record { good = unchanged h; used = tt })
       (λ sent i g e. record {
         good = cancelled_by i g e sent.start (cancel_answer g.state.floor g.state.list n sent.start) refl;
         used = tt;
@@ -120,12 +118,10 @@ module _ (g : Gateway) (ask : Ask) (e : refusal_of (terms g) g.state.list ask �
 module _ {settings : SettingLists} {T : Job → Type 0} {w : World} (h : Holds settings T w) (n k : ℕ) (job : Job)
     (at_job : numbered n w.answers ≡ Some (Open k job)) where
   -- a refused answer goes on to the next candidate of its job
-  next_by : (refusal : Refusal) (o : Option Candidate) → IsGood settings T w
-      (with_answer h n (refused k job refusal o))
+  next_by : (refusal : Refusal) (o : Option Candidate) → IsGood settings T w (with_answer h n (refused k job refusal o))
   next_by refusal None = answer_written h n (Open k job) (Out refusal) at_job (λ s q. absurd (cc (q))) refl
       (λ i j q. absurd (cc (q)))
-  next_by refusal (Some c) =
-      answer_written h n (Open k job) (Open (k + 1) job) at_job (λ s q. absurd (cc (q))) refl
+  next_by refusal (Some c) = answer_written h n (Open k job) (Open (k + 1) job) at_job (λ s q. absurd (cc (q))) refl
       (λ i j q. let same : job ≡ j = cc (q) in subst (IsJobAt settings T w.reg.gathered.list n) same (h.jobs n k job at_job))
 
   module _ (c : Candidate) (at : candidate_at job k ≡ Some c) (i : ℕ) (g : Gateway) (there : slice_get w.gateways i ≡ Some g)
@@ -177,14 +173,12 @@ module _ {settings : SettingLists} {T : Job → Type 0} {w : World} (h : Holds s
         let b = booking g (ask_for job c) e in
         let v : Gateway = record g { state = book_step g.rules g.state (ask_for job c) } in
         record {
-          good = both_good first
-              (gateway_written first.holds i g v there refl
+          good = both_good first (gateway_written first.holds i g v there refl
               (booked_in_order g (ask_for job c) e (h.in_order i g there) b) (booked_stand b));
           used = tt;
         }
 
 pub try_good : {settings : SettingLists} {T : Job → Type 0} {w : World} → Holds settings T w → (n : ℕ)
     → IsGoodStep settings T w (try w n)
-try_good {settings} {T} {w} h n =
-    try_walk w (IsGoodStep settings T w) n (record { good = unchanged h; used = tt })
+try_good {settings} {T} {w} h n = try_walk w (IsGoodStep settings T w) n (record { good = unchanged h; used = tt })
     (λ k job c i g e at there own. tried_good h n k job e c at i g there own)

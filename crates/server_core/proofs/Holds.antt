@@ -200,8 +200,7 @@ module _ (settings : SettingLists) (T U : Job → Type 0) (more : (job : Job) �
       (stand_on answers others f g.id) g.state.list (h i g e)
 
   pub jobs_on : (answers : List Answer) → ((n k : ℕ) (job : Job) → numbered n answers ≡ Some (Open k job)
-      → IsJobAt settings T l n job) → (n k : ℕ) (job : Job) → numbered n answers ≡ Some (Open k job)
-      → IsJobAt settings U m n job
+      → IsJobAt settings T l n job) → (n k : ℕ) (job : Job) → numbered n answers ≡ Some (Open k job) → IsJobAt settings U m n job
   jobs_on answers h n k job e = job_on n job (h n k job e)
 
 pub Holds-weaker : (settings : SettingLists) (T U : Job → Type 0) → ((job : Job) → T job → U job) → (w : World)

@@ -9,7 +9,7 @@ use Rattle.server_core.proofs.Words.{after_settling, delivered, has_carried, hea
 use Rattle.server_core.proofs.Words.{Sent, QueueFault, Heard1, ending_of, hear, hear_by, pass, queue, sent_for, settle}
 use Rattle.uplink_gather.specs.Hearing as gathers
 use Rattle.server_desk.specs.Hearing as hearing
-use Rattle.server_core.proofs.Walks.{settle_walk}
+use Rattle.server_core.proofs.DeskSteps.{settle_walk}
 use Rattle.server_core.proofs.Holds.{Holds, IsGood, IsGoodStep, unchanged, IsOfDevice, both_good, device_setting}
 use Rattle.server_core.proofs.Written.{device_written, with_device, answer_written, Grow-rewritten, gathered_grown}
 use Rattle.server_core.proofs.Written.{uplink_gathered}
@@ -35,12 +35,10 @@ module _ {settings : SettingLists} {T : Job → Type 0} {w : World} (h : Holds s
   abbrev closed : Gathering → Gathering
   closed g = record g { closed = true }
 
-  closed_by : (n : ℕ) (t : Bool)
-      → IsGood settings T w
+  closed_by : (n : ℕ) (t : Bool) → IsGood settings T w
       (record w {
         reg = record (w.reg) {
-          gathered = if t then record (w.reg.gathered)
-              { list = rewritten closed n w.reg.gathered.list } else w.reg.gathered;
+          gathered = if t then record (w.reg.gathered) { list = rewritten closed n w.reg.gathered.list } else w.reg.gathered;
         };
       })
   closed_by n true =
@@ -132,15 +130,13 @@ module _ {settings : SettingLists} {T : Job → Type 0} {w : World} (h : Holds s
   carried_by false = unchanged h
 
   pub settle_good : IsGoodStep settings T w (settle w n)
-  settle_good =
-      settle_walk w (IsGoodStep settings T w) n (λ e. record { good = unchanged h; used = tt })
+  settle_good = settle_walk w (IsGoodStep settings T w) n (λ e. record { good = unchanged h; used = tt })
       (λ answer ending e f told.
       let v = with_reg (after_settling ending n w.reg) in
       let first : IsGood settings T w v = carried_by (has_carried ending) in
       let new : Answer = Settled (sent_of ending) in
       record {
-        good = both_good first
-            (answer_written first.holds n answer new e (ended_sent answer ending f) refl
+        good = both_good first (answer_written first.holds n answer new e (ended_sent answer ending f) refl
             (λ k job q. absurd (cc (q))));
         used = tt;
       })

@@ -15,4 +15,3 @@ pub mod Settled
 pub mod Answered
 pub mod Passes
 pub mod Replays
-pub mod Walks

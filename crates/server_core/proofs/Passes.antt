@@ -103,8 +103,7 @@ passing_first place now s r = record { ready = r; passing = λ w at. record { wo
 pass_goes : {A : Type 0} (place now : ℕ) (s new : Seen A) (d : DeskView) → d ≡ desk_pass s.desk now
     → new ≡ with_step (made.Pass now) (record s { desk = d }) → (w : World) → IsAt w s → Moves place w (Pass now ∷ []) s new
 unfolding step
-pass_goes place now s new d stepped noted w at =
-    one_step place w (Pass now) (made.Pass now) [] s new refl
+pass_goes place now s new d stepped noted w at = one_step place w (Pass now) (made.Pass now) [] s new refl
     (rw (noted, stepped) (record { desk = ap (λ (x : DeskView). desk_pass x now) at.desk; books = at.books }))
     (rw noted refl) (rw (noted, append-nil) refl) refl
 
@@ -119,8 +118,7 @@ module _ {A : Type 0} (place now n : ℕ) (old s mid : Seen A) (d : DeskView) (c
   due_is = due_some now s.desk.reg.gathered n (sym closed) ∙ rw (noted, d_is) refl
 
   pub closed_ready : IsReady s → IsReady mid
-  closed_ready r =
-      rw (noted, d_is) (assumption (heard_closed s.desk.ids s.desk.reg.gathered n r.heard, r))
+  closed_ready r = rw (noted, d_is) (assumption (heard_closed s.desk.ids s.desk.reg.gathered n r.heard, r))
 
   -- and answered
   module _ (next : Seen A) (ready : IsReady next) (same : next.desk.reg.gathered ≡ mid.desk.reg.gathered)

@@ -59,11 +59,9 @@ module _ (ids : List ℕ) (copy : HeardCopy) (a : IsTrue (is_among ids copy.gate
   heard_copy : (s : Gatherings) (bytes : List ℕ) (arrived : ℕ) (r : Result Heard HearFault) → AreHeard ids s.list
       → AreHeard ids (after_hearing r s bytes copy arrived).list
   heard_copy s bytes arrived (Err fault) h = h
-  heard_copy s bytes arrived (Ok (Opened n)) h =
-      all_append (HasHeard ids) s.list h (opening bytes copy arrived)
+  heard_copy s bytes arrived (Ok (Opened n)) h = all_append (HasHeard ids) s.list h (opening bytes copy arrived)
       (λ c k. more_by [] c (λ x e. absurd (omega (arith, e.1))) (Contains-push_cases [] copy c k))
-  heard_copy s bytes arrived (Ok (Joined n copies)) h =
-      all_rewritten (HasHeard ids) s.list h (with_copy copy) n
+  heard_copy s bytes arrived (Ok (Joined n copies)) h = all_rewritten (HasHeard ids) s.list h (with_copy copy) n
       (λ x q c k. more_by x.copies c (h n x q) (Contains-push_cases x.copies copy c k))
 
 -- a copy is refused, or was heard here

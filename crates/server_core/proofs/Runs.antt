@@ -18,8 +18,7 @@ module _ {settings : SettingLists} (are : AreSettings settings.gateways settings
     (h : Holds settings T w) where
   -- one number has one answer
   same_sent : (m n : ℕ) (s t : Sent) → m ≡ n → IsKept w.answers m s → IsKept w.answers n t → s ≡ t
-  same_sent m n s t q a b =
-      some_inj (sym a.is ∙ ap sent_for (some_inj (sym (rw q at a.there) ∙ b.there)) ∙ b.is)
+  same_sent m n s t q a b = some_inj (sym a.is ∙ ap sent_for (some_inj (sym (rw q at a.there) ∙ b.there)) ∙ b.is)
 
   module _ (i j k l : ℕ) (g f : Gateway) (a b : Reservation) (m : IsMember w i k g a) (o : IsMember w j l f b) where
     place_by : g.id ≡ f.id → a.start ≡ b.start → (i ≡ j) × (k ≡ l)
@@ -184,8 +183,7 @@ module _ (settings : SettingLists) (are : AreSettings settings.gateways settings
         given = record {
           new = All-nil (IsNew w);
           tickets = λ i j d l g. absurd (omega arith);
-          counters =
-              λ i j d l g. absurd (omega arith);
+          counters = λ i j d l g. absurd (omega arith);
         };
       }
   run_good T w h (s ∷ ss) =

@@ -7,8 +7,7 @@ use Rattle.server_core.proofs.Words.{Seen, ids_of, Settle, Try, settle, run_from
 use Rattle.server_core.proofs.Words.{IsGivenTo, IsNext, IsOut, IsSame, IsSettled, end_lines, tries_from, Ended}
 use Rattle.server_core.specs.Steps as replies
 use Rattle.server_core.proofs.Calls.{reached_append, lines_append}
-use Rattle.server_core.proofs.Walks.{settle_walk}
-use Rattle.server_core.proofs.DeskSteps.{settle_desk, desk_calls_are_steps}
+use Rattle.server_core.proofs.DeskSteps.{settle_walk, settle_desk, desk_calls_are_steps}
 
 -- A ticket is tried until it is booked or out.
 
@@ -129,8 +128,7 @@ module _ {A : Type 0} (place : ℕ) (t : Standing) (old mid new : Seen A) (ended
     unfolding step
     settled_at =
         record {
-          desk = desk_is ∙ ap (desk_settled ending n) (at.desk ∙ sym (tries_desk w n _))
-              ∙ sym (settle_desk v n ending ends.told);
+          desk = desk_is ∙ ap (desk_settled ending n) (at.desk ∙ sym (tries_desk w n _)) ∙ sym (settle_desk v n ending ends.told);
           books = rw (settled.books, settle_gateways v n) ends.books;
         }
 

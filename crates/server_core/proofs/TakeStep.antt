@@ -37,26 +37,21 @@ module _ (reg : Register) (known : List Known) (n : ℕ) (job : Job) where
           waits = waits;
           device = device;
           served = d;
-          made =
-              cc (e);
+          made = cc (e);
         }
     fault_by device d (Some fault) e = absurd (cc (e))
 
-    device_by : (o : Option Device) → slice_get reg.devices asked.device ≡ o → take_asked reg known n asked o ≡ Ok job
-        → IsTicket reg known n job
-    device_by None d e = absurd (cc (e))
-    device_by (Some device) d e = fault_by device d (take_fault reg known asked device) e
-
-  waits_by : (asked : Asked) (state : Known) (t : Bool) → numbered n reg.asked ≡ Some asked → numbered n known ≡ Some state
-      → is_not_given state ≡ t
-      → (if t then take_asked reg known n asked (slice_get reg.devices asked.device) else Err Taken) ≡ Ok job
-      → IsTicket reg known n job
-  waits_by asked state true a s t e = device_by asked a state s t (slice_get reg.devices asked.device) refl e
-  waits_by asked state false a s t e = absurd (cc (e))
+  waits_by : (asked : Asked) (state : Known) (t : Bool) (o : Option Device) → numbered n reg.asked ≡ Some asked
+      → numbered n known ≡ Some state → is_not_given state ≡ t → slice_get reg.devices asked.device ≡ o
+      → (if t then take_asked reg known n asked o else Err Taken) ≡ Ok job → IsTicket reg known n job
+  waits_by asked state true None a s t d e = absurd (cc (e))
+  waits_by asked state true (Some device) a s t d e = fault_by asked a state s t device d (take_fault reg known asked device) e
+  waits_by asked state false o a s t d e = absurd (cc (e))
 
   known_by : (o : Option Asked) (k : Option Known) → numbered n reg.asked ≡ o → numbered n known ≡ k
       → take_known reg known n o k ≡ Ok job → IsTicket reg known n job
-  known_by (Some asked) (Some state) a s e = waits_by asked state (is_not_given state) a s refl e
+  known_by (Some asked) (Some state) a s e =
+      waits_by asked state (is_not_given state) (slice_get reg.devices asked.device) a s refl refl e
   known_by (Some asked) None a s e = absurd (cc (e))
   known_by None (Some state) a s e = absurd (cc (e))
   known_by None None a s e = absurd (cc (e))
@@ -136,9 +131,7 @@ module _ {settings : SettingLists} (are : AreSettings settings.gateways settings
     given = with_answer first.holds n (Open 0 job)
 
     given_good : IsGood settings T w given
-    given_good =
-        both_good first
-        (answer_written first.holds n Waiting (Open 0 job) waits (λ s q. absurd (cc (q))) refl
+    given_good = both_good first (answer_written first.holds n Waiting (Open 0 job) waits (λ s q. absurd (cc (q))) refl
         (λ k j q. let same : job ≡ j = cc (q) in subst (IsJobAt settings T w.reg.gathered.list n) same job_at))
 
     not_given : IsGivenAt w.answers n → ⊥
@@ -154,8 +147,7 @@ module _ {settings : SettingLists} (are : AreSettings settings.gateways settings
     new : IsNew w job
     new = record {
       number = not_given;
-      counter = λ p d e a. same_down p d e
-          (one_device h are p asked.device d device e served a);
+      counter = λ p d e a. same_down p d e (one_device h are p asked.device d device e served a);
     }
 
     used : IsUsed given job

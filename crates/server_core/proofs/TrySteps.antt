@@ -32,8 +32,7 @@ module _ (w : World) (t : Standing) (stands : numbered t.job.number w.answers �
   answer = refusal_of (terms g) g.state.list (ask_for t.job c)
 
   -- the world's try asks the gateway
-  pub try_is : (o : Option Refusal) → answer ≡ o → step w (Try t.job.number)
-      ≡ tried_by w t.job.number t.at t.job c (i, g) o
+  pub try_is : (o : Option Refusal) → answer ≡ o → step w (Try t.job.number) ≡ tried_by w t.job.number t.at t.job c (i, g) o
   unfolding step
   try_is o e = rw (stands, at, found, e) refl
 
@@ -93,8 +92,7 @@ module _ {A : Type 0} (t : Standing) (old mid : Seen A) (gateway i : ℕ) (book 
     is : (o : Option Refusal) → refusal_by book t.job c ≡ o → step w (Try n) ≡ tried_by w n t.at t.job c (i, g.gateway) o
     is o e = try_is w t out.stands c at i g.gateway g.found o (answer_is o e)
 
-    tries : (o : Option Refusal) → refusal_by book t.job c ≡ o → tries_from w t
-        ≡ Try n ∷ map (λ (x : Candidate). Try n)
+    tries : (o : Option Refusal) → refusal_by book t.job c ≡ o → tries_from w t ≡ Try n ∷ map (λ (x : Candidate). Try n)
         (if is_none o then [] else up_to_first (is_accepted w t.job) (drop (t.at + 1) (candidates t.job)))
     tries o e = tries_are w t out.stands c at i g.gateway g.found o (answer_is o e)
 
@@ -104,8 +102,7 @@ module _ {A : Type 0} (t : Standing) (old mid : Seen A) (gateway i : ℕ) (book 
 
       refused_stands : (o : Option Candidate) → candidate_of (next_of t) ≡ o
           → numbered n (step w (Try n)).0.answers ≡ Some (refused t.at t.job refusal o)
-      refused_stands o follows =
-          rw (is (Some refusal) e, ← follows)
+      refused_stands o follows = rw (is (Some refusal) e, ← follows)
           (numbered-here (λ a. refused t.at t.job refusal (candidate_of (next_of t))) n w.answers (Open t.at t.job) out.stands)
 
       -- another follows

@@ -11,9 +11,9 @@ pub use Rattle.std.proofs.lemmas.Option.{get_or_from_slice_get, slice_get_within
 pub use Rattle.std.specs.List.{AllZip, position_from}
 pub use Rattle.std.specs.Option.{IsSomeAnd, option_and_then, option_map, option_map_or}
 pub use Rattle.std.specs.Prelude.{All, AllPairs, Bool, Contains, Err, IfOk, IsOkUnless, IsSome, IsTrue, List, MatchResult, None}
-pub use Rattle.std.specs.Prelude.{Ok, OnErr, OnOk, Option, Result, Some, [], cond, drop, false, filter, find, get_or}
-pub use Rattle.std.specs.Prelude.{if◌then◌else◌, is_some, length, map, max, nat_le, nat_lt, not, refl, slice_get, slice_set, suc}
-pub use Rattle.std.specs.Prelude.{true, zero, ℕ, ⊤, ◌&&◌, ◌++◌, ◌+◌, ◌-◌, ◌<◌, ◌==◌, ◌||◌, ◌∷◌, ◌≡◌, ◌≢◌, ◌≤◌, ◌⊎◌}
+pub use Rattle.std.specs.Prelude.{Ok, OnErr, OnOk, Option, Result, Some, [], cond, drop, false, find, get_or, if◌then◌else◌}
+pub use Rattle.std.specs.Prelude.{is_some, length, map, max, nat_le, nat_lt, not, refl, slice_get, slice_set, suc, true, zero, ℕ}
+pub use Rattle.std.specs.Prelude.{⊤, ◌&&◌, ◌++◌, ◌+◌, ◌-◌, ◌<◌, ◌==◌, ◌||◌, ◌∷◌, ◌≡◌, ◌≢◌, ◌≤◌, ◌⊎◌}
 pub use Rattle.resv_list.specs.Reservations.{IsByStart, airtime_us, member_from, place, start_of, without}
 unfoldable pub use Rattle.resv_list.specs.Reservations.{net}
 pub use Rattle.resv_list.specs.Sorted.{RisesFrom, place_by}
@@ -114,7 +114,7 @@ pub use Rattle.server_core.specs.Steps.{hear_by, pass, queue, refused, run, sent
 pub use Rattle.server_core.specs.Steps.{take_by, terms, tick, tick_at, tried_by, try, try_candidate, try_of, try_on}
 unfoldable pub use Rattle.server_core.specs.Steps.{run_from, step}
 pub use Rattle.server_core.specs.Turns.{AreTries, EndsTries, GoesOn, IsAnswered, IsGivenTo, IsNext, IsOut, IsSame, IsSettled}
-pub use Rattle.server_core.specs.Turns.{TurnIs, end_lines, tries_from}
+pub use Rattle.server_core.specs.Turns.{end_lines, tries_from}
 pub use Rattle.server_core.specs.declared.entry.Line.{Line}
 pub use Rattle.server_core.specs.declared.event.Event.{Event}
 pub use Rattle.server_core.specs.declared.trying.Ended.{Ended}

@@ -16,8 +16,7 @@ module _ {settings : SettingLists} {T : Job → Type 0} {w : World} (h : Holds s
 
   later_by : (p q : ℕ) (d e f : Device) → e.setting ≡ d.setting → d.down ≤ e.down
       → ((p ≡ q) × (f ≡ d) × (slice_get (slice_set w.reg.devices p e) q ≡ Some e)) ⊎
-      (slice_get (slice_set w.reg.devices p e) q ≡ Some f)
-      → IsLater (slice_set w.reg.devices p e) q f
+      (slice_get (slice_set w.reg.devices p e) q ≡ Some f) → IsLater (slice_set w.reg.devices p e) q f
   later_by p q d e f s c (inl g) =
       record {
         device = e;
@@ -48,8 +47,7 @@ module _ {settings : SettingLists} {T : Job → Type 0} {w : World} (h : Holds s
 
     -- what holds of the old answer, and of the new one then, holds still
     has_still : (P : Answer → Type 0) → (P old → P new) → (m : ℕ) → Has P w.answers m → Has P (rewritten (λ a. new) n w.answers) m
-    has_still P f m x =
-        Has-rewritten P w.answers (λ a. new) n m (λ y e p. f (subst P (some_inj (sym e ∙ there)) p)) x
+    has_still P f m x = Has-rewritten P w.answers (λ a. new) n m (λ y e p. f (subst P (some_inj (sym e ∙ there)) p)) x
 
     pub answer_written : ((s : Sent) → sent_for old ≡ Some s → sent_for new ≡ Some s) → is_not_given (known_of new) ≡ false
         → ((k : ℕ) (job : Job) → new ≡ Open k job → IsJobAt settings T w.reg.gathered.list n job)
@@ -95,8 +93,7 @@ module _ {settings : SettingLists} {T : Job → Type 0} {w : World} (h : Holds s
 -- a gathering is written anew, and keeps its bytes and its copies
 pub Grow-rewritten : (f : Gathering → Gathering) → ((g : Gathering) → IsGrown g (f g)) → (n : ℕ) (l : List Gathering)
     → Grow l (rewritten f n l)
-Grow-rewritten f grown n l m before x =
-    Has-rewritten (IsGrown before) l f n m
+Grow-rewritten f grown n l m before x = Has-rewritten (IsGrown before) l f n m
     (λ g e k. record { bytes = (grown g).bytes ∙ k.bytes; copies = λ c q. (grown g).copies c (k.copies c q) }) x
 
 module _ {settings : SettingLists} {T : Job → Type 0} {w : World} (h : Holds settings T w) where

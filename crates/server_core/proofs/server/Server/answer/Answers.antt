@@ -9,8 +9,7 @@ work-requires g c =
     c.in-Ok.ticket c.take.new.self c.in-Ok.ensures.job c.in-Ok.ensures.step c.in-Ok.ensures.first
 
 pub returns-in-Ok : goal.returns-in-Ok
-returns-in-Ok g c =
-    all_ok c.work.result
+returns-in-Ok g c = all_ok c.work.result
     (answer_done c.args.place c.args.number (seen c.args.self.now) (seen c.did.new.self) c.in_ok-did.ensures c.requires
     c.in-Ok.ticket c.take.new.self c.in-Ok.ensures.job c.in-Ok.ensures.step (seen c.work.new.self)) c.work.ensures
 

@@ -6,8 +6,7 @@ pub returns-in_default : goal.returns-in_default
 returns-in_default g c = nothing_sent c.args.number (seen c.args.self.now) _ c.requires c.in_default.ensures refl
 
 pub returns-in_default-place_of : goal.returns-in_default-place_of
-returns-in_default-place_of g c =
-    not_here c.args.number (seen c.args.self.now) _ c.requires c.in-Some.sent c.in-Some.ensures
+returns-in_default-place_of g c = not_here c.args.number (seen c.args.self.now) _ c.requires c.in-Some.sent c.in-Some.ensures
     (rw c.deref.ensures.value at c.in_default-place_of.ensures) refl
 
 pub index_mut-requires : goal.index_mut-requires

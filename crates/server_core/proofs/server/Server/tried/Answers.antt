@@ -10,8 +10,7 @@ tried_once-requires g c =
     here_still c.args.ticket c.loop-ended.ticket (seen c.args.self.now) (seen c.loop-ended.self) c.loop-ended.invariant c.requires
 
 pub returns-in-Over : goal.returns-in-Over
-returns-in-Over g c =
-    tries_over c.args.ticket c.loop-ended.ticket (seen c.args.self.now) (seen c.loop-ended.self)
+returns-in-Over g c = tries_over c.args.ticket c.loop-ended.ticket (seen c.args.self.now) (seen c.loop-ended.self)
     (seen c.tried_once.new.self) c.in-Over.ended c.loop-ended.invariant (rw c.in-Over.is at c.in_ok-ended.ensures)
 
 pub loop-ended-preserved : goal.loop-ended-preserved
@@ -20,6 +19,5 @@ loop-ended-preserved g c =
     (seen c.tried_once.new.self) c.loop-ended.invariant (rw c.in-On.is at c.in_ok-ended.ensures)
 
 pub loop-ended-smaller : goal.loop-ended-smaller
-loop-ended-smaller g c =
-    fewer_left c.loop-ended.ticket c.in-On.next (seen c.loop-ended.self) (seen c.tried_once.new.self)
+loop-ended-smaller g c = fewer_left c.loop-ended.ticket c.in-On.next (seen c.loop-ended.self) (seen c.tried_once.new.self)
     (rw c.in-On.is at c.in_ok-ended.ensures)

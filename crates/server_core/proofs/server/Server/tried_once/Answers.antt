@@ -4,8 +4,7 @@ use Rattle.server_core.proofs.TrySteps.{has_book, not_wrong, next_turn, out_turn
 use Rattle.server_core.proofs.server.Server.tried_once.Goals as goal
 
 pub unreachable-requires : goal.unreachable-requires
-unreachable-requires g c =
-    has_book c.args.ticket (seen c.args.self.now) (seen c.did.new.self) c.gateway.result
+unreachable-requires g c = has_book c.args.ticket (seen c.args.self.now) (seen c.did.new.self) c.gateway.result
     (rw c.number-number.ensures.number at c.in-Ok.ensures)
     c.requires c.gateway.ensures.gateway (rw c.deref.ensures.value at c.in_default-place_of.ensures)
 

@@ -9,9 +9,6 @@ settle-requires g c =
     c.requires.books c.requires.given
 
 pub returns : goal.returns
-returns g c =
-    on_ok c.settle.result
-    (λ settled.
-    answered c.args.place c.args.ticket (seen c.args.self.now) (seen c.tried.new.self)
+returns g c = on_ok c.settle.result (λ settled. answered c.args.place c.args.ticket (seen c.args.self.now) (seen c.tried.new.self)
     (seen c.settle.new.self) c.in_ok-ended.ended c.requires.first c.in_ok-ended.ensures settled)
     c.settle.ensures
