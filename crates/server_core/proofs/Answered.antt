@@ -12,9 +12,7 @@ use Rattle.server_desk.specs.declared.answers.Known.TheVariants.{Given}
 use Rattle.server_core.specs.declared.event.Step.TheVariants as made
 use Rattle.server_core.specs.Steps as replies
 use Rattle.server_core.proofs.TakeStep.{IsTicket, ticket, still_waits, job_window}
-use Rattle.server_core.proofs.DeskSteps.{desk_calls_are_steps}
-use Rattle.server_core.proofs.Ready.{all_rewritten}
-use Rattle.server_core.proofs.Calls.{one_step, moves_on}
+use Rattle.server_core.proofs.{DeskSteps.desk_calls_are_steps, Ready.all_rewritten, Calls.one_step, Calls.moves_on}
 
 -- the desk's part after a ticket was taken and settled
 

@@ -12,9 +12,7 @@ use Rattle.server_core.proofs.Words.{cancel_at, cancel_of, cancel_sent, sent_for
 use Rattle.server_core.specs.declared.event.Step.TheVariants as made
 use Rattle.server_core.specs.Steps as replies
 use Rattle.server_core.specs.declared.entry.Line.TheVariants as says
-use Rattle.server_core.proofs.Members.{equal_where_tested}
-use Rattle.server_core.proofs.DeskSteps.{desk_calls_are_steps}
-use Rattle.server_core.proofs.Calls.{IsDone, done}
+use Rattle.server_core.proofs.{Members.equal_where_tested, DeskSteps.desk_calls_are_steps, Calls.IsDone, Calls.done}
 
 module _ {X Y : Type 0} (R : X → Y → Type 0) where
   pub zip_at : (xs : List X) (ys : List Y) (i : ℕ) (x : X) (y : Y) → AllZip R xs ys → slice_get xs i ≡ Some x

@@ -9,8 +9,7 @@ use Rattle.server_core.proofs.Words.{with_step, Hear, Heard, Queue, Queued, Repl
 use Rattle.server_core.specs.declared.event.Step.{Step as Made}
 use Rattle.server_desk.specs.Hearing.{after_hearing}
 use Rattle.server_desk.specs.Hearing as hearing
-use Rattle.server_core.proofs.DeskSteps.{desk_calls_are_steps}
-use Rattle.server_core.proofs.Ready.{heard_after, idle_hear}
+use Rattle.server_core.proofs.{DeskSteps.desk_calls_are_steps, Ready.heard_after, Ready.idle_hear}
 
 -- Steps one after another, and the lines for them.
 

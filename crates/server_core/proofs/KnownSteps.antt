@@ -9,11 +9,10 @@ use Rattle.server_core.proofs.Words.{after_settling, delivered, has_carried, hea
 use Rattle.server_core.proofs.Words.{Sent, QueueFault, Heard1, ending_of, hear, hear_by, pass, queue, sent_for, settle}
 use Rattle.uplink_gather.specs.Hearing as gathers
 use Rattle.server_desk.specs.Hearing as hearing
-use Rattle.server_core.proofs.DeskSteps.{settle_walk}
 use Rattle.server_core.proofs.Holds.{Holds, IsGood, IsGoodStep, unchanged, IsOfDevice, both_good, device_setting}
 use Rattle.server_core.proofs.Written.{device_written, with_device, answer_written, Grow-rewritten, gathered_grown}
 use Rattle.server_core.proofs.Written.{uplink_gathered}
-use Rattle.server_core.proofs.Members.{equal_where_tested}
+use Rattle.server_core.proofs.{DeskSteps.settle_walk, Members.equal_where_tested}
 
 -- A payload is queued.
 

@@ -6,8 +6,7 @@ use Rattle.server_core.proofs.Words.{desk_pass, closing, pass_answer, World, ans
 use Rattle.server_core.proofs.Words.{reached, pass_steps, IsAt, IsReady, Makes, Moves, Seen, pass_whole, with_step, Pass}
 use Rattle.server_core.proofs.Words.{run_from, step}
 use Rattle.server_core.specs.declared.event.Step.TheVariants as made
-use Rattle.server_core.proofs.Calls.{one_step, moves_on}
-use Rattle.server_core.proofs.Ready.{heard_closed}
+use Rattle.server_core.proofs.{Calls.one_step, Calls.moves_on, Ready.heard_closed}
 
 -- The gatherings that are due, one after another.
 

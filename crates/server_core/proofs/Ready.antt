@@ -6,8 +6,7 @@ use Rattle.server_core.proofs.Words.{rewritten, hear_answer, with_copy, Joined, 
 use Rattle.server_core.proofs.Words.{known_after, Decision, Join, Refuse, copy_fault, copy_of, decide_copy, decide_frame}
 use Rattle.server_core.proofs.Words.{register_after, decide, numbered-append_cases, numbered_cases, rewritten-none, Register}
 use Rattle.server_core.proofs.Words.{Known, NotGiven, DeskFault, UnknownGateway, Heard1, AreHeard, HasHeard, IsIdle, is_among}
-use Rattle.uplink_gather.specs.declared.answers.Heard.{Heard}
-use Rattle.uplink_gather.specs.Hearing.{opening, after_hearing}
+use Rattle.uplink_gather.specs.{declared.answers.Heard.Heard, Hearing.opening, Hearing.after_hearing}
 use Rattle.server_desk.specs.Hearing.{Open}
 use Rattle.server_desk.specs.Hearing as hearing
 

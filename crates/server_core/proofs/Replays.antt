@@ -7,8 +7,7 @@ use Rattle.server_core.proofs.Words.{schedule, step_of, usual_limits, event_step
 use Rattle.server_core.proofs.Words.{IsOpened, IsReady, Seen, ids_of, with_lines, Step, run_from, Event}
 use Rattle.server_core.specs.declared.event.Event.TheVariants as events
 use Rattle.server_core.specs.declared.entry.Line.TheVariants as says
-use Rattle.server_core.proofs.Calls.{reached_append}
-use Rattle.server_core.proofs.Members.{none_numbered}
+use Rattle.server_core.proofs.{Calls.reached_append, Members.none_numbered}
 
 -- a server that has heard nothing
 

@@ -7,12 +7,11 @@ use Rattle.server_core.proofs.Words.{SettingLists, plan_for, Gateway, World, ope
 use Rattle.server_core.proofs.Words.{EveryInterleavingIsSafe, HaveOwnCounters, IsMember, IsOwnWindow, IsSafe, jobs_given}
 use Rattle.server_core.proofs.Words.{setting_of, with_given, Cancel, Given, Hear, Pass, Queue, Reply, Run, Settle, Step, Take}
 use Rattle.server_core.proofs.Words.{Tick, Try, run, sent_for, run_from, step}
-use Rattle.server_core.proofs.Members.{rises_once, none_numbered}
 use Rattle.server_core.proofs.Holds.{IsKept, Stands, Holds, IsInOrder, AllStand, IsGivenAt, Follows, IsGoodStep, IsNew, IsUsed}
 use Rattle.server_core.proofs.Holds.{UsesUp, given_after, Holds-weaker, one_gateway, member_stands}
 use Rattle.server_core.proofs.KnownSteps.{queue_good, hear_good, pass_good, settle_good}
-use Rattle.server_core.proofs.TakeStep.{take_good}
 use Rattle.server_core.proofs.GatewaySteps.{try_good, cancel_good, tick_good}
+use Rattle.server_core.proofs.{Members.rises_once, Members.none_numbered, TakeStep.take_good}
 
 module _ {settings : SettingLists} (are : AreSettings settings.gateways settings.devices) {T : Job → Type 0} {w : World}
     (h : Holds settings T w) where

@@ -1,13 +1,10 @@
 -- The words of the proofs, from one place.
 pub use Rattle.std.proofs.Common.{ap, append-nil, append_assoc, arith, inl, inr, length-append, subst, sym, true≢false, ◌∙◌}
-pub use Rattle.std.proofs.Math.ListN.{drop_of_length-le}
-pub use Rattle.std.proofs.Math.Seq.{drop-cons}
-pub use Rattle.std.proofs.lemmas.Bool.Decides.{nat_tests}
-pub use Rattle.std.proofs.lemmas.List.{map-append, set-set}
 pub use Rattle.std.proofs.lemmas.List.Elements.{All-cons, All-filter, All-head, All-nil, All-tail, All-weaker}
 pub use Rattle.std.proofs.lemmas.List.Elements.{Contains-append_left, Contains-append_right, Contains-push_cases}
-pub use Rattle.std.proofs.lemmas.List.Kept.{AllPairs-cons}
 pub use Rattle.std.proofs.lemmas.Option.{get_or_from_slice_get, slice_get_within}
+pub use Rattle.std.proofs.{Math.ListN.drop_of_length-le, Math.Seq.drop-cons, lemmas.Bool.Decides.nat_tests}
+pub use Rattle.std.proofs.{lemmas.List.map-append, lemmas.List.set-set, lemmas.List.Kept.AllPairs-cons}
 pub use Rattle.std.specs.List.{AllZip, position_from}
 pub use Rattle.std.specs.Option.{IsSomeAnd, option_and_then, option_map, option_map_or}
 pub use Rattle.std.specs.Prelude.{All, AllPairs, Bool, Contains, Err, IfOk, IsOkUnless, IsSome, IsTrue, List, MatchResult, None}
@@ -15,96 +12,62 @@ pub use Rattle.std.specs.Prelude.{Ok, OnErr, OnOk, Option, Result, Some, [], con
 pub use Rattle.std.specs.Prelude.{is_some, length, map, max, nat_le, nat_lt, not, refl, slice_get, slice_set, suc, true, zero, ℕ}
 pub use Rattle.std.specs.Prelude.{⊤, ◌&&◌, ◌++◌, ◌+◌, ◌-◌, ◌<◌, ◌==◌, ◌||◌, ◌∷◌, ◌≡◌, ◌≢◌, ◌≤◌, ◌⊎◌}
 pub use Rattle.resv_list.specs.Reservations.{IsByStart, airtime_us, member_from, place, start_of, without}
-unfoldable pub use Rattle.resv_list.specs.Reservations.{net}
-pub use Rattle.resv_list.specs.Sorted.{RisesFrom, place_by}
-pub use Rattle.resv_list.specs.declared.reservation.Reservation.{Reservation}
-pub use Rattle.gateway_book.specs.Answer.{IsAsked, refusal_of}
-pub use Rattle.gateway_book.specs.AnswerLaws.{accepted, book_step-accepted}
+pub use Rattle.resv_list.specs.{Sorted.RisesFrom, Sorted.place_by, declared.reservation.Reservation.Reservation}
 pub use Rattle.gateway_book.specs.Book.{Book, airtime_answer, state_of, with_booked, with_cancelled}
-pub use Rattle.gateway_book.specs.CancelLaws.{named_found, named_none, net_named}
-pub use Rattle.gateway_book.specs.KeptLaws.{net-place}
-pub use Rattle.gateway_book.specs.Orderly.{IsOrderly}
 pub use Rattle.gateway_book.specs.OrderlyLaws.{may_join, orderly_filter, orderly_nil, orderly_placed}
 pub use Rattle.gateway_book.specs.Step.{State, after_cancel, book_step, cancel_answer, cancel_step, found_or, is_fit-IsFit}
 pub use Rattle.gateway_book.specs.Step.{is_named, tick_step, without_named}
-pub use Rattle.gateway_book.specs.declared.ask.Ask.{Ask}
-pub use Rattle.gateway_book.specs.declared.cancel.CancelFault.{CancelFault}
-pub use Rattle.gateway_book.specs.declared.cancel.CancelFault.TheVariants.{Begun, NotHere}
-pub use Rattle.gateway_book.specs.declared.refusal.Refusal.{Refusal}
-pub use Rattle.gateway_book.specs.declared.totals.Totals.{Totals}
 pub use Rattle.gateway_book.specs.Remembers.{orderly_booked, orderly_cancelled, remembers_answer, remembers_booked}
 pub use Rattle.gateway_book.specs.Remembers.{remembers_cancel, remembers_cancelled, remembers_own, remembers_ticked}
-pub use Rattle.gateway_book.specs.Lawful.{IsLawful}
+pub use Rattle.gateway_book.specs.{Answer.IsAsked, Answer.refusal_of, AnswerLaws.accepted, AnswerLaws.book_step-accepted}
+pub use Rattle.gateway_book.specs.{CancelLaws.named_found, CancelLaws.named_none, CancelLaws.net_named, KeptLaws.net-place}
+pub use Rattle.gateway_book.specs.{Orderly.IsOrderly, declared.ask.Ask.Ask, declared.cancel.CancelFault.CancelFault}
+pub use Rattle.gateway_book.specs.{declared.cancel.CancelFault.TheVariants.Begun, declared.cancel.CancelFault.TheVariants.NotHere}
+pub use Rattle.gateway_book.specs.{declared.refusal.Refusal.Refusal, declared.totals.Totals.Totals, Lawful.IsLawful}
 pub use Rattle.lora_frame.specs.Reading.{addr_of, uplink_of}
-pub use Rattle.lora_frame.specs.declared.reading.FrameFault.{FrameFault}
-pub use Rattle.lora_frame.specs.declared.reading.Uplink.{Uplink}
+pub use Rattle.lora_frame.specs.{declared.reading.FrameFault.FrameFault, declared.reading.Uplink.Uplink}
 pub use Rattle.uplink_gather.specs.Gatherings.{Gathering, Gatherings, close_step, copies_of, is_closed_at, is_due, is_open}
 pub use Rattle.uplink_gather.specs.Gatherings.{is_open_at, join_us, numbered, rewritten}
-unfoldable pub use Rattle.uplink_gather.specs.Gatherings.{due_of}
 pub use Rattle.uplink_gather.specs.Hearing.{hear_answer, place_of, with_copy}
 pub use Rattle.uplink_gather.specs.declared.answers.Heard.TheVariants.{Joined, Opened}
-pub use Rattle.uplink_gather.specs.declared.answers.Place.TheVariants.{Joins}
-pub use Rattle.uplink_gather.specs.declared.fault.HearFault.{HearFault}
-pub use Rattle.uplink_gather.specs.declared.heard.HeardCopy.{HeardCopy}
-pub use Rattle.uplink_gather.specs.declared.limits.Limits.{Limits}
-pub use Rattle.rx_windows.specs.Laws.{IsWindowOf}
-pub use Rattle.rx_windows.specs.RankLaws.{AllPairs-head, AllPairs-tail}
-pub use Rattle.rx_windows.specs.WindowLaws.{IsWindowOf-ranked, on_gateways_that_heard}
-pub use Rattle.rx_windows.specs.Windows.{candidates_of}
-pub use Rattle.rx_windows.specs.declared.candidate.Candidate.{Candidate}
-pub use Rattle.answer_ticket.specs.Ended.{answered_as}
+pub use Rattle.uplink_gather.specs.{declared.answers.Place.TheVariants.Joins, declared.fault.HearFault.HearFault}
+pub use Rattle.uplink_gather.specs.{declared.heard.HeardCopy.HeardCopy, declared.limits.Limits.Limits}
+pub use Rattle.rx_windows.specs.{Laws.IsWindowOf, RankLaws.AllPairs-head, RankLaws.AllPairs-tail, WindowLaws.IsWindowOf-ranked}
+pub use Rattle.rx_windows.specs.{WindowLaws.on_gateways_that_heard, Windows.candidates_of, declared.candidate.Candidate.Candidate}
 pub use Rattle.answer_ticket.specs.Job.{Job, Payload, ask_for, candidate_at, candidates}
-pub use Rattle.answer_ticket.specs.Ticket.{Standing, candidate_of}
 pub use Rattle.answer_ticket.specs.Tried.{IsBooked, IsReceipt, IsWrong, next_of, refusal_by}
-pub use Rattle.answer_ticket.specs.declared.outcome.Ending.{Ending}
-pub use Rattle.answer_ticket.specs.declared.outcome.Ending.TheVariants.{Unanswered}
-pub use Rattle.answer_ticket.specs.declared.outcome.Outcome.{Outcome}
-pub use Rattle.answer_ticket.specs.declared.tried.Receipt.{Receipt}
+pub use Rattle.answer_ticket.specs.{Ended.answered_as, Ticket.Standing, Ticket.candidate_of, declared.outcome.Ending.Ending}
+pub use Rattle.answer_ticket.specs.{declared.outcome.Ending.TheVariants.Unanswered, declared.outcome.Outcome.Outcome}
+pub use Rattle.answer_ticket.specs.{declared.tried.Receipt.Receipt}
 pub use Rattle.server_desk.specs.Airtime.{answer_airtime, answered_at, answered_in, known_airtime}
 pub use Rattle.server_desk.specs.Answers.{Answer, Booked, Open, Out, Settled, Waiting, is_given, is_not_given, known_of}
-pub use Rattle.server_desk.proofs.Decided.{IsDecided, decided}
 pub use Rattle.server_desk.specs.Desk.{DeskView, desk_hear, desk_of, desk_pass, desk_queue, desk_settled, desk_take, desk_taken}
-pub use Rattle.server_desk.specs.Desk.{known_after}
-pub use Rattle.server_desk.proofs.Found.{found_there}
 pub use Rattle.server_desk.specs.Hearing.{Decision, Join, Opening, Refuse, answer_to, asked_by, copy_fault, copy_of, decide_copy}
-pub use Rattle.server_desk.specs.Hearing.{decide_frame, register_after}
-unfoldable pub use Rattle.server_desk.specs.Hearing.{decide}
 pub use Rattle.server_desk.proofs.Numbers.{length-rewritten, map-rewritten, numbered-append, numbered-append_cases, numbered-here}
 pub use Rattle.server_desk.proofs.Numbers.{numbered-map, numbered_after, numbered_cases, numbered_next, rewritten-found}
 pub use Rattle.server_desk.proofs.Numbers.{rewritten-none, same_rewritten}
-pub use Rattle.server_desk.specs.Passing.{closing, pass_answer}
 pub use Rattle.server_desk.proofs.Places.{all_get, from_map, get_contains, get_set_after, get_set_cases, get_set_same, map_set}
-pub use Rattle.server_desk.proofs.Places.{map_there, some_inj}
 pub use Rattle.server_desk.specs.Queueing.{after_queueing, queue_answer, with_payload}
 pub use Rattle.server_desk.specs.Register.{Device, Register, device_with, next_place, opened_device}
-pub use Rattle.server_desk.specs.Settings.{AreSettings, SettingLists}
 pub use Rattle.server_desk.specs.Settling.{after_settling, delivered, has_carried, head_taken, is_here, kept_by, may_settle}
-pub use Rattle.server_desk.specs.Settling.{sent_of, without_head}
 pub use Rattle.server_desk.specs.Taking.{after_taking, given_or, job_of, plan_for, take_fault, take_known, taken_from}
-pub use Rattle.server_desk.specs.Taking.{with_counter_given}
-unfoldable pub use Rattle.server_desk.specs.Taking.{take_answer}
 pub use Rattle.server_desk.specs.World.{Gateway, World, gateway_with, ids, known, opened_gateway, opening}
-pub use Rattle.server_desk.specs.declared.answers.Asked.{Asked}
-pub use Rattle.server_desk.specs.declared.answers.Known.{Known}
-pub use Rattle.server_desk.specs.declared.answers.Known.TheVariants.{Done, NotGiven}
-pub use Rattle.server_desk.specs.declared.answers.Sent.{Sent}
-pub use Rattle.server_desk.specs.declared.faults.DeskFault.{DeskFault}
-pub use Rattle.server_desk.specs.declared.faults.DeskFault.TheVariants.{UnknownGateway}
-pub use Rattle.server_desk.specs.declared.faults.QueueFault.{QueueFault}
-pub use Rattle.server_desk.specs.declared.faults.TakeFault.{TakeFault}
-pub use Rattle.server_desk.specs.declared.faults.TakeFault.TheVariants.{NoMemory, NotReady, Taken}
-pub use Rattle.server_desk.specs.declared.heard.DeskHeard.{DeskHeard}
-pub use Rattle.server_desk.specs.declared.heard.Heard1.{Heard1}
-pub use Rattle.server_desk.specs.declared.setting.DeviceSetting.{DeviceSetting}
-pub use Rattle.server_desk.specs.declared.setting.GatewaySetting.{GatewaySetting}
-pub use Rattle.server_core.specs.DeskCalls.{DeskCallsAreSteps, told}
+pub use Rattle.server_desk.specs.{Decided.IsDecided, Decided.decided, Desk.known_after, Found.found_there, Hearing.decide_frame}
+pub use Rattle.server_desk.specs.{Hearing.register_after, Passing.closing, Passing.pass_answer, Places.map_there, Places.some_inj}
+pub use Rattle.server_desk.specs.{Settings.AreSettings, Settings.SettingLists, Settling.sent_of, Settling.without_head}
+pub use Rattle.server_desk.specs.{Taking.with_counter_given, declared.answers.Asked.Asked, declared.answers.Known.Known}
+pub use Rattle.server_desk.specs.{declared.answers.Known.TheVariants.Done, declared.answers.Known.TheVariants.NotGiven}
+pub use Rattle.server_desk.specs.{declared.answers.Sent.Sent, declared.faults.DeskFault.DeskFault}
+pub use Rattle.server_desk.specs.{declared.faults.DeskFault.TheVariants.UnknownGateway, declared.faults.QueueFault.QueueFault}
+pub use Rattle.server_desk.specs.{declared.faults.TakeFault.TakeFault, declared.faults.TakeFault.TheVariants.NoMemory}
+pub use Rattle.server_desk.specs.{declared.faults.TakeFault.TheVariants.NotReady, declared.faults.TakeFault.TheVariants.Taken}
+pub use Rattle.server_desk.specs.{declared.heard.DeskHeard.DeskHeard, declared.heard.Heard1.Heard1}
+pub use Rattle.server_desk.specs.{declared.setting.DeviceSetting.DeviceSetting, declared.setting.GatewaySetting.GatewaySetting}
 pub use Rattle.server_core.specs.Entries.{entries, entry_at, gateway_of, gateways_after, kept_gateway, lines_for, not_taken}
-unfoldable pub use Rattle.server_core.specs.Entries.{entries_from, step_lines}
 pub use Rattle.server_core.specs.Promise.{EveryInterleavingIsSafe, HaveOwnCounters, IsMember, IsOwnWindow, IsSafe, IsTaken}
 pub use Rattle.server_core.specs.Promise.{jobs_given, setting_of, with_given}
 pub use Rattle.server_core.specs.Schedule.{answer_steps, closing_steps, due_from, due_numbers, given_steps, is_accepted, is_none}
 pub use Rattle.server_core.specs.Schedule.{reached, schedule, step_of, up_to_first, usual_limits}
-unfoldable pub use Rattle.server_core.specs.Schedule.{event_steps, pass_steps, schedule_from}
 pub use Rattle.server_core.specs.Server.{AreBooksOf, AreHeard, AreHere, Does, HasHeard, IsAt, IsBookOf, IsCancelled, IsIdle}
 pub use Rattle.server_core.specs.Server.{IsOpened, IsReady, Makes, Moves, Seen, cancelled_line, heard_line, ids_of, is_among}
 pub use Rattle.server_core.specs.Server.{pass_whole, queued_line, seen, with_lines, with_step}
@@ -112,9 +75,11 @@ pub use Rattle.server_core.specs.Steps.{After, Cancel, Given, Hear, Heard, Pass,
 pub use Rattle.server_core.specs.Steps.{Tick, Try, answers_after, cancel, cancel_at, cancel_of, cancel_sent, ending_of, hear}
 pub use Rattle.server_core.specs.Steps.{hear_by, pass, queue, refused, run, sent_by, sent_for, settle, settle_as, settle_of, take}
 pub use Rattle.server_core.specs.Steps.{take_by, terms, tick, tick_at, tried_by, try, try_candidate, try_of, try_on}
-unfoldable pub use Rattle.server_core.specs.Steps.{run_from, step}
 pub use Rattle.server_core.specs.Turns.{AreTries, EndsTries, GoesOn, IsAnswered, IsGivenTo, IsNext, IsOut, IsSame, IsSettled}
-pub use Rattle.server_core.specs.Turns.{end_lines, tries_from}
-pub use Rattle.server_core.specs.declared.entry.Line.{Line}
-pub use Rattle.server_core.specs.declared.event.Event.{Event}
-pub use Rattle.server_core.specs.declared.trying.Ended.{Ended}
+pub use Rattle.server_core.specs.{DeskCalls.DeskCallsAreSteps, DeskCalls.told, Turns.end_lines, Turns.tries_from}
+pub use Rattle.server_core.specs.{declared.entry.Line.Line, declared.event.Event.Event, declared.trying.Ended.Ended}
+unfoldable pub use Rattle.resv_list.specs.Reservations.{net}
+unfoldable pub use Rattle.uplink_gather.specs.Gatherings.{due_of}
+unfoldable pub use Rattle.server_desk.specs.{Hearing.decide, Taking.take_answer}
+unfoldable pub use Rattle.server_core.specs.Schedule.{event_steps, pass_steps, schedule_from}
+unfoldable pub use Rattle.server_core.specs.{Entries.entries_from, Entries.step_lines, Steps.run_from, Steps.step}

@@ -1,6 +1,5 @@
 use Rattle.server_core.proofs.Words.{seen}
-use Rattle.server_core.proofs.Calls.{both_ok, ready_noted}
-use Rattle.server_core.proofs.BookCalls.{cancel_done}
+use Rattle.server_core.proofs.{Calls.both_ok, Calls.ready_noted, BookCalls.cancel_done}
 use Rattle.server_core.proofs.server.Server.cancel.Goals as goal
 
 pub cancelled-answer-requires : goal.cancelled-answer-requires

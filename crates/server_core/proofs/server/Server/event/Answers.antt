@@ -1,6 +1,5 @@
 use Rattle.server_core.proofs.Words.{seen}
-use Rattle.server_core.proofs.Calls.{on_ok}
-use Rattle.server_core.proofs.Replays.{bad_told}
+use Rattle.server_core.proofs.{Calls.on_ok, Replays.bad_told}
 use Rattle.server_core.proofs.server.Server.event.Goals as goal
 
 pub returns-in-Bad-clause-done : goal.returns-in-Bad-clause-done

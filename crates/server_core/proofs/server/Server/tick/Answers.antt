@@ -1,6 +1,5 @@
 use Rattle.server_core.proofs.Words.{ap, arith, Totals, seen}
-use Rattle.server_core.proofs.Calls.{on_ok, both_ok}
-use Rattle.server_core.proofs.BookCalls.{book_within, not_ticked, ticked_done}
+use Rattle.server_core.proofs.{Calls.on_ok, Calls.both_ok, BookCalls.book_within, BookCalls.not_ticked, BookCalls.ticked_done}
 use Rattle.server_core.proofs.server.Server.tick.Goals as goal
 
 pub returns-in_default-clause-made : goal.returns-in_default-clause-made

@@ -1,6 +1,5 @@
 use Rattle.server_core.proofs.Words.{seen}
-use Rattle.server_core.proofs.Calls.{on_ok}
-use Rattle.server_core.proofs.Settled.{may_settle_tried, answered}
+use Rattle.server_core.proofs.{Calls.on_ok, Settled.may_settle_tried, Settled.answered}
 use Rattle.server_core.proofs.server.Server.work.Goals as goal
 
 pub settle-requires : goal.settle-requires
