@@ -4,10 +4,10 @@ use Rattle.server_core.proofs.Words.{IsOkUnless, IsTrue, List, MatchResult, None
 use Rattle.server_core.proofs.Words.{if◌then◌else◌, refl, slice_set, true, ℕ, ◌-◌, ◌∷◌, ◌≡◌, ◌≢◌, Gathering, numbered, rewritten}
 use Rattle.server_core.proofs.Words.{HeardCopy, Standing, Answer, Open, Waiting, is_given, DeskView, desk_settled, desk_take}
 use Rattle.server_core.proofs.Words.{desk_taken, numbered-here, rewritten-found, Device, Register, delivered, has_carried}
-use Rattle.server_core.proofs.Words.{sent_of, job_of, taken_from, take_answer, World, known, Asked, Known, Done, TakeFault}
-use Rattle.server_core.proofs.Words.{not_taken, answer_steps, given_steps, AreBooksOf, AreHeard, AreHere, IsAt, IsIdle, IsReady}
-use Rattle.server_core.proofs.Words.{Makes, Moves, Seen, ids_of, is_among, with_lines, with_step, After, Step, Take, take_by}
-use Rattle.server_core.proofs.Words.{run_from, step, IsAnswered, IsGivenTo, Line}
+use Rattle.server_core.proofs.Words.{sent_of, job_of, taken_from, World, known, Asked, Known, Done, TakeFault, not_taken}
+use Rattle.server_core.proofs.Words.{answer_steps, given_steps, AreBooksOf, AreHeard, AreHere, IsAt, IsIdle, IsReady, Makes}
+use Rattle.server_core.proofs.Words.{Moves, Seen, ids_of, is_among, with_lines, with_step, After, Step, Take, take_by, IsAnswered}
+use Rattle.server_core.proofs.Words.{IsGivenTo, Line, take_answer, run_from, step}
 use Rattle.server_desk.specs.declared.answers.Known.TheVariants.{Given}
 use Rattle.server_core.specs.declared.event.Step.TheVariants as made
 use Rattle.server_core.specs.Steps as replies

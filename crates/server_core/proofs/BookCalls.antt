@@ -2,13 +2,13 @@
 use Rattle.server_core.proofs.Words.{ap, sym, ◌∙◌, get_or_from_slice_get, slice_get_within, AllZip, option_map, Bool, Err, IfOk}
 use Rattle.server_core.proofs.Words.{List, None, Ok, OnErr, Option, Result, Some, [], false, get_or, if◌then◌else◌, length, map}
 use Rattle.server_core.proofs.Words.{max, refl, slice_get, slice_set, suc, true, zero, ℕ, ◌<◌, ◌==◌, ◌||◌, ◌∷◌, ◌≡◌, Book}
-use Rattle.server_core.proofs.Words.{airtime_answer, state_of, with_cancelled, cancel_answer, cancel_step, tick_step, CancelFault}
-use Rattle.server_core.proofs.Words.{NotHere, orderly_cancelled, remembers_cancel, remembers_cancelled, remembers_ticked}
-use Rattle.server_core.proofs.Words.{numbered, Answer, Booked, Open, Out, Settled, Waiting, is_given, known_of, found_there}
+use Rattle.server_core.proofs.Words.{airtime_answer, state_of, with_cancelled, cancel_answer, cancel_step, tick_step}
+use Rattle.server_core.proofs.Words.{orderly_cancelled, remembers_cancel, remembers_cancelled, remembers_ticked, CancelFault}
+use Rattle.server_core.proofs.Words.{NotHere, numbered, Answer, Booked, Open, Out, Settled, Waiting, is_given, known_of}
 use Rattle.server_core.proofs.Words.{numbered-map, from_map, map_set, some_inj, next_place, kept_by, Gateway, World, gateway_with}
-use Rattle.server_core.proofs.Words.{known, Known, Sent, gateway_of, lines_for, AreBooksOf, IsAt, IsBookOf, IsCancelled, IsIdle}
-use Rattle.server_core.proofs.Words.{IsReady, Seen, cancelled_line, ids_of, is_among, with_lines, with_step, Cancel, Tick}
-use Rattle.server_core.proofs.Words.{cancel_at, cancel_of, cancel_sent, sent_for, step, Line}
+use Rattle.server_core.proofs.Words.{known, found_there, Known, Sent, gateway_of, lines_for, AreBooksOf, IsAt, IsBookOf}
+use Rattle.server_core.proofs.Words.{IsCancelled, IsIdle, IsReady, Seen, cancelled_line, ids_of, is_among, with_lines, with_step}
+use Rattle.server_core.proofs.Words.{Cancel, Tick, cancel_at, cancel_of, cancel_sent, sent_for, Line, step}
 use Rattle.server_core.specs.declared.event.Step.TheVariants as made
 use Rattle.server_core.specs.Steps as replies
 use Rattle.server_core.specs.declared.entry.Line.TheVariants as says

@@ -2,10 +2,10 @@
 use Rattle.server_core.proofs.Words.{ap, append-nil, append_assoc, sym, ◌∙◌, map-append, Err, IfOk, IsOkUnless, List, MatchResult}
 use Rattle.server_core.proofs.Words.{None, Ok, OnErr, OnOk, Option, Result, Some, [], map, refl, ℕ, ◌++◌, ◌∷◌, ◌≡◌, ◌≢◌, Payload}
 use Rattle.server_core.proofs.Words.{DeskView, desk_hear, desk_of, desk_queue, known_after, Decision, Join, Refuse, answer_to}
-use Rattle.server_core.proofs.Words.{copy_of, decide, after_queueing, queue_answer, Device, Register, device_with, World}
-use Rattle.server_core.proofs.Words.{DeskFault, QueueFault, DeskHeard, Heard1, entry_at, lines_for, step_lines, reached, step_of}
-use Rattle.server_core.proofs.Words.{AreHeard, IsAt, IsIdle, IsReady, Makes, Moves, Seen, heard_line, queued_line, with_lines}
-use Rattle.server_core.proofs.Words.{with_step, Hear, Heard, Queue, Queued, Reply, Step, run_from, step, Line}
+use Rattle.server_core.proofs.Words.{copy_of, after_queueing, queue_answer, Device, Register, device_with, World, DeskFault}
+use Rattle.server_core.proofs.Words.{QueueFault, DeskHeard, Heard1, entry_at, lines_for, reached, step_of, AreHeard, IsAt, IsIdle}
+use Rattle.server_core.proofs.Words.{IsReady, Makes, Moves, Seen, heard_line, queued_line, with_lines, with_step, Hear, Heard}
+use Rattle.server_core.proofs.Words.{Queue, Queued, Reply, Step, Line, decide, step_lines, run_from, step}
 use Rattle.server_core.specs.declared.event.Step.{Step as Made}
 use Rattle.server_desk.specs.Hearing.{after_hearing}
 use Rattle.server_desk.specs.Hearing as hearing

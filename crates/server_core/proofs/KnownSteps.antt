@@ -1,15 +1,15 @@
 -- A payload is queued, a copy is heard, time passes for the gatherings, an answer is settled: what holds of the world holds then.
-use Rattle.server_core.proofs.Words.{arith, sym, Contains-append_left, Bool, Contains, Err, List, None, Ok, Option, Result, Some}
-use Rattle.server_core.proofs.Words.{[], false, if◌then◌else◌, refl, slice_get, true, ℕ, ◌++◌, ◌==◌, ◌∷◌, ◌≡◌, addr_of, Gathering}
-use Rattle.server_core.proofs.Words.{is_open_at, numbered, rewritten, place_of, with_copy, Joins, HeardCopy, Job, Payload, Ending}
-use Rattle.server_core.proofs.Words.{Answer, Booked, Open, Out, Settled, Waiting, IsDecided, decided, found_there, Decision, Join}
-use Rattle.server_core.proofs.Words.{Opening, Refuse, asked_by, copy_of, decide, length-rewritten, closing, pass_answer, some_inj}
-use Rattle.server_core.proofs.Words.{after_queueing, queue_answer, with_payload, Device, Register, device_with, SettingLists}
-use Rattle.server_core.proofs.Words.{after_settling, delivered, has_carried, head_taken, sent_of, without_head, World, ids, Asked}
-use Rattle.server_core.proofs.Words.{Sent, QueueFault, Heard1, ending_of, hear, hear_by, pass, queue, sent_for, settle}
+use Rattle.server_core.proofs.Words.{arith, sym, Contains-append_left, Bool, Err, List, None, Ok, Option, Result, Some, false}
+use Rattle.server_core.proofs.Words.{if◌then◌else◌, refl, slice_get, true, ℕ, ◌==◌, ◌≡◌, addr_of, Gathering, is_open_at, numbered}
+use Rattle.server_core.proofs.Words.{rewritten, place_of, with_copy, Joins, Job, Payload, Ending, Answer, Booked, Open, Out}
+use Rattle.server_core.proofs.Words.{Settled, Waiting, Decision, Join, Opening, Refuse, asked_by, copy_of, length-rewritten}
+use Rattle.server_core.proofs.Words.{some_inj, after_queueing, queue_answer, with_payload, Device, Register, device_with}
+use Rattle.server_core.proofs.Words.{after_settling, delivered, has_carried, head_taken, sent_of, without_head, World, ids}
+use Rattle.server_core.proofs.Words.{IsDecided, decided, found_there, closing, pass_answer, SettingLists, Asked, Sent, QueueFault}
+use Rattle.server_core.proofs.Words.{Heard1, ending_of, hear, hear_by, pass, queue, sent_for, settle}
 use Rattle.uplink_gather.specs.Hearing as gathers
 use Rattle.server_desk.specs.Hearing as hearing
-use Rattle.server_core.proofs.Holds.{Holds, IsGood, IsGoodStep, unchanged, IsOfDevice, both_good, device_setting}
+use Rattle.server_core.proofs.Holds.{IsGrown, Holds, IsGood, IsGoodStep, unchanged, IsOfDevice, both_good, device_setting}
 use Rattle.server_core.proofs.Written.{device_written, with_device, answer_written, Grow-rewritten, gathered_grown}
 use Rattle.server_core.proofs.Written.{uplink_gathered}
 use Rattle.server_core.proofs.{DeskSteps.settle_walk, Members.equal_where_tested}
@@ -54,20 +54,15 @@ module _ {settings : SettingLists} {T : Job → Type 0} {w : World} (h : Holds s
 
 -- A copy of an uplink is heard.
 
--- a gathering with one copy more
-more_copies : (copy : HeardCopy) (g : Gathering) (c : HeardCopy) → Contains g.copies c → Contains (g.copies ++ copy ∷ []) c
-more_copies copy g c k = Contains-append_left g.copies (copy ∷ []) c k
-
 module _ {settings : SettingLists} {T : Job → Type 0} {w : World} (h : Holds settings T w) (bytes : List ℕ) (heard : Heard1)
     (arrived : ℕ) where
   joined_good : (n : ℕ) → place_of w.reg.gathered bytes heard.gateway arrived ≡ Ok (Joins n)
       → IsGood settings T w (hear_by w bytes heard arrived (Join n)).0
   joined_good n p =
-      let copy = copy_of heard in
-      let l = rewritten (with_copy copy) n w.reg.gathered.list in
-      rw p
-      (gathered_grown h l (sym (length-rewritten (with_copy copy) n w.reg.gathered.list))
-      (Grow-rewritten (with_copy copy) (λ g. record { bytes = refl; copies = more_copies copy g }) n w.reg.gathered.list))
+      let f : Gathering → Gathering = with_copy (copy_of heard) in
+      let grown : (g : Gathering) → IsGrown g (f g) = λ g. record { bytes = refl; copies = Contains-append_left g.copies _ } in
+      rw p (gathered_grown h (rewritten f n w.reg.gathered.list) (sym (length-rewritten f n w.reg.gathered.list))
+      (Grow-rewritten f grown n w.reg.gathered.list))
 
   opened_good : (o : Opening) → IsDecided w.reg bytes heard.gateway arrived (hearing.Open o)
       → IsGood settings T w (hear_by w bytes heard arrived (hearing.Open o)).0
@@ -84,8 +79,7 @@ module _ {settings : SettingLists} {T : Job → Type 0} {w : World} (h : Holds s
         served = device_setting h o.place o.device there.0;
         its_own = equal_where_tested o.device.setting.addr (addr_of bytes) there.1;
       } in
-      rw (d.0, d.1)
-      (both_good first (uplink_gathered first.holds g (asked_by o bytes) own))
+      rw (d.0, d.1) (both_good first (uplink_gathered first.holds g (asked_by o bytes) own))
 
   heard_good : (d : Decision) → IsDecided w.reg bytes heard.gateway arrived d
       → IsGood settings T w (hear_by w bytes heard arrived d).0
@@ -94,10 +88,7 @@ module _ {settings : SettingLists} {T : Job → Type 0} {w : World} (h : Holds s
   heard_good (hearing.Open o) d = opened_good o d
 
   pub hear_good : IsGoodStep settings T w (hear w bytes heard arrived)
-  hear_good = record {
-    good = heard_good (decide (ids w) w.reg bytes heard arrived) (decided (ids w) w.reg bytes heard arrived);
-    used = tt;
-  }
+  hear_good = record { good = heard_good _ (decided (ids w) w.reg bytes heard arrived); used = tt }
 
 -- An answer is settled.
 

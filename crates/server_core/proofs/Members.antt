@@ -1,5 +1,5 @@
 -- Members of lists that are sorted by a key, or of which no two share a key.
-use Rattle.server_core.proofs.Words.{ap, arith, sym, ◌∙◌, nat_tests, All-cons, All-head, All-tail, All, AllPairs, Bool, List}
+use Rattle.server_core.proofs.Words.{ap, arith, sym, ◌∙◌, All-cons, All-head, All-tail, nat_tests, All, AllPairs, Bool, List}
 use Rattle.server_core.proofs.Words.{Some, [], cond, false, nat_lt, refl, slice_get, suc, true, zero, ℕ, ◌+◌, ◌==◌, ◌∷◌, ◌≡◌, ◌≢◌}
 use Rattle.server_core.proofs.Words.{◌≤◌, RisesFrom, place_by, numbered, AllPairs-head, AllPairs-tail, all_get, some_inj}
 

@@ -1,9 +1,9 @@
 -- Time passes for the gatherings: all that are due are closed and answered.
 use Rattle.server_core.proofs.Words.{ap, append-nil, arith, sym, ◌∙◌, position_from, Bool, List, None, Option, Some, [], false}
 use Rattle.server_core.proofs.Words.{if◌then◌else◌, length, nat_lt, refl, slice_get, slice_set, suc, true, ℕ, ◌&&◌, ◌++◌, ◌+◌}
-use Rattle.server_core.proofs.Words.{◌<◌, ◌∷◌, ◌≡◌, Gathering, Gatherings, close_step, is_due, is_open, join_us, due_of, DeskView}
-use Rattle.server_core.proofs.Words.{desk_pass, closing, pass_answer, World, answer_steps, closing_steps, due_from, due_numbers}
-use Rattle.server_core.proofs.Words.{reached, pass_steps, IsAt, IsReady, Makes, Moves, Seen, pass_whole, with_step, Pass}
+use Rattle.server_core.proofs.Words.{◌<◌, ◌∷◌, ◌≡◌, Gathering, Gatherings, close_step, is_due, is_open, join_us, DeskView}
+use Rattle.server_core.proofs.Words.{desk_pass, World, closing, pass_answer, answer_steps, closing_steps, due_from, due_numbers}
+use Rattle.server_core.proofs.Words.{reached, IsAt, IsReady, Makes, Moves, Seen, pass_whole, with_step, Pass, due_of, pass_steps}
 use Rattle.server_core.proofs.Words.{run_from, step}
 use Rattle.server_core.specs.declared.event.Step.TheVariants as made
 use Rattle.server_core.proofs.{Calls.one_step, Calls.moves_on, Ready.heard_closed}

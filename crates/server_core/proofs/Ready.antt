@@ -4,8 +4,8 @@ use Rattle.server_core.proofs.Words.{Ok, Option, Result, Some, [], false, if◌t
 use Rattle.server_core.proofs.Words.{◌∷◌, ◌≡◌, ◌⊎◌, uplink_of, FrameFault, Uplink, Gatherings, close_step, is_open_at, numbered}
 use Rattle.server_core.proofs.Words.{rewritten, hear_answer, with_copy, Joined, Opened, HearFault, HeardCopy, is_given}
 use Rattle.server_core.proofs.Words.{known_after, Decision, Join, Refuse, copy_fault, copy_of, decide_copy, decide_frame}
-use Rattle.server_core.proofs.Words.{register_after, decide, numbered-append_cases, numbered_cases, rewritten-none, Register}
-use Rattle.server_core.proofs.Words.{Known, NotGiven, DeskFault, UnknownGateway, Heard1, AreHeard, HasHeard, IsIdle, is_among}
+use Rattle.server_core.proofs.Words.{register_after, numbered-append_cases, numbered_cases, rewritten-none, Register, Known}
+use Rattle.server_core.proofs.Words.{NotGiven, DeskFault, UnknownGateway, Heard1, AreHeard, HasHeard, IsIdle, is_among, decide}
 use Rattle.uplink_gather.specs.{declared.answers.Heard.Heard, Hearing.opening, Hearing.after_hearing}
 use Rattle.server_desk.specs.Hearing.{Open}
 use Rattle.server_desk.specs.Hearing as hearing

@@ -1,10 +1,10 @@
 -- Events, one after another, from a server that has heard nothing.
 use Rattle.server_core.proofs.Words.{ap, append-nil, append_assoc, arith, ◌∙◌, drop_of_length-le, drop-cons, List, [], drop}
 use Rattle.server_core.proofs.Words.{get_or, length, map, refl, suc, ℕ, ◌++◌, ◌+◌, ◌<◌, ◌∷◌, ◌≡◌, ◌≤◌, Book, orderly_nil}
-use Rattle.server_core.proofs.Words.{remembers_own, desk_of, AreSettings, SettingLists, Gateway, World, opened_gateway, opening}
-use Rattle.server_core.proofs.Words.{GatewaySetting, entries, gateway_of, gateways_after, kept_gateway, entries_from, reached}
-use Rattle.server_core.proofs.Words.{schedule, step_of, usual_limits, event_steps, schedule_from, AreBooksOf, Does, IsAt}
-use Rattle.server_core.proofs.Words.{IsOpened, IsReady, Seen, ids_of, with_lines, Step, run_from, Event}
+use Rattle.server_core.proofs.Words.{remembers_own, desk_of, Gateway, World, opened_gateway, opening, AreSettings, SettingLists}
+use Rattle.server_core.proofs.Words.{GatewaySetting, entries, gateway_of, gateways_after, kept_gateway, reached, schedule}
+use Rattle.server_core.proofs.Words.{step_of, usual_limits, AreBooksOf, Does, IsAt, IsOpened, IsReady, Seen, ids_of, with_lines}
+use Rattle.server_core.proofs.Words.{Step, Event, event_steps, schedule_from, entries_from, run_from}
 use Rattle.server_core.specs.declared.event.Event.TheVariants as events
 use Rattle.server_core.specs.declared.entry.Line.TheVariants as says
 use Rattle.server_core.proofs.{Calls.reached_append, Members.none_numbered}

@@ -1,12 +1,12 @@
 -- The world before the first step and after every list of steps, and what is promised of a run.
 use Rattle.server_core.proofs.Words.{ap, arith, inl, inr, subst, sym, ◌∙◌, All-cons, All-nil, All-weaker, Contains-append_right}
 use Rattle.server_core.proofs.Words.{AllPairs-cons, All, AllPairs, Contains, List, Ok, Some, [], map, refl, slice_get, ℕ, ◌+◌}
-use Rattle.server_core.proofs.Words.{◌∷◌, ◌≡◌, ◌≢◌, ◌⊎◌, start_of, net, Reservation, orderly_nil, IsLawful, addr_of, Limits, Job}
-use Rattle.server_core.proofs.Words.{candidates, from_map, get_contains, some_inj, Device, opened_device, AreSettings}
-use Rattle.server_core.proofs.Words.{SettingLists, plan_for, Gateway, World, opened_gateway, opening, Sent}
-use Rattle.server_core.proofs.Words.{EveryInterleavingIsSafe, HaveOwnCounters, IsMember, IsOwnWindow, IsSafe, jobs_given}
-use Rattle.server_core.proofs.Words.{setting_of, with_given, Cancel, Given, Hear, Pass, Queue, Reply, Run, Settle, Step, Take}
-use Rattle.server_core.proofs.Words.{Tick, Try, run, sent_for, run_from, step}
+use Rattle.server_core.proofs.Words.{◌∷◌, ◌≡◌, ◌≢◌, ◌⊎◌, start_of, Reservation, orderly_nil, IsLawful, addr_of, Limits, Job}
+use Rattle.server_core.proofs.Words.{candidates, from_map, get_contains, some_inj, Device, opened_device, plan_for, Gateway}
+use Rattle.server_core.proofs.Words.{World, opened_gateway, opening, AreSettings, SettingLists, Sent, EveryInterleavingIsSafe}
+use Rattle.server_core.proofs.Words.{HaveOwnCounters, IsMember, IsOwnWindow, IsSafe, jobs_given, setting_of, with_given, Cancel}
+use Rattle.server_core.proofs.Words.{Given, Hear, Pass, Queue, Reply, Run, Settle, Step, Take, Tick, Try, run, sent_for, net}
+use Rattle.server_core.proofs.Words.{run_from, step}
 use Rattle.server_core.proofs.Holds.{IsKept, Stands, Holds, IsInOrder, AllStand, IsGivenAt, Follows, IsGoodStep, IsNew, IsUsed}
 use Rattle.server_core.proofs.Holds.{UsesUp, given_after, Holds-weaker, one_gateway, member_stands}
 use Rattle.server_core.proofs.KnownSteps.{queue_good, hear_good, pass_good, settle_good}

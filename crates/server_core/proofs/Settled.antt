@@ -1,10 +1,10 @@
 -- A ticket is tried until it is booked or out, and settled.
 use Rattle.server_core.proofs.Words.{ap, append-nil, append_assoc, arith, sym, ◌∙◌, slice_get_within, IsSome, IsTrue, List, None}
 use Rattle.server_core.proofs.Words.{Ok, Option, Some, [], length, map, refl, slice_get, ℕ, ◌++◌, ◌+◌, ◌-◌, ◌<◌, ◌∷◌, ◌≡◌}
-use Rattle.server_core.proofs.Words.{numbered, Candidate, candidates, Standing, candidate_of, next_of, Ending, Open, desk_of}
-use Rattle.server_core.proofs.Words.{desk_settled, may_settle, World, step_lines, given_steps, reached, AreHere, IsAt, Moves}
-use Rattle.server_core.proofs.Words.{Seen, ids_of, Settle, Try, settle, run_from, step, AreTries, EndsTries, GoesOn, IsAnswered}
-use Rattle.server_core.proofs.Words.{IsGivenTo, IsNext, IsOut, IsSame, IsSettled, end_lines, tries_from, Ended}
+use Rattle.server_core.proofs.Words.{numbered, Candidate, candidates, next_of, Standing, candidate_of, Ending, Open, desk_of}
+use Rattle.server_core.proofs.Words.{desk_settled, may_settle, World, given_steps, reached, AreHere, IsAt, Moves, Seen, ids_of}
+use Rattle.server_core.proofs.Words.{Settle, Try, settle, AreTries, EndsTries, GoesOn, IsAnswered, IsGivenTo, IsNext, IsOut}
+use Rattle.server_core.proofs.Words.{IsSame, IsSettled, end_lines, tries_from, Ended, step_lines, run_from, step}
 use Rattle.server_core.specs.Steps as replies
 use Rattle.server_core.proofs.Calls.{reached_append, lines_append}
 use Rattle.server_core.proofs.DeskSteps.{settle_walk, settle_desk, desk_calls_are_steps}

@@ -4,9 +4,9 @@ use Rattle.server_core.proofs.Words.{Some, false, if◌then◌else◌, map, refl
 use Rattle.server_core.proofs.Words.{copies_of, is_closed_at, numbered, IsWindowOf, IsWindowOf-ranked, on_gateways_that_heard}
 use Rattle.server_core.proofs.Words.{candidates_of, Candidate, Job, candidate_at, Answer, Booked, Open, Out, Settled, Waiting}
 use Rattle.server_core.proofs.Words.{is_not_given, known_of, numbered-here, all_get, from_map, get_set_same, some_inj, Device}
-use Rattle.server_core.proofs.Words.{Register, AreSettings, SettingLists, given_or, job_of, take_fault, take_known}
-use Rattle.server_core.proofs.Words.{with_counter_given, take_answer, World, known, Asked, Known, TakeFault, NotReady, Taken}
-use Rattle.server_core.proofs.Words.{take, take_by}
+use Rattle.server_core.proofs.Words.{Register, given_or, job_of, take_fault, take_known, with_counter_given, World, known}
+use Rattle.server_core.proofs.Words.{AreSettings, SettingLists, Asked, Known, TakeFault, NotReady, Taken, take, take_by}
+use Rattle.server_core.proofs.Words.{take_answer}
 use Rattle.server_desk.specs.Taking.{take_by as take_asked}
 use Rattle.server_core.proofs.Holds.{IsJobAt, Holds, IsGivenAt, IsGood, IsGoodStep, IsNew, IsUsed, Holds-weaker, has_now}
 use Rattle.server_core.proofs.Holds.{unchanged, both_good, device_setting, one_device}

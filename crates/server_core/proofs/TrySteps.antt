@@ -1,14 +1,13 @@
 -- The candidates of a ticket are tried on the books of their gateways.
 use Rattle.server_core.proofs.Words.{ap, arith, subst, sym, ◌∙◌, map-append, IsSomeAnd, option_map, IsSome, List, None, Option}
 use Rattle.server_core.proofs.Words.{Some, [], drop, get_or, if◌then◌else◌, map, refl, slice_get, slice_set, suc, zero, ℕ, ◌++◌}
-use Rattle.server_core.proofs.Words.{◌+◌, ◌∷◌, ◌≡◌, IsAsked, refusal_of, Book, with_booked, State, book_step, Refusal}
-use Rattle.server_core.proofs.Words.{orderly_booked, remembers_answer, remembers_booked, numbered, Candidate, answered_as}
-use Rattle.server_core.proofs.Words.{ask_for, candidates, Standing, candidate_of, IsBooked, IsReceipt, IsWrong, next_of}
-use Rattle.server_core.proofs.Words.{refusal_by, Unanswered, Outcome, Receipt, Answer, Booked, Open, numbered-here, map_set}
-use Rattle.server_core.proofs.Words.{some_inj, Gateway, World, gateway_with, step_lines, is_accepted, is_none, step_of}
-use Rattle.server_core.proofs.Words.{up_to_first, AreBooksOf, AreHere, IsBookOf, Seen, ids_of, with_step, Try, refused, sent_by}
-use Rattle.server_core.proofs.Words.{terms, tried_by, run_from, step, AreTries, EndsTries, GoesOn, IsNext, IsOut, IsSame}
-use Rattle.server_core.proofs.Words.{tries_from}
+use Rattle.server_core.proofs.Words.{◌+◌, ◌∷◌, ◌≡◌, Book, with_booked, State, book_step, orderly_booked, remembers_answer}
+use Rattle.server_core.proofs.Words.{remembers_booked, IsAsked, refusal_of, Refusal, numbered, Candidate, ask_for, candidates}
+use Rattle.server_core.proofs.Words.{IsBooked, IsReceipt, IsWrong, next_of, refusal_by, answered_as, Standing, candidate_of}
+use Rattle.server_core.proofs.Words.{Unanswered, Outcome, Receipt, Answer, Booked, Open, numbered-here, map_set, some_inj}
+use Rattle.server_core.proofs.Words.{Gateway, World, gateway_with, is_accepted, is_none, step_of, up_to_first, AreBooksOf}
+use Rattle.server_core.proofs.Words.{AreHere, IsBookOf, Seen, ids_of, with_step, Try, refused, sent_by, terms, tried_by, AreTries}
+use Rattle.server_core.proofs.Words.{EndsTries, GoesOn, IsNext, IsOut, IsSame, tries_from, step_lines, run_from, step}
 use Rattle.answer_ticket.specs.Tried.{IsNext as IsRefused, IsOut as IsRefusedLast}
 use Rattle.server_core.specs.declared.event.Step.TheVariants as made
 use Rattle.server_core.proofs.BookCalls.{IsFound, IsFoundIn, place_of, book_found, gateway_found, zip_set, zip_same, has_place}

@@ -45,17 +45,17 @@ pub use Rattle.server_desk.specs.Desk.{DeskView, desk_hear, desk_of, desk_pass, 
 pub use Rattle.server_desk.specs.Hearing.{Decision, Join, Opening, Refuse, answer_to, asked_by, copy_fault, copy_of, decide_copy}
 pub use Rattle.server_desk.proofs.Numbers.{length-rewritten, map-rewritten, numbered-append, numbered-append_cases, numbered-here}
 pub use Rattle.server_desk.proofs.Numbers.{numbered-map, numbered_after, numbered_cases, numbered_next, rewritten-found}
-pub use Rattle.server_desk.proofs.Numbers.{rewritten-none, same_rewritten}
 pub use Rattle.server_desk.proofs.Places.{all_get, from_map, get_contains, get_set_after, get_set_cases, get_set_same, map_set}
-pub use Rattle.server_desk.specs.Queueing.{after_queueing, queue_answer, with_payload}
 pub use Rattle.server_desk.specs.Register.{Device, Register, device_with, next_place, opened_device}
 pub use Rattle.server_desk.specs.Settling.{after_settling, delivered, has_carried, head_taken, is_here, kept_by, may_settle}
 pub use Rattle.server_desk.specs.Taking.{after_taking, given_or, job_of, plan_for, take_fault, take_known, taken_from}
 pub use Rattle.server_desk.specs.World.{Gateway, World, gateway_with, ids, known, opened_gateway, opening}
-pub use Rattle.server_desk.specs.{Decided.IsDecided, Decided.decided, Desk.known_after, Found.found_there, Hearing.decide_frame}
-pub use Rattle.server_desk.specs.{Hearing.register_after, Passing.closing, Passing.pass_answer, Places.map_there, Places.some_inj}
-pub use Rattle.server_desk.specs.{Settings.AreSettings, Settings.SettingLists, Settling.sent_of, Settling.without_head}
-pub use Rattle.server_desk.specs.{Taking.with_counter_given, declared.answers.Asked.Asked, declared.answers.Known.Known}
+pub use Rattle.server_desk.specs.{Desk.known_after, Hearing.decide_frame, Hearing.register_after, Numbers.rewritten-none}
+pub use Rattle.server_desk.specs.{Numbers.same_rewritten, Places.map_there, Places.some_inj, Queueing.after_queueing}
+pub use Rattle.server_desk.specs.{Queueing.queue_answer, Queueing.with_payload, Settling.sent_of, Settling.without_head}
+pub use Rattle.server_desk.specs.{Taking.with_counter_given, Decided.IsDecided, Decided.decided, Found.found_there}
+pub use Rattle.server_desk.specs.{Passing.closing, Passing.pass_answer, Settings.AreSettings, Settings.SettingLists}
+pub use Rattle.server_desk.specs.{declared.answers.Asked.Asked, declared.answers.Known.Known}
 pub use Rattle.server_desk.specs.{declared.answers.Known.TheVariants.Done, declared.answers.Known.TheVariants.NotGiven}
 pub use Rattle.server_desk.specs.{declared.answers.Sent.Sent, declared.faults.DeskFault.DeskFault}
 pub use Rattle.server_desk.specs.{declared.faults.DeskFault.TheVariants.UnknownGateway, declared.faults.QueueFault.QueueFault}
@@ -76,7 +76,7 @@ pub use Rattle.server_core.specs.Steps.{Tick, Try, answers_after, cancel, cancel
 pub use Rattle.server_core.specs.Steps.{hear_by, pass, queue, refused, run, sent_by, sent_for, settle, settle_as, settle_of, take}
 pub use Rattle.server_core.specs.Steps.{take_by, terms, tick, tick_at, tried_by, try, try_candidate, try_of, try_on}
 pub use Rattle.server_core.specs.Turns.{AreTries, EndsTries, GoesOn, IsAnswered, IsGivenTo, IsNext, IsOut, IsSame, IsSettled}
-pub use Rattle.server_core.specs.{DeskCalls.DeskCallsAreSteps, DeskCalls.told, Turns.end_lines, Turns.tries_from}
+pub use Rattle.server_core.specs.{Turns.end_lines, Turns.tries_from, DeskCalls.DeskCallsAreSteps, DeskCalls.told}
 pub use Rattle.server_core.specs.{declared.entry.Line.Line, declared.event.Event.Event, declared.trying.Ended.Ended}
 unfoldable pub use Rattle.resv_list.specs.Reservations.{net}
 unfoldable pub use Rattle.uplink_gather.specs.Gatherings.{due_of}

@@ -1,9 +1,9 @@
 -- A device, an answer, a gateway or a gathering is written anew, or an uplink is gathered.
 use Rattle.server_core.proofs.Words.{ap, arith, inl, inr, length-append, subst, sym, ◌∙◌, List, Some, [], false, length, refl}
-use Rattle.server_core.proofs.Words.{slice_get, slice_set, ℕ, ◌++◌, ◌+◌, ◌∷◌, ◌≡◌, ◌≤◌, ◌⊎◌, Gathering, numbered, rewritten, Job}
-use Rattle.server_core.proofs.Words.{Answer, Open, Waiting, is_not_given, known_of, length-rewritten, numbered-append_cases}
+use Rattle.server_core.proofs.Words.{slice_get, slice_set, ℕ, ◌++◌, ◌+◌, ◌∷◌, ◌≡◌, ◌≢◌, ◌≤◌, ◌⊎◌, Gathering, numbered, rewritten}
+use Rattle.server_core.proofs.Words.{Job, Answer, Open, Waiting, is_not_given, known_of, length-rewritten, numbered-append_cases}
 use Rattle.server_core.proofs.Words.{numbered_cases, numbered_next, get_set_after, get_set_cases, map_set, some_inj, Device}
-use Rattle.server_core.proofs.Words.{SettingLists, Gateway, World, Asked, Sent, setting_of, sent_for}
+use Rattle.server_core.proofs.Words.{Gateway, World, SettingLists, Asked, Sent, setting_of, sent_for}
 use Rattle.server_core.proofs.Holds.{IsGrown, IsOfDevice, IsAskedAt, IsJobAt, AllStand, Holds, Grow, IsGivenAt, IsGood}
 use Rattle.server_core.proofs.Holds.{Follows-refl, job_on, jobs_on, stands_on, Has-append, Has-rewritten, has_now, Has, IsInOrder}
 use Rattle.server_core.proofs.Holds.{IsLater}
@@ -69,25 +69,21 @@ module _ {settings : SettingLists} {T : Job → Type 0} {w : World} (h : Holds s
   with_gateway i g = record w { gateways = slice_set w.gateways i g }
 
   module _ (i : ℕ) (old new : Gateway) (there : slice_get w.gateways i ≡ Some old) where
-    in_order_by : (j : ℕ) (g : Gateway) → IsInOrder new → ((i ≡ j) × (g ≡ new)) ⊎
-        ((i ≡ j → ⊥) × (slice_get w.gateways j ≡ Some g)) → IsInOrder g
-    in_order_by j g o (inl e) = subst IsInOrder (sym e.1) o
-    in_order_by j g o (inr e) = h.in_order j g e.1
+    set_by : (P : Gateway → Type 0) (j : ℕ) (g : Gateway) → P new → ((j : ℕ) (g : Gateway) → slice_get w.gateways j ≡ Some g → P g)
+        → ((i ≡ j) × (g ≡ new)) ⊎ ((i ≢ j) × (slice_get w.gateways j ≡ Some g)) → P g
+    set_by P j g p h (inl e) = subst P (sym e.1) p
+    set_by P j g p h (inr e) = h j g e.1
 
-    all_by : (j : ℕ) (g : Gateway) → AllStand settings T w.reg.gathered.list w.answers new
-        → ((i ≡ j) × (g ≡ new)) ⊎ ((i ≡ j → ⊥) × (slice_get w.gateways j ≡ Some g))
-        → AllStand settings T w.reg.gathered.list w.answers g
-    all_by j g a (inl e) = subst (AllStand settings T w.reg.gathered.list w.answers) (sym e.1) a
-    all_by j g a (inr e) = h.stands j g e.1
+    -- what holds of the new gateway and of all that there were holds of all that there are
+    set_all : (P : Gateway → Type 0) → P new → ((j : ℕ) (g : Gateway) → slice_get w.gateways j ≡ Some g → P g) → (j : ℕ)
+        (g : Gateway) → slice_get (slice_set w.gateways i new) j ≡ Some g → P g
+    set_all P p h j g e = set_by P j g p h (get_set_cases w.gateways i j new g e)
 
     pub gateway_written : setting_of new ≡ setting_of old → IsInOrder new → AllStand settings T w.reg.gathered.list w.answers new
         → IsGood settings T w (with_gateway i new)
     gateway_written s o a =
-        let in_order : (j : ℕ) (g : Gateway) → slice_get (slice_set w.gateways i new) j ≡ Some g → IsInOrder g =
-        λ j g e. in_order_by j g o (get_set_cases w.gateways i j new g e) in
-        let stands : (j : ℕ) (g : Gateway) → slice_get (slice_set w.gateways i new) j ≡ Some g
-        → AllStand settings T w.reg.gathered.list w.answers g =
-        λ j g e. all_by j g a (get_set_cases w.gateways i j new g e) in
+        let in_order = set_all IsInOrder o h.in_order in
+        let stands = set_all (AllStand settings T w.reg.gathered.list w.answers) a h.stands in
         assumption (map_set setting_of w.gateways i old new there s ∙ h.gateways, in_order, stands, (Follows-refl w).devices)
 
 -- a gathering is written anew, and keeps its bytes and its copies

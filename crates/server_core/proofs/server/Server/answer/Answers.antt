@@ -1,4 +1,4 @@
-use Rattle.server_core.proofs.Words.{refl, take_answer, NoMemory, seen}
+use Rattle.server_core.proofs.Words.{refl, NoMemory, seen, take_answer}
 use Rattle.server_core.proofs.Calls.{on_ok, all_ok}
 use Rattle.server_core.proofs.Answered.{may_work, answer_done, refused_made, refused_is}
 use Rattle.server_core.proofs.server.Server.answer.Goals as goal
