@@ -265,21 +265,18 @@ module _ {A : Type 0} (n : ℕ) (old new : Seen A) (ready : IsReady old) where
             reply = reply;
           }
 
-cancel_lines : {A : Type 0} (w : World) (n : ℕ) (r : Result ℕ CancelFault)
-    → lines_for {A = A} w (Cancel n) (replies.Cancelled r) ≡ cancelled_line n r ∷ []
-cancel_lines w n (Ok airtime) = refl
-cancel_lines w n (Err fault) = refl
-
 pub cancel_done : {A : Type 0} (place n : ℕ) (old mid next new : Seen A) (result : Result ℕ CancelFault) (line : Line A)
     → mid ≡ with_step (made.Cancel n) old → IsCancelled n mid next result
     → line ≡ cancelled_line n result → IsReady old → new ≡ with_lines place (line ∷ []) next → IsDone place (Cancel n) old new
-cancel_done place n old mid next new result line noted c said ready told =
+cancel_done {A} place n old mid next new result line noted c said ready told =
     done place (Cancel n) (made.Cancel n) line old mid next new refl noted
     (record {
       steps = c.steps;
       outcomes = c.outcomes;
       ready = λ r. rw c.desk (record { books = c.books ∙ r.books; heard = r.heard; idle = r.idle });
       at = λ w at. record { desk = c.desk ∙ at.desk ∙ sym (desk_calls_are_steps.cancel w n); books = c.kept w at };
-      lines = λ w at. rw (c.reply w at, said) (cancel_lines w n result);
+      lines = λ w at. rw (c.reply w at, said)
+          (elim result as (λ r. lines_for {A = A} w (Cancel n) (replies.Cancelled r) ≡ cancelled_line n r ∷ [])
+          [ Ok airtime ↦ refl | Err fault ↦ refl ]);
     })
     told ready

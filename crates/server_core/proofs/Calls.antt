@@ -2,10 +2,10 @@
 use Rattle.server_core.proofs.Words.{ap, append-nil, append_assoc, sym, ◌∙◌, map-append, Err, IfOk, IsOkUnless, List, MatchResult}
 use Rattle.server_core.proofs.Words.{None, Ok, OnErr, OnOk, Option, Result, Some, [], map, refl, ℕ, ◌++◌, ◌∷◌, ◌≡◌, ◌≢◌, Payload}
 use Rattle.server_core.proofs.Words.{DeskView, desk_hear, desk_of, desk_queue, known_after, Decision, Join, Refuse, answer_to}
-use Rattle.server_core.proofs.Words.{copy_of, after_queueing, queue_answer, Device, Register, device_with, World, DeskFault}
-use Rattle.server_core.proofs.Words.{QueueFault, DeskHeard, Heard1, entry_at, lines_for, reached, step_of, AreHeard, IsAt, IsIdle}
-use Rattle.server_core.proofs.Words.{IsReady, Makes, Moves, Seen, heard_line, queued_line, with_lines, with_step, Hear, Heard}
-use Rattle.server_core.proofs.Words.{Queue, Queued, Reply, Step, Line, decide, step_lines, run_from, step}
+use Rattle.server_core.proofs.Words.{copy_of, Device, Register, device_with, World, after_queueing, queue_answer, DeskFault}
+use Rattle.server_core.proofs.Words.{QueueFault, Heard1, entry_at, lines_for, reached, step_of, AreHeard, IsAt, IsIdle, IsReady}
+use Rattle.server_core.proofs.Words.{Makes, Moves, Seen, heard_line, queued_line, with_lines, with_step, Hear, Heard, Queue}
+use Rattle.server_core.proofs.Words.{Queued, Reply, Step, Line, decide, step_lines, run_from, step}
 use Rattle.server_core.specs.declared.event.Step.{Step as Made}
 use Rattle.server_desk.specs.Hearing.{after_hearing}
 use Rattle.server_desk.specs.Hearing as hearing
@@ -143,16 +143,11 @@ queue_same_by reg payload (Err fault) o = refl
 queue_same_by reg payload (Ok count) None = refl
 queue_same_by reg payload (Ok count) (Some found) = refl
 
-queue_lines : {A : Type 0} (w : World) (addr : ℕ) (payload : Payload) (r : Result ℕ QueueFault)
-    → lines_for {A = A} w (Queue addr payload) (Queued r) ≡ queued_line addr r ∷ []
-queue_lines w addr payload (Ok count) = refl
-queue_lines w addr payload (Err fault) = refl
-
 pub queue_is : {A : Type 0} (addr : ℕ) (payload : Payload)
     → IsDeskStep {A = A} (Queue addr payload) (λ d. queue_answer d.reg addr payload) (λ d. desk_queue d addr payload) Queued
     (queued_line addr)
 unfolding step
-queue_is addr payload =
+queue_is {A} addr payload =
     record {
       refusal = λ d fault e. rw e refl;
       ids = λ d. refl;
@@ -161,7 +156,8 @@ queue_is addr payload =
       desk = λ w. refl;
       gateways = λ w. refl;
       replied = λ w. refl;
-      lines = λ w r. queue_lines w addr payload r;
+      lines = λ w r. elim r as (λ x. lines_for {A = A} w (Queue addr payload) (Queued x) ≡ queued_line addr x ∷ [])
+          [ Ok count ↦ refl | Err fault ↦ refl ];
     }
 
 hear_refused : (d : DeskView) (bytes : List ℕ) (heard : Heard1) (arrived : ℕ) (c : Decision) (fault : DeskFault)
@@ -171,16 +167,11 @@ hear_refused d bytes heard arrived (Refuse other) fault e = refl
 hear_refused d bytes heard arrived (Join n) fault e = absurd (cc (e))
 hear_refused d bytes heard arrived (hearing.Open o) fault e = absurd (cc (e))
 
-hear_lines : {A : Type 0} (w : World) (bytes : List ℕ) (heard : Heard1) (arrived : ℕ) (r : Result DeskHeard DeskFault)
-    → lines_for {A = A} w (Hear bytes heard arrived) (Heard r) ≡ heard_line r ∷ []
-hear_lines w bytes heard arrived (Ok told) = refl
-hear_lines w bytes heard arrived (Err fault) = refl
-
 pub hear_is : {A : Type 0} (bytes : List ℕ) (heard : Heard1) (arrived : ℕ)
     → IsDeskStep {A = A} (Hear bytes heard arrived) (λ d. answer_to (decide d.ids d.reg bytes heard arrived) d.reg)
     (λ d. desk_hear d bytes heard arrived) Heard heard_line
 unfolding step
-hear_is bytes heard arrived =
+hear_is {A} bytes heard arrived =
     record {
       refusal = λ d fault e. hear_refused d bytes heard arrived (decide d.ids d.reg bytes heard arrived) fault e;
       ids = λ d. refl;
@@ -189,5 +180,6 @@ hear_is bytes heard arrived =
       desk = λ w. desk_calls_are_steps.hear w bytes heard arrived;
       gateways = λ w. refl;
       replied = λ w. refl;
-      lines = λ w r. hear_lines w bytes heard arrived r;
+      lines = λ w r. elim r as (λ x. lines_for {A = A} w (Hear bytes heard arrived) (Heard x) ≡ heard_line x ∷ [])
+          [ Ok told ↦ refl | Err fault ↦ refl ];
     }

@@ -77,10 +77,6 @@ take_desk w n (Err fault) = refl
 take_desk w n (Ok job) = ap (λ (l : List Known). record { ids = ids w; reg = after_taking (Ok job) n w.reg; known = l })
     (map-rewritten known_of (λ a. Open 0 job) (λ k. Given) (λ x. refl) n w.answers)
 
-take_told : (w : World) (n : ℕ) (r : Result Job TakeFault) → (take_by w n r).1 ≡ replies.Given r
-take_told w n (Err fault) = refl
-take_told w n (Ok job) = refl
-
 settle_as_desk : (w : World) (n : ℕ) (ending : Ending) → desk_of (settle_as w n (Some ending)).0
     ≡ desk_settled ending n (desk_of w)
 settle_as_desk w n ending = ap (λ (l : List Known). record { ids = ids w; reg = after_settling ending n w.reg; known = l })
@@ -159,7 +155,8 @@ desk_calls_are_steps =
       queued = λ w addr payload. refl;
       heard = λ w bytes heard arrived. refl;
       passed = λ w now. refl;
-      taken = λ w n. take_told w n (take_answer w.reg (known w) n);
+      taken = λ w n. elim (take_answer w.reg (known w) n) as (λ r. (take_by w n r).1 ≡ replies.Given r)
+          [ Ok job ↦ refl | Err fault ↦ refl ];
       try = λ w n. try_walk w (λ a. desk_of a.0 ≡ desk_of w) n refl
           (λ k job c i g e f there own o q. try_desk w n k job c i g o e there);
       cancel = λ w n. cancel_walk w (λ a. desk_of a.0 ≡ desk_of w) n refl

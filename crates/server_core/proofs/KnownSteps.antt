@@ -3,10 +3,10 @@ use Rattle.server_core.proofs.Words.{arith, sym, Contains-append_left, Bool, Err
 use Rattle.server_core.proofs.Words.{if◌then◌else◌, refl, slice_get, true, ℕ, ◌==◌, ◌≡◌, addr_of, Gathering, is_open_at, numbered}
 use Rattle.server_core.proofs.Words.{rewritten, place_of, with_copy, Joins, Job, Payload, Ending, Answer, Booked, Open, Out}
 use Rattle.server_core.proofs.Words.{Settled, Waiting, Decision, Join, Opening, Refuse, asked_by, copy_of, length-rewritten}
-use Rattle.server_core.proofs.Words.{some_inj, after_queueing, queue_answer, with_payload, Device, Register, device_with}
-use Rattle.server_core.proofs.Words.{after_settling, delivered, has_carried, head_taken, sent_of, without_head, World, ids}
-use Rattle.server_core.proofs.Words.{IsDecided, decided, found_there, closing, pass_answer, SettingLists, Asked, Sent, QueueFault}
-use Rattle.server_core.proofs.Words.{Heard1, ending_of, hear, hear_by, pass, queue, sent_for, settle}
+use Rattle.server_core.proofs.Words.{some_inj, Device, Register, device_with, after_settling, delivered, has_carried, head_taken}
+use Rattle.server_core.proofs.Words.{sent_of, without_head, World, ids, after_queueing, queue_answer, with_payload, IsDecided}
+use Rattle.server_core.proofs.Words.{decided, found_there, closing, pass_answer, SettingLists, Asked, Sent, QueueFault, Heard1}
+use Rattle.server_core.proofs.Words.{ending_of, hear, hear_by, pass, queue, sent_for, settle}
 use Rattle.uplink_gather.specs.Hearing as gathers
 use Rattle.server_desk.specs.Hearing as hearing
 use Rattle.server_core.proofs.Holds.{IsGrown, Holds, IsGood, IsGoodStep, unchanged, IsOfDevice, both_good, device_setting}
@@ -115,15 +115,13 @@ module _ {settings : SettingLists} {T : Job → Type 0} {w : World} (h : Holds s
   delivered_by None = unchanged h
   delivered_by (Some asked) = head_by asked.device (slice_get w.reg.devices asked.device) refl
 
-  carried_by : (t : Bool) → IsGood settings T w (with_reg (if t then delivered (numbered n w.reg.asked) w.reg else w.reg))
-  carried_by true = delivered_by (numbered n w.reg.asked)
-  carried_by false = unchanged h
-
   pub settle_good : IsGoodStep settings T w (settle w n)
   settle_good = settle_walk w (IsGoodStep settings T w) n (λ e. record { good = unchanged h; used = tt })
       (λ answer ending e f told.
       let v = with_reg (after_settling ending n w.reg) in
-      let first : IsGood settings T w v = carried_by (has_carried ending) in
+      let first : IsGood settings T w v =
+      elim (has_carried ending) as (λ t. IsGood settings T w (with_reg (if t then delivered (numbered n w.reg.asked) w.reg
+      else w.reg))) [ true ↦ delivered_by (numbered n w.reg.asked) | false ↦ unchanged h ] in
       let new : Answer = Settled (sent_of ending) in
       record {
         good = both_good first (answer_written first.holds n answer new e (ended_sent answer ending f) refl

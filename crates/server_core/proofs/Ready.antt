@@ -1,8 +1,8 @@
 -- What a server on one thread keeps at every event.
 use Rattle.server_core.proofs.Words.{arith, inl, inr, subst, sym, Contains-push_cases, Bool, Contains, Err, IsTrue, List, None}
 use Rattle.server_core.proofs.Words.{Ok, Option, Result, Some, [], false, if◌then◌else◌, length, not, refl, true, ℕ, ◌++◌, ◌+◌}
-use Rattle.server_core.proofs.Words.{◌∷◌, ◌≡◌, ◌⊎◌, uplink_of, FrameFault, Uplink, Gatherings, close_step, is_open_at, numbered}
-use Rattle.server_core.proofs.Words.{rewritten, hear_answer, with_copy, Joined, Opened, HearFault, HeardCopy, is_given}
+use Rattle.server_core.proofs.Words.{◌∷◌, ◌≡◌, ◌⊎◌, uplink_of, FrameFault, Uplink, Gathering, Gatherings, close_step, is_open_at}
+use Rattle.server_core.proofs.Words.{numbered, rewritten, hear_answer, with_copy, Joined, Opened, HearFault, HeardCopy, is_given}
 use Rattle.server_core.proofs.Words.{known_after, Decision, Join, Refuse, copy_fault, copy_of, decide_copy, decide_frame}
 use Rattle.server_core.proofs.Words.{register_after, numbered-append_cases, numbered_cases, rewritten-none, Register, Known}
 use Rattle.server_core.proofs.Words.{NotGiven, DeskFault, UnknownGateway, Heard1, AreHeard, HasHeard, IsIdle, is_among, decide}
@@ -40,13 +40,11 @@ idle_hear (Join n) known i = i
 idle_hear (Open o) known i = all_append (λ k. is_given k ≡ false) known i NotGiven refl
 
 -- a gathering is closed
-closed_by : (ids : List ℕ) (s : Gatherings) (n : ℕ) (t : Bool) → AreHeard ids s.list
-    → AreHeard ids (if t then record s { list = rewritten (λ g. record g { closed = true }) n s.list } else s).list
-closed_by ids s n true h = all_rewritten (HasHeard ids) s.list h (λ g. record g { closed = true }) n (λ x q. h n x q)
-closed_by ids s n false h = h
-
 pub heard_closed : (ids : List ℕ) (s : Gatherings) (n : ℕ) → AreHeard ids s.list → AreHeard ids (close_step s n).list
-heard_closed ids s n h = closed_by ids s n (is_open_at n s.list) h
+heard_closed ids s n h =
+    let f : Gathering → Gathering = λ g. record g { closed = true } in
+    elim (is_open_at n s.list) as (λ t. AreHeard ids (if t then record s { list = rewritten f n s.list } else s).list)
+    [ true ↦ all_rewritten (HasHeard ids) s.list h f n (λ x q. h n x q) | false ↦ h ]
 
 -- a copy that a gateway here heard
 module _ (ids : List ℕ) (copy : HeardCopy) (a : IsTrue (is_among ids copy.gateway)) where

@@ -45,23 +45,23 @@ pub use Rattle.server_desk.specs.Desk.{DeskView, desk_hear, desk_of, desk_pass, 
 pub use Rattle.server_desk.specs.Hearing.{Decision, Join, Opening, Refuse, answer_to, asked_by, copy_fault, copy_of, decide_copy}
 pub use Rattle.server_desk.proofs.Numbers.{length-rewritten, map-rewritten, numbered-append, numbered-append_cases, numbered-here}
 pub use Rattle.server_desk.proofs.Numbers.{numbered-map, numbered_after, numbered_cases, numbered_next, rewritten-found}
+pub use Rattle.server_desk.proofs.Numbers.{rewritten-none, same_rewritten}
 pub use Rattle.server_desk.proofs.Places.{all_get, from_map, get_contains, get_set_after, get_set_cases, get_set_same, map_set}
 pub use Rattle.server_desk.specs.Register.{Device, Register, device_with, next_place, opened_device}
 pub use Rattle.server_desk.specs.Settling.{after_settling, delivered, has_carried, head_taken, is_here, kept_by, may_settle}
 pub use Rattle.server_desk.specs.Taking.{after_taking, given_or, job_of, plan_for, take_fault, take_known, taken_from}
 pub use Rattle.server_desk.specs.World.{Gateway, World, gateway_with, ids, known, opened_gateway, opening}
-pub use Rattle.server_desk.specs.{Desk.known_after, Hearing.decide_frame, Hearing.register_after, Numbers.rewritten-none}
-pub use Rattle.server_desk.specs.{Numbers.same_rewritten, Places.map_there, Places.some_inj, Queueing.after_queueing}
-pub use Rattle.server_desk.specs.{Queueing.queue_answer, Queueing.with_payload, Settling.sent_of, Settling.without_head}
-pub use Rattle.server_desk.specs.{Taking.with_counter_given, Decided.IsDecided, Decided.decided, Found.found_there}
-pub use Rattle.server_desk.specs.{Passing.closing, Passing.pass_answer, Settings.AreSettings, Settings.SettingLists}
-pub use Rattle.server_desk.specs.{declared.answers.Asked.Asked, declared.answers.Known.Known}
-pub use Rattle.server_desk.specs.{declared.answers.Known.TheVariants.Done, declared.answers.Known.TheVariants.NotGiven}
-pub use Rattle.server_desk.specs.{declared.answers.Sent.Sent, declared.faults.DeskFault.DeskFault}
-pub use Rattle.server_desk.specs.{declared.faults.DeskFault.TheVariants.UnknownGateway, declared.faults.QueueFault.QueueFault}
-pub use Rattle.server_desk.specs.{declared.faults.TakeFault.TakeFault, declared.faults.TakeFault.TheVariants.NoMemory}
-pub use Rattle.server_desk.specs.{declared.faults.TakeFault.TheVariants.NotReady, declared.faults.TakeFault.TheVariants.Taken}
-pub use Rattle.server_desk.specs.{declared.heard.DeskHeard.DeskHeard, declared.heard.Heard1.Heard1}
+pub use Rattle.server_desk.specs.Queueing.{after_queueing, queue_answer, with_payload}
+pub use Rattle.server_desk.specs.{Desk.known_after, Hearing.decide_frame, Hearing.register_after, Places.map_there}
+pub use Rattle.server_desk.specs.{Places.some_inj, Settling.sent_of, Settling.without_head, Taking.with_counter_given}
+pub use Rattle.server_desk.specs.{Decided.IsDecided, Decided.decided, Found.found_there, Passing.closing, Passing.pass_answer}
+pub use Rattle.server_desk.specs.{Settings.AreSettings, Settings.SettingLists, declared.answers.Asked.Asked}
+pub use Rattle.server_desk.specs.{declared.answers.Known.Known, declared.answers.Known.TheVariants.Done}
+pub use Rattle.server_desk.specs.{declared.answers.Known.TheVariants.NotGiven, declared.answers.Sent.Sent}
+pub use Rattle.server_desk.specs.{declared.faults.DeskFault.DeskFault, declared.faults.DeskFault.TheVariants.UnknownGateway}
+pub use Rattle.server_desk.specs.{declared.faults.QueueFault.QueueFault, declared.faults.TakeFault.TakeFault}
+pub use Rattle.server_desk.specs.{declared.faults.TakeFault.TheVariants.NoMemory, declared.faults.TakeFault.TheVariants.NotReady}
+pub use Rattle.server_desk.specs.{declared.faults.TakeFault.TheVariants.Taken, declared.heard.Heard1.Heard1}
 pub use Rattle.server_desk.specs.{declared.setting.DeviceSetting.DeviceSetting, declared.setting.GatewaySetting.GatewaySetting}
 pub use Rattle.server_core.specs.Entries.{entries, entry_at, gateway_of, gateways_after, kept_gateway, lines_for, not_taken}
 pub use Rattle.server_core.specs.Promise.{EveryInterleavingIsSafe, HaveOwnCounters, IsMember, IsOwnWindow, IsSafe, IsTaken}
