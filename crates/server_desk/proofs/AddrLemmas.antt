@@ -10,8 +10,7 @@ addr_of d = d.setting.addr
 
 -- a comparison of numbers, the other way round
 pub flipped : (a b : ℕ) (t : Bool) → nat_eq b a ≡ t → nat_eq a b ≡ t
-flipped a b true e = grind (arith, nat_tests)
-flipped a b false e = grind (arith, nat_tests)
+flipped a b t e = grind (arith, nat_tests, e)
 
 -- the place of an address among the addresses is that of its device
 next_from : (n : ℕ) (o : Option (ℕ × Device)) → option_map (λ p. n + 1 + p.0) o

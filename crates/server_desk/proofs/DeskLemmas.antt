@@ -4,8 +4,7 @@ use Rattle.server_desk.proofs.Words.{None, Result, Ok, Err, IfOk, OnOk, OnErr, r
 use Rattle.server_desk.proofs.Words.{slice_get_within, nat_tests, length-map, length-set, map-set, All-set, All-push, Payload}
 use Rattle.server_desk.proofs.Words.{Kept, Known, Device, Asked, device_with, Gatherings, shown, outs, IsSendable, IsServable}
 use Rattle.server_desk.proofs.Words.{AreOut, IsDesk, DeskView, desk_queue, slice_get_read}
-use Rattle.server_desk.proofs.Places.{some_inj, all_get, map_set, map_there}
-use Rattle.server_desk.proofs.Found.{found_there}
+use Rattle.server_desk.proofs.Places.{some_inj, all_get, map_set, map_there, found_there}
 use Rattle.server_desk.specs.declared.faults.QueueFault.{QueueFault}
 use Rattle.server_desk.specs.Queueing.{queue_fault, queued_or, with_payload}
 

@@ -6,9 +6,8 @@ use Rattle.server_desk.proofs.Words.{hear_answer, after_hearing, with_copy, hear
 use Rattle.server_desk.proofs.Words.{Device, Asked, Register, copy_of, named_fault, answer_to, shown, IsServable, IsDesk}
 use Rattle.server_desk.proofs.Words.{desk_answer, desk_hear, length-map, length-set, map-set, All-push, DeskFault, NoMemory}
 use Rattle.uplink_gather.specs.Hearing.{opening}
-use Rattle.server_desk.proofs.Places.{map_there, some_inj}
+use Rattle.server_desk.proofs.Places.{map_there, some_inj, found_there}
 use Rattle.server_desk.proofs.Numbers.{length-rewritten}
-use Rattle.server_desk.proofs.Found.{found_there}
 use Rattle.server_desk.proofs.DeskLemmas.{Holds, seen_reg, seen, queued_holds}
 use Rattle.server_desk.specs.declared.heard.DeskHeard.{DeskHeard}
 use Rattle.server_desk.specs.declared.heard.DeskHeard.TheVariants.{Opened}
@@ -17,8 +16,6 @@ use Rattle.server_desk.proofs.CopyLemmas.{all_heard}
 use Rattle.server_desk.proofs.DecisionLemmas.{IsJoin, IsNew}
 use Rattle.uplink_gather.specs.declared.answers.Heard.TheVariants as gathers
 use Rattle.uplink_gather.specs.declared.fault.HearFault.TheVariants as gathering
-use Rattle.server_desk.specs.declared.verdict.Verdict.TheVariants as says
-use Rattle.server_desk.specs.Hearing as hearing
 
 -- the desk's answer follows from that of the gatherings
 memory : (repeat : Bool) (r : Result Heard HearFault) → IsOkUnless r gathering.NoMemory

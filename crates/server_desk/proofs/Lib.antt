@@ -1,7 +1,6 @@
 pub mod Words
 pub mod Places
 pub mod Numbers
-pub mod Found
 pub mod Decided
 pub mod AirtimeLaws
 pub mod SettingsLemmas

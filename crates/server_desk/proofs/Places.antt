@@ -1,7 +1,8 @@
 -- Members of a list by their places.
-use Rattle.server_desk.proofs.Words.{ℕ, zero, suc, ◌≡◌, ◌≢◌, ◌⊎◌, List, [], ◌∷◌, ◌++◌, map, length, All, Contains, slice_get}
-use Rattle.server_desk.proofs.Words.{slice_set, Option, Some, unwrap_or, refl, inl, inr, sym, ap, ◌∙◌, subst, arith, option_map}
-use Rattle.server_desk.proofs.Words.{slice_get-map, slice_get_within, get_or_from_slice_get}
+use Rattle.server_desk.proofs.Words.{Bool, true, false, if◌then◌else◌, None, first_at, next_place, ℕ, zero, suc, ◌≡◌, ◌≢◌, ◌⊎◌}
+use Rattle.server_desk.proofs.Words.{List, [], ◌∷◌, ◌++◌, map, length, All, Contains, slice_get, slice_set, Option, Some}
+use Rattle.server_desk.proofs.Words.{unwrap_or, refl, inl, inr, sym, ap, ◌∙◌, subst, arith, option_map, slice_get-map}
+use Rattle.server_desk.proofs.Words.{slice_get_within, get_or_from_slice_get}
 use Rattle.std.proofs.Math.Seq.{map-set_same}
 
 pub some_inj : {X : Type 0} {x y : X} → Some x ≡ Some y → x ≡ y
@@ -72,3 +73,25 @@ module _ {X Y : Type 0} (f : X → Y) where
   -- a member is written anew by one that f can't tell from it
   pub map_set : (xs : List X) (i : ℕ) (x y : X) → slice_get xs i ≡ Some x → f y ≡ f x → map f (slice_set xs i y) ≡ map f xs
   map_set xs i x y e q = map-set_same f xs i y x (q ∙ ap f (sym (get_or_from_slice_get xs i x x e)))
+
+-- the first member that passes a test, and its place
+module _ {X : Type 0} (test : X → Bool) where
+  -- what was found in the rest stands one place later
+  later : (o : Option (ℕ × X)) (p : ℕ × X) → option_map next_place o ≡ Some p → (q : ℕ × X) × ((o ≡ Some q) × (p ≡ next_place q))
+  later None p e = absurd (cc)
+  later (Some q) p e = (q, (refl, sym (some_inj e)))
+
+  -- it stands at its place and passes the test
+  abbrev IsThere : List X → ℕ × X → Type 0
+  IsThere xs p = (slice_get xs p.0 ≡ Some p.1) × (test p.1 ≡ true)
+
+  found_by : (x : X) (xs : List X) (t : Bool) (p : ℕ × X) → test x ≡ t → ((q : ℕ × X) → first_at test xs ≡ Some q → IsThere xs q)
+      → (if t then Some (0, x) else option_map next_place (first_at test xs)) ≡ Some p → IsThere (x ∷ xs) p
+  found_by x xs true p h rest e = subst (IsThere (x ∷ xs)) (some_inj e) (refl, h)
+  found_by x xs false p h rest e =
+      let s = later (first_at test xs) p e in
+      subst (IsThere (x ∷ xs)) (sym s.1.1) (rest s.0 s.1.0)
+
+  pub found_there : (xs : List X) (p : ℕ × X) → first_at test xs ≡ Some p → IsThere xs p
+  found_there [] p e = absurd (cc)
+  found_there (x ∷ xs) p e = found_by x xs (test x) p refl (found_there xs) e

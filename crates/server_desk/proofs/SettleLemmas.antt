@@ -26,10 +26,6 @@ settled_servable : (t : Bool) (device : Device) → IsServable device → IsServ
 settled_servable true device i = record { setting = i.setting; queue = All-drop IsSendable 1 device.queue i.queue; down = i.down }
 settled_servable false device i = i
 
-settled_setting : (t : Bool) (device : Device) → (if t then without_head device else device).setting ≡ device.setting
-settled_setting true device = refl
-settled_setting false device = refl
-
 module _ {A : Type 0} (keys : List ℕ) (kepts : List (Kept A)) (gathered : Gatherings) (asked : List Asked) (known : List Known)
     (i : Holds keys kepts gathered asked known) (n : ℕ) (waits : numbered n known ≡ Some Given) where
   -- what the uplink says of which the ticket was given
@@ -41,13 +37,12 @@ module _ {A : Type 0} (keys : List ℕ) (kepts : List (Kept A)) (gathered : Gath
   module _ (a : Asked) (uplink : numbered n asked ≡ Some a) (k new : Kept A) (at : slice_get kepts a.device ≡ Some k)
       (carried : Bool) (s : shown new ≡ (if carried then without_head (shown k) else shown k)) where
     -- what is true of the desk's fields holds where the answer is settled
-    pub settled_holds : (sent : Option Sent) → new.out ≡ false
+    pub settled_holds : (sent : Option Sent) → new.out ≡ false → new.setting ≡ k.setting
         → Holds keys (slice_set kepts a.device new) gathered asked (slice_set known (n - 1) (Done sent))
-    settled_holds sent o =
+    settled_holds sent o same =
         let out = out_settled (outs kepts) asked known (n - 1) a (at_number n asked a uplink) i.engaged sent k.out
         (at_number n known Given waits) (out_there keys kepts gathered asked known i n a uplink k at) in
-        written_holds kepts gathered asked known a.device k new at keys i (slice_set known (n - 1) (Done sent))
-        (ap (λ (x : Device). x.setting) s ∙ settled_setting carried (shown k))
+        written_holds kepts gathered asked known a.device k new at keys i (slice_set known (n - 1) (Done sent)) same
         (rw s (settled_servable carried (shown k))) (length-set known (n - 1) (Done sent))
         (rw (map-set (λ (x : Kept A). x.out) kepts a.device new, o) out)
 

@@ -168,6 +168,7 @@ impl<A: Allocator> Kept<A> {
     pub(crate) fn settle(&mut self, carried: bool)
         ensures shown { shown self.new ≡ (if carried then without_head (shown self.old) else shown self.old) }
         ensures out { self.new.out ≡ false }
+        ensures setting { self.new.setting ≡ self.old.setting }
     {
         self.out = false;
         if carried && !self.queue.is_empty() {

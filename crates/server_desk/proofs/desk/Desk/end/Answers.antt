@@ -12,7 +12,7 @@ invariant_of-self g c =
     let uplink = its_uplink _ _ _ _ _ c.self.invariant.0 c.args.outcome.now.number out.0 _ c.index.ensures in
     let at = at_here _ _ _ _ _ c.self.invariant.0 c.args.outcome.now.number _ uplink _ c.index_mut.ensures.value in (
       settled_holds _ _ _ _ _ c.self.invariant.0 c.args.outcome.now.number out.0 _ uplink _ _ at c.has_carried.result
-          c.settle.ensures.shown c.sent_of-sent.result c.settle.ensures.out,
+          c.settle.ensures.shown c.sent_of-sent.result c.settle.ensures.out c.settle.ensures.setting,
       rw (c.raise.ensures, c.deref.ensures.value, c.sent_of-sent.ensures)
           (set_airtimes _ _ _ _ c.self.invariant.1 c.args.outcome.now.number Given (Done _) out.0 (λ id. refl)
           (short_ending c.args.outcome.now.result c.requires.short)),
