@@ -1,6 +1,6 @@
 -- The copies of gathered uplinks stay in their ranges, and each of another gateway.
-use Rattle.server_desk.proofs.Words.{ℕ, ◌≡◌, ◌≢◌, ◌-◌, ◌<◌, ◌==◌, true, false, List, [], ◌∷◌, ◌++◌, length, All, get_or, Option}
-use Rattle.server_desk.proofs.Words.{Some, None, Result, Ok, Err, IfOk, refl, sym, ◌∙◌, arith, eq-eqb, true≢false, length-append}
+use Rattle.server_desk.proofs.Words.{ℕ, ◌≡◌, ◌≢◌, ◌-◌, ◌<◌, ◌==◌, false, List, [], ◌∷◌, ◌++◌, length, All, get_or, Option, Some}
+use Rattle.server_desk.proofs.Words.{None, Result, Ok, Err, IfOk, refl, sym, ◌∙◌, arith, eq-eqb, true≢false, length-append}
 use Rattle.server_desk.proofs.Words.{All-set, All-push, All-nil, All-cons, list_any_at, HeardCopy, HearFault, Heard, Opened}
 use Rattle.server_desk.proofs.Words.{Joined, Joins, Gathering, Gatherings, numbered, rewritten, place_of, place_by, has_gateway}
 use Rattle.server_desk.proofs.Words.{hear_answer, after_hearing, with_copy, IsHeard, IsGathered}
@@ -31,9 +31,7 @@ all_opened l bytes copy arrived h all =
 apart : (copies : List HeardCopy) (copy : HeardCopy) → has_gateway copy.gateway copies ≡ false → (k : ℕ) (d : HeardCopy)
     → k < length copies → (get_or copies k d).gateway ≢ copy.gateway
 apart copies copy e k d l q =
-    let found : has_gateway copy.gateway copies ≡ true = list_any_at (λ c. c.gateway == copy.gateway) copies k d l
-    (eq-eqb _ _ q) in
-    true≢false (sym found ∙ e)
+    true≢false (sym (list_any_at (λ c. c.gateway == copy.gateway) copies k d l (eq-eqb _ _ q)) ∙ e)
 
 joined_copy : (g : Gathering) (copy : HeardCopy) → IsHeard copy → has_gateway copy.gateway g.copies ≡ false → IsGathered g
     → IsGathered (with_copy copy g)

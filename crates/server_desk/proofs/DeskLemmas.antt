@@ -95,16 +95,13 @@ module _ {A : Type 0} (kepts : List (Kept A)) (gathered : Gatherings) (asked : L
 pub ruleset by_address = (found_within, found_kept, found_at, queued_refused)
 
 -- a payload that is queued is in its ranges
-sendable : (device : Device) (payload : Payload) (count : ℕ) (o : Option QueueFault) → queue_fault device payload ≡ o
-    → queued_or device o ≡ Ok count → IsSendable payload
-sendable device payload count (Some fault) q e = absurd (cc)
-sendable device payload count None q e =
-    record { port = (grind (arith, nat_tests), grind (arith, nat_tests)); len = grind (arith, nat_tests) }
-
 pub pushed_servable : (device new : Device) (payload : Payload) (r : Result ℕ QueueFault)
     → IfOk r (λ count. queued_or device (queue_fault device payload) ≡ Ok count)
     → OnOk r (new ≡ with_payload payload device) → OnErr r (new ≡ device) → IsServable device → IsServable new
 pushed_servable device new payload (Ok count) told e f i =
-    let may = sendable device payload count (queue_fault device payload) refl told in
+    let may : IsSendable payload = record {
+      port = (grind (arith, nat_tests, told), grind (arith, nat_tests, told));
+      len = grind (arith, nat_tests, told);
+    } in
     rw e (record { setting = i.setting; queue = All-push IsSendable device.queue payload i.queue may; down = i.down })
 pushed_servable device new payload (Err fault) told e f i = rw f i

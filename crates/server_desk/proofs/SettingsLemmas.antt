@@ -19,13 +19,10 @@ FaultFree {S} fault_of earlier xs = (k : ℕ) (d : S) → k < length xs → faul
 pub FaultFree-from_none : {S : Type 0} (fault_of : List S → S → Option SettingsFault) (earlier xs : List S)
     → first_fault fault_of earlier xs ≡ None → FaultFree fault_of earlier xs
 FaultFree-from_none fault_of earlier [] h k d l = absurd (omega arith)
-FaultFree-from_none fault_of earlier (s ∷ more) h zero d l =
-    let e = both_none (fault_of earlier s) (first_fault fault_of (earlier ++ s ∷ []) more) h in
-    rw (append-nil earlier) e.0
+FaultFree-from_none fault_of earlier (s ∷ more) h zero d l = rw (append-nil earlier) (both_none (fault_of earlier s) _ h).0
 FaultFree-from_none fault_of earlier (s ∷ more) h (suc k) d l =
-    let e = both_none (fault_of earlier s) (first_fault fault_of (earlier ++ s ∷ []) more) h in
-    let ih = FaultFree-from_none fault_of (earlier ++ s ∷ []) more e.1 k d (omega arith) in
-    rw append_assoc at ih
+    let rest = (both_none (fault_of earlier s) (first_fault fault_of (earlier ++ s ∷ []) more) h).1 in
+    rw append_assoc at (FaultFree-from_none fault_of (earlier ++ s ∷ []) more rest k d (omega arith))
 
 pub first_fault-none : {S : Type 0} (fault_of : List S → S → Option SettingsFault) (earlier xs : List S)
     → FaultFree fault_of earlier xs → first_fault fault_of earlier xs ≡ None
