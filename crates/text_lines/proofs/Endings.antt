@@ -31,67 +31,68 @@ module _ {S : Type 0} (turns : Turns S) (s : S) where
             (WritesFront-more before after (text_of front) _ wrote);
       }
 
-  module _ (Old : S → Type 0) (stood : Old s) where
-    -- a part of the answers was written
-    pub AnswersFront-part : (left left_after before after : Option (List ℕ))
-        → ReadsPart left left_after (AreTurnsInPart turns Old before after) → AnswersFront (output_of turns s) left before after
-    AnswersFront-part None left_after before after part = tt
-    AnswersFront-part (Some bytes) left_after before after part =
-        let wrote = part.holds s stood in in_part bytes wrote.0 part.first part.more before after part.of_all wrote.1
+module _ {S : Type 0} (turns : Turns S) (s : S) (Old : S → Type 0) (stood : Old s) where
+  -- a part of the answers was written
+  pub AnswersFront-part : (left left_after before after : Option (List ℕ))
+      → ReadsPart left left_after (AreTurnsInPart turns Old before after) → AnswersFront (output_of turns s) left before after
+  AnswersFront-part None left_after before after part = tt
+  AnswersFront-part (Some bytes) left_after before after part =
+      let wrote = part.holds s stood in in_part turns s bytes wrote.0 part.first part.more before after part.of_all wrote.1
 
-    pub AnswersRead-part : (left left_after before after : Option (List ℕ))
-        → ReadsPart left left_after (AreTurnsInPart turns Old before after)
-        → AnswersRead (output_of turns s) left left_after before after
-    AnswersRead-part None left_after before after part = tt
-    AnswersRead-part (Some bytes) left_after before after part =
-        let wrote = part.holds s stood in
-        record {
-          read = part.read;
-          consumed = part.consumed;
-          answered = in_part part.read wrote.0 part.first part.more_read before after part.of_read wrote.1;
-        }
+  pub AnswersRead-part : (left left_after before after : Option (List ℕ))
+      → ReadsPart left left_after (AreTurnsInPart turns Old before after)
+      → AnswersRead (output_of turns s) left left_after before after
+  AnswersRead-part None left_after before after part = tt
+  AnswersRead-part (Some bytes) left_after before after part =
+      let wrote = part.holds s stood in
+      record {
+        read = part.read;
+        consumed = part.consumed;
+        answered = in_part turns s part.read wrote.0 part.first part.more_read before after part.of_read wrote.1;
+      }
 
-    module _ (Now : S → Type 0) (before mid after : Option (List ℕ)) (pending : List ℕ) (refused : Bool) where
-      -- all was written
-      pub AnswersAll-ended : (left left_after : Option (List ℕ)) → EndsWithoutRefusal turns
-          → ReadsAll left left_after (AreTurns turns Old Now refused before mid pending)
-          → ((now : S) → Now now → Appends mid after (pending ++ text_of (turns.ending now)))
-          → AnswersAll (output_of turns s) left left_after before after refused
-      AnswersAll-ended None left_after quiet all wrote = tt
-      AnswersAll-ended (Some bytes) left_after quiet all wrote =
-          let far = all.holds s stood in
-          let front : List (List ℕ) = answers turns far.starved 1 s (lines bytes) in
-          let now : S = reached turns far.starved 1 s (lines bytes) in
-          record {
-            starved = far.starved;
-            consumed = all.consumed;
-            written = rw (text_of-append front (turns.ending now))
-                (Appends-after before mid after _ _ (WritesAllBut-more before mid _ pending _ far.written)
-                (wrote now far.stands));
-            told = far.told ∙ sym (or-false (has_refusal front)) ∙ ap (λ t. has_refusal front || t) (sym (quiet now))
-                ∙ sym (list_any-append is_refusal front (turns.ending now));
-          }
+module _ {S : Type 0} (turns : Turns S) (s : S) (Old : S → Type 0) (stood : Old s) (Now : S → Type 0)
+    (before mid after : Option (List ℕ)) (pending : List ℕ) (refused : Bool) where
+  -- all was written
+  pub AnswersAll-ended : (left left_after : Option (List ℕ)) → EndsWithoutRefusal turns
+      → ReadsAll left left_after (AreTurns turns Old Now refused before mid pending)
+      → ((now : S) → Now now → Appends mid after (pending ++ text_of (turns.ending now)))
+      → AnswersAll (output_of turns s) left left_after before after refused
+  AnswersAll-ended None left_after quiet all wrote = tt
+  AnswersAll-ended (Some bytes) left_after quiet all wrote =
+      let far = all.holds s stood in
+      let front : List (List ℕ) = answers turns far.starved 1 s (lines bytes) in
+      let now : S = reached turns far.starved 1 s (lines bytes) in
+      record {
+        starved = far.starved;
+        consumed = all.consumed;
+        written = rw (text_of-append front (turns.ending now))
+            (Appends-after before mid after _ _ (WritesAllBut-more before mid _ pending _ far.written)
+            (wrote now far.stands));
+        told = far.told ∙ sym (or-false (has_refusal front)) ∙ ap (λ t. has_refusal front || t) (sym (quiet now))
+            ∙ sym (list_any-append is_refusal front (turns.ending now));
+      }
 
-      -- the ending was not wholly written
-      pub AnswersFront-ended : (left left_after : Option (List ℕ))
-          → ReadsAll left left_after (AreTurns turns Old Now refused before mid pending)
-          → ((now : S) → Now now → WritesFront mid after (pending ++ text_of (turns.ending now)))
-          → AnswersFront (output_of turns s) left before after
-      AnswersFront-ended None left_after all wrote = tt
-      AnswersFront-ended (Some bytes) left_after all wrote =
-          let far = all.holds s stood in
-          let front : List (List ℕ) = answers turns far.starved 1 s (lines bytes) in
-          let now : S = reached turns far.starved 1 s (lines bytes) in
-          record {
-            starved = far.starved;
-            written = rw (text_of-append front (turns.ending now))
-                (WritesFront-after before mid after _ _ (WritesAllBut-more before mid _ pending _ far.written)
-                (wrote now far.stands));
-          }
+  -- the ending was not wholly written
+  pub AnswersFront-ended : (left left_after : Option (List ℕ))
+      → ReadsAll left left_after (AreTurns turns Old Now refused before mid pending)
+      → ((now : S) → Now now → WritesFront mid after (pending ++ text_of (turns.ending now)))
+      → AnswersFront (output_of turns s) left before after
+  AnswersFront-ended None left_after all wrote = tt
+  AnswersFront-ended (Some bytes) left_after all wrote =
+      let far = all.holds s stood in
+      let front : List (List ℕ) = answers turns far.starved 1 s (lines bytes) in
+      let now : S = reached turns far.starved 1 s (lines bytes) in
+      record {
+        starved = far.starved;
+        written = rw (text_of-append front (turns.ending now))
+            (WritesFront-after before mid after _ _ (WritesAllBut-more before mid _ pending _ far.written)
+            (wrote now far.stands));
+      }
 
-      -- all bytes had been read then
-      pub AnswersRead-ended : (left left_after : Option (List ℕ))
-          → ReadsAll left left_after (AreTurns turns Old Now refused before mid pending)
-          → AnswersFront (output_of turns s) left before after → AnswersRead (output_of turns s) left left_after before after
-      AnswersRead-ended None left_after all front = tt
-      AnswersRead-ended (Some bytes) left_after all front = record { read = bytes; consumed = all.consumed; answered = front }
+  -- all bytes had been read then
+  pub AnswersRead-ended : (left left_after : Option (List ℕ))
+      → ReadsAll left left_after (AreTurns turns Old Now refused before mid pending)
+      → AnswersFront (output_of turns s) left before after → AnswersRead (output_of turns s) left left_after before after
+  AnswersRead-ended None left_after all front = tt
+  AnswersRead-ended (Some bytes) left_after all front = record { read = bytes; consumed = all.consumed; answered = front }

@@ -1,19 +1,17 @@
 -- How far the lines of an input were read, and what follows where the reading ends.
-use Rattle.std.proofs.Common.{◌≡◌, ℕ, ◌+◌, ◌<◌, ◌≤◌, List, [], ◌∷◌, ◌++◌, length, Bool, Option, None, Some, Ok, Err}
+use Rattle.std.proofs.Common.{◌≡◌, ℕ, ◌+◌, ◌<◌, ◌≤◌, List, [], ◌∷◌, ◌++◌, length, Bool, Option, None, Some, Ok}
 use Rattle.std.proofs.Common.{refl, sym, ap, ◌∙◌, arith, subst, append-nil, append_assoc, length-append}
 use Rattle.std.specs.Prelude.{⊤}
 use Rattle.std.specs.Io.KnownBytes.{Consumes}
 use Rattle.std.specs.Str.Lines.{lines}
 use Rattle.std.proofs.lemmas.List.{length_push}
-use Rattle.text_lines.specs.Ahead.{Ahead, unread, read_count, TakesFront}
+use Rattle.text_lines.specs.Ahead.{Ahead, unread, TakesFront}
 use Rattle.text_lines.specs.Line.{kept}
 use Rattle.text_lines.specs.Progress.{ReadsAll, ReadsPart}
 use Rattle.text_lines.specs.Promise.{KeepsLimit}
 use Rattle.text_lines.specs.Reading.{GivesLine, IsEndWithin}
 use Rattle.text_lines.specs.declared.ahead.NextLine.{NextLine}
 use Rattle.text_lines.specs.declared.ahead.NextLine.TheVariants.{Whole, Last, End}
-use Rattle.text_lines.specs.declared.ahead.TheConstants.{INPUT_LIMIT}
-use Rattle.text_lines.specs.declared.answering.LineFault.TheVariants.{TooMuch}
 
 -- `taken` stands at the front of the bytes and `rest` follows; whatever follows `taken`, its lines are the first, and this
 -- holds of them
@@ -38,22 +36,6 @@ abbrev pub GoesOn : ℕ → List ℕ → (List (List ℕ) → Type 0) → (List 
 GoesOn number held Holds HoldsThen =
     (read : List (List ℕ)) (line : List ℕ) → number ≡ 1 + length read → held ≡ kept line → Holds read
     → HoldsThen (read ++ line ∷ [])
-
--- at first nothing was taken
-pub IsSoFar-begun : (left : Option (List ℕ)) (input : Ahead) (Holds : List (List ℕ) → Type 0) → input.pending ≡ []
-    → input.taken ≡ 0 → Holds [] → IsSoFar left (unread input left) input.taken 1 Holds
-IsSoFar-begun None input Holds none zero holds = tt
-IsSoFar-begun (Some bytes) input Holds none zero holds =
-    record {
-      taken = [];
-      front = sym (ap (λ l. l ++ bytes) none);
-      counted = zero;
-      read = [];
-      first = λ more. refl;
-      numbered = refl;
-      each = omega arith;
-      holds = holds;
-    }
 
 -- a line that stands whatever follows is not nothing
 some_taken : (taken line : List ℕ) → ((more : List ℕ) → lines (taken ++ more) ≡ line ∷ lines more) → 0 < length taken
@@ -170,31 +152,6 @@ ReadsPart-line (Some bytes) (Some x) (Some y) old new number Holds HoldsThen Las
       holds = on far.read rest far.numbered line.keeps far.holds;
     }
 
--- the input has ended after a whole line
-pub ReadsAll-end : (left left_old left_after : Option (List ℕ)) (old new : Ahead) (number : ℕ) (Holds : List (List ℕ) → Type 0)
-    (held : List ℕ)
-    → IsSoFar left (unread old left_old) old.taken number Holds → TakesFront old left_old new left_after
-    → GivesLine (unread old left_old) (unread new left_after) End held → IsEndWithin new End → ReadsAll left left_after Holds
-ReadsAll-end None left_old left_after old new number Holds held far front line within = tt
-ReadsAll-end (Some bytes) None left_after old new number Holds held far front line within = absurd far
-ReadsAll-end (Some bytes) (Some x) None old new number Holds held far front line within = absurd line
-ReadsAll-end (Some bytes) (Some x) (Some y) old new number Holds held far front line within =
-    let all : lines bytes ≡ far.read =
-    ap lines far.front ∙ far.first (old.pending ++ x) ∙ ap (λ l. far.read ++ lines l) line.ended ∙ append-nil far.read in
-    record {
-      consumed = all_read bytes new y line.none within.0;
-      within = omega (
-        arith,
-        within.1,
-        far.counted,
-        front.counted,
-        ap length far.front,
-        ap length line.ended,
-        length-append far.taken (old.pending ++ x),
-      );
-      holds = subst Holds (sym all) far.holds;
-    }
-
 -- or after a line without a line feed
 pub ReadsAll-last : (left left_old left_after : Option (List ℕ)) (old new : Ahead) (number : ℕ)
     (Holds HoldsThen : List (List ℕ) → Type 0) (held : List ℕ)
@@ -229,32 +186,3 @@ pub KeepsLimit-all : (left left_after : Option (List ℕ)) (Holds : List (List �
     → KeepsLimit left (Ok refused)
 KeepsLimit-all None left_after Holds refused all = tt
 KeepsLimit-all (Some bytes) left_after Holds refused all = all.within
-
--- more bytes were read than there may be
-pub KeepsLimit-read : (left left_old left_after : Option (List ℕ)) (old new : Ahead) (number : ℕ)
-    (Holds : List (List ℕ) → Type 0)
-    → IsSoFar left (unread old left_old) old.taken number Holds → TakesFront old left_old new left_after
-    → INPUT_LIMIT < read_count new → KeepsLimit left (Err TooMuch)
-KeepsLimit-read None left_old left_after old new number Holds far front h = tt
-KeepsLimit-read (Some bytes) None left_after old new number Holds far front h = absurd far
-KeepsLimit-read (Some bytes) (Some x) None old new number Holds far front h = absurd front.consumed
-KeepsLimit-read (Some bytes) (Some x) (Some y) old new number Holds far front h =
-    omega (
-      arith,
-      h,
-      far.counted,
-      front.counted,
-      ap length far.front,
-      ap length front.consumed,
-      length-append far.taken (old.pending ++ x),
-      length-append front.front (new.pending ++ y),
-      length-append new.pending y,
-    )
-
--- more lines were read than bytes were allowed
-pub KeepsLimit-lines : (left now : Option (List ℕ)) (count number : ℕ) (Holds : List (List ℕ) → Type 0)
-    → IsSoFar left now count number Holds → INPUT_LIMIT + 1 < number → KeepsLimit left (Err TooMuch)
-KeepsLimit-lines None now count number Holds far h = tt
-KeepsLimit-lines (Some bytes) None count number Holds far h = absurd far
-KeepsLimit-lines (Some bytes) (Some rest) count number Holds far h =
-    omega (arith, h, far.each, far.numbered, ap length far.front, length-append far.taken rest)

@@ -12,7 +12,6 @@ use Rattle.text_lines.specs.Progress.{AreTurns, AreTurnsInPart, IsTurnPut}
 use Rattle.text_lines.specs.Turns.{Turns, TurnsByKept, is_refusal, has_refusal, is_starved, reached, answers}
 use Rattle.text_lines.specs.Turns.{answers-append}
 use Rattle.text_lines.specs.Writing.{WritesAllBut-more, WritesAllBut-trans, WritesFront-after}
-use Rattle.text_lines.specs.Writing.{WritesAllBut-refl}
 use Rattle.text_lines.proofs.SoFar.{GoesOn}
 
 -- the two lists name the same of these lines
@@ -74,98 +73,86 @@ module _ {S : Type 0} (turns : Turns S) where
       ∙ reached-agree a b (number + 1) high (turns.after (is_starved b number) s x) xs (omega (arith, h))
       (λ n l g. agree n (omega arith) g)
 
-  module _ (s : S) (starved : List ℕ) (read : List (List ℕ)) (line : List ℕ) (b : Bool)
-      (earlier : All (λ other. other ≤ length read) starved) where
-    -- the answers to one line more
-    answers-next : answers turns (with_line b (1 + length read) starved) 1 s (read ++ line ∷ [])
-        ≡ answers turns starved 1 s read ++ turns.answer b (1 + length read) (reached turns starved 1 s read) line
-    answers-next =
-        let number : ℕ = 1 + length read in
-        let all : List ℕ = with_line b number starved in
-        let agree : AgreeFrom all starved 1 number = with_line-before b number starved in
-        answers-append turns all 1 s read (line ∷ []) number refl
-        ∙ ap (λ l. l ++ answers turns all number (reached turns all 1 s read) (line ∷ []))
-        (answers-agree all starved 1 number s read (omega arith) agree)
-        ∙ ap (λ t. answers turns starved 1 s read ++ answers turns all number t (line ∷ []))
-        (reached-agree all starved 1 number s read (omega arith) agree)
-        ∙ ap (λ l. answers turns starved 1 s read ++ l)
-        (append-nil (turns.answer (is_starved all number) number (reached turns starved 1 s read) line))
-        ∙ ap (λ t. answers turns starved 1 s read ++ turns.answer t number (reached turns starved 1 s read) line)
-        (with_line-here b (length read) starved earlier)
+module _ {S : Type 0} (turns : Turns S) (s : S) (starved : List ℕ) (read : List (List ℕ)) (line : List ℕ) (b : Bool)
+    (earlier : All (λ other. other ≤ length read) starved) where
+  -- the answers to one line more
+  answers-next : answers turns (with_line b (1 + length read) starved) 1 s (read ++ line ∷ [])
+      ≡ answers turns starved 1 s read ++ turns.answer b (1 + length read) (reached turns starved 1 s read) line
+  answers-next =
+      let number : ℕ = 1 + length read in
+      let all : List ℕ = with_line b number starved in
+      let agree : AgreeFrom all starved 1 number = with_line-before b number starved in
+      answers-append turns all 1 s read (line ∷ []) number refl
+      ∙ ap (λ l. l ++ answers turns all number (reached turns all 1 s read) (line ∷ []))
+      (answers-agree turns all starved 1 number s read (omega arith) agree)
+      ∙ ap (λ t. answers turns starved 1 s read ++ answers turns all number t (line ∷ []))
+      (reached-agree turns all starved 1 number s read (omega arith) agree)
+      ∙ ap (λ l. answers turns starved 1 s read ++ l)
+      (append-nil (turns.answer (is_starved all number) number (reached turns starved 1 s read) line))
+      ∙ ap (λ t. answers turns starved 1 s read ++ turns.answer t number (reached turns starved 1 s read) line)
+      (with_line-here b (length read) starved earlier)
 
-    -- what stands after it
-    reached-next : reached turns (with_line b (1 + length read) starved) 1 s (read ++ line ∷ [])
-        ≡ turns.after b (reached turns starved 1 s read) line
-    reached-next =
-        let number : ℕ = 1 + length read in
-        let all : List ℕ = with_line b number starved in
-        reached-append all 1 s read (line ∷ []) number refl
-        ∙ ap (λ t. reached turns all number t (line ∷ []))
-        (reached-agree all starved 1 number s read (omega arith) (with_line-before b number starved))
-        ∙ ap (λ t. turns.after t (reached turns starved 1 s read) line) (with_line-here b (length read) starved earlier)
+  -- what stands after it
+  reached-next : reached turns (with_line b (1 + length read) starved) 1 s (read ++ line ∷ [])
+      ≡ turns.after b (reached turns starved 1 s read) line
+  reached-next =
+      let number : ℕ = 1 + length read in
+      let all : List ℕ = with_line b number starved in
+      reached-append turns all 1 s read (line ∷ []) number refl
+      ∙ ap (λ t. reached turns all number t (line ∷ []))
+      (reached-agree turns all starved 1 number s read (omega arith) (with_line-before b number starved))
+      ∙ ap (λ t. turns.after t (reached turns starved 1 s read) line) (with_line-here b (length read) starved earlier)
 
-    text-next : text_of (answers turns (with_line b (1 + length read) starved) 1 s (read ++ line ∷ []))
-        ≡ text_of (answers turns starved 1 s read)
-        ++ text_of (turns.answer b (1 + length read) (reached turns starved 1 s read) line)
-    text-next = ap text_of answers-next ∙ text_of-append (answers turns starved 1 s read) _
+  text-next : text_of (answers turns (with_line b (1 + length read) starved) 1 s (read ++ line ∷ []))
+      ≡ text_of (answers turns starved 1 s read)
+      ++ text_of (turns.answer b (1 + length read) (reached turns starved 1 s read) line)
+  text-next = ap text_of answers-next ∙ text_of-append (answers turns starved 1 s read) _
 
-  module _ (by_kept : TurnsByKept turns) (Old Mid Now : S → Type 0) (before mid after : Option (List ℕ)) (number : ℕ)
-      (held pending pending_after : List ℕ) (refused : Bool) where
-    -- one line more was answered
-    pub AreTurns-next : {E : Type 0} (r : Bool)
-        → IsTurnPut turns Mid {E = E} Now number held pending pending_after mid after (Ok r)
-        → GoesOn number held (AreTurns turns Old Mid refused before mid pending)
-        (AreTurns turns Old Now (refused || r) before after pending_after)
-    AreTurns-next r turn read line numbered keeps so_far s stood =
-        let far = so_far s stood in
-        let now : S = reached turns far.starved 1 s read in
-        let put = turn now far.stands in
-        let same : turns.answer put.starved number now held ≡ turns.answer put.starved (1 + length read) now line =
-        ap (turns.answer put.starved number now) keeps ∙ (by_kept put.starved number now line).0
-        ∙ ap (λ n. turns.answer put.starved n now line) numbered in
-        let left : turns.after put.starved now held ≡ reached turns (with_line put.starved (1 + length read) far.starved) 1 s
-        (read ++ line ∷ []) =
-        ap (turns.after put.starved now) keeps ∙ (by_kept put.starved number now line).1
-        ∙ sym (reached-next s far.starved read line put.starved far.earlier) in
-        record {
-          starved = with_line put.starved (1 + length read) far.starved;
-          earlier = with_line-earlier put.starved (length read) _ far.starved (length_push read line) far.earlier;
-          stands = rw left at put.stands;
-          told = ap (λ t. t || r) far.told
-              ∙ ap (λ t. has_refusal (answers turns far.starved 1 s read) || t) (put.told ∙ ap has_refusal same)
-              ∙ sym (list_any-append is_refusal (answers turns far.starved 1 s read) _)
-              ∙ sym (ap has_refusal (answers-next s far.starved read line put.starved far.earlier));
-          written = rw (text-next s far.starved read line put.starved far.earlier)
-              (WritesAllBut-trans _ _ _ _ _ _ (WritesAllBut-more _ _ _ _ _ far.written) (rw same at put.written));
-        }
+module _ {S : Type 0} (turns : Turns S) (by_kept : TurnsByKept turns) (Old Mid Now : S → Type 0) (before mid after : Option (List ℕ)) (number : ℕ)
+    (held pending pending_after : List ℕ) (refused : Bool) where
+  -- one line more was answered
+  pub AreTurns-next : {E : Type 0} (r : Bool)
+      → IsTurnPut turns Mid {E = E} Now number held pending pending_after mid after (Ok r)
+      → GoesOn number held (AreTurns turns Old Mid refused before mid pending)
+      (AreTurns turns Old Now (refused || r) before after pending_after)
+  AreTurns-next r turn read line numbered keeps so_far s stood =
+      let far = so_far s stood in
+      let now : S = reached turns far.starved 1 s read in
+      let put = turn now far.stands in
+      let same : turns.answer put.starved number now held ≡ turns.answer put.starved (1 + length read) now line =
+      ap (turns.answer put.starved number now) keeps ∙ (by_kept put.starved number now line).0
+      ∙ ap (λ n. turns.answer put.starved n now line) numbered in
+      let left : turns.after put.starved now held ≡ reached turns (with_line put.starved (1 + length read) far.starved) 1 s
+      (read ++ line ∷ []) =
+      ap (turns.after put.starved now) keeps ∙ (by_kept put.starved number now line).1
+      ∙ sym (reached-next turns s far.starved read line put.starved far.earlier) in
+      record {
+        starved = with_line put.starved (1 + length read) far.starved;
+        earlier = with_line-earlier put.starved (length read) _ far.starved (length_push read line) far.earlier;
+        stands = rw left at put.stands;
+        told = ap (λ t. t || r) far.told
+            ∙ ap (λ t. has_refusal (answers turns far.starved 1 s read) || t) (put.told ∙ ap has_refusal same)
+            ∙ sym (list_any-append is_refusal (answers turns far.starved 1 s read) _)
+            ∙ sym (ap has_refusal (answers-next turns s far.starved read line put.starved far.earlier));
+        written = rw (text-next turns s far.starved read line put.starved far.earlier)
+            (WritesAllBut-trans _ _ _ _ _ _ (WritesAllBut-more _ _ _ _ _ far.written) (rw same at put.written));
+      }
 
-    -- one line more was answered, and its answer not wholly written
-    pub AreTurns-failed : {E : Type 0} (failure : E)
-        → IsTurnPut turns Mid {E = E} Now number held pending pending_after mid after (Err failure)
-        → GoesOn number held (AreTurns turns Old Mid refused before mid pending) (AreTurnsInPart turns Old before after)
-    AreTurns-failed failure turn read line numbered keeps so_far s stood =
-        let far = so_far s stood in
-        let now : S = reached turns far.starved 1 s read in
-        let put = turn now far.stands in
-        let same : turns.answer put.starved number now held ≡ turns.answer put.starved (1 + length read) now line =
-        ap (turns.answer put.starved number now) keeps ∙ (by_kept put.starved number now line).0
-        ∙ ap (λ n. turns.answer put.starved n now line) numbered in (
-          with_line put.starved (1 + length read) far.starved,
-          rw (text-next s far.starved read line put.starved far.earlier)
-              (WritesFront-after _ _ _ _ _ (WritesAllBut-more _ _ _ _ _ far.written) (rw same at put.front)),
-        )
-
--- before the first line
-pub AreTurns-none : {S : Type 0} (turns : Turns S) (Old : S → Type 0) (before : Option (List ℕ)) (pending : List ℕ)
-    → pending ≡ [] → AreTurns turns Old Old false before before pending []
-AreTurns-none turns Old before pending none s stood =
-    record {
-      starved = [];
-      earlier = λ k d h. absurd (omega arith);
-      stands = stood;
-      told = refl;
-      written = rw none (WritesAllBut-refl before []);
-    }
+  -- one line more was answered, and its answer not wholly written
+  pub AreTurns-failed : {E : Type 0} (failure : E)
+      → IsTurnPut turns Mid {E = E} Now number held pending pending_after mid after (Err failure)
+      → GoesOn number held (AreTurns turns Old Mid refused before mid pending) (AreTurnsInPart turns Old before after)
+  AreTurns-failed failure turn read line numbered keeps so_far s stood =
+      let far = so_far s stood in
+      let now : S = reached turns far.starved 1 s read in
+      let put = turn now far.stands in
+      let same : turns.answer put.starved number now held ≡ turns.answer put.starved (1 + length read) now line =
+      ap (turns.answer put.starved number now) keeps ∙ (by_kept put.starved number now line).0
+      ∙ ap (λ n. turns.answer put.starved n now line) numbered in (
+        with_line put.starved (1 + length read) far.starved,
+        rw (text-next turns s far.starved read line put.starved far.earlier)
+            (WritesFront-after _ _ _ _ _ (WritesAllBut-more _ _ _ _ _ far.written) (rw same at put.front)),
+      )
 
 -- what is pending is yet to be written
 pub AreTurns-so_far : {S : Type 0} (turns : Turns S) (Old Now : S → Type 0) (refused : Bool) (before after : Option (List ℕ))
