@@ -17,4 +17,4 @@ pub use job::Job;
 pub use outcome::{Ending, Outcome};
 pub use stub::Stub;
 pub use ticket::{NoMemory, Ticket};
-pub use tried::{Receipt, Tried};
+pub use tried::{Receipt, Tried, TriedOut};

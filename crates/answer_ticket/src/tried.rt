@@ -19,6 +19,14 @@ pub struct Receipt<A: Allocator> {
     pub frame: Bytes<A>,
 }
 
+/// What is left of a ticket that was tried for as long as it could be, with the receipt where it was booked. It can't be dropped.
+pub struct TriedOut<A: Allocator> {
+    /// How it ended.
+    pub stub: Stub,
+    /// What was booked.
+    pub receipt: Option<Receipt<A>>,
+}
+
 /// What became of a ticket that was tried on a gateway's book. It can't be dropped: what it hands back has to be
 /// spent.
 pub enum Tried<A: Allocator> {

@@ -11,8 +11,8 @@ use Rattle.server_core.specs.declared.entry.Line.{Line}
 use Rattle.server_core.specs.declared.entry.Line.TheVariants as lines
 use Rattle.server_desk.specs.declared.faults.TakeFault.{TakeFault}
 use Rattle.server_desk.specs.declared.faults.TakeFault.TheVariants.{Silent}
-use Rattle.server_station.specs.declared.turn.Turn.{Turn}
-use Rattle.server_station.specs.declared.turn.Turn.TheVariants.{NotTaken, Settled, Stray}
+use Rattle.server_station.specs.declared.handled.Handled.{Handled}
+use Rattle.server_station.specs.declared.handled.Handled.TheVariants.{NotTaken, Settled, Stray}
 use Rattle.run_texts.specs.declared.pass_answers.Answer.{Answer}
 
 -- What a run with workers answers to the uplinks that one `pass` closed (docs/FORMATS.md, "airbook run").
@@ -64,13 +64,13 @@ IsAnswerTo receipts number (Unanswered refusal) answer = answer ≡ line_alone n
 IsAnswerTo receipts number GivenUp answer = answer ≡ line_alone number (lines.Unanswered number refusals.NoMemory)
 
 -- how one turn of the calling thread is told
-abbrev pub IsAnswerToTurn : ℕ → Turn Global → Answer → Type 0
+abbrev pub IsAnswerToTurn : ℕ → Handled Global → Answer → Type 0
 IsAnswerToTurn number (NotTaken fault) answer = answer ≡ refused_answer (number, fault)
 IsAnswerToTurn number (Settled outcome receipt) answer = IsAnswerTo (option_to_list receipt) outcome.number outcome.result answer
 IsAnswerToTurn number (Stray receipt) answer = answer ≡ stray_answer number
 
 -- the answers, and behind them that to one turn
-abbrev pub IsTurnTold : ℕ → Turn Global → List Answer → List Answer → Type 0
+abbrev pub IsTurnTold : ℕ → Handled Global → List Answer → List Answer → Type 0
 IsTurnTold number turn before after =
     (answer : Answer) × ((after ≡ before ++ answer ∷ []) × IsAnswerToTurn number turn answer)
 
@@ -83,7 +83,7 @@ abbrev pub settled_numbers : List Outcome → List ℕ
 settled_numbers outcomes = map (λ (o : Outcome). o.number) outcomes
 
 -- the number that one turn is told of: the outcome's, or the one that was taken up
-abbrev pub number_of : ℕ → Turn Global → ℕ
+abbrev pub number_of : ℕ → Handled Global → ℕ
 number_of number (NotTaken fault) = number
 number_of number (Settled outcome receipt) = outcome.number
 number_of number (Stray receipt) = number

@@ -9,7 +9,7 @@ use answer_ticket::{Bytes, Ending, Outcome, Receipt};
 use gateway_book::Refusal;
 use rx_windows::Candidate;
 use server_core::{Line, NoMemory, TakeFault};
-use server_workers::Turn;
+use server_workers::Handled;
 use std::alloc::Global;
 
 /// The answer to the uplink with this number: a line, and its frame where one is to be sent.
@@ -76,16 +76,16 @@ impl PassAnswers {
         &mut self,
         alloc: Global,
         number: u64,
-        turn: Turn<Global>,
+        turn: Handled<Global>,
     ) -> Result<(), NoMemory>
         ensures number { OnOk result (numbers_of self.new.answers.items ≡ numbers_of self.old.answers.items
             ++ number_of number turn ∷ []) }
         ensures told { OnOk result (IsTurnTold number turn self.old.answers.items self.new.answers.items) }
     {
         let (answer, receipt) = match turn {
-            Turn::NotTaken(fault) => (not_taken(number, fault), None),
-            Turn::Stray(receipt) => (stray(number), receipt),
-            Turn::Settled(outcome, mut receipt) => {
+            Handled::NotTaken(fault) => (not_taken(number, fault), None),
+            Handled::Stray(receipt) => (stray(number), receipt),
+            Handled::Settled(outcome, mut receipt) => {
                 let answer = answer_of(alloc, &outcome, receipt.as_mut_slice());
                 (answer, receipt)
             }

@@ -5,10 +5,10 @@ use Rattle.server_core.proofs.Words.{if◌then◌else◌, refl, slice_set, true,
 use Rattle.server_core.proofs.Words.{HeardCopy, Standing, Answer, Open, Waiting, is_given, DeskView, desk_settled, desk_take}
 use Rattle.server_core.proofs.Words.{desk_taken, numbered-here, rewritten-found, Device, Register, delivered, has_carried}
 use Rattle.server_core.proofs.Words.{sent_of, job_of, taken_from, World, known, Asked, Known, Done, TakeFault, not_taken}
-use Rattle.server_core.proofs.Words.{answer_steps, given_steps, AreBooksOf, AreHeard, AreHere, IsAt, IsIdle, IsReady, Makes}
+use Rattle.server_core.proofs.Words.{answer_steps, given_steps, AreBooksOf, AreHeard, AreHere, IsAt, IsIdle, IsBetweenCalls, Makes}
 use Rattle.server_core.proofs.Words.{Moves, Seen, ids_of, is_among, with_lines, with_step, After, Step, Take, take_by, IsAnswered}
 use Rattle.server_core.proofs.Words.{IsGivenTo, Line, take_answer, run_from, step}
-use Rattle.server_desk.specs.declared.answers.Known.TheVariants.{Given}
+use Rattle.server_desk.specs.declared.answers.Known.TheVariants.{Pending}
 use Rattle.server_core.specs.declared.event.Step.TheVariants as made
 use Rattle.server_core.specs.Steps as replies
 use Rattle.server_core.proofs.TakeStep.{IsTicket, ticket, still_waits, job_window}
@@ -34,9 +34,9 @@ rewritten_twice known n k a b e = rewritten-found (λ x. b) n (rewritten (λ x. 
     ∙ sym (rewritten-found (λ x. b) n known k e)
 
 idle_settled : (known : List Known) (n : ℕ) (k done : Known) → IsIdle known → numbered n known ≡ Some k → is_given done ≡ false
-    → IsIdle (rewritten (λ x. done) n (rewritten (λ x. Given) n known))
+    → IsIdle (rewritten (λ x. done) n (rewritten (λ x. Pending) n known))
 idle_settled known n k done idle e d =
-    rw (rewritten_twice known n k Given done e) (all_rewritten (λ x. is_given x ≡ false) known idle (λ x. done) n (λ x q. d))
+    rw (rewritten_twice known n k Pending done e) (all_rewritten (λ x. is_given x ≡ false) known idle (λ x. done) n (λ x q. d))
 
 -- each candidate of an uplink's job is on a gateway that heard it
 copies_heard : (ids : List ℕ) (l : List Gathering) (n : ℕ) (o : Option Gathering) → numbered n l ≡ o → AreHeard ids l
@@ -50,7 +50,7 @@ job_here ids reg n asked device h k c e =
     let x = job_window reg n asked device k c e in
     ap (is_among ids) x.gateway ∙ copies_heard ids reg.gathered.list n (numbered n reg.gathered.list) refl h x.copy x.heard
 
-module _ {A : Type 0} (place n : ℕ) (old mid : Seen A) (noted : mid ≡ with_step (made.Take n) old) (ready : IsReady old) where
+module _ {A : Type 0} (place n : ℕ) (old mid : Seen A) (noted : mid ≡ with_step (made.Take n) old) (ready : IsBetweenCalls old) where
   mid_desk : mid.desk ≡ old.desk
   mid_desk = rw noted refl
 
@@ -91,7 +91,7 @@ module _ {A : Type 0} (place n : ℕ) (old mid : Seen A) (noted : mid ≡ with_s
           first = first;
           here = taken_here;
           books = taken_books;
-          given = rw (d_is, number) (numbered-here (λ x. Given) n old.desk.known taken.state stated);
+          given = rw (d_is, number) (numbered-here (λ x. Pending) n old.desk.known taken.state stated);
         }
 
     module _ (new : Seen A) (a : IsAnswered place t.job out new) where
@@ -103,7 +103,7 @@ module _ {A : Type 0} (place n : ℕ) (old mid : Seen A) (noted : mid ≡ with_s
           (settled_gathered (has_carried a.ending) _ (taken_from (numbered n old.desk.reg.asked) old.desk.reg)
           ∙ taken_gathered (numbered n old.desk.reg.asked) old.desk.reg)
 
-      answer_ready : IsReady new
+      answer_ready : IsBetweenCalls new
       answer_ready =
           let ids : new.desk.ids ≡ old.desk.ids = rw new_desk refl in
           record {
@@ -147,7 +147,7 @@ module _ {A : Type 0} (place n : ℕ) (old mid : Seen A) (noted : mid ≡ with_s
             (rw is_taken refl)) (rw rest_is at (a.goes v at_out stands))
 
       pub answer_done : record {
-        ready : IsReady new;
+        ready : IsBetweenCalls new;
         gathered : new.desk.reg.gathered ≡ old.desk.reg.gathered;
         made : Makes place (λ w. answer_steps w n) old new;
       }

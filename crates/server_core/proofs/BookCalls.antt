@@ -7,7 +7,7 @@ use Rattle.server_core.proofs.Words.{orderly_cancelled, remembers_cancel, rememb
 use Rattle.server_core.proofs.Words.{NotHere, numbered, Answer, Booked, Open, Out, Settled, Waiting, is_given, known_of}
 use Rattle.server_core.proofs.Words.{numbered-map, from_map, map_set, some_inj, next_place, kept_by, Gateway, World, gateway_with}
 use Rattle.server_core.proofs.Words.{known, found_there, Known, Sent, gateway_of, lines_for, AreBooksOf, IsAt, IsBookOf}
-use Rattle.server_core.proofs.Words.{IsCancelled, IsIdle, IsReady, Seen, cancelled_line, ids_of, is_among, with_lines, with_step}
+use Rattle.server_core.proofs.Words.{IsCancelled, IsIdle, IsBetweenCalls, Seen, cancelled_line, ids_of, is_among, with_lines, with_step}
 use Rattle.server_core.proofs.Words.{Cancel, Tick, cancel_at, cancel_of, cancel_sent, sent_for, Line, step}
 use Rattle.server_core.specs.declared.event.Step.TheVariants as made
 use Rattle.server_core.specs.Steps as replies
@@ -124,7 +124,7 @@ has_place id (b ∷ v) a f =
     among_by (b.id == id) (is_among (ids_of v) id) (gateway_of b) (gateway_with id (map gateway_of v)) a f (has_place id v)
 
 module _ {A : Type 0} (place : ℕ) (old mid new : Seen A) (gateway now : ℕ) (noted : mid ≡ with_step (made.Tick gateway now) old)
-    (ready : IsReady old) where
+    (ready : IsBetweenCalls old) where
   -- at no gateway
   pub not_ticked : None ≡ place_of gateway mid.books → new ≡ with_lines place (says.NotTicked ∷ []) mid
       → IsDone place (Tick gateway now) old new
@@ -186,7 +186,7 @@ cancel_is w n idle = cancel_by w n (numbered n w.answers) (λ a e. idle n (known
     (numbered-map known_of n w.answers ∙ ap (option_map known_of) e))
     ∙ ap (λ (o : Option Known). cancel_sent w n (kept_by o)) (sym (numbered-map known_of n w.answers))
 
-module _ {A : Type 0} (n : ℕ) (old new : Seen A) (ready : IsReady old) where
+module _ {A : Type 0} (n : ℕ) (old new : Seen A) (ready : IsBetweenCalls old) where
   -- what the desk knows is what the world's answer keeps
   cancel_at_world : (w : World) → IsAt w old → step w (Cancel n) ≡ cancel_sent w n (kept_by (numbered n old.desk.known))
   cancel_at_world w at = rw at.desk (cancel_is w n (rw at.desk at ready.idle))
@@ -267,7 +267,7 @@ module _ {A : Type 0} (n : ℕ) (old new : Seen A) (ready : IsReady old) where
 
 pub cancel_done : {A : Type 0} (place n : ℕ) (old mid next new : Seen A) (result : Result ℕ CancelFault) (line : Line A)
     → mid ≡ with_step (made.Cancel n) old → IsCancelled n mid next result
-    → line ≡ cancelled_line n result → IsReady old → new ≡ with_lines place (line ∷ []) next → IsDone place (Cancel n) old new
+    → line ≡ cancelled_line n result → IsBetweenCalls old → new ≡ with_lines place (line ∷ []) next → IsDone place (Cancel n) old new
 cancel_done {A} place n old mid next new result line noted c said ready told =
     done place (Cancel n) (made.Cancel n) line old mid next new refl noted
     (record {

@@ -3,7 +3,7 @@ use Rattle.server_core.proofs.Words.{ap, append-nil, append_assoc, sym, ◌∙�
 use Rattle.server_core.proofs.Words.{None, Ok, OnErr, OnOk, Option, Result, Some, [], map, refl, ℕ, ◌++◌, ◌∷◌, ◌≡◌, ◌≢◌, Payload}
 use Rattle.server_core.proofs.Words.{DeskView, desk_hear, desk_of, desk_queue, known_after, Decision, Join, Refuse, answer_to}
 use Rattle.server_core.proofs.Words.{copy_of, Device, Register, device_with, World, after_queueing, queue_answer, DeskFault}
-use Rattle.server_core.proofs.Words.{QueueFault, Heard1, entry_at, lines_for, reached, step_of, AreHeard, IsAt, IsIdle, IsReady}
+use Rattle.server_core.proofs.Words.{QueueFault, Heard1, entry_at, lines_for, reached, step_of, AreHeard, IsAt, IsIdle, IsBetweenCalls}
 use Rattle.server_core.proofs.Words.{Makes, Moves, Seen, heard_line, queued_line, with_lines, with_step, Hear, Heard, Queue}
 use Rattle.server_core.proofs.Words.{Queued, Reply, Step, Line, decide, step_lines, run_from, step}
 use Rattle.server_core.specs.declared.event.Step.{Step as Made}
@@ -66,22 +66,22 @@ one_step {A} place w s made lines old new f at t o l =
 
 -- what an event that is one step leaves
 abbrev pub IsDone : {A : Type 0} → ℕ → Step → Seen A → Seen A → Type 0
-IsDone place s old new = record { ready : IsReady new; made : Makes place (λ w. s ∷ []) old new }
+IsDone place s old new = record { ready : IsBetweenCalls new; made : Makes place (λ w. s ∷ []) old new }
 
 -- what the call itself does, between the step's note and its line
 pub record IsMade {A : Type 0} (s : Step) (line : Line A) (mid next : Seen A) : Type 0 where
   pub steps : next.steps ≡ mid.steps
   pub outcomes : next.outcomes ≡ mid.outcomes
-  pub ready : IsReady mid → IsReady next
+  pub ready : IsBetweenCalls mid → IsBetweenCalls next
   pub at : (w : World) → IsAt w mid → IsAt (step w s).0 next
   pub lines : (w : World) → IsAt w mid → lines_for w s (step w s).1 ≡ line ∷ []
 
 -- a note leaves it ready
-pub ready_noted : {A : Type 0} (made : Made A) (old mid : Seen A) → mid ≡ with_step made old → IsReady old → IsReady mid
+pub ready_noted : {A : Type 0} (made : Made A) (old mid : Seen A) → mid ≡ with_step made old → IsBetweenCalls old → IsBetweenCalls mid
 ready_noted made old mid noted r = rw noted r
 
 pub done : {A : Type 0} (place : ℕ) (s : Step) (made : Made A) (line : Line A) (old mid next new : Seen A) → step_of made ≡ s
-    → mid ≡ with_step made old → IsMade s line mid next → new ≡ with_lines place (line ∷ []) next → IsReady old
+    → mid ≡ with_step made old → IsMade s line mid next → new ≡ with_lines place (line ∷ []) next → IsBetweenCalls old
     → IsDone place s old new
 done {A} place s made line old mid next new same noted call told ready =
     record {
@@ -124,7 +124,7 @@ pub call_done : {A X E : Type 0} {s : Step} {q : DeskView → Result X E} {after
     {reply : Result X E → Reply} {say : Result X E → Line A} (none : E) (place : ℕ) (made : Made A) (old mid new : Seen A)
     (r : Result X E) (d : DeskView) (line : Line A) → IsDeskStep s q after reply say → step_of made ≡ s
     → mid ≡ with_step made old → IsCall none (q mid.desk) mid.desk (after mid.desk) r d → r ≢ Err none → line ≡ say r
-    → IsReady old → new ≡ with_lines place (line ∷ []) (record mid { desk = d }) → IsDone place s old new
+    → IsBetweenCalls old → new ≡ with_lines place (line ∷ []) (record mid { desk = d }) → IsDone place s old new
 call_done {A} {X} {E} {s} {q} {after} {reply} {say} none place made old mid new r d line is same noted call memory said ready told =
     let o = outcome none (q mid.desk) r mid.desk (after mid.desk) d call (is.refusal mid.desk) memory in
     done place s made line old mid (record mid { desk = d }) new same noted

@@ -11,7 +11,7 @@ use Rattle.server_core.proofs.Words.{Known, Done, Sent, TakeFault, After, answer
 use Rattle.server_core.proofs.Words.{cancel_sent, ending_of, refused, sent_by, sent_for, settle, settle_as, settle_of, take_by}
 use Rattle.server_core.proofs.Words.{terms, tick, tick_at, tried_by, try, try_candidate, try_of, try_on, DeskCallsAreSteps, told}
 use Rattle.server_core.proofs.Words.{decide, take_answer, step}
-use Rattle.server_desk.specs.declared.answers.Known.TheVariants.{Given}
+use Rattle.server_desk.specs.declared.answers.Known.TheVariants.{Pending}
 use Rattle.server_core.specs.Steps as replies
 use Rattle.server_desk.specs.Hearing as hearing
 use Rattle.server_core.proofs.Members.{equal_where_tested}
@@ -75,7 +75,7 @@ hear_known (hearing.Open o) answers = map-append known_of answers (Waiting ∷ [
 take_desk : (w : World) (n : ℕ) (r : Result Job TakeFault) → desk_of (take_by w n r).0 ≡ desk_taken r n (desk_of w)
 take_desk w n (Err fault) = refl
 take_desk w n (Ok job) = ap (λ (l : List Known). record { ids = ids w; reg = after_taking (Ok job) n w.reg; known = l })
-    (map-rewritten known_of (λ a. Open 0 job) (λ k. Given) (λ x. refl) n w.answers)
+    (map-rewritten known_of (λ a. Open 0 job) (λ k. Pending) (λ x. refl) n w.answers)
 
 settle_as_desk : (w : World) (n : ℕ) (ending : Ending) → desk_of (settle_as w n (Some ending)).0
     ≡ desk_settled ending n (desk_of w)
@@ -109,7 +109,7 @@ same_ids : (w : World) (i : ℕ) (g : Gateway) (s : State) → slice_get w.gatew
     → map (λ g. g.id) (slice_set w.gateways i (record g { state = s })) ≡ map (λ g. g.id) w.gateways
 same_ids w i g s e = map_set (λ g. g.id) w.gateways i g (record g { state = s }) e refl
 
-refused_known : (k : ℕ) (job : Job) (refusal : Refusal) (o : Option Candidate) → known_of (refused k job refusal o) ≡ Given
+refused_known : (k : ℕ) (job : Job) (refusal : Refusal) (o : Option Candidate) → known_of (refused k job refusal o) ≡ Pending
 refused_known k job refusal None = refl
 refused_known k job refusal (Some c) = refl
 

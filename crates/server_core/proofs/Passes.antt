@@ -3,7 +3,7 @@ use Rattle.server_core.proofs.Words.{ap, append-nil, arith, sym, ◌∙◌, posi
 use Rattle.server_core.proofs.Words.{if◌then◌else◌, length, nat_lt, refl, slice_get, slice_set, suc, true, ℕ, ◌&&◌, ◌++◌, ◌+◌}
 use Rattle.server_core.proofs.Words.{◌<◌, ◌∷◌, ◌≡◌, Gathering, Gatherings, close_step, is_due, is_open, join_us, DeskView}
 use Rattle.server_core.proofs.Words.{desk_pass, World, closing, pass_answer, answer_steps, closing_steps, due_from, due_numbers}
-use Rattle.server_core.proofs.Words.{reached, IsAt, IsReady, Makes, Moves, Seen, pass_whole, with_step, Pass, due_of, pass_steps}
+use Rattle.server_core.proofs.Words.{reached, IsAt, IsBetweenCalls, Makes, Moves, Seen, pass_whole, with_step, Pass, due_of, pass_steps}
 use Rattle.server_core.proofs.Words.{run_from, step}
 use Rattle.server_core.specs.declared.event.Step.TheVariants as made
 use Rattle.server_core.proofs.{Calls.one_step, Calls.moves_on, Ready.heard_closed}
@@ -92,10 +92,10 @@ pub record IsPassing {A : Type 0} (place now : ℕ) (w : World) (old s : Seen A)
   pub back : (new : Seen A) → Moves place world (pass_whole world now) s new → Moves place w (pass_whole w now) old new
 
 pub record ArePassing {A : Type 0} (place now : ℕ) (old s : Seen A) : Type 0 where
-  pub ready : IsReady s
+  pub ready : IsBetweenCalls s
   pub passing : (w : World) → IsAt w old → IsPassing place now w old s
 
-pub passing_first : {A : Type 0} (place now : ℕ) (s : Seen A) → IsReady s → ArePassing place now s s
+pub passing_first : {A : Type 0} (place now : ℕ) (s : Seen A) → IsBetweenCalls s → ArePassing place now s s
 passing_first place now s r = record { ready = r; passing = λ w at. record { world = w; at = at; back = λ new g. g } }
 
 -- time passes at the desk, once
@@ -116,11 +116,11 @@ module _ {A : Type 0} (place now n : ℕ) (old s mid : Seen A) (d : DeskView) (c
   due_is : due_now now s.desk ≡ n ∷ due_now now mid.desk
   due_is = due_some now s.desk.reg.gathered n (sym closed) ∙ rw (noted, d_is) refl
 
-  pub closed_ready : IsReady s → IsReady mid
+  pub closed_ready : IsBetweenCalls s → IsBetweenCalls mid
   closed_ready r = rw (noted, d_is) (assumption (heard_closed s.desk.ids s.desk.reg.gathered n r.heard, r))
 
   -- and answered
-  module _ (next : Seen A) (ready : IsReady next) (same : next.desk.reg.gathered ≡ mid.desk.reg.gathered)
+  module _ (next : Seen A) (ready : IsBetweenCalls next) (same : next.desk.reg.gathered ≡ mid.desk.reg.gathered)
       (answers : Makes place (λ w. answer_steps w n) mid next) where
     -- fewer are due
     pub fewer_due : length (due_now now next.desk) < length (due_now now s.desk)
@@ -170,7 +170,7 @@ module _ {A : Type 0} (place now : ℕ) (old s new : Seen A) (d : DeskView) (non
       rw due refl
 
   pub passed_done : ArePassing place now old s → new ≡ with_step (made.Pass now) (record s { desk = d })
-      → record { ready : IsReady new; made : Makes place (λ w. pass_whole w now) old new }
+      → record { ready : IsBetweenCalls new; made : Makes place (λ w. pass_whole w now) old new }
   passed_done p noted =
       let same_desk : d ≡ s.desk = rw (stepped, ← none) refl in
       record {

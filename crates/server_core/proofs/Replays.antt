@@ -3,7 +3,7 @@ use Rattle.server_core.proofs.Words.{ap, append-nil, append_assoc, arith, ◌∙
 use Rattle.server_core.proofs.Words.{get_or, length, map, refl, suc, ℕ, ◌++◌, ◌+◌, ◌<◌, ◌∷◌, ◌≡◌, ◌≤◌, Book, orderly_nil}
 use Rattle.server_core.proofs.Words.{remembers_own, desk_of, Gateway, World, opened_gateway, opening, AreSettings, SettingLists}
 use Rattle.server_core.proofs.Words.{GatewaySetting, entries, gateway_of, gateways_after, kept_gateway, reached, schedule}
-use Rattle.server_core.proofs.Words.{step_of, usual_limits, AreBooksOf, Does, IsAt, IsOpened, IsReady, Seen, ids_of, with_lines}
+use Rattle.server_core.proofs.Words.{step_of, usual_limits, AreBooksOf, Does, IsAt, IsOpened, IsBetweenCalls, Seen, ids_of, with_lines}
 use Rattle.server_core.proofs.Words.{Step, Event, event_steps, schedule_from, entries_from, run_from}
 use Rattle.server_core.specs.declared.event.Event.TheVariants as events
 use Rattle.server_core.specs.declared.entry.Line.TheVariants as says
@@ -52,7 +52,7 @@ bad_told place line e old new is told =
 pub record IsReplaying {A : Type 0} (settings : SettingLists) (es : List (Event A)) (i : ℕ) (s : Seen A) : Type 0 where
   pub world : World
   pub at : IsAt world s
-  pub ready : IsReady s
+  pub ready : IsBetweenCalls s
   pub run : world ≡ reached (opening settings usual_limits) (map step_of s.steps)
   pub steps : map step_of s.steps ++ schedule_from world (drop i es) ≡ schedule settings es
   pub outcomes : s.outcomes ++ entries_from i world (drop i es) ≡ entries settings es
@@ -72,7 +72,7 @@ replaying_first settings es s o =
 
 module _ {A : Type 0} (settings : SettingLists) (es : List (Event A)) (i : ℕ) (e : Event A) (s new : Seen A)
     (within : i < length es) (event : e ≡ get_or es i e)
-    (does : Does i e s new) (ready : IsReady new) where
+    (does : Does i e s new) (ready : IsBetweenCalls new) where
   rest : drop i es ≡ e ∷ drop (i + 1) es
   rest =
       let next : suc i ≡ i + 1 = omega arith in

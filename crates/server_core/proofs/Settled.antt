@@ -3,8 +3,8 @@ use Rattle.server_core.proofs.Words.{ap, append-nil, append_assoc, arith, sym, �
 use Rattle.server_core.proofs.Words.{Ok, Option, Some, [], length, map, refl, slice_get, ℕ, ◌++◌, ◌+◌, ◌-◌, ◌<◌, ◌∷◌, ◌≡◌}
 use Rattle.server_core.proofs.Words.{numbered, Candidate, candidates, next_of, Standing, candidate_of, Ending, Open, desk_of}
 use Rattle.server_core.proofs.Words.{desk_settled, may_settle, World, given_steps, reached, AreHere, IsAt, Moves, Seen, ids_of}
-use Rattle.server_core.proofs.Words.{Settle, Try, settle, AreTries, EndsTries, GoesOn, IsAnswered, IsGivenTo, IsNext, IsOut}
-use Rattle.server_core.proofs.Words.{IsSame, IsSettled, end_lines, tries_from, Ended, step_lines, run_from, step}
+use Rattle.server_core.proofs.Words.{Settle, Try, settle, AreTries, EndsTries, GoesOn, IsAnswered, IsGivenTo, MovesOn, HasTicketOut}
+use Rattle.server_core.proofs.Words.{IsSame, IsSettled, end_lines, tries_from, TriedOut, step_lines, run_from, step}
 use Rattle.server_core.specs.Steps as replies
 use Rattle.server_core.proofs.Calls.{reached_append, lines_append}
 use Rattle.server_core.proofs.DeskSteps.{settle_walk, settle_desk, desk_calls_are_steps}
@@ -15,7 +15,7 @@ same_trans : {A : Type 0} (s t u : Seen A) → IsSame s t → IsSame t u → IsS
 same_trans s t u a b = record { desk = b.desk ∙ a.desk; ids = b.ids ∙ a.ids; outcomes = b.outcomes ∙ a.outcomes }
 
 -- a refused try, and then the others
-tries_on : {A : Type 0} (w : World) (t : Standing) (old mid new : Seen A) (ended : Ended A) → GoesOn w t old mid
+tries_on : {A : Type 0} (w : World) (t : Standing) (old mid new : Seen A) (ended : TriedOut A) → GoesOn w t old mid
     → EndsTries (step w (Try t.job.number)).0 (next_of t) mid new ended → EndsTries w t old new ended
 unfolding run_from step_lines
 tries_on w t old mid new ended g e =
@@ -29,13 +29,13 @@ tries_on w t old mid new ended g e =
 -- where the tries of a ticket got to: what ends them from here ends them from their beginning
 pub record IsTrying {A : Type 0} (w : World) (first t : Standing) (old now : Seen A) : Type 0 where
   pub world : World
-  pub out : IsOut world t now
-  pub back : (new : Seen A) (ended : Ended A) → EndsTries world t now new ended → EndsTries w first old new ended
+  pub out : HasTicketOut world t now
+  pub back : (new : Seen A) (ended : TriedOut A) → EndsTries world t now new ended → EndsTries w first old new ended
 
 pub record AreTrying {A : Type 0} (first t : Standing) (old now : Seen A) : Type 0 where
   pub same : IsSame old now
   pub job : t.job ≡ first.job
-  pub trying : (w : World) → IsOut w first old → IsTrying w first t old now
+  pub trying : (w : World) → HasTicketOut w first old → IsTrying w first t old now
 
 pub trying_first : {A : Type 0} (t : Standing) (s : Seen A) → AreTrying t t s s
 trying_first t s =
@@ -50,7 +50,7 @@ pub here_still : {A : Type 0} (first t : Standing) (old now : Seen A) → AreTry
 here_still first t old now a h = rw (a.same.ids, a.job) h
 
 pub trying_next : {A : Type 0} (first t next : Standing) (old now mid : Seen A) → AreTrying first t old now
-    → IsNext t now mid next → AreTrying first next old mid
+    → MovesOn t now mid next → AreTrying first next old mid
 trying_next first t next old now mid a n =
     rw n.moved (record {
       same = same_trans old now mid a.same n.same;
@@ -70,13 +70,13 @@ some_within : {X : Type 0} (xs : List X) (k : ℕ) (o : Option X) → slice_get 
 some_within xs k None e s = absurd (cc (s))
 some_within xs k (Some x) e s = slice_get_within xs k x e
 
-pub fewer_left : {A : Type 0} (t next : Standing) (now mid : Seen A) → IsNext t now mid next
+pub fewer_left : {A : Type 0} (t next : Standing) (now mid : Seen A) → MovesOn t now mid next
     → length (candidates next.job) - next.at < length (candidates t.job) - t.at
 fewer_left t next now mid n =
     let within = some_within (candidates t.job) (t.at + 1) (candidate_of (next_of t)) refl n.follows in
     rw n.moved (omega arith)
 
-pub tries_over : {A : Type 0} (first t : Standing) (old now new : Seen A) (ended : Ended A) → AreTrying first t old now
+pub tries_over : {A : Type 0} (first t : Standing) (old now new : Seen A) (ended : TriedOut A) → AreTrying first t old now
     → AreTries t now new ended → AreTries first old new ended
 tries_over first t old now new ended a e =
     record {
@@ -99,13 +99,13 @@ settle_gateways : (w : World) (n : ℕ) → (settle w n).0.gateways ≡ w.gatewa
 settle_gateways w n = settle_walk w (λ a. a.0.gateways ≡ w.gateways) n (λ e. refl) (λ answer ending q g e. refl)
 
 -- what is left of a ticket that is out may be settled
-pub may_settle_tried : {A : Type 0} (t : Standing) (old mid : Seen A) (ended : Ended A) → AreTries t old mid ended
+pub may_settle_tried : {A : Type 0} (t : Standing) (old mid : Seen A) (ended : TriedOut A) → AreTries t old mid ended
     → ids_of old.books ≡ old.desk.ids → IsGivenTo old.desk.known t.job.number
     → IsTrue (may_settle mid.desk.ids mid.desk.known ended.stub.number ended.stub.result)
 may_settle_tried t old mid ended tried b g = rw (tried.same.desk, tried.number, g) (rw b at tried.here)
 
 -- what the tries and the settling of a ticket make
-module _ {A : Type 0} (place : ℕ) (t : Standing) (old mid new : Seen A) (ended : Ended A) (first : t.at ≡ 0)
+module _ {A : Type 0} (place : ℕ) (t : Standing) (old mid new : Seen A) (ended : TriedOut A) (first : t.at ≡ 0)
     (tried : AreTries t old mid ended) (settled : IsSettled place ended mid new) where
   abbrev n : ℕ
   n = t.job.number

@@ -7,7 +7,7 @@ use Rattle.server_core.proofs.Words.{is_not_given, known_of, numbered-here, all_
 use Rattle.server_core.proofs.Words.{Register, given_or, job_of, take_fault, take_known, with_counter_given, World, known}
 use Rattle.server_core.proofs.Words.{AreSettings, SettingLists, Asked, Known, TakeFault, NotReady, Taken, take, take_by}
 use Rattle.server_core.proofs.Words.{take_answer}
-use Rattle.server_desk.specs.Taking.{take_by as take_asked}
+use Rattle.server_desk.specs.Taking.{take_asked}
 use Rattle.server_core.proofs.Holds.{IsJobAt, Holds, IsGivenAt, IsGood, IsGoodStep, IsNew, IsUsed, Holds-weaker, has_now}
 use Rattle.server_core.proofs.Holds.{unchanged, both_good, device_setting, one_device}
 use Rattle.server_core.proofs.Written.{with_device, device_written, with_answer, answer_written}

@@ -7,7 +7,7 @@ use Rattle.server_core.proofs.Words.{IsBooked, IsReceipt, IsWrong, next_of, refu
 use Rattle.server_core.proofs.Words.{Unanswered, Outcome, Receipt, Answer, Booked, Open, numbered-here, map_set, some_inj}
 use Rattle.server_core.proofs.Words.{Gateway, World, gateway_with, is_accepted, is_none, step_of, up_to_first, AreBooksOf}
 use Rattle.server_core.proofs.Words.{AreHere, IsBookOf, Seen, ids_of, with_step, Try, refused, sent_by, terms, tried_by, AreTries}
-use Rattle.server_core.proofs.Words.{EndsTries, GoesOn, IsNext, IsOut, IsSame, tries_from, step_lines, run_from, step}
+use Rattle.server_core.proofs.Words.{EndsTries, GoesOn, MovesOn, HasTicketOut, IsSame, tries_from, step_lines, run_from, step}
 use Rattle.answer_ticket.specs.Tried.{IsNext as IsRefused, IsOut as IsRefusedLast}
 use Rattle.server_core.specs.declared.event.Step.TheVariants as made
 use Rattle.server_core.proofs.BookCalls.{IsFound, IsFoundIn, place_of, book_found, gateway_found, zip_set, zip_same, has_place}
@@ -74,7 +74,7 @@ module _ {A : Type 0} (t : Standing) (old mid : Seen A) (gateway i : ℕ) (book 
   steps_noted : map step_of mid.steps ≡ map step_of old.steps ++ Try n ∷ []
   steps_noted = rw noted (map-append step_of old.steps (made.Try n ∷ []))
 
-  module _ (c : Candidate) (at : candidate_of t ≡ Some c) (asked : book.id ≡ c.gateway) (w : World) (out : IsOut w t old) where
+  module _ (c : Candidate) (at : candidate_of t ≡ Some c) (asked : book.id ≡ c.gateway) (w : World) (out : HasTicketOut w t old) where
     mid_books : AreBooksOf mid.books w.gateways
     mid_books = rw noted out.books
 
@@ -164,7 +164,7 @@ module _ {A : Type 0} (t : Standing) (old mid : Seen A) (gateway i : ℕ) (book 
       x.2.other (b.own ∙ some_inj (sym own ∙ ap (option_map (λ (c : Candidate). c.gateway)) x.1))
 
   pub next_turn : (ticket : Standing) (refusal : Refusal) → IsSomeAnd (candidate_of t)
-      (λ c. IsRefused t c book after ticket refusal) → IsNext t old (new after) ticket
+      (λ c. IsRefused t c book after ticket refusal) → MovesOn t old (new after) ticket
   next_turn ticket refusal h =
       let x = some_and (λ c. IsRefused t c book after ticket refusal) (candidate_of t) h in
       let e = x.2 in

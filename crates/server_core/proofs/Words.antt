@@ -38,7 +38,7 @@ pub use Rattle.answer_ticket.specs.Job.{Job, Payload, ask_for, candidate_at, can
 pub use Rattle.answer_ticket.specs.Tried.{IsBooked, IsReceipt, IsWrong, next_of, refusal_by}
 pub use Rattle.answer_ticket.specs.{Ended.answered_as, Ticket.Standing, Ticket.candidate_of, declared.outcome.Ending.Ending}
 pub use Rattle.answer_ticket.specs.{declared.outcome.Ending.TheVariants.Unanswered, declared.outcome.Outcome.Outcome}
-pub use Rattle.answer_ticket.specs.{declared.tried.Receipt.Receipt}
+pub use Rattle.answer_ticket.specs.{declared.tried.Receipt.Receipt, declared.tried.TriedOut.TriedOut}
 pub use Rattle.server_desk.specs.Airtime.{answer_airtime, answered_at, answered_in, known_airtime}
 pub use Rattle.server_desk.specs.Answers.{Answer, Booked, Open, Out, Settled, Waiting, is_given, is_not_given, known_of}
 pub use Rattle.server_desk.specs.Desk.{DeskView, desk_hear, desk_of, desk_pass, desk_queue, desk_settled, desk_take, desk_taken}
@@ -52,9 +52,9 @@ pub use Rattle.server_desk.specs.Settling.{after_settling, delivered, has_carrie
 pub use Rattle.server_desk.specs.Taking.{after_taking, given_or, job_of, plan_for, take_fault, take_known, taken_from}
 pub use Rattle.server_desk.specs.World.{Gateway, World, gateway_with, ids, known, opened_gateway, opening}
 pub use Rattle.server_desk.specs.Queueing.{after_queueing, queue_answer, with_payload}
-pub use Rattle.server_desk.specs.{Desk.known_after, Hearing.decide_frame, Hearing.register_after, Places.map_there}
-pub use Rattle.server_desk.specs.{Places.some_inj, Settling.sent_of, Settling.without_head, Taking.with_counter_given}
-pub use Rattle.server_desk.specs.{Decided.IsDecided, Decided.decided, Found.found_there, Passing.closing, Passing.pass_answer}
+pub use Rattle.server_desk.proofs.{Places.map_there, Places.some_inj, Places.found_there, Decided.IsDecided, Decided.decided}
+pub use Rattle.server_desk.specs.{Desk.known_after, Hearing.decide_frame, Hearing.register_after, Settling.sent_of}
+pub use Rattle.server_desk.specs.{Settling.without_head, Taking.with_counter_given, Passing.closing, Passing.pass_answer}
 pub use Rattle.server_desk.specs.{Settings.AreSettings, Settings.SettingLists, declared.answers.Asked.Asked}
 pub use Rattle.server_desk.specs.{declared.answers.Known.Known, declared.answers.Known.TheVariants.Done}
 pub use Rattle.server_desk.specs.{declared.answers.Known.TheVariants.NotGiven, declared.answers.Sent.Sent}
@@ -69,15 +69,15 @@ pub use Rattle.server_core.specs.Promise.{jobs_given, setting_of, with_given}
 pub use Rattle.server_core.specs.Schedule.{answer_steps, closing_steps, due_from, due_numbers, given_steps, is_accepted, is_none}
 pub use Rattle.server_core.specs.Schedule.{reached, schedule, step_of, up_to_first, usual_limits}
 pub use Rattle.server_core.specs.Server.{AreBooksOf, AreHeard, AreHere, Does, HasHeard, IsAt, IsBookOf, IsCancelled, IsIdle}
-pub use Rattle.server_core.specs.Server.{IsOpened, IsReady, Makes, Moves, Seen, cancelled_line, heard_line, ids_of, is_among}
+pub use Rattle.server_core.specs.Server.{IsOpened, IsBetweenCalls, Makes, Moves, Seen, cancelled_line, heard_line, ids_of, is_among}
 pub use Rattle.server_core.specs.Server.{pass_whole, queued_line, seen, with_lines, with_step}
 pub use Rattle.server_core.specs.Steps.{After, Cancel, Given, Hear, Heard, Pass, Queue, Queued, Reply, Run, Settle, Step, Take}
 pub use Rattle.server_core.specs.Steps.{Tick, Try, answers_after, cancel, cancel_at, cancel_of, cancel_sent, ending_of, hear}
 pub use Rattle.server_core.specs.Steps.{hear_by, pass, queue, refused, run, sent_by, sent_for, settle, settle_as, settle_of, take}
 pub use Rattle.server_core.specs.Steps.{take_by, terms, tick, tick_at, tried_by, try, try_candidate, try_of, try_on}
-pub use Rattle.server_core.specs.Turns.{AreTries, EndsTries, GoesOn, IsAnswered, IsGivenTo, IsNext, IsOut, IsSame, IsSettled}
-pub use Rattle.server_core.specs.{Turns.end_lines, Turns.tries_from, DeskCalls.DeskCallsAreSteps, DeskCalls.told}
-pub use Rattle.server_core.specs.{declared.entry.Line.Line, declared.event.Event.Event, declared.trying.Ended.Ended}
+pub use Rattle.server_core.specs.Tries.{AreTries, EndsTries, GoesOn, IsAnswered, IsGivenTo, MovesOn, HasTicketOut, IsSame, IsSettled}
+pub use Rattle.server_core.specs.{Tries.end_lines, Tries.tries_from, DeskCalls.DeskCallsAreSteps, DeskCalls.told}
+pub use Rattle.server_core.specs.{declared.entry.Line.Line, declared.event.Event.Event}
 unfoldable pub use Rattle.resv_list.specs.Reservations.{net}
 unfoldable pub use Rattle.uplink_gather.specs.Gatherings.{due_of}
 unfoldable pub use Rattle.server_desk.specs.{Hearing.decide, Taking.take_answer}

@@ -7,7 +7,7 @@ use Rattle.server_desk.specs.declared.heard.Heard1.{Heard1}
 use Rattle.server_desk.specs.Queueing.{queue_answer}
 use Rattle.server_desk.specs.Hearing.{decide, answer_to}
 use Rattle.server_desk.specs.Passing.{pass_answer}
-use Rattle.server_desk.specs.declared.answers.Known.TheVariants.{Given}
+use Rattle.server_desk.specs.declared.answers.Known.TheVariants.{Pending}
 use Rattle.server_desk.specs.Taking.{take_answer}
 use Rattle.server_desk.specs.Settling.{is_here}
 use Rattle.server_desk.specs.Airtime.{answered_at, answered_in}

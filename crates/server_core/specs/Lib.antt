@@ -4,7 +4,7 @@ pub mod DeskCalls
 pub mod Schedule
 pub mod Entries
 pub mod Server
-pub mod Turns
+pub mod Tries
 pub use Rattle.radio_airtime.specs.DataRate
 pub use Rattle.radio_airtime.specs.TimeOnAir
 pub use Rattle.radio_airtime.specs.Bounds

@@ -114,14 +114,14 @@ pub record AreReady (d : DeskView) (bs : List Book) : Type 0 where
   pub idle : IsIdle d.known
 
 -- it is ready for an event
-abbrev pub IsReady : {A : Type 0} → Seen A → Type 0
-IsReady s = AreReady s.desk s.books
+abbrev pub IsBetweenCalls : {A : Type 0} → Seen A → Type 0
+IsBetweenCalls s = AreReady s.desk s.books
 
 -- it keeps what there is before the first step
 pub record IsOpened {A : Type 0} (settings : SettingLists) (s : Seen A) : Type 0 where
   pub are : AreSettings settings.gateways settings.devices
   pub at : IsAt (opening settings usual_limits) s
-  pub ready : IsReady s
+  pub ready : IsBetweenCalls s
   pub steps : s.steps ≡ []
   pub outcomes : s.outcomes ≡ []
 

@@ -3,14 +3,13 @@
 ghost use Rattle.std.specs.Prelude.{◌≡◌, OnOk, IsTrue};
 ghost use Rattle.server_desk.specs.Settling.{may_settle};
 ghost use Rattle.server_core.specs.Schedule.{answer_steps};
-ghost use Rattle.server_core.specs.Server.{seen, with_lines, Makes, AreHere, IsReady, ids_of};
-ghost use Rattle.server_core.specs.Turns.{end_lines, IsSettled, IsGivenTo, IsAnswered};
+ghost use Rattle.server_core.specs.Server.{seen, with_lines, Makes, AreHere, IsBetweenCalls, ids_of};
+ghost use Rattle.server_core.specs.Tries.{end_lines, IsSettled, IsGivenTo, IsAnswered};
 
 use crate::lines::not_taken_line;
 use crate::server::Server;
-use crate::trying::Ended;
 use crate::{Line, NoMemory, Step};
-use answer_ticket::{Ending, Outcome, Receipt, Ticket};
+use answer_ticket::{Ending, Outcome, Receipt, Ticket, TriedOut};
 use rx_windows::Candidate;
 use std::alloc::Allocator;
 use std::hash::BuildHasher;
@@ -19,8 +18,8 @@ impl<S: BuildHasher, A: Allocator + Copy> Server<S, A> {
     /// Asks for a ticket for the uplink with this number. If one is given, it is tried until it is booked or refused to
     /// the last, and settled.
     pub(crate) fn answer(&mut self, place: usize, number: u64) -> Result<(), NoMemory>
-        requires { IsReady (seen self.old) }
-        ensures ready { OnOk result (IsReady (seen self.new)) }
+        requires { IsBetweenCalls (seen self.old) }
+        ensures ready { OnOk result (IsBetweenCalls (seen self.new)) }
         ensures gathered { OnOk result (self.new.desk.reg.gathered ≡ self.old.desk.reg.gathered) }
         ensures made { OnOk result (Makes place (λ w. answer_steps w number) (seen self.old) (seen self.new)) }
     {
@@ -44,11 +43,11 @@ impl<S: BuildHasher, A: Allocator + Copy> Server<S, A> {
     }
 
     /// Settles what is left of a ticket, and tells how the answer ended.
-    fn settle(&mut self, place: usize, ended: Ended<A>) -> Result<(), NoMemory>
+    fn settle(&mut self, place: usize, ended: TriedOut<A>) -> Result<(), NoMemory>
         requires { IsTrue (may_settle self.old.desk.ids self.old.desk.known ended.stub.number ended.stub.result) }
         ensures { OnOk result (IsSettled place ended (seen self.old) (seen self.new)) }
     {
-        let Ended { stub, receipt } = ended;
+        let TriedOut { stub, receipt } = ended;
         match self.desk.settle(stub) {
             Ok(outcome) => {
                 self.did(Step::Settle {

@@ -2,7 +2,7 @@
 
 ghost use Rattle.std.specs.Prelude.{◌≡◌, ◌∷◌, [], OnOk};
 ghost use Rattle.server_core.specs.Steps.{Queue, Hear, Tick, Cancel};
-ghost use Rattle.server_core.specs.Server.{seen, Makes, IsReady, IsCancelled};
+ghost use Rattle.server_core.specs.Server.{seen, Makes, IsBetweenCalls, IsCancelled};
 
 use crate::books::place_of;
 use crate::lines::{cancelled_line, heard_line, queued_line};
@@ -22,8 +22,8 @@ impl<S: BuildHasher, A: Allocator + Copy> Server<S, A> {
         port: u8,
         payload: &[u8],
     ) -> Result<(), NoMemory>
-        requires { IsReady (seen self.old) }
-        ensures ready { OnOk result (IsReady (seen self.new)) }
+        requires { IsBetweenCalls (seen self.old) }
+        ensures ready { OnOk result (IsBetweenCalls (seen self.new)) }
         ensures made { OnOk result (Makes place (λ w. Queue addr (port, payload.now) ∷ []) (seen self.old) (seen self.new)) }
     {
         let copied = Vec::from_slice(*self.steps.allocator(), payload)?;
@@ -44,8 +44,8 @@ impl<S: BuildHasher, A: Allocator + Copy> Server<S, A> {
         heard: Heard1,
         arrived: u64,
     ) -> Result<(), NoMemory>
-        requires { IsReady (seen self.old) }
-        ensures ready { OnOk result (IsReady (seen self.new)) }
+        requires { IsBetweenCalls (seen self.old) }
+        ensures ready { OnOk result (IsBetweenCalls (seen self.new)) }
         ensures made { OnOk result (Makes place (λ w. Hear bytes.now heard arrived ∷ []) (seen self.old) (seen self.new)) }
     {
         let copied = Vec::from_slice(*self.steps.allocator(), bytes)?;
@@ -60,8 +60,8 @@ impl<S: BuildHasher, A: Allocator + Copy> Server<S, A> {
 
     /// Raises the floor of a gateway, and answers the event at this place.
     pub(crate) fn tick(&mut self, place: usize, gateway: u16, now: u64) -> Result<(), NoMemory>
-        requires { IsReady (seen self.old) }
-        ensures ready { OnOk result (IsReady (seen self.new)) }
+        requires { IsBetweenCalls (seen self.old) }
+        ensures ready { OnOk result (IsBetweenCalls (seen self.new)) }
         ensures made { OnOk result (Makes place (λ w. Tick gateway now ∷ []) (seen self.old) (seen self.new)) }
     {
         self.did(Step::Tick { gateway, now })?;
@@ -76,8 +76,8 @@ impl<S: BuildHasher, A: Allocator + Copy> Server<S, A> {
 
     /// Cancels what was booked for an uplink, and answers the event at this place.
     pub(crate) fn cancel(&mut self, place: usize, number: u64) -> Result<(), NoMemory>
-        requires { IsReady (seen self.old) }
-        ensures ready { OnOk result (IsReady (seen self.new)) }
+        requires { IsBetweenCalls (seen self.old) }
+        ensures ready { OnOk result (IsBetweenCalls (seen self.new)) }
         ensures made { OnOk result (Makes place (λ w. Cancel number ∷ []) (seen self.old) (seen self.new)) }
     {
         self.did(Step::Cancel { number })?;
@@ -87,7 +87,7 @@ impl<S: BuildHasher, A: Allocator + Copy> Server<S, A> {
 
     /// Takes what was booked for an uplink out of its gateway's book.
     fn cancelled(&mut self, number: u64) -> Result<u64, CancelFault>
-        requires { IsReady (seen self.old) }
+        requires { IsBetweenCalls (seen self.old) }
         ensures { IsCancelled number (seen self.old) (seen self.new) result }
     {
         let Some(sent) = self.desk.sent(number) else {

@@ -3,7 +3,7 @@
 ghost use Rattle.std.specs.Prelude.{◌≡◌, IfOk, OnOk, map};
 ghost use Rattle.server_core.specs.Schedule.{schedule, step_of};
 ghost use Rattle.server_core.specs.Entries.{entries, gateways_after, kept_gateway, gateway_of};
-ghost use Rattle.server_core.specs.Server.{seen, Does, Makes, IsReady, pass_whole};
+ghost use Rattle.server_core.specs.Server.{seen, Does, Makes, IsBetweenCalls, pass_whole};
 
 use crate::server::Server;
 use crate::{Event, Line, NoMemory, Replay, Settings, Step};
@@ -46,8 +46,8 @@ impl<S: BuildHasher, A: Allocator + Copy> Server<S, A> {
     /// Does what the event at this place asks for.
     #[tactic(auto, unfolding(crate::specs::Schedule::event_steps))]
     fn event(&mut self, place: usize, event: &Event<A>) -> Result<(), NoMemory>
-        requires { IsReady (seen self.old) }
-        ensures ready { OnOk result (IsReady (seen self.new)) }
+        requires { IsBetweenCalls (seen self.old) }
+        ensures ready { OnOk result (IsBetweenCalls (seen self.new)) }
         ensures done { OnOk result (Does place event.now (seen self.old) (seen self.new)) }
     {
         match event {
@@ -70,8 +70,8 @@ impl<S: BuildHasher, A: Allocator + Copy> Server<S, A> {
 
     /// Closes the gatherings that are due, the least number first, and answers each before it closes the next.
     fn pass(&mut self, place: usize, now: u64) -> Result<(), NoMemory>
-        requires { IsReady (seen self.old) }
-        ensures ready { OnOk result (IsReady (seen self.new)) }
+        requires { IsBetweenCalls (seen self.old) }
+        ensures ready { OnOk result (IsBetweenCalls (seen self.new)) }
         ensures made { OnOk result (Makes place (λ w. pass_whole w now) (seen self.old) (seen self.new)) }
     {
         while let Some(number) = self.desk.pass(now) {

@@ -2,49 +2,42 @@
 
 ghost use Rattle.std.specs.Prelude.{IfOk};
 ghost use Rattle.server_core.specs.Server.{seen, AreHere, ids_of};
-ghost use Rattle.server_core.specs.Turns.{AreTries, TurnIs};
+ghost use Rattle.server_core.specs.Tries.{AreTries, AttemptIs};
 
 use crate::books::place_of;
 use crate::server::Server;
 use crate::{NoMemory, Step};
-use answer_ticket::{Receipt, Stub, Ticket, Tried};
+use answer_ticket::{Stub, Ticket, Tried, TriedOut};
 use std::alloc::{AllocError, Allocator};
 use std::hash::BuildHasher;
 
-/// What is left of a ticket that was tried until it was booked or refused to the last, with the receipt where it was
-/// booked.
-pub(crate) struct Ended<A: Allocator> {
-    pub(crate) stub: Stub,
-    pub(crate) receipt: Option<Receipt<A>>,
-}
-
 /// What one try led to.
-pub(crate) enum Turn<A: Allocator> {
+pub(crate) enum Attempt<A: Allocator> {
     /// The ticket was booked, or refused to the last.
-    Over(Ended<A>),
+    Over(TriedOut<A>),
     /// It stands at its next candidate.
     On(Ticket<A>),
 }
 
 impl<S: BuildHasher, A: Allocator + Copy> Server<S, A> {
     /// Tries a ticket until it is booked or refused to the last.
-    pub(crate) fn tried(&mut self, ticket: Ticket<A>) -> Result<Ended<A>, NoMemory>
+    pub(crate) fn tried(&mut self, ticket: Ticket<A>) -> Result<TriedOut<A>, NoMemory>
         requires { AreHere (ids_of self.old.books.items) ticket.job }
         ensures { IfOk result (λ ended. AreTries ticket (seen self.old) (seen self.new) ended) }
     {
         let mut ticket = ticket;
         loop {
             match self.tried_once(ticket)? {
-                Turn::Over(ended) => return Ok(ended),
-                Turn::On(next) => ticket = next,
+                Attempt::Over(ended) => return Ok(ended),
+                Attempt::On(next) => ticket = next,
             }
         }
     }
 
     /// Asks the book of its gateway for the candidate at which a ticket stands.
-    fn tried_once(&mut self, ticket: Ticket<A>) -> Result<Turn<A>, NoMemory>
+    fn tried_once(&mut self, ticket: Ticket<A>) -> Result<Attempt<A>, NoMemory>
         requires { AreHere (ids_of self.old.books.items) ticket.job }
-        ensures { IfOk result (λ turn. TurnIs ticket (seen self.old) (seen self.new) turn) }
+        ensures { IfOk result (λ turn. AttemptIs ticket (seen self.old) (seen self.new) turn) }
     {
         let number = ticket.number();
         let Ok(()) = self.did(Step::Try { number }) else {
@@ -55,12 +48,12 @@ impl<S: BuildHasher, A: Allocator + Copy> Server<S, A> {
             unreachable!()
         };
         match ticket.try_on(&mut self.books[place]) {
-            Tried::Booked(stub, receipt) => Ok(Turn::Over(Ended {
+            Tried::Booked(stub, receipt) => Ok(Attempt::Over(TriedOut {
                 stub,
                 receipt: Some(receipt),
             })),
-            Tried::Next(ticket, _) => Ok(Turn::On(ticket)),
-            Tried::Out(stub, _) => Ok(Turn::Over(Ended {
+            Tried::Next(ticket, _) => Ok(Attempt::On(ticket)),
+            Tried::Out(stub, _) => Ok(Attempt::Over(TriedOut {
                 stub,
                 receipt: None,
             })),

@@ -1,6 +1,6 @@
 use Rattle.server_desk.proofs.Words.{ℕ, ◌≡◌, ◌-◌, Bool, true, false, List, [], ◌∷◌, ◌++◌, slice_set, if◌then◌else◌, Option, Some}
 use Rattle.server_desk.proofs.Words.{None, Result, Ok, Err, refl, arith, Limits, numbered, is_closed_at, Job, Heard1, TakeFault}
-use Rattle.server_desk.proofs.Words.{SettingLists, Register, Asked, Decision, Refuse, Join, Open, decide, Known, NotGiven, Given}
+use Rattle.server_desk.proofs.Words.{SettingLists, Register, Asked, Decision, Refuse, Join, Open, decide, Known, NotGiven, Pending}
 use Rattle.server_desk.proofs.Words.{Done, take_answer, take_known, answered_at, total_at, DeskView, total_of, desk_of, desk_hear}
 use Rattle.server_desk.proofs.Words.{desk_take, desk_taken, known_after}
 use Rattle.server_desk.specs.declared.faults.TakeFault.TheVariants.{NotReady}
@@ -38,7 +38,7 @@ waits_by reg known n job true None None e = absurd (cc)
 waits_by reg known n job true None (Some k) e = absurd (cc)
 waits_by reg known n job true (Some a) None e = absurd (cc)
 waits_by reg known n job true (Some a) (Some NotGiven) e = refl
-waits_by reg known n job true (Some a) (Some Given) e = absurd (cc)
+waits_by reg known n job true (Some a) (Some Pending) e = absurd (cc)
 waits_by reg known n job true (Some a) (Some (Done sent)) e = absurd (cc)
 
 waits : (reg : Register) (known : List Known) (n : ℕ) (job : Job) → take_answer reg known n ≡ Ok job
@@ -53,8 +53,8 @@ taken_by d n (Err fault) e = refl
 taken_by d n (Ok job) e =
     let found = waits d.reg d.known n job e in
     let at = at_number n d.known NotGiven found in
-    rw found (total_same d.known (slice_set d.known (n - 1) Given)
-    (λ id. omega (arith, answered_set id d.known (n - 1) NotGiven Given at)) d.ids)
+    rw found (total_same d.known (slice_set d.known (n - 1) Pending)
+    (λ id. omega (arith, answered_set id d.known (n - 1) NotGiven Pending at)) d.ids)
 
 pub total-take : (d : DeskView) (n : ℕ) → total_of (desk_take d n) ≡ total_of d
 total-take d n = taken_by d n (take_answer d.reg d.known n) refl

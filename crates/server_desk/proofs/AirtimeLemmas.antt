@@ -4,7 +4,7 @@ use Rattle.server_desk.proofs.Words.{◌∷◌, ◌++◌, map, length, slice_set
 use Rattle.server_desk.proofs.Words.{Err, refl, option_map, sym, ap, ◌∙◌, subst, arith, length-map, length-append, length-set}
 use Rattle.server_desk.proofs.Words.{All-nil, All-map, All-push, All-set, AllPairs-head, AllPairs-tail, longest_us}
 use Rattle.server_desk.proofs.Words.{IsWithinLongest, Ending, HeardCopy, HearFault, Heard, Opened, Joined, Gatherings}
-use Rattle.server_desk.proofs.Words.{after_hearing, GatewaySetting, Known, NotGiven, Given, Done, Sent, first_at, sent_of}
+use Rattle.server_desk.proofs.Words.{after_hearing, GatewaySetting, Known, NotGiven, Pending, Done, Sent, first_at, sent_of}
 use Rattle.server_desk.proofs.Words.{is_here, answered_at, total_at, answered_for, sent_airtime, airtime_of_ending, total_limit}
 use Rattle.server_desk.proofs.Words.{whole_airtime, AreAirtimes, raised, CanRaise, kept_by}
 use Rattle.server_desk.proofs.Numbers.{at_number}
@@ -27,7 +27,7 @@ module _ (ids airtimes : List ℕ) (limit : ℕ) (known : List Known) (i : AreAi
       ≡ map (λ id. answered_at id known + known_airtime id k) ids
   raised_by (Done (Some sent)) = (raises (λ id. answered_at id known) sent ids i.differ).0
   raised_by (Done None) = same_airtimes (λ id. answered_at id known) (λ id. answered_at id known + 0) (λ id. omega arith) ids
-  raised_by Given = same_airtimes (λ id. answered_at id known) (λ id. answered_at id known + 0) (λ id. omega arith) ids
+  raised_by Pending = same_airtimes (λ id. answered_at id known) (λ id. answered_at id known + 0) (λ id. omega arith) ids
   raised_by NotGiven = same_airtimes (λ id. answered_at id known) (λ id. answered_at id known + 0) (λ id. omega arith) ids
 
   -- where more is known, by what this adds

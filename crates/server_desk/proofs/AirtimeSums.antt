@@ -2,7 +2,7 @@
 use Rattle.server_desk.proofs.Words.{◌++◌, ℕ, zero, suc, ◌≡◌, ◌≢◌, ◌+◌, ◌*◌, ◌≤◌, ◌==◌, Bool, true, false, if◌then◌else◌, List}
 use Rattle.server_desk.proofs.Words.{[], ◌∷◌, map, length, slice_get, slice_set, get_or, All, AllPairs, Option, Some, None, refl}
 use Rattle.server_desk.proofs.Words.{ap, ◌∙◌, subst, arith, list_any, option_map, nat_tests, All-head, All-tail, AllPairs-head}
-use Rattle.server_desk.proofs.Words.{AllPairs-tail, longest_us, Known, NotGiven, Given, Done, Sent, own_airtime, known_airtime}
+use Rattle.server_desk.proofs.Words.{AllPairs-tail, longest_us, Known, NotGiven, Pending, Done, Sent, own_airtime, known_airtime}
 use Rattle.server_desk.proofs.Words.{answered_at, answered_for, total_at, total_limit, whole_airtime, AreAirtimes, raised_at}
 use Rattle.server_desk.proofs.Words.{raised, first_at, next_place}
 use Rattle.server_desk.proofs.Places.{some_inj}
@@ -102,7 +102,7 @@ module _ (f : ℕ → ℕ) (sent : Sent) where
 -- no gateway was on air for longer than all answers
 known_short : (id : ℕ) (k : Known) → known_airtime id k ≤ whole_airtime k
 known_short id NotGiven = omega arith
-known_short id Given = omega arith
+known_short id Pending = omega arith
 known_short id (Done None) = omega arith
 known_short id (Done (Some sent)) = grind (arith, nat_tests)
 
@@ -119,7 +119,7 @@ answered_short id (k ∷ known) a = omega (
 -- nor were they all
 one_short : (ids : List ℕ) (k : Known) → AllPairs (λ a b. a ≢ b) ids → total_at ids (k ∷ []) ≤ whole_airtime k
 one_short ids NotGiven d = omega (arith, total_none ids NotGiven (λ id. refl))
-one_short ids Given d = omega (arith, total_none ids Given (λ id. refl))
+one_short ids Pending d = omega (arith, total_none ids Pending (λ id. refl))
 one_short ids (Done None) d = omega (arith, total_none ids (Done None) (λ id. refl))
 one_short ids (Done (Some sent)) d = grind (arith, (raises (λ id. 0) sent ids d).1)
 

@@ -2,24 +2,24 @@
 use Rattle.server_desk.proofs.Words.{Register, ℕ, ◌≡◌, ◌==◌, ◌<◌, List, map, length, slice_get, slice_set, get_or, Option, Some}
 use Rattle.server_desk.proofs.Words.{None, Result, Ok, Err, IfOk, OnOk, OnErr, refl, option_map, sym, ap, ◌∙◌, arith}
 use Rattle.server_desk.proofs.Words.{slice_get_within, nat_tests, length-map, length-set, map-set, All-set, All-push, Payload}
-use Rattle.server_desk.proofs.Words.{Kept, Known, Device, Asked, device_with, Gatherings, shown, outs, IsSendable, IsServable}
+use Rattle.server_desk.proofs.Words.{KnownDevice, Known, Device, Asked, device_with, Gatherings, shown, outs, IsSendable, IsServable}
 use Rattle.server_desk.proofs.Words.{AreOut, IsDesk, DeskView, desk_queue, slice_get_read}
 use Rattle.server_desk.proofs.Places.{some_inj, all_get, map_set, map_there, found_there}
 use Rattle.server_desk.specs.declared.faults.QueueFault.{QueueFault}
 use Rattle.server_desk.specs.Queueing.{queue_fault, queued_or, with_payload}
 
 -- the desk's part of the world, by what it keeps, and what is true of it
-abbrev pub seen_reg : {A : Type 0} → List (Kept A) → Gatherings → List Asked → Register
+abbrev pub seen_reg : {A : Type 0} → List (KnownDevice A) → Gatherings → List Asked → Register
 seen_reg kepts gathered asked = record { devices = map shown kepts; gathered = gathered; asked = asked }
 
-abbrev pub seen : {A : Type 0} → List ℕ → List (Kept A) → Gatherings → List Asked → List Known → DeskView
+abbrev pub seen : {A : Type 0} → List ℕ → List (KnownDevice A) → Gatherings → List Asked → List Known → DeskView
 seen ids kepts gathered asked known = record { ids = ids; reg = seen_reg kepts gathered asked; known = known }
 
-abbrev pub Holds : {A : Type 0} → List ℕ → List (Kept A) → Gatherings → List Asked → List Known → Type 0
+abbrev pub Holds : {A : Type 0} → List ℕ → List (KnownDevice A) → Gatherings → List Asked → List Known → Type 0
 Holds keys kepts gathered asked known = IsDesk keys (outs kepts) (seen_reg kepts gathered asked) known
 
 -- the device that was found by its address, as it is kept
-module _ {A : Type 0} (kepts : List (Kept A)) (addr place : ℕ) where
+module _ {A : Type 0} (kepts : List (KnownDevice A)) (addr place : ℕ) where
   abbrev IsFound : Option (ℕ × Device) → Type 0
   IsFound o = Some place ≡ option_map (λ found. found.0) o
 
@@ -36,11 +36,11 @@ module _ {A : Type 0} (kepts : List (Kept A)) (addr place : ℕ) where
       let d = placed (device_with addr (map shown kepts)) refl p in
       omega (arith, slice_get_within (map shown kepts) place d.0 d.2, length-map kepts shown)
 
-  pub found_at : (k : Kept A) → k ≡ get_or kepts place k → IsFound (device_with addr (map shown kepts))
+  pub found_at : (k : KnownDevice A) → k ≡ get_or kepts place k → IsFound (device_with addr (map shown kepts))
       → slice_get kepts place ≡ Some k
   found_at k g p = slice_get_read kepts (length kepts) place k refl (found_within p) g
 
-  pub found_kept : (k : Kept A) → k ≡ get_or kepts place k → IsFound (device_with addr (map shown kepts))
+  pub found_kept : (k : KnownDevice A) → k ≡ get_or kepts place k → IsFound (device_with addr (map shown kepts))
       → device_with addr (map shown kepts) ≡ Some (place, shown k)
   found_kept k g p =
       let d = placed (device_with addr (map shown kepts)) refl p in
@@ -48,8 +48,8 @@ module _ {A : Type 0} (kepts : List (Kept A)) (addr place : ℕ) where
       rw same at d.1
 
 -- a device is written anew
-module _ {A : Type 0} (kepts : List (Kept A)) (gathered : Gatherings) (asked : List Asked) (known : List Known) (place : ℕ)
-    (k new : Kept A) (at : slice_get kepts place ≡ Some k) where
+module _ {A : Type 0} (kepts : List (KnownDevice A)) (gathered : Gatherings) (asked : List Asked) (known : List Known) (place : ℕ)
+    (k new : KnownDevice A) (at : slice_get kepts place ≡ Some k) where
   -- what is true of the desk's fields stays so where the device keeps its setting
   pub written_holds : (keys : List ℕ) → Holds keys kepts gathered asked known → (more : List Known) → new.setting ≡ k.setting
       → (IsServable (shown k) → IsServable (shown new)) → length more ≡ length known
@@ -74,7 +74,7 @@ module _ {A : Type 0} (kepts : List (Kept A)) (gathered : Gatherings) (asked : L
       → (IsServable (shown k) → IsServable (shown new)) → new.out ≡ k.out
       → Holds keys (slice_set kepts place new) gathered asked known
   queued_holds keys i s servable o =
-      written_holds keys i known s servable refl (rw (map_set (λ (x : Kept A). x.out) kepts place k new at o) i.engaged)
+      written_holds keys i known s servable refl (rw (map_set (λ (x : KnownDevice A). x.out) kepts place k new at o) i.engaged)
 
   -- a payload that was queued is the step, and one that was refused changes nothing
   pub queued_step : (ids : List ℕ) (addr : ℕ) (payload : Payload) (r : Result ℕ QueueFault)

@@ -2,7 +2,7 @@
 use Rattle.server_desk.proofs.Words.{length_push, nat_tests, slice_get_within, decide, ℕ, ◌≡◌, ◌+◌, ◌<◌, ◌==◌, Bool, false, List}
 use Rattle.server_desk.proofs.Words.{[], ◌∷◌, ◌++◌, map, length, slice_get, slice_set, Some, Result, Ok, Err, IfOk, OnErr}
 use Rattle.server_desk.proofs.Words.{MatchResult, IsOkUnless, refl, sym, ap, ◌∙◌, arith, addr_of, Heard, HearFault, Gatherings}
-use Rattle.server_desk.proofs.Words.{hear_answer, after_hearing, with_copy, hear_step, Kept, Known, NotGiven, NewUplink, Heard1}
+use Rattle.server_desk.proofs.Words.{hear_answer, after_hearing, with_copy, hear_step, KnownDevice, Known, NotGiven, NewUplink, Heard1}
 use Rattle.server_desk.proofs.Words.{Device, Asked, Register, copy_of, named_fault, answer_to, shown, IsServable, IsDesk}
 use Rattle.server_desk.proofs.Words.{desk_answer, desk_hear, length-map, length-set, map-set, All-push, DeskFault, NoMemory}
 use Rattle.uplink_gather.specs.Hearing.{opening}
@@ -81,7 +81,7 @@ module _ {ids : List ℕ} {reg : Register} {bytes : List ℕ} {heard : Heard1} {
       }
 
 -- a copy opens a gathering
-module _ {A : Type 0} (ids : List ℕ) (kepts : List (Kept A)) (gathered : Gatherings) (asked : List Asked) {bytes : List ℕ}
+module _ {A : Type 0} (ids : List ℕ) (kepts : List (KnownDevice A)) (gathered : Gatherings) (asked : List Asked) {bytes : List ℕ}
     {heard : Heard1} {arrived : ℕ} {new : NewUplink}
     (n : IsNew ids (seen_reg kepts gathered asked) bytes heard arrived new) where
   opened : hear_answer gathered bytes heard.gateway arrived ≡ Ok (gathers.Opened (length gathered.list + 1))
@@ -105,7 +105,7 @@ module _ {A : Type 0} (ids : List ℕ) (kepts : List (Kept A)) (gathered : Gathe
   pub open_room : length gathered.list < gathered.limits.max_ever
   open_room = let room = n.room in grind (arith, nat_tests, room)
 
-  module _ (known : List Known) (k new_kept : Kept A) (at : slice_get kepts new.asked.device ≡ Some k)
+  module _ (known : List Known) (k new_kept : KnownDevice A) (at : slice_get kepts new.asked.device ≡ Some k)
       (s : shown new_kept ≡ record (shown k) { up = Some new.counter }) where
     -- the desk's fields hold
     pub open_holds : (keys : List ℕ) → Holds keys kepts gathered asked known → new_kept.out ≡ k.out
@@ -116,7 +116,7 @@ module _ {A : Type 0} (ids : List ℕ) (kepts : List (Kept A)) (gathered : Gathe
         λ h. record { setting = h.setting; queue = h.queue; down = h.down } in
         let j = queued_holds kepts gathered asked known new.asked.device k new_kept at keys i (ap (λ (x : Device). x.setting) s)
         (rw s servable) o in
-        let more : List (Kept A) = slice_set kepts new.asked.device new_kept in
+        let more : List (KnownDevice A) = slice_set kepts new.asked.device new_kept in
         let here : new.asked.device < length (map shown more) =
         omega (arith, open_within, length-map more shown, length-set kepts new.asked.device new_kept) in
         let longer = length_push gathered.list (opening bytes (copy_of heard) arrived) in

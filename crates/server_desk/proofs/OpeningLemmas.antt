@@ -1,7 +1,7 @@
 -- A desk before anything was heard.
 use Rattle.server_desk.proofs.Words.{map_push, map_more, map-map, ℕ, ◌≡◌, ◌≢◌, ◌+◌, ◌<◌, ◌==◌, nat_eq, false, if◌then◌else◌, List}
 use Rattle.server_desk.proofs.Words.{[], ◌∷◌, ◌++◌, map, length, take, get_or, All, AllPairs, refl, list_any, sym, ◌∙◌, All-nil}
-use Rattle.server_desk.proofs.Words.{All-push, All-map, All-weaker, DeviceSetting, Kept, SettingLists, IsDeviceInRange}
+use Rattle.server_desk.proofs.Words.{All-push, All-map, All-weaker, DeviceSetting, KnownDevice, SettingLists, IsDeviceInRange}
 use Rattle.server_desk.proofs.Words.{AreSettings, Asked, opened_device, shown, outs, IsSendable, IsServable, IsGathered, AreOut}
 use Rattle.server_desk.proofs.Words.{desk_of, Limits}
 use Rattle.server_desk.proofs.Places.{from_map, all_get}
@@ -31,8 +31,8 @@ opened_servable : (d : DeviceSetting) → IsDeviceInRange d → IsServable (open
 opened_servable d i = record { setting = i; queue = All-nil IsSendable; down = i.down.1 }
 
 -- one device more is kept
-pub opened_more : {A : Type 0} (devices : List DeviceSetting) (i : ℕ) (d : DeviceSetting) (kepts more : List (Kept A))
-    (new : Kept A) → i < length devices
+pub opened_more : {A : Type 0} (devices : List DeviceSetting) (i : ℕ) (d : DeviceSetting) (kepts more : List (KnownDevice A))
+    (new : KnownDevice A) → i < length devices
     → (map shown kepts ≡ map opened_device (take i devices)) × All (λ k. k.out ≡ false) kepts
     → shown new ≡ opened_device (get_or devices i d) → new.out ≡ false → more ≡ kepts ++ new ∷ []
     → (map shown more ≡ map opened_device (take (i + 1) devices)) × All (λ k. k.out ≡ false) more
@@ -41,16 +41,16 @@ opened_more devices i d kepts more new h both s o e = (
   rw e (All-push (λ k. k.out ≡ false) kepts new both.1 o),
 )
 
-module _ {A : Type 0} (settings : SettingLists) (limits : Limits) (kepts : List (Kept A))
+module _ {A : Type 0} (settings : SettingLists) (limits : Limits) (kepts : List (KnownDevice A))
     (d : map shown kepts ≡ map opened_device settings.devices) where
-  no_out : All (λ (x : Kept A). x.out ≡ false) kepts → AreOut (outs kepts) [] []
+  no_out : All (λ (x : KnownDevice A). x.out ≡ false) kepts → AreOut (outs kepts) [] []
   no_out n place out e =
-      let x = from_map (λ (x : Kept A). x.out) kepts place out e in
-      let none : out ≡ false = sym x.2 ∙ all_get (λ (y : Kept A). y.out ≡ false) kepts place x.0 n x.1 in
+      let x = from_map (λ (x : KnownDevice A). x.out) kepts place out e in
+      let none : out ≡ false = sym x.2 ∙ all_get (λ (y : KnownDevice A). y.out ≡ false) kepts place x.0 n x.1 in
       rw none refl
 
   -- what is true of a desk's fields holds
-  pub opened_holds : AreSettings settings.gateways settings.devices → All (λ (x : Kept A). x.out ≡ false) kepts
+  pub opened_holds : AreSettings settings.gateways settings.devices → All (λ (x : KnownDevice A). x.out ≡ false) kepts
       → Holds (map addr_of settings.devices) kepts (record { list = []; limits = limits }) [] []
   opened_holds are n =
       record {

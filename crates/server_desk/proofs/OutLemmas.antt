@@ -1,7 +1,7 @@
 -- How many tickets and stubs of a device are out.
 use Rattle.server_desk.proofs.Words.{ℕ, ◌⊎◌, zero, suc, ◌≡◌, ◌≢◌, ◌+◌, nat_lt, Bool, true, false, if◌then◌else◌, List, [], ◌∷◌}
 use Rattle.server_desk.proofs.Words.{◌++◌, length, slice_get, slice_set, Option, Some, refl, inl, inr, sym, ap, ◌∙◌, subst, arith}
-use Rattle.server_desk.proofs.Words.{eq-eqb, nat_tests, Asked, Known, NotGiven, Given, Done, Sent, is_engaged, own_out, count_out}
+use Rattle.server_desk.proofs.Words.{eq-eqb, nat_tests, Asked, Known, NotGiven, Pending, Done, Sent, is_engaged, own_out, count_out}
 use Rattle.server_desk.proofs.Words.{AreOut}
 use Rattle.server_desk.proofs.Places.{some_inj, get_set_cases}
 
@@ -42,7 +42,7 @@ engaged_is outs asked known place out h e = grind (arith, nat_tests, engaged_cou
 own_other : (place : ℕ) (a : Asked) (k : Known) → a.device ≢ place → own_out place a k ≡ 0
 own_other place a k n = grind (arith, nat_tests)
 
-own_given : (a : Asked) → own_out a.device a Given ≡ 1
+own_given : (a : Asked) → own_out a.device a Pending ≡ 1
 own_given a = rw (eq-eqb a.device a.device refl) refl
 
 module _ (outs : List Bool) (asked : List Asked) (known : List Known) (i : ℕ) (a : Asked) (k new : Known) (old out : Bool)
@@ -65,13 +65,13 @@ module _ (outs : List Bool) (asked : List Asked) (known : List Known) (i : ℕ) 
     (h : AreOut outs asked known) where
   -- a ticket is given of which none was out
   pub out_given : slice_get known i ≡ Some NotGiven → slice_get outs a.device ≡ Some false
-      → AreOut (slice_set outs a.device true) asked (slice_set known i Given)
+      → AreOut (slice_set outs a.device true) asked (slice_set known i Pending)
   out_given stated was =
-      out_written outs asked known i a NotGiven Given false true there stated was h (λ c d e f. omega (arith, e, f, own_given a))
+      out_written outs asked known i a NotGiven Pending false true there stated was h (λ c d e f. omega (arith, e, f, own_given a))
 
   -- the answer that was out is settled
-  pub out_settled : (sent : Option Sent) (old : Bool) → slice_get known i ≡ Some Given → slice_get outs a.device ≡ Some old
+  pub out_settled : (sent : Option Sent) (old : Bool) → slice_get known i ≡ Some Pending → slice_get outs a.device ≡ Some old
       → AreOut (slice_set outs a.device false) asked (slice_set known i (Done sent))
   out_settled sent old stated was =
-      out_written outs asked known i a Given (Done sent) old false there stated was h
+      out_written outs asked known i a Pending (Done sent) old false there stated was h
       (λ c d e f. grind (arith, e, f, own_given a))

@@ -1,7 +1,7 @@
 -- An answer is settled, as the desk settles it.
 use Rattle.server_desk.proofs.Words.{ℕ, ◌≡◌, ◌-◌, Bool, true, false, ◌&&◌, if◌then◌else◌, List, slice_get, slice_set, get_or}
 use Rattle.server_desk.proofs.Words.{Option, Some, None, refl, option_map_or, sym, ap, ◌∙◌, get_or_from_slice_get, length-set}
-use Rattle.server_desk.proofs.Words.{map-set, All-drop, Gatherings, numbered, Ending, Kept, Known, NotGiven, Given, Done, Sent}
+use Rattle.server_desk.proofs.Words.{map-set, All-drop, Gatherings, numbered, Ending, KnownDevice, Known, NotGiven, Pending, Done, Sent}
 use Rattle.server_desk.proofs.Words.{is_given, Device, Asked, sent_of, has_carried, is_here, may_settle, without_head, delivered}
 use Rattle.server_desk.proofs.Words.{shown, outs, IsSendable, IsServable, desk_settled}
 use Rattle.server_desk.proofs.Places.{map_set, map_there}
@@ -11,14 +11,14 @@ use Rattle.server_desk.proofs.OutLemmas.{out_settled}
 use Rattle.server_desk.proofs.TakeLemmas.{number_too, out_there}
 
 -- what may be settled is out, and on one of the gateways
-out_by : (o : Option Known) (here : Bool) → (option_map_or is_given o false && here) ≡ true → (o ≡ Some Given) × (here ≡ true)
+out_by : (o : Option Known) (here : Bool) → (option_map_or is_given o false && here) ≡ true → (o ≡ Some Pending) × (here ≡ true)
 out_by None here e = absurd (cc)
 out_by (Some NotGiven) here e = absurd (cc)
-out_by (Some Given) here e = (refl, e)
+out_by (Some Pending) here e = (refl, e)
 out_by (Some (Done sent)) here e = absurd (cc)
 
 pub is_out : (ids : List ℕ) (known : List Known) (n : ℕ) (ending : Ending) → may_settle ids known n ending ≡ true
-    → (numbered n known ≡ Some Given) × (is_here ids ending ≡ true)
+    → (numbered n known ≡ Some Pending) × (is_here ids ending ≡ true)
 is_out ids known n ending e = out_by (numbered n known) (is_here ids ending) e
 
 -- a device without its payload is in its ranges
@@ -26,25 +26,25 @@ settled_servable : (t : Bool) (device : Device) → IsServable device → IsServ
 settled_servable true device i = record { setting = i.setting; queue = All-drop IsSendable 1 device.queue i.queue; down = i.down }
 settled_servable false device i = i
 
-module _ {A : Type 0} (keys : List ℕ) (kepts : List (Kept A)) (gathered : Gatherings) (asked : List Asked) (known : List Known)
-    (i : Holds keys kepts gathered asked known) (n : ℕ) (waits : numbered n known ≡ Some Given) where
+module _ {A : Type 0} (keys : List ℕ) (kepts : List (KnownDevice A)) (gathered : Gatherings) (asked : List Asked) (known : List Known)
+    (i : Holds keys kepts gathered asked known) (n : ℕ) (waits : numbered n known ≡ Some Pending) where
   -- what the uplink says of which the ticket was given
   pub its_uplink : (a : Asked) → a ≡ get_or asked (n - 1) a → numbered n asked ≡ Some a
   its_uplink a at =
-      let x = number_too n known asked Given (i.told ∙ sym i.asked) waits in
+      let x = number_too n known asked Pending (i.told ∙ sym i.asked) waits in
       x.1 ∙ ap Some (sym (get_or_from_slice_get asked (n - 1) x.0 a (at_number n asked x.0 x.1)) ∙ sym at)
 
-  module _ (a : Asked) (uplink : numbered n asked ≡ Some a) (k new : Kept A) (at : slice_get kepts a.device ≡ Some k)
+  module _ (a : Asked) (uplink : numbered n asked ≡ Some a) (k new : KnownDevice A) (at : slice_get kepts a.device ≡ Some k)
       (carried : Bool) (s : shown new ≡ (if carried then without_head (shown k) else shown k)) where
     -- what is true of the desk's fields holds where the answer is settled
     pub settled_holds : (sent : Option Sent) → new.out ≡ false → new.setting ≡ k.setting
         → Holds keys (slice_set kepts a.device new) gathered asked (slice_set known (n - 1) (Done sent))
     settled_holds sent o same =
         let out = out_settled (outs kepts) asked known (n - 1) a (at_number n asked a uplink) i.engaged sent k.out
-        (at_number n known Given waits) (out_there keys kepts gathered asked known i n a uplink k at) in
+        (at_number n known Pending waits) (out_there keys kepts gathered asked known i n a uplink k at) in
         written_holds kepts gathered asked known a.device k new at keys i (slice_set known (n - 1) (Done sent)) same
         (rw s (settled_servable carried (shown k))) (length-set known (n - 1) (Done sent))
-        (rw (map-set (λ (x : Kept A). x.out) kepts a.device new, o) out)
+        (rw (map-set (λ (x : KnownDevice A). x.out) kepts a.device new, o) out)
 
     -- and it is the step
     step_by : (ids : List ℕ) (after : List Known) (t : Bool) → t ≡ carried

@@ -3,9 +3,9 @@ use Rattle.server_desk.proofs.Words.{slice_get_read, get_or, ℕ, zero, suc, ◌
 use Rattle.server_desk.proofs.Words.{map, length, All, slice_get, slice_set, Option, Some, None, Result, Ok, Err, IfOk, refl}
 use Rattle.server_desk.proofs.Words.{option_map, ForSome, sym, ap, ◌∙◌, subst, arith, nat_tests, length-map, length-set, map-set}
 use Rattle.server_desk.proofs.Words.{All-head, HeardCopy, Gatherings, numbered, is_closed_at, copies_of, length-ranked}
-use Rattle.server_desk.proofs.Words.{All-ranked, IsHeard, Job, Payload, IsJob, IsPort, payload_len, Kept, Known, NotGiven, Given}
+use Rattle.server_desk.proofs.Words.{All-ranked, IsHeard, Job, Payload, IsJob, IsPort, payload_len, KnownDevice, Known, NotGiven, Pending}
 use Rattle.server_desk.proofs.Words.{Done, is_not_given, Device, Asked, head, is_engaged, job_for, fault_of, given_or}
-use Rattle.server_desk.proofs.Words.{take_answer, with_counter_given, shown, outs, IsSendable, IsServable, IsGathered, IsReady}
+use Rattle.server_desk.proofs.Words.{take_answer, with_counter_given, shown, outs, IsSendable, IsServable, IsGathered, MayBeGiven}
 use Rattle.server_desk.proofs.Words.{desk_take, TakeFault, slice_get_cases, slice_get_within, inl, inr}
 use Rattle.server_desk.proofs.Places.{map_there, some_inj, all_get}
 use Rattle.server_desk.proofs.Numbers.{at_number}
@@ -47,7 +47,7 @@ number_too (suc i) xs ys x l e = elim (slice_get_cases ys i).1
     [ inl h ↦ (h.0, h.2) | inr h ↦ absurd (omega (arith, h.0, l, slice_get_within xs i x e)) ]
 
 -- what is true of a known uplink on a desk
-module _ {A : Type 0} (keys : List ℕ) (kepts : List (Kept A)) (gathered : Gatherings) (asked : List Asked) (known : List Known)
+module _ {A : Type 0} (keys : List ℕ) (kepts : List (KnownDevice A)) (gathered : Gatherings) (asked : List Asked) (known : List Known)
     (i : Holds keys kepts gathered asked known) (n : ℕ) (a : Asked) (p : numbered n asked ≡ Some a) where
   -- its device stands among the others
   pub within_here : a.device < length kepts
@@ -62,15 +62,15 @@ module _ {A : Type 0} (keys : List ℕ) (kepts : List (Kept A)) (gathered : Gath
       let own : IsGathered g.0 = all_get IsGathered gathered.list (n - 1) g.0 i.gathered (at_number n gathered.list g.0 g.1) in
       rw g.1 (own.copied, own.heard)
 
-  pub at_here : (k : Kept A) → k ≡ get_or kepts a.device k → slice_get kepts a.device ≡ Some k
+  pub at_here : (k : KnownDevice A) → k ≡ get_or kepts a.device k → slice_get kepts a.device ≡ Some k
   at_here k g = slice_get_read kepts (length kepts) a.device k refl within_here g
 
-  module _ (k : Kept A) (at : slice_get kepts a.device ≡ Some k) where
+  module _ (k : KnownDevice A) (at : slice_get kepts a.device ≡ Some k) where
     there : slice_get (map shown kepts) a.device ≡ Some (shown k)
     there = map_there shown kepts a.device k at
 
     pub out_there : slice_get (outs kepts) a.device ≡ Some k.out
-    out_there = map_there (λ (x : Kept A). x.out) kepts a.device k at
+    out_there = map_there (λ (x : KnownDevice A). x.out) kepts a.device k at
 
     engaged : is_engaged a.device asked known ≡ k.out
     engaged = engaged_is (outs kepts) asked known a.device k.out i.engaged out_there
@@ -85,10 +85,10 @@ module _ {A : Type 0} (keys : List ℕ) (kepts : List (Kept A)) (gathered : Gath
 
       waiting : (x : Known) → true ≡ is_not_given x → Some x ≡ numbered n known → numbered n known ≡ Some NotGiven
       waiting NotGiven h e = sym e
-      waiting Given h e = absurd (cc (h))
+      waiting Pending h e = absurd (cc (h))
       waiting (Done sent) h e = absurd (cc (h))
 
-      pub is_ready : None ≡ fault_of a (shown k) k.out → IsReady (seen_reg kepts gathered asked) known n a
+      pub is_ready : None ≡ fault_of a (shown k) k.out → MayBeGiven (seen_reg kepts gathered asked) known n a
       is_ready f =
           record {
             uplink = p;
@@ -100,7 +100,7 @@ module _ {A : Type 0} (keys : List ℕ) (kepts : List (Kept A)) (gathered : Gath
           }
 
     -- a ticket may be given
-    module _ (ready : IsReady (seen_reg kepts gathered asked) known n a) where
+    module _ (ready : MayBeGiven (seen_reg kepts gathered asked) known n a) where
       same_device : ready.device ≡ shown k
       same_device = some_inj (sym ready.served ∙ there)
 
@@ -123,21 +123,21 @@ module _ {A : Type 0} (keys : List ℕ) (kepts : List (Kept A)) (gathered : Gath
           is_job (shown k) n a (copies_of n gathered.list) servable own_copies.0 own_copies.1
 
       -- what is true of the desk's fields holds where the ticket is out
-      module _ (new : Kept A) (e : shown new ≡ with_counter_given (shown k)) where
+      module _ (new : KnownDevice A) (e : shown new ≡ with_counter_given (shown k)) where
         pub given_holds : new.out ≡ true
-            → Holds keys (slice_set kepts a.device new) gathered asked (slice_set known (n - 1) Given)
+            → Holds keys (slice_set kepts a.device new) gathered asked (slice_set known (n - 1) Pending)
         given_holds o =
             let counted : IsServable (shown k) → IsServable (with_counter_given (shown k)) =
             λ s. record { setting = s.setting; queue = s.queue; down = omega (arith, free.1) } in
             let was : slice_get (outs kepts) a.device ≡ Some false = rw free.0 at out_there in
             let out = out_given (outs kepts) asked known (n - 1) a (at_number n asked a p) i.engaged
             (at_number n known NotGiven ready.waits) was in
-            written_holds kepts gathered asked known a.device k new at keys i (slice_set known (n - 1) Given)
-            (ap (λ (x : Device). x.setting) e) (rw e counted) (length-set known (n - 1) Given)
-            (rw (map-set (λ (x : Kept A). x.out) kepts a.device new, o) out)
+            written_holds kepts gathered asked known a.device k new at keys i (slice_set known (n - 1) Pending)
+            (ap (λ (x : Device). x.setting) e) (rw e counted) (length-set known (n - 1) Pending)
+            (rw (map-set (λ (x : KnownDevice A). x.out) kepts a.device new, o) out)
 
         -- and it is the step
-        pub given_here : (ids : List ℕ) → seen ids (slice_set kepts a.device new) gathered asked (slice_set known (n - 1) Given)
+        pub given_here : (ids : List ℕ) → seen ids (slice_set kepts a.device new) gathered asked (slice_set known (n - 1) Pending)
             ≡ desk_take (seen ids kepts gathered asked known) n
         given_here ids = rw (ready.answer, p, there, ready.waits, map-set shown kepts a.device new, e) refl
 

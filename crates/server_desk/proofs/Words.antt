@@ -32,15 +32,15 @@ pub use Rattle.answer_ticket.specs.Job.{IsJob, IsPort, Job, Payload, payload_len
 pub use Rattle.answer_ticket.specs.declared.outcome.Ending.{Ending}
 pub use Rattle.server_desk.specs.Airtime.{AreAirtimes, CanRaise, airtime_of_ending, answered_at, answered_for, known_airtime}
 pub use Rattle.server_desk.specs.Airtime.{own_airtime, raised, raised_at, sent_airtime, total_at, total_limit, whole_airtime}
-pub use Rattle.server_desk.specs.Answers.{Done, Given, Known, NotGiven, Sent, is_given, is_not_given}
+pub use Rattle.server_desk.specs.Answers.{Done, Pending, Known, NotGiven, Sent, is_given, is_not_given}
 pub use Rattle.server_desk.specs.Desk.{DeskView, desk_hear, desk_of, desk_queue, desk_settled, desk_take, desk_taken, known_after}
 pub use Rattle.server_desk.specs.Desk.{total_of}
 pub use Rattle.server_desk.specs.Hearing.{Decision, Join, Open, Opening, Refuse, answer_to, asked_by, copy_fault, copy_of}
 pub use Rattle.server_desk.specs.Hearing.{decide_copy, decide_device, decide_frame, decide_mic, decide_place, decide_room}
 pub use Rattle.server_desk.specs.Hearing.{is_last, named_fault}
 unfoldable pub use Rattle.server_desk.specs.Hearing.{decide}
-pub use Rattle.server_desk.specs.Kept.{AreOut, IsDesk, IsGathered, IsReady, IsSendable, IsServable, count_out, desk_answer, outs}
-pub use Rattle.server_desk.specs.Kept.{own_out, shown, verdict_of}
+pub use Rattle.server_desk.specs.Invariant.{AreOut, IsDesk, IsGathered, MayBeGiven, IsSendable, IsServable, count_out, desk_answer, outs}
+pub use Rattle.server_desk.specs.Invariant.{own_out, shown, verdict_of}
 pub use Rattle.server_desk.specs.Register.{Asked, Device, Register, device_with, first_at, next_place, opened_device}
 pub use Rattle.server_desk.specs.Settings.{AreSettings, IsDeviceInRange, IsGatewayInRange, SettingLists, are_counts_in_range}
 pub use Rattle.server_desk.specs.Settings.{device_fault, first_fault, gateway_fault, has_rx2_band, is_device_in_range}
@@ -49,7 +49,7 @@ unfoldable pub use Rattle.server_desk.specs.Settings.{settings_fault}
 pub use Rattle.server_desk.specs.Settling.{delivered, has_carried, is_here, kept_by, may_settle, sent_of, without_head}
 pub use Rattle.server_desk.specs.Taking.{fault_of, given_or, head, is_engaged, job_for, take_known, with_counter_given}
 unfoldable pub use Rattle.server_desk.specs.Taking.{take_answer}
-pub use Rattle.server_desk.specs.declared.device.Kept.{Kept}
+pub use Rattle.server_desk.specs.declared.device.KnownDevice.{KnownDevice}
 pub use Rattle.server_desk.specs.declared.faults.DeskFault.{DeskFault}
 pub use Rattle.server_desk.specs.declared.faults.DeskFault.TheVariants.{BadMic, Crowded, NoMemory}
 pub use Rattle.server_desk.specs.declared.faults.TakeFault.{TakeFault}

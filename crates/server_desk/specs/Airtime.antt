@@ -3,7 +3,7 @@ use Rattle.std.specs.Prelude.{get_or, All, AllPairs, Option, Some, None}
 use Rattle.std.specs.List.{list_any}
 use Rattle.answer_ticket.specs.declared.outcome.Ending.{Ending}
 use Rattle.answer_ticket.specs.Ended.{longest_us}
-use Rattle.server_desk.specs.Answers.{Answer, Waiting, Open, Booked, Out, Settled, Known, NotGiven, Given, Done, Sent}
+use Rattle.server_desk.specs.Answers.{Answer, Waiting, Open, Booked, Out, Settled, Known, NotGiven, Pending, Done, Sent}
 use Rattle.server_desk.specs.Register.{first_at}
 use Rattle.server_desk.specs.Settling.{sent_of}
 
@@ -17,7 +17,7 @@ own_airtime id (Some sent) = if sent.gateway == id then sent.airtime else 0
 -- what a settled answer adds to this gateway's airtime, by the desk's part of the world and by the world
 abbrev pub known_airtime : ℕ → Known → ℕ
 known_airtime id NotGiven = 0
-known_airtime id Given = 0
+known_airtime id Pending = 0
 known_airtime id (Done sent) = own_airtime id sent
 
 abbrev pub answer_airtime : ℕ → Answer → ℕ
@@ -60,7 +60,7 @@ total_limit = longest_us * 2 ^ 32
 -- what a settled answer is on air for, on whichever gateway
 abbrev pub whole_airtime : Known → ℕ
 whole_airtime NotGiven = 0
-whole_airtime Given = 0
+whole_airtime Pending = 0
 whole_airtime (Done sent) = sent_airtime sent
 
 -- what the desk keeps of the airtimes: one for each of its gateways, which differ; and there are at most `limit` answers,

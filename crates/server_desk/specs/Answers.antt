@@ -4,7 +4,7 @@ use Rattle.rx_windows.specs.declared.candidate.Window.{Window}
 use Rattle.answer_ticket.specs.Job.{Job}
 pub use Rattle.server_desk.specs.declared.answers.Sent.{Sent}
 pub use Rattle.server_desk.specs.declared.answers.Known.{Known}
-pub use Rattle.server_desk.specs.declared.answers.Known.TheVariants.{NotGiven, Given, Done}
+pub use Rattle.server_desk.specs.declared.answers.Known.TheVariants.{NotGiven, Pending, Done}
 
 -- How far the answer to an uplink is.
 
@@ -21,17 +21,17 @@ pub data Answer : Type 0 where
 -- what the desk knows of an answer: whether a ticket or stub of it is out, but not what became of it
 abbrev pub known_of : Answer → Known
 known_of Waiting = NotGiven
-known_of (Open k job) = Given
-known_of (Booked sent window carried) = Given
-known_of (Out refusal) = Given
+known_of (Open k job) = Pending
+known_of (Booked sent window carried) = Pending
+known_of (Out refusal) = Pending
 known_of (Settled sent) = Done sent
 
 abbrev pub is_not_given : Known → Bool
 is_not_given NotGiven = true
-is_not_given Given = false
+is_not_given Pending = false
 is_not_given (Done sent) = false
 
 abbrev pub is_given : Known → Bool
 is_given NotGiven = false
-is_given Given = true
+is_given Pending = true
 is_given (Done sent) = false

@@ -9,7 +9,7 @@ use Rattle.server_desk.specs.Queueing.{queue_step}
 use Rattle.server_desk.specs.Hearing.{Decision, Refuse, Join, decide, register_after}
 use Rattle.server_desk.specs.Hearing as hearing
 use Rattle.server_desk.specs.Passing.{pass_step}
-use Rattle.server_desk.specs.Answers.{Known, NotGiven, Given}
+use Rattle.server_desk.specs.Answers.{Known, NotGiven, Pending}
 use Rattle.server_desk.specs.Taking.{take_answer, after_taking}
 use Rattle.server_desk.specs.Settling.{may_settle, after_settling, known_settled}
 use Rattle.server_desk.specs.Airtime.{total_at}
@@ -51,7 +51,7 @@ desk_pass d now = record d { reg = pass_step d.reg now }
 
 -- after a ticket of number n was given, or refused
 abbrev pub desk_taken : Result Job TakeFault → ℕ → DeskView → DeskView
-desk_taken (Ok job) n d = record d { reg = after_taking (Ok job) n d.reg; known = rewritten (λ k. Given) n d.known }
+desk_taken (Ok job) n d = record d { reg = after_taking (Ok job) n d.reg; known = rewritten (λ k. Pending) n d.known }
 desk_taken (Err fault) n d = d
 
 abbrev pub desk_take : DeskView → ℕ → DeskView

@@ -10,7 +10,7 @@ pub mod Airtime
 pub mod Passing
 pub mod World
 pub mod Desk
-pub mod Kept
+pub mod Invariant
 pub use Rattle.radio_airtime.specs.DataRate
 pub use Rattle.radio_airtime.specs.TimeOnAir
 pub use Rattle.radio_airtime.specs.Bounds

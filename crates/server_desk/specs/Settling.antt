@@ -5,7 +5,7 @@ use Rattle.std.specs.Option.{option_map_or}
 use Rattle.uplink_gather.specs.Gatherings.{numbered, rewritten}
 use Rattle.answer_ticket.specs.declared.outcome.Ending.{Ending}
 use Rattle.answer_ticket.specs.declared.outcome.Ending.TheVariants.{Answered, Unanswered, GivenUp}
-use Rattle.server_desk.specs.Answers.{Known, NotGiven, Given, Done, Sent, is_given}
+use Rattle.server_desk.specs.Answers.{Known, NotGiven, Pending, Done, Sent, is_given}
 use Rattle.server_desk.specs.Register.{Device, Asked, Register}
 
 -- An answer is settled (this project's profile).
@@ -57,5 +57,5 @@ known_settled ending n known = rewritten (λ k. Done (sent_of ending)) n known
 abbrev pub kept_by : Option Known → Option Sent
 kept_by None = None
 kept_by (Some NotGiven) = None
-kept_by (Some Given) = None
+kept_by (Some Pending) = None
 kept_by (Some (Done sent)) = sent

@@ -80,13 +80,13 @@ abbrev pub given_or : Register → ℕ → Asked → Device → Option TakeFault
 given_or reg n asked device None = Ok (job_of reg n asked device)
 given_or reg n asked device (Some fault) = Err fault
 
-abbrev pub take_by : Register → List Known → ℕ → Asked → Option Device → Result Job TakeFault
-take_by reg known n asked None = Err NotReady
-take_by reg known n asked (Some device) = given_or reg n asked device (take_fault reg known asked device)
+abbrev pub take_asked : Register → List Known → ℕ → Asked → Option Device → Result Job TakeFault
+take_asked reg known n asked None = Err NotReady
+take_asked reg known n asked (Some device) = given_or reg n asked device (take_fault reg known asked device)
 
 abbrev pub take_known : Register → List Known → ℕ → Option Asked → Option Known → Result Job TakeFault
 take_known reg known n (Some asked) (Some k) =
-    if is_not_given k then take_by reg known n asked (slice_get reg.devices asked.device) else Err Taken
+    if is_not_given k then take_asked reg known n asked (slice_get reg.devices asked.device) else Err Taken
 take_known reg known n asked k = Err NotReady
 
 -- the answer to `take` of n, memory aside: the uplink has to be gathered and closed

@@ -32,7 +32,7 @@ pub enum Known {
     /// No ticket was given.
     NotGiven,
     /// A ticket or stub of it is out.
-    Given,
+    Pending,
     /// It is settled, and keeps what was booked.
     Done(Option<Sent>),
 }
@@ -44,7 +44,7 @@ impl Known {
     {
         match self {
             Known::NotGiven => true,
-            Known::Given | Known::Done(_) => false,
+            Known::Pending | Known::Done(_) => false,
         }
     }
 }

@@ -7,11 +7,11 @@ ghost use Rattle.server_desk.specs.Register.{device_with};
 ghost use Rattle.server_desk.specs.Queueing.{queue_answer};
 ghost use Rattle.server_desk.specs.Passing.{pass_answer};
 ghost use Rattle.server_desk.specs.Hearing.{decide, decide_device, answer_to};
-ghost use Rattle.server_desk.specs.Kept.{verdict_of};
+ghost use Rattle.server_desk.specs.Invariant.{verdict_of};
 ghost use Rattle.server_desk.specs.Desk.{desk_of, desk_queue, desk_hear, desk_pass};
 
 use crate::answers::{Asked, Known};
-use crate::device::Kept;
+use crate::device::KnownDevice;
 use crate::hearing::{copy_fault, copy_of, desk_answer, is_last, named_fault};
 use crate::opening::{addrs_of, airtimes_of, devices_of, ids_of};
 use crate::verdict::{NewUplink, Verdict};
@@ -35,7 +35,7 @@ pub struct Desk<S: BuildHasher, A: Allocator = Global> {
     pub(crate) answered: Vec<u64, A>,
     /// The devices' addresses, in the order of the devices.
     pub(crate) addrs: IndexSet<u32, S, A>,
-    pub(crate) devices: Vec<Kept<A>, A>,
+    pub(crate) devices: Vec<KnownDevice<A>, A>,
     pub(crate) gather: Gather<S, A>,
     /// What each gathered uplink says, and what is known of its answer, by its number.
     pub(crate) asked: Vec<Asked, A>,
@@ -45,7 +45,7 @@ pub struct Desk<S: BuildHasher, A: Allocator = Global> {
 impl<S: BuildHasher, A: Allocator> Model for Desk<S, A> {
     ghost use Rattle.std.specs.Prelude.{map};
     ghost use Rattle.server_desk.specs.Desk.{DeskView};
-    ghost use Rattle.server_desk.specs.Kept.{IsDesk, outs, shown};
+    ghost use Rattle.server_desk.specs.Invariant.{IsDesk, outs, shown};
     ghost use Rattle.server_desk.specs.Airtime.{AreAirtimes};
 
     ghost Value = { DeskView };

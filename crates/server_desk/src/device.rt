@@ -3,7 +3,7 @@ ghost use Rattle.std.specs.Prelude.{length};
 ghost use Rattle.server_desk.specs.Queueing.{queue_fault, queued_or, with_payload};
 ghost use Rattle.server_desk.specs.Taking.{head, plan_for, job_for, fault_of, with_counter_given};
 ghost use Rattle.server_desk.specs.Settling.{without_head};
-ghost use Rattle.server_desk.specs.Kept.{shown, IsServable};
+ghost use Rattle.server_desk.specs.Invariant.{shown, IsServable};
 ghost use Rattle.server_desk.specs.Register.{opened_device};
 
 use crate::answers::Asked;
@@ -18,7 +18,7 @@ const QUEUE_LIMIT: usize = 16;
 
 /// A device as the desk keeps it.
 #[derive(Drop)]
-pub(crate) struct Kept<A: Allocator> {
+pub(crate) struct KnownDevice<A: Allocator> {
     pub(crate) setting: DeviceSetting,
     /// FPort and FRMPayload of each payload that waits, in the order in which they came.
     pub(crate) queue: Vec<(u8, Bytes<A>), A>,
@@ -30,13 +30,13 @@ pub(crate) struct Kept<A: Allocator> {
     pub(crate) out: bool,
 }
 
-impl<A: Allocator + Copy> Kept<A> {
+impl<A: Allocator + Copy> KnownDevice<A> {
     /// A device of which nothing was heard yet; takes no memory.
     pub(crate) fn new(alloc: A, setting: &DeviceSetting) -> Self
         ensures shown { shown result ≡ opened_device setting.now }
         ensures out { result.out ≡ false }
     {
-        Kept {
+        KnownDevice {
             setting: *setting,
             queue: Vec::new(alloc),
             up: setting.up,
@@ -120,7 +120,7 @@ impl<A: Allocator + Copy> Kept<A> {
     }
 }
 
-impl<A: Allocator> Kept<A> {
+impl<A: Allocator> KnownDevice<A> {
     /// How the device listens, and what waits for it.
     fn plan(&self) -> Plan
         requires { IsServable (shown self.now) }

@@ -5,7 +5,7 @@ ghost use Rattle.std.specs.List.{list_any};
 ghost use Rattle.std.specs.Option.{option_map_or};
 ghost use Rattle.rx_windows.specs.Windows.{rate_numbered};
 ghost use Rattle.server_desk.specs.Hearing.{copy_fault, copy_of, named_fault};
-ghost use Rattle.server_desk.specs.Kept.{desk_answer};
+ghost use Rattle.server_desk.specs.Invariant.{desk_answer};
 
 use crate::{DeskFault, DeskHeard, Heard1};
 use radio_airtime::DataRate;

@@ -1,10 +1,10 @@
 // What a desk keeps of its settings before anything was heard.
 
 ghost use Rattle.std.specs.Prelude.{◌≡◌, ◌≢◌, ◌<◌, ◌^◌, false, map, IfOk, All, AllPairs};
-ghost use Rattle.server_desk.specs.Kept.{shown};
+ghost use Rattle.server_desk.specs.Invariant.{shown};
 ghost use Rattle.server_desk.specs.Register.{opened_device};
 
-use crate::device::Kept;
+use crate::device::KnownDevice;
 use crate::{DeviceSetting, GatewaySetting};
 use indexmap::IndexSet;
 use std::alloc::{AllocError, Allocator};
@@ -35,13 +35,13 @@ pub(crate) fn airtimes_of<A: Allocator + Drop>(
 pub(crate) fn devices_of<A: Allocator + Copy>(
     alloc: A,
     devices: &[DeviceSetting],
-) -> Result<Vec<Kept<A>, A>, AllocError>
+) -> Result<Vec<KnownDevice<A>, A>, AllocError>
     ensures shown { IfOk result (λ kepts. map shown kepts.items ≡ map opened_device devices.now) }
     ensures none_out { IfOk result (λ kepts. All (λ k. k.out ≡ false) kepts.items) }
 {
     let mut kepts = Vec::with_capacity(alloc, devices.len())?;
     for device in devices {
-        kepts.push(Kept::new(alloc, device))?;
+        kepts.push(KnownDevice::new(alloc, device))?;
     }
     Ok(kepts)
 }

@@ -51,7 +51,7 @@ impl<S: BuildHasher, A: Allocator> Desk<S, A> {
         ensures { result ≡ may_settle self.now.ids self.now.known stub.now.number stub.now.result }
     {
         match numbered(&self.known, stub.number()) {
-            Some(Known::Given) => {}
+            Some(Known::Pending) => {}
             _ => return false,
         }
         match stub.gateway() {

@@ -4,7 +4,7 @@ ghost use Rattle.std.specs.Prelude.{◌≡◌, Ok, IfOk, OnOk, OnErr, MatchResul
 ghost use Rattle.uplink_gather.specs.Gatherings.{copies_of};
 ghost use Rattle.rx_windows.specs.Rank.{ranked};
 ghost use Rattle.server_desk.specs.Taking.{take_answer};
-ghost use Rattle.server_desk.specs.Kept.{IsReady};
+ghost use Rattle.server_desk.specs.Invariant.{MayBeGiven};
 ghost use Rattle.server_desk.specs.Desk.{desk_take};
 
 use crate::answers::{Asked, Known, numbered};
@@ -40,7 +40,7 @@ impl<S: BuildHasher, A: Allocator + Copy> Desk<S, A> {
 
     /// The ticket for uplink `n`, which says this.
     fn ticket(&self, n: u64, asked: &Asked) -> Result<Ticket<A>, NoMemory>
-        requires { IsReady self.now.reg self.now.known n asked.now }
+        requires { MayBeGiven self.now.reg self.now.known n asked.now }
         ensures job { IfOk result (λ ticket. take_answer self.now.reg self.now.known n ≡ Ok ticket.job) }
         ensures first { IfOk result (λ ticket. ticket.at ≡ 0) }
     {
@@ -63,7 +63,7 @@ impl<S: BuildHasher, A: Allocator> Desk<S, A> {
     /// What the uplink with this number says, where a ticket may be given for it, or why none is.
     #[tactic(auto, using(crate::proofs::TakeLemmas::within_here), unfolding(crate::specs::Taking::take_answer))]
     fn owed(&self, n: u64) -> Result<Asked, TakeFault>
-        ensures { MatchResult result (λ asked. IsReady self.now.reg self.now.known n asked)
+        ensures { MatchResult result (λ asked. MayBeGiven self.now.reg self.now.known n asked)
             (λ fault. take_answer self.now.reg self.now.known n ≡ Err fault) }
     {
         if !self.gather.is_closed(n) {
@@ -86,10 +86,10 @@ impl<S: BuildHasher, A: Allocator> Desk<S, A> {
 
     /// The ticket for uplink `n`, which says this, is out from now on.
     fn give(&mut self, n: u64, asked: &Asked)
-        requires { IsReady self.old.reg self.old.known n asked.now }
+        requires { MayBeGiven self.old.reg self.old.known n asked.now }
         ensures { self.new ≡ desk_take self.old n }
     {
         self.devices[asked.device].give();
-        self.known[n as usize - 1] = Known::Given;
+        self.known[n as usize - 1] = Known::Pending;
     }
 }

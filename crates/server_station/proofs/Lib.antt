@@ -2,6 +2,6 @@ pub mod Tallied
 pub mod Numbered
 pub mod Ordered
 pub mod Settled
-pub mod TurnLemmas
+pub mod HandledLemmas
 pub mod ShelfLemmas
 pub mod ClosingLemmas

@@ -1,3 +1,3 @@
 pub mod Stations
-pub mod Turns
+pub mod Handling
 pub mod Closings

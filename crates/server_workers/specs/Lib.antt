@@ -5,5 +5,5 @@ pub mod Crew
 pub mod Serving
 pub use Rattle.book_audit.specs.Audit
 pub use Rattle.server_station.specs.Stations
-pub use Rattle.server_station.specs.Turns
+pub use Rattle.server_station.specs.Handling
 pub use Rattle.server_station.specs.Closings

@@ -3,10 +3,10 @@ use Rattle.answer_ticket.specs.declared.outcome.Outcome.{Outcome}
 use Rattle.answer_ticket.specs.declared.tried.Receipt.{Receipt}
 use Rattle.server_desk.specs.declared.faults.TakeFault.{TakeFault}
 use Rattle.server_desk.specs.declared.faults.TakeFault.TheVariants as taking
-use Rattle.server_station.specs.declared.turn.Turn.{Turn}
-use Rattle.server_station.specs.declared.turn.Turn.TheVariants.{NotTaken, Settled, Stray}
+use Rattle.server_station.specs.declared.handled.Handled.{Handled}
+use Rattle.server_station.specs.declared.handled.Handled.TheVariants.{NotTaken, Settled, Stray}
 use Rattle.server_workers.specs.declared.worked.Worked.{Worked}
-use Rattle.server_station.specs.Turns.{IsTurn, was_taken}
+use Rattle.server_station.specs.Handling.{IsHandled, was_taken}
 use Rattle.server_workers.specs.Works.{IsOpen, IsLonger}
 
 -- How a worker goes on.
@@ -43,34 +43,34 @@ items_of None = []
 items_of (Some x) = x ∷ []
 
 -- what each list of a worker gets, by what became of number n
-abbrev pub receipts_of : {A : Type 0} → Turn A → List (Receipt A)
+abbrev pub receipts_of : {A : Type 0} → Handled A → List (Receipt A)
 receipts_of (NotTaken fault) = []
 receipts_of (Settled outcome receipt) = items_of receipt
 receipts_of (Stray receipt) = items_of receipt
 
-abbrev pub outcomes_of : {A : Type 0} → Turn A → List Outcome
+abbrev pub outcomes_of : {A : Type 0} → Handled A → List Outcome
 outcomes_of (NotTaken fault) = []
 outcomes_of (Settled outcome receipt) = outcome ∷ []
 outcomes_of (Stray receipt) = []
 
-abbrev pub skipped_of : {A : Type 0} → ℕ → Turn A → List ℕ
+abbrev pub skipped_of : {A : Type 0} → ℕ → Handled A → List ℕ
 skipped_of n (NotTaken fault) = if may_come_later fault then n ∷ [] else []
 skipped_of n (Settled outcome receipt) = []
 skipped_of n (Stray receipt) = []
 
-abbrev pub refused_of : {A : Type 0} → ℕ → Turn A → List (ℕ × TakeFault)
+abbrev pub refused_of : {A : Type 0} → ℕ → Handled A → List (ℕ × TakeFault)
 refused_of n (NotTaken fault) = if may_come_later fault then [] else (n, fault) ∷ []
 refused_of n (Settled outcome receipt) = []
 refused_of n (Stray receipt) = []
 
-abbrev pub strays_of : {A : Type 0} → ℕ → Turn A → List ℕ
+abbrev pub strays_of : {A : Type 0} → ℕ → Handled A → List ℕ
 strays_of n (NotTaken fault) = []
 strays_of n (Settled outcome receipt) = []
 strays_of n (Stray receipt) = n ∷ []
 
 -- what became of number n stands at the ends of the lists, and nothing else was added
-pub record IsFiled {B A : Type 0} (n : ℕ) (old new : Worked B A) (turn : Turn A) : Type 0 where
-  pub told : IsTurn n old.till new.till turn
+pub record IsFiled {B A : Type 0} (n : ℕ) (old new : Worked B A) (turn : Handled A) : Type 0 where
+  pub told : IsHandled n old.till new.till turn
   pub receipts : new.receipts.items ≡ old.receipts.items ++ receipts_of turn
   pub outcomes : new.outcomes.items ≡ old.outcomes.items ++ outcomes_of turn
   pub skipped : new.skipped.items ≡ old.skipped.items ++ skipped_of n turn
@@ -80,4 +80,4 @@ pub record IsFiled {B A : Type 0} (n : ℕ) (old new : Worked B A) (turn : Turn 
 
 -- a worker took up number n once, and filed what became of it
 abbrev pub HasFiled : {B A : Type 0} → ℕ → Worked B A → Worked B A → Type 0
-HasFiled {B} {A} n old new = (turn : Turn A) × IsFiled n old new turn
+HasFiled {B} {A} n old new = (turn : Handled A) × IsFiled n old new turn

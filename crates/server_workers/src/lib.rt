@@ -11,8 +11,8 @@ mod working;
 
 pub use served::{ServeCause, ServeFault, Served};
 pub use server_station::{
-    Blank, Closing, FinishCause, FinishFault, Gate, Ledger, MAX_TURNS, NoGate, NoMemory, Office,
-    PARTS, Station, Tally, Till, TotalsFault, Turn,
+    Blank, Closing, FinishCause, FinishFault, Gate, Handled, Ledger, MAX_TURNS, NoGate, NoMemory,
+    Office, PARTS, Station, Tally, Till, TotalsFault,
 };
 pub use serving::serve;
 pub use worked::Worked;

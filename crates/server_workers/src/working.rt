@@ -5,7 +5,7 @@ ghost use Rattle.server_workers.specs.Works.{IsOpen, HasMore, airtime_of};
 ghost use Rattle.server_workers.specs.Working.{HasFiled, HasRoom, IsMore, items_of, receipts_of, outcomes_of, skipped_of, refused_of};
 ghost use Rattle.server_workers.specs.Working.{strays_of};
 
-use crate::{Gate, Ledger, Station, Turn, Worked};
+use crate::{Gate, Handled, Ledger, Station, Worked};
 use answer_ticket::{Outcome, Receipt};
 use crossbeam_channel::Receiver;
 use server_core::TakeFault;
@@ -95,7 +95,7 @@ impl<B: Ledger, A: Allocator + Copy> Worked<B, A> {
 /// Files what became of a number in the one list for it.
 fn file<A: Allocator>(
     number: u64,
-    turn: Turn<A>,
+    turn: Handled<A>,
     receipts: &mut Vec<Receipt<A>, A>,
     outcomes: &mut Vec<Outcome, A>,
     skipped: &mut Vec<u64, A>,
@@ -114,15 +114,15 @@ fn file<A: Allocator>(
     ensures strays { HasMore (strays_of number turn) strays.old strays.new }
 {
     match turn {
-        Turn::NotTaken(TakeFault::Engaged | TakeFault::NoMemory) => {
+        Handled::NotTaken(TakeFault::Engaged | TakeFault::NoMemory) => {
             skipped.push_reserved(number);
         }
-        Turn::NotTaken(fault) => refused.push_reserved((number, fault)),
-        Turn::Settled(outcome, receipt) => {
+        Handled::NotTaken(fault) => refused.push_reserved((number, fault)),
+        Handled::Settled(outcome, receipt) => {
             outcomes.push_reserved(outcome);
             keep(receipts, receipt);
         }
-        Turn::Stray(receipt) => {
+        Handled::Stray(receipt) => {
             strays.push_reserved(number);
             keep(receipts, receipt);
         }

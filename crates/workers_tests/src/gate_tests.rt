@@ -5,7 +5,7 @@ use crate::fixtures::{TestStation, closed, hear_copy, heard_by, station_of};
 use answer_ticket::Ending;
 use rx_windows::Window;
 use server_core::Heard1;
-use server_workers::{Blank, Gate, Ledger, MAX_TURNS, NoGate, PARTS, Turn};
+use server_workers::{Blank, Gate, Ledger, MAX_TURNS, NoGate, PARTS, Handled};
 use std::alloc::Global;
 use std::marker::Brand;
 use std::sync::Wait;
@@ -109,9 +109,9 @@ impl<B: Ledger, R: Wait> Gate for Auditor<'_, B, R> {
 }
 
 /// How an answer ended that was settled.
-fn ending_of(turn: Turn<Global>) -> Option<Ending> {
+fn ending_of(turn: Handled<Global>) -> Option<Ending> {
     match turn {
-        Turn::Settled(outcome, _) => Some(outcome.result),
+        Handled::Settled(outcome, _) => Some(outcome.result),
         _ => None,
     }
 }

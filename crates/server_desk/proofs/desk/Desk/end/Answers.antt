@@ -1,4 +1,4 @@
-use Rattle.server_desk.proofs.Words.{sym, arith, slice_get_within, Given, Done, refl}
+use Rattle.server_desk.proofs.Words.{sym, arith, slice_get_within, Pending, Done, refl}
 use Rattle.server_desk.proofs.Numbers.{at_number}
 use Rattle.server_desk.proofs.TakeLemmas.{at_here}
 use Rattle.server_desk.proofs.AirtimeLemmas.{can_raise, short_ending, set_airtimes, set_total, total_here}
@@ -14,7 +14,7 @@ invariant_of-self g c =
       settled_holds _ _ _ _ _ c.self.invariant.0 c.args.outcome.now.number out.0 _ uplink _ _ at c.has_carried.result
           c.settle.ensures.shown c.sent_of-sent.result c.settle.ensures.out c.settle.ensures.setting,
       rw (c.raise.ensures, c.deref.ensures.value, c.sent_of-sent.ensures)
-          (set_airtimes _ _ _ _ c.self.invariant.1 c.args.outcome.now.number Given (Done _) out.0 (λ id. refl)
+          (set_airtimes _ _ _ _ c.self.invariant.1 c.args.outcome.now.number Pending (Done _) out.0 (λ id. refl)
           (short_ending c.args.outcome.now.result c.requires.short)),
     )
 
@@ -35,18 +35,18 @@ raise-requires g c =
 pub index_mut-requires-2 : goal.index_mut-requires-2
 index_mut-requires-2 g c =
     let out = is_out _ _ c.args.outcome.now.number c.args.outcome.now.result (rw (← c.self.view_is) at c.requires.out) in
-    let there = at_number c.args.outcome.now.number c.self.inside.known.items Given out.0 in
-    omega (arith, slice_get_within c.self.inside.known.items _ Given there, c.self.inside.known.ok.0)
+    let there = at_number c.args.outcome.now.number c.self.inside.known.items Pending out.0 in
+    omega (arith, slice_get_within c.self.inside.known.items _ Pending there, c.self.inside.known.ok.0)
 
 pub returns-clause-total : goal.returns-clause-total
 returns-clause-total g c =
     let out = is_out _ _ c.args.outcome.now.number c.args.outcome.now.result (rw (← c.self.view_is) at c.requires.out) in
     rw (← c.self.view_is, c.sent_of-sent.ensures, ← total_here _ _ _ _ c.self.invariant.1 c.args.outcome.now.result out.1)
-    (set_total _ _ _ _ c.self.invariant.1 c.args.outcome.now.number Given (Done _) out.0 (λ id. refl))
+    (set_total _ _ _ _ c.self.invariant.1 c.args.outcome.now.number Pending (Done _) out.0 (λ id. refl))
 
 pub returns-clause-limit : goal.returns-clause-limit
 returns-clause-limit g c =
     let out = is_out _ _ c.args.outcome.now.number c.args.outcome.now.result (rw (← c.self.view_is) at c.requires.out) in
     rw c.sent_of-sent.ensures (within_limit _ _ _ _
-    (set_airtimes _ _ _ _ c.self.invariant.1 c.args.outcome.now.number Given (Done _) out.0 (λ id. refl)
+    (set_airtimes _ _ _ _ c.self.invariant.1 c.args.outcome.now.number Pending (Done _) out.0 (λ id. refl)
     (short_ending c.args.outcome.now.result c.requires.short)))

@@ -6,13 +6,13 @@ use Rattle.answer_ticket.specs.declared.tried.Receipt.{Receipt}
 use Rattle.answer_ticket.specs.Job.{Job, candidates}
 use Rattle.answer_ticket.specs.Ticket.{Standing, candidate_of}
 use Rattle.answer_ticket.specs.Tried.{next_of}
-use Rattle.server_core.specs.declared.trying.Ended.{Ended}
-use Rattle.server_core.specs.declared.trying.Turn.{Turn}
-use Rattle.server_core.specs.declared.trying.Turn.TheVariants.{Over, On}
+use Rattle.answer_ticket.specs.declared.tried.TriedOut.{TriedOut}
+use Rattle.server_core.specs.declared.trying.Attempt.{Attempt}
+use Rattle.server_core.specs.declared.trying.Attempt.TheVariants.{Over, On}
 use Rattle.server_core.specs.declared.entry.Line.{Line}
 use Rattle.server_core.specs.declared.entry.Line.TheVariants as says
 use Rattle.server_desk.specs.declared.answers.Known.{Known}
-use Rattle.server_desk.specs.declared.answers.Known.TheVariants.{Given}
+use Rattle.server_desk.specs.declared.answers.Known.TheVariants.{Pending}
 use Rattle.server_desk.specs.Answers.{Open}
 use Rattle.server_desk.specs.Settling.{is_here}
 use Rattle.server_desk.specs.Desk.{desk_settled}
@@ -49,7 +49,7 @@ end_lines n (Unanswered refusal) receipt = says.Unanswered n refusal ∷ []
 end_lines n ending receipt = []
 
 -- the ticket was tried until it was booked or out; what is to be told of that is told when it is settled
-pub record EndsTries {A : Type 0} (w : World) (t : Standing) (old new : Seen A) (ended : Ended A) : Type 0 where
+pub record EndsTries {A : Type 0} (w : World) (t : Standing) (old new : Seen A) (ended : TriedOut A) : Type 0 where
   pub books : AreBooksOf new.books (reached w (tries_from w t)).gateways
   pub steps : map step_of new.steps ≡ map step_of old.steps ++ tries_from w t
   pub told : told (reached w (tries_from w t)) t.job.number ≡ Some ended.stub.result
@@ -66,7 +66,7 @@ pub record GoesOn {A : Type 0} (w : World) (t : Standing) (old new : Seen A) : T
   pub lines : lines_for {A = A} w (Try t.job.number) (step w (Try t.job.number)).1 ≡ []
 
 -- a world of whose gateways these are the books, and in which this ticket is out
-pub record IsOut {A : Type 0} (w : World) (t : Standing) (s : Seen A) : Type 0 where
+pub record HasTicketOut {A : Type 0} (w : World) (t : Standing) (s : Seen A) : Type 0 where
   pub books : AreBooksOf s.books w.gateways
   pub stands : numbered t.job.number w.answers ≡ Some (Open t.at t.job)
 
@@ -77,26 +77,26 @@ pub record IsSame {A : Type 0} (old new : Seen A) : Type 0 where
   pub outcomes : new.outcomes ≡ old.outcomes
 
 -- what is left of a ticket that was tried until it was booked or out
-pub record AreTries {A : Type 0} (t : Standing) (old new : Seen A) (ended : Ended A) : Type 0 where
+pub record AreTries {A : Type 0} (t : Standing) (old new : Seen A) (ended : TriedOut A) : Type 0 where
   pub same : IsSame old new
   pub number : ended.stub.number ≡ t.job.number
   pub here : IsTrue (is_here (ids_of old.books) ended.stub.result)
-  pub ends : (w : World) → IsOut w t old → EndsTries w t old new ended
+  pub ends : (w : World) → HasTicketOut w t old → EndsTries w t old new ended
 
 -- what is left of a ticket that was refused and goes on to its next candidate
-pub record IsNext {A : Type 0} (t : Standing) (old new : Seen A) (next : Standing) : Type 0 where
+pub record MovesOn {A : Type 0} (t : Standing) (old new : Seen A) (next : Standing) : Type 0 where
   pub same : IsSame old new
   pub moved : next ≡ next_of t
   pub follows : IsSome (candidate_of (next_of t))
-  pub goes_on : (w : World) → IsOut w t old → GoesOn w t old new
+  pub goes_on : (w : World) → HasTicketOut w t old → GoesOn w t old new
 
 -- what one try leads to
-abbrev pub TurnIs : {A : Type 0} → Standing → Seen A → Seen A → Turn A → Type 0
-TurnIs t old new (Over ended) = AreTries t old new ended
-TurnIs t old new (On next) = IsNext t old new next
+abbrev pub AttemptIs : {A : Type 0} → Standing → Seen A → Seen A → Attempt A → Type 0
+AttemptIs t old new (Over ended) = AreTries t old new ended
+AttemptIs t old new (On next) = MovesOn t old new next
 
 -- what the settling of an answer makes, and what is told of it
-pub record IsSettled {A : Type 0} (place : ℕ) (ended : Ended A) (old new : Seen A) : Type 0 where
+pub record IsSettled {A : Type 0} (place : ℕ) (ended : TriedOut A) (old new : Seen A) : Type 0 where
   pub books : new.books ≡ old.books
   pub desk : new.desk ≡ desk_settled ended.stub.result ended.stub.number old.desk
   pub steps : map step_of new.steps ≡ map step_of old.steps ++ Settle ended.stub.number ∷ []
@@ -104,7 +104,7 @@ pub record IsSettled {A : Type 0} (place : ℕ) (ended : Ended A) (old new : See
 
 -- a ticket of this number is out
 abbrev pub IsGivenTo : List Known → ℕ → Type 0
-IsGivenTo known n = numbered n known ≡ Some Given
+IsGivenTo known n = numbered n known ≡ Some Pending
 
 -- what a ticket's tries and its settling make
 pub record IsAnswered {A : Type 0} (place : ℕ) (job : Job) (old new : Seen A) : Type 0 where

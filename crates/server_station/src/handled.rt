@@ -1,9 +1,9 @@
 // An uplink is answered, once.
 ghost use Rattle.std.specs.Prelude.{◌≡◌, ◌≤◌, true, false};
-ghost use Rattle.server_station.specs.Turns.{IsTurn, IsEndOf, was_taken, receipt_of};
+ghost use Rattle.server_station.specs.Handling.{IsHandled, IsEndOf, was_taken, receipt_of};
 
 use crate::{Gate, Ledger, Station, Till};
-use answer_ticket::{Outcome, Receipt, Stub, Ticket, Tried};
+use answer_ticket::{Outcome, Receipt, Ticket, Tried, TriedOut};
 use server_core::TakeFault;
 use std::alloc::Allocator;
 use std::hash::BuildHasher;
@@ -11,19 +11,13 @@ use std::sync::Wait;
 
 /// What became of an uplink that was taken up once.
 #[derive(Drop)]
-pub enum Turn<A: Allocator> {
+pub enum Handled<A: Allocator> {
     /// No ticket was given.
     NotTaken(TakeFault),
     /// Its answer was settled, with the receipt of what was booked.
     Settled(Outcome, Option<Receipt<A>>),
     /// The desk handed its stub back; with the receipt of what was booked.
     Stray(Option<Receipt<A>>),
-}
-
-/// What is left of a ticket that was tried for as long as it could be, with the receipt where it was booked.
-struct Ended<A: Allocator> {
-    stub: Stub,
-    receipt: Option<Receipt<A>>,
 }
 
 impl<B: Ledger, S: BuildHasher, A: Allocator + Copy> Station<B, S, A> {
@@ -37,8 +31,8 @@ impl<B: Ledger, S: BuildHasher, A: Allocator + Copy> Station<B, S, A> {
         number: u64,
         till: &mut Till<B>,
         overrun: &mut u64,
-    ) -> Turn<A>
-        ensures turn { IsTurn number till.old till.new result }
+    ) -> Handled<A>
+        ensures turn { IsHandled number till.old till.new result }
         ensures overrun { overrun.old ≤ overrun.new }
         ensures idle { was_taken result ≡ false → overrun.new ≡ overrun.old }
     {
@@ -47,7 +41,7 @@ impl<B: Ledger, S: BuildHasher, A: Allocator + Copy> Station<B, S, A> {
                 let ended = self.tried(rt, gate, ticket, overrun);
                 self.settled(rt, ended, till)
             }
-            Err(fault) => Turn::NotTaken(fault),
+            Err(fault) => Handled::NotTaken(fault),
         }
     }
 
@@ -58,7 +52,7 @@ impl<B: Ledger, S: BuildHasher, A: Allocator + Copy> Station<B, S, A> {
         gate: &G,
         ticket: Ticket<A>,
         overrun: &mut u64,
-    ) -> Ended<A>
+    ) -> TriedOut<A>
         ensures ended { IsEndOf ticket.job.number result }
         ensures overrun { overrun.old ≤ overrun.new }
     {
@@ -66,20 +60,20 @@ impl<B: Ledger, S: BuildHasher, A: Allocator + Copy> Station<B, S, A> {
         loop {
             match self.try_through(rt, gate, ticket, overrun) {
                 Tried::Booked(stub, receipt) => {
-                    return Ended {
+                    return TriedOut {
                         stub,
                         receipt: Some(receipt),
                     };
                 }
                 Tried::Next(next, _) => ticket = next,
                 Tried::Out(stub, _) => {
-                    return Ended {
+                    return TriedOut {
                         stub,
                         receipt: None,
                     };
                 }
                 Tried::Wrong(ticket) | Tried::NoMemory(ticket) => {
-                    return Ended {
+                    return TriedOut {
                         stub: ticket.give_up(),
                         receipt: None,
                     };
@@ -89,18 +83,18 @@ impl<B: Ledger, S: BuildHasher, A: Allocator + Copy> Station<B, S, A> {
     }
 
     /// Settles what is left of a ticket.
-    fn settled<R: Wait>(&self, rt: &R, ended: Ended<A>, till: &mut Till<B>) -> Turn<A>
+    fn settled<R: Wait>(&self, rt: &R, ended: TriedOut<A>, till: &mut Till<B>) -> Handled<A>
         requires { IsEndOf ended.stub.number ended }
-        ensures turn { IsTurn ended.stub.number till.old till.new result }
+        ensures turn { IsHandled ended.stub.number till.old till.new result }
         ensures taken { was_taken result ≡ true }
         ensures receipt { receipt_of result ≡ ended.receipt }
     {
-        let Ended { stub, receipt } = ended;
+        let TriedOut { stub, receipt } = ended;
         match self.settle(rt, stub, till) {
-            Ok(outcome) => Turn::Settled(outcome, receipt),
+            Ok(outcome) => Handled::Settled(outcome, receipt),
             Err(stub) => {
                 let _ = stub.end();
-                Turn::Stray(receipt)
+                Handled::Stray(receipt)
             }
         }
     }

@@ -11,7 +11,7 @@ use Rattle.uplink_gather.specs.declared.fault.HearFault.{HearFault}
 use Rattle.server_desk.specs.declared.heard.DeskHeard.{DeskHeard}
 use Rattle.server_desk.specs.declared.heard.DeskHeard.TheVariants.{Opened, Joined}
 use Rattle.server_desk.specs.declared.faults.DeskFault.{DeskFault}
-use Rattle.server_desk.specs.declared.device.Kept.{Kept}
+use Rattle.server_desk.specs.declared.device.KnownDevice.{KnownDevice}
 use Rattle.server_desk.specs.Answers.{Known, NotGiven, is_given}
 use Rattle.server_desk.specs.Taking.{take_fault, take_answer, job_of}
 use Rattle.server_desk.specs.declared.verdict.Verdict.{Verdict}
@@ -22,11 +22,11 @@ use Rattle.server_desk.specs.Hearing.{Decision, Refuse, Join, Open, is_last, ask
 -- What the desk keeps beside its part of the world.
 
 -- a device as it is kept
-abbrev pub shown : {A : Type 0} → Kept A → Device
+abbrev pub shown : {A : Type 0} → KnownDevice A → Device
 shown k = record { setting = k.setting; queue = k.queue.items; up = k.up; down = k.down }
 
 -- of which devices a ticket or stub is out
-abbrev pub outs : {A : Type 0} → List (Kept A) → List Bool
+abbrev pub outs : {A : Type 0} → List (KnownDevice A) → List Bool
 outs kepts = map (λ k. k.out) kepts
 
 -- a payload that may be sent
@@ -73,7 +73,7 @@ pub record IsDesk (keys : List ℕ) (flags : List Bool) (reg : Register) (known 
   pub engaged : AreOut flags reg.asked known
 
 -- a ticket may be given for uplink n, which says this
-pub record IsReady (reg : Register) (known : List Known) (n : ℕ) (asked : Asked) : Type 0 where
+pub record MayBeGiven (reg : Register) (known : List Known) (n : ℕ) (asked : Asked) : Type 0 where
   pub uplink : numbered n reg.asked ≡ Some asked
   pub waits : numbered n known ≡ Some NotGiven
   pub device : Device

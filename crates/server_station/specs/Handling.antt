@@ -9,9 +9,9 @@ use Rattle.answer_ticket.specs.declared.outcome.Outcome.{Outcome}
 use Rattle.answer_ticket.specs.declared.tried.Receipt.{Receipt}
 use Rattle.answer_ticket.specs.Ended.{IsOfCandidate}
 use Rattle.server_core.specs.Airtime.{airtime_of_ending}
-use Rattle.server_station.specs.declared.turn.Ended.{Ended}
-use Rattle.server_station.specs.declared.turn.Turn.{Turn}
-use Rattle.server_station.specs.declared.turn.Turn.TheVariants.{NotTaken, Settled, Stray}
+use Rattle.answer_ticket.specs.declared.tried.TriedOut.{TriedOut}
+use Rattle.server_station.specs.declared.handled.Handled.{Handled}
+use Rattle.server_station.specs.declared.handled.Handled.TheVariants.{NotTaken, Settled, Stray}
 
 -- What becomes of an uplink that is taken up once, after this project's profile.
 
@@ -32,7 +32,7 @@ GoesWith n (Unanswered refusal) receipt = receipt ≡ None
 GoesWith n GivenUp receipt = receipt ≡ None
 
 -- what is left of the ticket for this number
-pub record IsEndOf {A : Type 0} (n : ℕ) (ended : Ended A) : Type 0 where
+pub record IsEndOf {A : Type 0} (n : ℕ) (ended : TriedOut A) : Type 0 where
   pub number : ended.stub.number ≡ n
   pub receipt : GoesWith n ended.stub.result ended.receipt
 
@@ -49,19 +49,19 @@ pub record IsStray {A : Type 0} (n : ℕ) (old new : Holding) (booked : Option (
   pub till : new ≡ old
 
 -- what became of the uplink with this number, and of the till
-abbrev pub IsTurn : {A : Type 0} → ℕ → Holding → Holding → Turn A → Type 0
-IsTurn n old new (NotTaken fault) = new ≡ old
-IsTurn n old new (Settled outcome receipt) = IsSettled n old new outcome receipt
-IsTurn n old new (Stray receipt) = IsStray n old new receipt
+abbrev pub IsHandled : {A : Type 0} → ℕ → Holding → Holding → Handled A → Type 0
+IsHandled n old new (NotTaken fault) = new ≡ old
+IsHandled n old new (Settled outcome receipt) = IsSettled n old new outcome receipt
+IsHandled n old new (Stray receipt) = IsStray n old new receipt
 
 -- whether a ticket was given
-abbrev pub was_taken : {A : Type 0} → Turn A → Bool
+abbrev pub was_taken : {A : Type 0} → Handled A → Bool
 was_taken (NotTaken fault) = false
 was_taken (Settled outcome receipt) = true
 was_taken (Stray receipt) = true
 
 -- the receipt of what was booked
-abbrev pub receipt_of : {A : Type 0} → Turn A → Option (Receipt A)
+abbrev pub receipt_of : {A : Type 0} → Handled A → Option (Receipt A)
 receipt_of (NotTaken fault) = None
 receipt_of (Settled outcome receipt) = receipt
 receipt_of (Stray receipt) = receipt

@@ -7,7 +7,7 @@ use Rattle.server_desk.specs.declared.faults.TakeFault.TheVariants.{NotReady, Ta
 use Rattle.server_core.specs.Answers.{is_not_given}
 use Rattle.server_core.specs.Desk.{DeskView}
 use Rattle.server_core.specs.Register.{Device}
-use Rattle.server_core.specs.Taking.{take_answer, take_known, take_by, given_or, take_fault}
+use Rattle.server_core.specs.Taking.{take_answer, take_known, take_asked, given_or, take_fault}
 
 -- the job that a desk gives a ticket for has the number that was asked for
 module _ (d : DeskView) (n : ℕ) (job : Job) where
@@ -15,11 +15,11 @@ module _ (d : DeskView) (n : ℕ) (job : Job) where
   by_fault a device None e = cc (e)
   by_fault a device (Some fault) e = absurd (cc (e))
 
-  by_device : (a : _) (o : Option Device) → take_by d.reg d.known n a o ≡ Ok job → job.number ≡ n
+  by_device : (a : _) (o : Option Device) → take_asked d.reg d.known n a o ≡ Ok job → job.number ≡ n
   by_device a None e = absurd (cc (e))
   by_device a (Some device) e = by_fault a device (take_fault d.reg d.known a device) e
 
-  by_state : (a : _) (t : Bool) → (if t then take_by d.reg d.known n a (slice_get d.reg.devices a.device) else Err Taken) ≡ Ok job
+  by_state : (a : _) (t : Bool) → (if t then take_asked d.reg d.known n a (slice_get d.reg.devices a.device) else Err Taken) ≡ Ok job
       → job.number ≡ n
   by_state a true e = by_device a (slice_get d.reg.devices a.device) e
   by_state a false e = absurd (cc (e))
