@@ -125,7 +125,7 @@ pub call_done : {A X E : Type 0} {s : Step} {q : DeskView → Result X E} {after
     (r : Result X E) (d : DeskView) (line : Line A) → IsDeskStep s q after reply say → step_of made ≡ s
     → mid ≡ with_step made old → IsCall none (q mid.desk) mid.desk (after mid.desk) r d → r ≢ Err none → line ≡ say r
     → IsBetweenCalls old → new ≡ with_lines place (line ∷ []) (record mid { desk = d }) → IsDone place s old new
-call_done {A} {X} {E} {s} {q} {after} {reply} {say} none place made old mid new r d line is same noted call memory said ready told =
+call_done {A} {X} {E} {s} {q} {after} none place made old mid new r d line is same noted call memory said ready told =
     let o = outcome none (q mid.desk) r mid.desk (after mid.desk) d call (is.refusal mid.desk) memory in
     done place s made line old mid (record mid { desk = d }) new same noted
     (record {

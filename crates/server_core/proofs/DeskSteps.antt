@@ -34,7 +34,7 @@ module _ (w : World) (P : After → Type 0) where
   tick_walk id now none there = gateway_walk id (λ o. P (tick_at w now o)) none (λ i g e own. there i g e)
 
   pub cancel_walk : (n : ℕ) → P (w, replies.Cancelled (Err NotHere))
-      → ((sent : Sent) (i : ℕ) (g : Gateway) → slice_get w.gateways i ≡ Some g → P (cancel_at w n sent (Some (i, g)))) → P (cancel w n)
+      → ((s : Sent) (i : ℕ) (g : Gateway) → slice_get w.gateways i ≡ Some g → P (cancel_at w n s (Some (i, g)))) → P (cancel w n)
   cancel_walk n none there = by_option (λ o. P (cancel_of w n o)) (numbered n w.answers) (λ e. none)
       (λ answer e. by_option (λ o. P (cancel_sent w n o)) (sent_for answer) (λ f. none)
       (λ sent f. gateway_walk sent.gateway (λ o. P (cancel_at w n sent o)) none (λ i g q own. there sent i g q)))
@@ -109,17 +109,14 @@ same_ids : (w : World) (i : ℕ) (g : Gateway) (s : State) → slice_get w.gatew
     → map (λ g. g.id) (slice_set w.gateways i (record g { state = s })) ≡ map (λ g. g.id) w.gateways
 same_ids w i g s e = map_set (λ g. g.id) w.gateways i g (record g { state = s }) e refl
 
-refused_known : (k : ℕ) (job : Job) (refusal : Refusal) (o : Option Candidate) → known_of (refused k job refusal o) ≡ Pending
-refused_known k job refusal None = refl
-refused_known k job refusal (Some c) = refl
-
 try_desk : (w : World) (n k : ℕ) (job : Job) (c : Candidate) (i : ℕ) (g : Gateway) (o : Option Refusal)
     → numbered n w.answers ≡ Some (Open k job) → slice_get w.gateways i ≡ Some g
     → desk_of (tried_by w n k job c (i, g) o).0 ≡ desk_of w
 try_desk w n k job c i g (Some refusal) e there =
     let answer : Answer = refused k job refusal (candidate_at job (k + 1)) in
     same_known (tried_by w n k job c (i, g) (Some refusal)).0 w refl refl
-    (same_rewritten known_of (λ a. answer) n w.answers (Open k job) e (refused_known k job refusal (candidate_at job (k + 1))))
+    (same_rewritten known_of (λ a. answer) n w.answers (Open k job) e
+    (elim (candidate_at job (k + 1)) as (λ o. known_of (refused k job refusal o) ≡ Pending) [ None ↦ refl | Some d ↦ refl ]))
 try_desk w n k job c i g None e there =
     same_known (tried_by w n k job c (i, g) None).0 w refl (same_ids w i g (book_step g.rules g.state (ask_for job c)) there)
     (same_rewritten known_of (λ a. Booked (sent_by job c) c.window c.carries) n w.answers (Open k job) e refl)

@@ -40,9 +40,8 @@ module _ (number start : ℕ) (l : List Reservation) (r : Reservation) (o : IsBy
       (λ e. absurd (cc (f, named_none number start l e))) (λ m e. named_by m (is_named number start m) refl e)
 
 was_found : (o : Option Reservation) (t : Bool) (r : Reservation) → (if t then Err Begun else found_or o) ≡ Ok r → o ≡ Some r
-was_found None true r e = absurd (cc)
+was_found o true r e = absurd (cc)
 was_found None false r e = absurd (cc)
-was_found (Some s) true r e = absurd (cc)
 was_found (Some s) false r e = cc
 
 abbrev cancelled : Gateway → Result Reservation CancelFault → ℕ → ℕ → Gateway
@@ -150,7 +149,7 @@ module _ {settings : SettingLists} {T : Job → Type 0} {w : World} (h : Holds s
               candidate = c;
               tried = at;
               here = sym here;
-              taken = record { start = b.asked.start; freq_hz = b.asked.freq_hz; rate = b.asked.rate; len = b.asked.len };
+              asked = b.asked;
             };
             own = subst (λ m. IsJobAt settings T w.reg.gathered.list m job) number j;
             kept = record {

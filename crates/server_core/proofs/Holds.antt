@@ -4,8 +4,8 @@ use Rattle.server_core.proofs.Words.{false, length, map, refl, slice_get, ℕ, �
 use Rattle.server_core.proofs.Words.{IsOrderly, addr_of, Gathering, numbered, rewritten, HeardCopy, IsWindowOf, Candidate, Job}
 use Rattle.server_core.proofs.Words.{candidate_at, Answer, Open, is_not_given, known_of, numbered-append, numbered_after}
 use Rattle.server_core.proofs.Words.{rewritten-none, all_get, map_there, Device, plan_for, Gateway, World, AreSettings}
-use Rattle.server_core.proofs.Words.{SettingLists, Asked, Sent, DeviceSetting, IsMember, IsTaken, setting_of, Given, Reply}
-use Rattle.server_core.proofs.Words.{sent_for, net}
+use Rattle.server_core.proofs.Words.{SettingLists, Asked, Sent, DeviceSetting, IsMember, setting_of, Given, Reply}
+use Rattle.server_core.proofs.Words.{sent_for, net, IsAsked, ask_for}
 use Rattle.server_core.proofs.Members.{apart_once}
 
 -- a member with this number, of which this holds
@@ -62,7 +62,7 @@ pub record IsBooking (id : ℕ) (r : Reservation) (sent : Sent) (job : Job) : Ty
   pub candidate : Candidate
   pub tried : candidate_at job place ≡ Some candidate
   pub here : candidate.gateway ≡ id
-  pub taken : IsTaken candidate r
+  pub asked : IsAsked (ask_for job candidate) r
 
 pub record Stands (settings : SettingLists) (T : Job → Type 0) (l : List Gathering) (answers : List Answer) (id : ℕ)
     (r : Reservation) : Type 0 where

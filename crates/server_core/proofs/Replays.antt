@@ -1,19 +1,15 @@
 -- Events, one after another, from a server that has heard nothing.
-use Rattle.server_core.proofs.Words.{ap, append-nil, append_assoc, arith, ◌∙◌, drop_of_length-le, drop-cons, List, [], drop}
-use Rattle.server_core.proofs.Words.{get_or, length, map, refl, suc, ℕ, ◌++◌, ◌+◌, ◌<◌, ◌∷◌, ◌≡◌, ◌≤◌, Book, orderly_nil}
+use Rattle.server_core.proofs.Words.{ap, append-nil, append_assoc, arith, sym, ◌∙◌, drop_of_length-le, drop-cons, List, [], drop}
+use Rattle.server_core.proofs.Words.{get_or, length, map, refl, suc, ℕ, ◌++◌, ◌+◌, ◌<◌, ◌∷◌, ◌≡◌, ◌≤◌, map-map, Book, orderly_nil}
 use Rattle.server_core.proofs.Words.{remembers_own, desk_of, Gateway, World, opened_gateway, opening, AreSettings, SettingLists}
 use Rattle.server_core.proofs.Words.{GatewaySetting, entries, gateway_of, gateways_after, kept_gateway, reached, schedule}
-use Rattle.server_core.proofs.Words.{step_of, usual_limits, AreBooksOf, Does, IsAt, IsOpened, IsBetweenCalls, Seen, ids_of, with_lines}
-use Rattle.server_core.proofs.Words.{Step, Event, event_steps, schedule_from, entries_from, run_from}
+use Rattle.server_core.proofs.Words.{step_of, usual_limits, AreBooksOf, Does, IsAt, IsOpened, IsBetweenCalls, Seen, with_lines, Step}
+use Rattle.server_core.proofs.Words.{Event, event_steps, schedule_from, entries_from, run_from}
 use Rattle.server_core.specs.declared.event.Event.TheVariants as events
 use Rattle.server_core.specs.declared.entry.Line.TheVariants as says
 use Rattle.server_core.proofs.{Calls.reached_append, Members.none_numbered}
 
 -- a server that has heard nothing
-
-ids_are : (books : List Book) → ids_of books ≡ map (λ (g : Gateway). g.id) (map gateway_of books)
-ids_are [] = refl
-ids_are (b ∷ bs) = ap (λ (l : List ℕ). b.id ∷ l) (ids_are bs)
 
 opened_books : (books : List Book) (gs : List GatewaySetting) → map gateway_of books ≡ map opened_gateway gs
     → AreBooksOf books (map opened_gateway gs)
@@ -33,7 +29,7 @@ server_opened settings s d b t o are =
       are = are;
       at = record { desk = d; books = opened_books s.books settings.gateways b };
       ready = rw d (record {
-        books = ids_are s.books ∙ ap (map (λ (g : Gateway). g.id)) b;
+        books = sym (map-map (λ (g : Gateway). g.id) gateway_of s.books) ∙ ap (map (λ (g : Gateway). g.id)) b;
         heard = λ n g e c k. absurd (none_numbered n g e);
         idle = λ n k e. absurd (none_numbered n k e);
       });

@@ -7,8 +7,8 @@ use Rattle.server_core.proofs.Words.{World, opened_gateway, opening, AreSettings
 use Rattle.server_core.proofs.Words.{HaveOwnCounters, IsMember, IsOwnWindow, IsSafe, jobs_given, setting_of, with_given, Cancel}
 use Rattle.server_core.proofs.Words.{Given, Hear, Pass, Queue, Reply, Run, Settle, Step, Take, Tick, Try, run, sent_for, net}
 use Rattle.server_core.proofs.Words.{run_from, step}
-use Rattle.server_core.proofs.Holds.{IsKept, Stands, Holds, IsInOrder, AllStand, IsGivenAt, Follows, IsGoodStep, IsNew, IsUsed}
-use Rattle.server_core.proofs.Holds.{UsesUp, given_after, Holds-weaker, one_gateway, member_stands}
+use Rattle.server_core.proofs.Holds.{IsKept, Stands, Holds, IsInOrder, AllStand, IsGivenAt, Follows, IsGoodStep, IsNew, UsesUp}
+use Rattle.server_core.proofs.Holds.{given_after, Holds-weaker, one_gateway, member_stands}
 use Rattle.server_core.proofs.KnownSteps.{queue_good, hear_good, pass_good, settle_good}
 use Rattle.server_core.proofs.GatewaySteps.{try_good, cancel_good, tick_good}
 use Rattle.server_core.proofs.{Members.rises_once, Members.none_numbered, TakeStep.take_good}
@@ -52,21 +52,23 @@ module _ (settings : SettingLists) (r : Run) (h : Holds settings (Contains (jobs
       record {
         gathering = now.member;
         gathered = now.there;
-        copy = x.copy;
-        heard = now.is.copies x.copy x.heard;
-        here = sym x.gateway ∙ b.here;
         device = d.0;
         served = get_contains r.world.reg.devices j.place d.0 d.1;
         its_own = rw d.2 its_own;
         job = s.job;
         given = s.own.given;
-        number = s.own.number;
         addr = j.addr ∙ its_own;
         plan = plan;
         candidate = b.candidate;
         tried = get_contains (candidates s.job) b.place b.candidate b.tried;
-        window = rw plan at x.window;
-        taken = b.taken;
+        window = record {
+          copy = x.copy;
+          heard = now.is.copies x.copy x.heard;
+          gateway = x.gateway;
+          window = rw plan at x.window;
+        };
+        here = b.here;
+        asked = b.asked;
       }
 
   pub own_at : (i k : ℕ) (g : Gateway) (a : Reservation) → IsMember r.world i k g a → IsOwnWindow r g a
@@ -112,7 +114,7 @@ pub record AreTickets (w : World) (jobs : List Job) : Type 0 where
   pub tickets : AllPairs (λ a b. a.number ≢ b.number) jobs
   pub counters : AllPairs HaveOwnCounters jobs
 
--- what is new after a step was new before it
+-- what is new after a step was new before it, and differs from what the step used up
 still_new : (w v : World) → Follows w v → (job : Job) → IsNew v job → IsNew w job
 still_new w v f job x =
     record {
@@ -122,22 +124,16 @@ still_new w v f job x =
           omega (arith, l.counter, x.counter p l.device l.there (l.addr ∙ a));
     }
 
--- and differs from what the step used up
-own_number : (w : World) (a b : Job) → IsUsed w a → IsNew w b → a.number ≢ b.number
-own_number w a b u x e = x.number (subst (IsGivenAt w.answers) e u.number)
-
-own_counter : (w : World) (a b : Job) → IsUsed w a → IsNew w b → HaveOwnCounters a b
-own_counter w a b u x e q = omega (arith, u.counter, x.counter u.place u.device u.there (u.addr ∙ e))
-
 module _ (w v : World) (f : Follows w v) where
   one_more : (reply : Reply) (jobs : List Job) → UsesUp w v reply → AreTickets v jobs → AreTickets w (with_given reply jobs)
   one_more (Given (Ok job)) jobs u t =
       record {
         new = All-cons (IsNew w) job jobs u.0 (All-weaker (IsNew v) (IsNew w) (still_new w v f) jobs t.new);
-        tickets = AllPairs-cons (λ a b. a.number ≢ b.number) job jobs
-            (All-weaker (IsNew v) (λ b. job.number ≢ b.number) (λ b x. own_number v job b u.1 x) jobs t.new) t.tickets;
+        tickets = AllPairs-cons (λ a b. a.number ≢ b.number) job jobs (All-weaker (IsNew v) (λ b. job.number ≢ b.number)
+            (λ b x e. x.number (subst (IsGivenAt v.answers) e u.1.number)) jobs t.new) t.tickets;
         counters = AllPairs-cons HaveOwnCounters job jobs (All-weaker (IsNew v) (HaveOwnCounters job)
-            (λ b x. own_counter v job b u.1 x) jobs t.new) t.counters;
+            (λ b x e q. let own = x.counter u.1.place u.1.device u.1.there (u.1.addr ∙ e) in omega (arith, u.1.counter, own))
+            jobs t.new) t.counters;
       }
   one_more reply jobs u t = assumption (All-weaker (IsNew v) (IsNew w) (still_new w v f) jobs t.new, t)
 
@@ -152,10 +148,6 @@ given_cases (Given (Ok job)) T jobs j (inl (inr e)) = inr (subst (Contains (job 
     (get_contains (job ∷ jobs) 0 job refl))
 given_cases (Given (Ok job)) T jobs j (inr c) = inr (Contains-append_right (job ∷ []) jobs j c)
 given_cases reply T jobs j c = c
-
-only_given : {X : Type 0} → ⊥ ⊎ X → X
-only_given (inl e) = absurd e
-only_given (inr x) = x
 
 module _ (settings : SettingLists) (are : AreSettings settings.gateways settings.devices) where
   step_good : (T : Job → Type 0) (w : World) → Holds settings T w → (s : Step) → IsGoodStep settings T w (step w s)
@@ -201,7 +193,7 @@ module _ (settings : SettingLists) (are : AreSettings settings.gateways settings
   safe_by w r g =
       let T : Job → Type 0 = Contains (jobs_given r.replies) in
       let h : Holds settings T r.world = Holds-weaker settings (WithGiven (λ j. ⊥) (jobs_given r.replies)) T
-      (λ j. only_given) r.world g.holds in
+      (λ j x. elim x [ inl e ↦ absurd e | inr y ↦ y ]) r.world g.holds in
       let lawful : (i : ℕ) (x : Gateway) → slice_get r.world.gateways i ≡ Some x → IsLawful x.state.list =
       λ i x e. (h.in_order i x e).orderly.lawful in
       let counted : (i : ℕ) (x : Gateway) → slice_get r.world.gateways i ≡ Some x

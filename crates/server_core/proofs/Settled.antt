@@ -3,8 +3,8 @@ use Rattle.server_core.proofs.Words.{ap, append-nil, append_assoc, arith, sym, �
 use Rattle.server_core.proofs.Words.{Ok, Option, Some, [], length, map, refl, slice_get, ℕ, ◌++◌, ◌+◌, ◌-◌, ◌<◌, ◌∷◌, ◌≡◌}
 use Rattle.server_core.proofs.Words.{numbered, Candidate, candidates, next_of, Standing, candidate_of, Ending, Open, desk_of}
 use Rattle.server_core.proofs.Words.{desk_settled, may_settle, World, given_steps, reached, AreHere, IsAt, Moves, Seen, ids_of}
-use Rattle.server_core.proofs.Words.{Settle, Try, settle, AreTries, EndsTries, GoesOn, IsAnswered, IsGivenTo, MovesOn, HasTicketOut}
-use Rattle.server_core.proofs.Words.{IsSame, IsSettled, end_lines, tries_from, TriedOut, step_lines, run_from, step}
+use Rattle.server_core.proofs.Words.{Settle, Try, AreTries, EndsTries, GoesOn, IsAnswered, IsGivenTo, MovesOn, HasTicketOut, IsSame}
+use Rattle.server_core.proofs.Words.{IsSettled, end_lines, tries_from, TriedOut, step_lines, run_from, step}
 use Rattle.server_core.specs.Steps as replies
 use Rattle.server_core.proofs.Calls.{reached_append, lines_append}
 use Rattle.server_core.proofs.DeskSteps.{settle_walk, settle_desk, desk_calls_are_steps}
@@ -94,10 +94,6 @@ unfolding run_from
 tries_desk w n [] = refl
 tries_desk w n (c ∷ cs) = tries_desk (step w (Try n)).0 n cs ∙ desk_calls_are_steps.try w n
 
--- settling leaves the gateways
-settle_gateways : (w : World) (n : ℕ) → (settle w n).0.gateways ≡ w.gateways
-settle_gateways w n = settle_walk w (λ a. a.0.gateways ≡ w.gateways) n (λ e. refl) (λ answer ending q g e. refl)
-
 -- what is left of a ticket that is out may be settled
 pub may_settle_tried : {A : Type 0} (t : Standing) (old mid : Seen A) (ended : TriedOut A) → AreTries t old mid ended
     → ids_of old.books ≡ old.desk.ids → IsGivenTo old.desk.known t.job.number
@@ -127,9 +123,10 @@ module _ {A : Type 0} (place : ℕ) (t : Standing) (old mid new : Seen A) (ended
     settled_at : IsAt (step v (Settle n)).0 new
     unfolding step
     settled_at =
+        let same = settle_walk v (λ a. a.0.gateways ≡ v.gateways) n (λ e. refl) (λ answer ending q g e. refl) in
         record {
           desk = desk_is ∙ ap (desk_settled ending n) (at.desk ∙ sym (tries_desk w n _)) ∙ sym (settle_desk v n ending ends.told);
-          books = rw (settled.books, settle_gateways v n) ends.books;
+          books = rw (settled.books, same) ends.books;
         }
 
     lines : step_lines {A = A} w (tries_from w t ++ Settle n ∷ []) ≡ end_lines n ending ended.receipt

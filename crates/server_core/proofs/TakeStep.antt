@@ -1,6 +1,6 @@
 -- A ticket is given: what is known of its uplink, and what holds of the world then.
 use Rattle.server_core.proofs.Words.{ap, arith, inl, inr, subst, sym, true≢false, ◌∙◌, Bool, Err, List, None, Ok, Option, Result}
-use Rattle.server_core.proofs.Words.{Some, false, if◌then◌else◌, map, refl, slice_get, suc, true, zero, ℕ, ◌≡◌, ◌≢◌, ◌≤◌, ◌⊎◌}
+use Rattle.server_core.proofs.Words.{Some, false, if◌then◌else◌, map, refl, slice_get, suc, true, zero, ℕ, ◌≡◌, ◌≤◌, ◌⊎◌}
 use Rattle.server_core.proofs.Words.{copies_of, is_closed_at, numbered, IsWindowOf, IsWindowOf-ranked, on_gateways_that_heard}
 use Rattle.server_core.proofs.Words.{candidates_of, Candidate, Job, candidate_at, Answer, Booked, Open, Out, Settled, Waiting}
 use Rattle.server_core.proofs.Words.{is_not_given, known_of, numbered-here, all_get, from_map, get_set_same, some_inj, Device}

@@ -120,7 +120,8 @@ module _ {A : Type 0} (t : Standing) (old mid : Seen A) (gateway i : ℕ) (book 
           (record { stub = record { number = n; result = Unanswered refusal }; receipt = None })
       unfolding run_from step_lines
       last_ends last =
-          let one : tries_from w t ≡ Try n ∷ [] = rw (tries (Some refusal) e, drop_past (candidates t.job) (t.at + 1) last) refl in
+          let none : drop (t.at + 1) (candidates t.job) ≡ [] = drop_past (candidates t.job) (t.at + 1) last in
+          let one : tries_from w t ≡ Try n ∷ [] = rw (tries (Some refusal) e, none) refl in
           record {
             books = rw one refused_books;
             steps = rw one steps_noted;

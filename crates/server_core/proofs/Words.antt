@@ -4,7 +4,7 @@ pub use Rattle.std.proofs.lemmas.List.Elements.{All-cons, All-filter, All-head, 
 pub use Rattle.std.proofs.lemmas.List.Elements.{Contains-append_left, Contains-append_right, Contains-push_cases}
 pub use Rattle.std.proofs.lemmas.Option.{get_or_from_slice_get, slice_get_within}
 pub use Rattle.std.proofs.{Math.ListN.drop_of_length-le, Math.Seq.drop-cons, lemmas.Bool.Decides.nat_tests}
-pub use Rattle.std.proofs.{lemmas.List.map-append, lemmas.List.set-set, lemmas.List.Kept.AllPairs-cons}
+pub use Rattle.std.proofs.{lemmas.List.map-append, lemmas.List.set-set, lemmas.List.Kept.AllPairs-cons, lemmas.Simd.map-map}
 pub use Rattle.std.specs.List.{AllZip, position_from}
 pub use Rattle.std.specs.Option.{IsSomeAnd, option_and_then, option_map, option_map_or}
 pub use Rattle.std.specs.Prelude.{All, AllPairs, Bool, Contains, Err, IfOk, IsOkUnless, IsSome, IsTrue, List, MatchResult, None}
@@ -64,7 +64,7 @@ pub use Rattle.server_desk.specs.{declared.faults.TakeFault.TheVariants.NoMemory
 pub use Rattle.server_desk.specs.{declared.faults.TakeFault.TheVariants.Taken, declared.heard.Heard1.Heard1}
 pub use Rattle.server_desk.specs.{declared.setting.DeviceSetting.DeviceSetting, declared.setting.GatewaySetting.GatewaySetting}
 pub use Rattle.server_core.specs.Entries.{entries, entry_at, gateway_of, gateways_after, kept_gateway, lines_for, not_taken}
-pub use Rattle.server_core.specs.Promise.{EveryInterleavingIsSafe, HaveOwnCounters, IsMember, IsOwnWindow, IsSafe, IsTaken}
+pub use Rattle.server_core.specs.Promise.{EveryInterleavingIsSafe, HaveOwnCounters, IsMember, IsOwnWindow, IsSafe}
 pub use Rattle.server_core.specs.Promise.{jobs_given, setting_of, with_given}
 pub use Rattle.server_core.specs.Schedule.{answer_steps, closing_steps, due_from, due_numbers, given_steps, is_accepted, is_none}
 pub use Rattle.server_core.specs.Schedule.{reached, schedule, step_of, up_to_first, usual_limits}

@@ -69,7 +69,8 @@ module _ {settings : SettingLists} {T : Job → Type 0} {w : World} (h : Holds s
   with_gateway i g = record w { gateways = slice_set w.gateways i g }
 
   module _ (i : ℕ) (old new : Gateway) (there : slice_get w.gateways i ≡ Some old) where
-    set_by : (P : Gateway → Type 0) (j : ℕ) (g : Gateway) → P new → ((j : ℕ) (g : Gateway) → slice_get w.gateways j ≡ Some g → P g)
+    set_by : (P : Gateway → Type 0) (j : ℕ) (g : Gateway) → P new
+        → ((j : ℕ) (g : Gateway) → slice_get w.gateways j ≡ Some g → P g)
         → ((i ≡ j) × (g ≡ new)) ⊎ ((i ≢ j) × (slice_get w.gateways j ≡ Some g)) → P g
     set_by P j g p h (inl e) = subst P (sym e.1) p
     set_by P j g p h (inr e) = h j g e.1
@@ -146,7 +147,8 @@ module _ {settings : SettingLists} {T : Job → Type 0} {w : World} (h : Holds s
         let asked : (n : ℕ) (b : Asked) → numbered n (w.reg.asked ++ a ∷ []) ≡ Some b → IsAskedAt settings more n b.device =
         λ n b e. asked_by n b (numbered-append_cases n w.reg.asked a b e) in
         let jobs : (n k : ℕ) (job : Job) → numbered n (w.answers ++ Waiting ∷ []) ≡ Some (Open k job)
-        → IsJobAt settings T more n job = λ n k job e. waiting_by n k job (numbered-append_cases n w.answers Waiting (Open k job) e) in
+        → IsJobAt settings T more n job =
+        λ n k job e. waiting_by n k job (numbered-append_cases n w.answers Waiting (Open k job) e) in
         let stands = stands_on settings T T (λ j t. t) l more grow w.answers (w.answers ++ Waiting ∷ [])
         (λ n s q. Has-append (λ b. sent_for b ≡ Some s) w.answers (Waiting ∷ []) n q) w.gateways h.stands in
         let given : (n : ℕ) → IsGivenAt w.answers n → IsGivenAt (w.answers ++ Waiting ∷ []) n =

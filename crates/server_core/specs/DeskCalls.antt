@@ -7,11 +7,10 @@ use Rattle.server_desk.specs.declared.heard.Heard1.{Heard1}
 use Rattle.server_desk.specs.Queueing.{queue_answer}
 use Rattle.server_desk.specs.Hearing.{decide, answer_to}
 use Rattle.server_desk.specs.Passing.{pass_answer}
-use Rattle.server_desk.specs.declared.answers.Known.TheVariants.{Pending}
 use Rattle.server_desk.specs.Taking.{take_answer}
 use Rattle.server_desk.specs.Settling.{is_here}
 use Rattle.server_desk.specs.Airtime.{answered_at, answered_in}
-use Rattle.server_desk.specs.World.{World, ids, known}
+use Rattle.server_desk.specs.World.{World, ids}
 use Rattle.server_core.specs.Steps.{Queue, Hear, Pass, Take, Settle, Try, Cancel, Tick, step, ending_of}
 use Rattle.server_core.specs.Steps as replies
 use Rattle.server_desk.specs.Desk.{desk_of, desk_queue, desk_hear, desk_pass, desk_take, desk_settle}

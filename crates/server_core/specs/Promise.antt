@@ -1,14 +1,14 @@
-use Rattle.std.specs.Prelude.{ℕ, ◌≡◌, ◌≢◌, ◌+◌, ◌⊎◌, List, [], ◌∷◌, map, length, slice_get, AllPairs, Contains, Some, Ok}
+use Rattle.std.specs.Prelude.{ℕ, ◌≡◌, ◌≢◌, ◌+◌, List, [], ◌∷◌, map, length, slice_get, AllPairs, Contains, Some, Ok}
 use Rattle.lora_frame.specs.Reading.{addr_of}
 use Rattle.resv_list.specs.declared.reservation.Reservation.{Reservation}
 use Rattle.resv_list.specs.Reservations.{net}
+use Rattle.gateway_book.specs.Answer.{IsAsked}
 use Rattle.gateway_book.specs.Lawful.{IsLawful}
-use Rattle.uplink_gather.specs.declared.heard.HeardCopy.{HeardCopy}
 use Rattle.uplink_gather.specs.declared.limits.Limits.{Limits}
 use Rattle.uplink_gather.specs.Gatherings.{Gathering, numbered}
 use Rattle.rx_windows.specs.declared.candidate.Candidate.{Candidate}
-use Rattle.rx_windows.specs.Windows.{rx1_of, rx2_of}
-use Rattle.answer_ticket.specs.Job.{Job, candidates}
+use Rattle.rx_windows.specs.Laws.{IsWindowOf}
+use Rattle.answer_ticket.specs.Job.{Job, candidates, ask_for}
 use Rattle.server_desk.specs.declared.setting.GatewaySetting.{GatewaySetting}
 use Rattle.server_desk.specs.Settings.{SettingLists, AreSettings}
 use Rattle.server_desk.specs.Register.{Device}
@@ -18,13 +18,6 @@ use Rattle.server_core.specs.Steps.{Step, Reply, Given, Run, run}
 
 -- What holds after every list of steps: over every interleaving each gathered uplink holds at most one reservation, in its
 -- own RX1 or RX2 on a gateway that heard it, every gateway's list is lawful, and no downlink counter is given twice.
-
--- the reservation takes what the candidate asked for
-pub record IsTaken (c : Candidate) (r : Reservation) : Type 0 where
-  pub start : r.start ≡ c.start
-  pub freq_hz : r.freq_hz ≡ c.freq_hz
-  pub rate : r.rate ≡ c.rate
-  pub len : r.len ≡ c.len
 
 -- the member at place k of the list of the gateway at place i
 pub record IsMember (w : World) (i k : ℕ) (g : Gateway) (r : Reservation) : Type 0 where
@@ -51,22 +44,18 @@ jobs_given (reply ∷ replies) = with_given reply (jobs_given replies)
 pub record IsOwnWindow (r : Run) (g : Gateway) (a : Reservation) : Type 0 where
   pub gathering : Gathering
   pub gathered : numbered a.number r.world.reg.gathered.list ≡ Some gathering
-  pub copy : HeardCopy
-  pub heard : Contains gathering.copies copy
-  pub here : copy.gateway ≡ g.id
   pub device : Device
   pub served : Contains r.world.reg.devices device
   pub its_own : device.setting.addr ≡ addr_of gathering.bytes
   pub job : Job
   pub given : Contains (jobs_given r.replies) job
-  pub number : job.number ≡ a.number
   pub addr : job.addr ≡ addr_of gathering.bytes
   pub plan : job.plan ≡ plan_for device.setting job.body
   pub candidate : Candidate
   pub tried : Contains (candidates job) candidate
-  pub window : (candidate ≡ rx1_of (plan_for device.setting job.body) copy) ⊎
-      (candidate ≡ rx2_of (plan_for device.setting job.body) copy)
-  pub taken : IsTaken candidate a
+  pub window : IsWindowOf (plan_for device.setting job.body) gathering.copies candidate
+  pub here : candidate.gateway ≡ g.id
+  pub asked : IsAsked (ask_for job candidate) a
 
 -- two tickets of one device have different downlink counters
 abbrev pub HaveOwnCounters : Job → Job → Type 0
