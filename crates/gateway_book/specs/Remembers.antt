@@ -51,7 +51,8 @@ module _ (b : Book) (s : State) (o : IsOrderly s.list) (r : Remembers b s) where
         (sym (remembers_answer ask) ∙ e)))
 
     pub remembers_booked : Remembers (with_booked b m) (book_step b.rules s ask)
-    remembers_booked = remembers_own (with_booked b m) (book_step b.rules s ask) (cc (accepted, r.floor, same_list, r.booked, r.cancelled)) orderly_booked.by_start
+    remembers_booked = remembers_own (with_booked b m) (book_step b.rules s ask)
+        (cc (accepted, r.floor, same_list, r.booked, r.cancelled)) orderly_booked.by_start
 
   module _ (number start : ℕ) where
     pub remembers_cancel : cancel_answer b.floor b.list number start ≡ cancel_answer s.floor s.list number start
@@ -70,4 +71,5 @@ module _ (b : Book) (s : State) (o : IsOrderly s.list) (r : Remembers b s) where
         (e ∙ ap (λ (t : State). cancel_step t number start) remembered) orderly_cancelled.by_start
 
   pub remembers_ticked : (now : ℕ) → Remembers (record b { floor = max b.floor now }) (tick_step s now)
-  remembers_ticked now = remembers_own (record b { floor = max b.floor now }) (tick_step s now) (cc (r.floor, same_list, r.booked, r.cancelled)) o.by_start
+  remembers_ticked now = remembers_own (record b { floor = max b.floor now }) (tick_step s now)
+      (cc (r.floor, same_list, r.booked, r.cancelled)) o.by_start

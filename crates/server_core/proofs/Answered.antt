@@ -5,7 +5,8 @@ use Rattle.server_core.proofs.Words.{if◌then◌else◌, refl, slice_set, true,
 use Rattle.server_core.proofs.Words.{HeardCopy, Standing, Answer, Open, Waiting, is_given, DeskView, desk_settled, desk_take}
 use Rattle.server_core.proofs.Words.{desk_taken, numbered-here, rewritten-found, Device, Register, delivered, has_carried}
 use Rattle.server_core.proofs.Words.{sent_of, job_of, taken_from, World, known, Asked, Known, Done, TakeFault, not_taken}
-use Rattle.server_core.proofs.Words.{answer_steps, given_steps, AreBooksOf, AreHeard, AreHere, IsAt, IsIdle, IsBetweenCalls, Makes}
+use Rattle.server_core.proofs.Words.{answer_steps, given_steps, AreBooksOf, AreHeard, AreHere, IsAt, IsIdle, IsBetweenCalls}
+use Rattle.server_core.proofs.Words.{Makes}
 use Rattle.server_core.proofs.Words.{Moves, Seen, ids_of, is_among, with_lines, with_step, After, Step, Take, take_by, IsAnswered}
 use Rattle.server_core.proofs.Words.{IsGivenTo, Line, take_answer, run_from, step}
 use Rattle.server_desk.specs.declared.answers.Known.TheVariants.{Pending}
@@ -50,7 +51,8 @@ job_here ids reg n asked device h k c e =
     let x = job_window reg n asked device k c e in
     ap (is_among ids) x.gateway ∙ copies_heard ids reg.gathered.list n (numbered n reg.gathered.list) refl h x.copy x.heard
 
-module _ {A : Type 0} (place n : ℕ) (old mid : Seen A) (noted : mid ≡ with_step (made.Take n) old) (ready : IsBetweenCalls old) where
+module _ {A : Type 0} (place n : ℕ) (old mid : Seen A) (noted : mid ≡ with_step (made.Take n) old)
+    (ready : IsBetweenCalls old) where
   mid_desk : mid.desk ≡ old.desk
   mid_desk = rw noted refl
 

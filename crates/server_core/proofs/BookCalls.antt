@@ -7,7 +7,8 @@ use Rattle.server_core.proofs.Words.{orderly_cancelled, remembers_cancel, rememb
 use Rattle.server_core.proofs.Words.{NotHere, numbered, Answer, Booked, Open, Out, Settled, Waiting, is_given, known_of}
 use Rattle.server_core.proofs.Words.{numbered-map, from_map, map_set, some_inj, next_place, kept_by, Gateway, World, gateway_with}
 use Rattle.server_core.proofs.Words.{known, found_there, Known, Sent, gateway_of, lines_for, AreBooksOf, IsAt, IsBookOf}
-use Rattle.server_core.proofs.Words.{IsCancelled, IsIdle, IsBetweenCalls, Seen, cancelled_line, ids_of, is_among, with_lines, with_step}
+use Rattle.server_core.proofs.Words.{IsCancelled, IsIdle, IsBetweenCalls, Seen, cancelled_line, ids_of, is_among, with_lines}
+use Rattle.server_core.proofs.Words.{with_step}
 use Rattle.server_core.proofs.Words.{Cancel, Tick, cancel_at, cancel_of, cancel_sent, sent_for, Line, step}
 use Rattle.server_core.specs.declared.event.Step.TheVariants as made
 use Rattle.server_core.specs.Steps as replies
@@ -267,7 +268,8 @@ module _ {A : Type 0} (n : ℕ) (old new : Seen A) (ready : IsBetweenCalls old) 
 
 pub cancel_done : {A : Type 0} (place n : ℕ) (old mid next new : Seen A) (result : Result ℕ CancelFault) (line : Line A)
     → mid ≡ with_step (made.Cancel n) old → IsCancelled n mid next result
-    → line ≡ cancelled_line n result → IsBetweenCalls old → new ≡ with_lines place (line ∷ []) next → IsDone place (Cancel n) old new
+    → line ≡ cancelled_line n result → IsBetweenCalls old → new ≡ with_lines place (line ∷ []) next
+    → IsDone place (Cancel n) old new
 cancel_done {A} place n old mid next new result line noted c said ready told =
     done place (Cancel n) (made.Cancel n) line old mid next new refl noted
     (record {

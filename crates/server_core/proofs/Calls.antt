@@ -3,7 +3,8 @@ use Rattle.server_core.proofs.Words.{ap, append-nil, append_assoc, sym, ◌∙�
 use Rattle.server_core.proofs.Words.{None, Ok, OnErr, OnOk, Option, Result, Some, [], map, refl, ℕ, ◌++◌, ◌∷◌, ◌≡◌, ◌≢◌, Payload}
 use Rattle.server_core.proofs.Words.{DeskView, desk_hear, desk_of, desk_queue, known_after, Decision, Join, Refuse, answer_to}
 use Rattle.server_core.proofs.Words.{copy_of, Device, Register, device_with, World, after_queueing, queue_answer, DeskFault}
-use Rattle.server_core.proofs.Words.{QueueFault, Heard1, entry_at, lines_for, reached, step_of, AreHeard, IsAt, IsIdle, IsBetweenCalls}
+use Rattle.server_core.proofs.Words.{QueueFault, Heard1, entry_at, lines_for, reached, step_of, AreHeard, IsAt, IsIdle}
+use Rattle.server_core.proofs.Words.{IsBetweenCalls}
 use Rattle.server_core.proofs.Words.{Makes, Moves, Seen, heard_line, queued_line, with_lines, with_step, Hear, Heard, Queue}
 use Rattle.server_core.proofs.Words.{Queued, Reply, Step, Line, decide, step_lines, run_from, step}
 use Rattle.server_core.specs.declared.event.Step.{Step as Made}
@@ -77,7 +78,8 @@ pub record IsMade {A : Type 0} (s : Step) (line : Line A) (mid next : Seen A) : 
   pub lines : (w : World) → IsAt w mid → lines_for w s (step w s).1 ≡ line ∷ []
 
 -- a note leaves it ready
-pub ready_noted : {A : Type 0} (made : Made A) (old mid : Seen A) → mid ≡ with_step made old → IsBetweenCalls old → IsBetweenCalls mid
+pub ready_noted : {A : Type 0} (made : Made A) (old mid : Seen A) → mid ≡ with_step made old → IsBetweenCalls old
+    → IsBetweenCalls mid
 ready_noted made old mid noted r = rw noted r
 
 pub done : {A : Type 0} (place : ℕ) (s : Step) (made : Made A) (line : Line A) (old mid next new : Seen A) → step_of made ≡ s

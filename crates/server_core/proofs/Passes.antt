@@ -3,7 +3,8 @@ use Rattle.server_core.proofs.Words.{ap, append-nil, arith, sym, ◌∙◌, posi
 use Rattle.server_core.proofs.Words.{if◌then◌else◌, length, nat_lt, refl, slice_get, slice_set, suc, true, ℕ, ◌&&◌, ◌++◌, ◌+◌}
 use Rattle.server_core.proofs.Words.{◌<◌, ◌∷◌, ◌≡◌, Gathering, Gatherings, close_step, is_due, is_open, join_us, DeskView}
 use Rattle.server_core.proofs.Words.{desk_pass, World, closing, pass_answer, answer_steps, closing_steps, due_from, due_numbers}
-use Rattle.server_core.proofs.Words.{reached, IsAt, IsBetweenCalls, Makes, Moves, Seen, pass_whole, with_step, Pass, due_of, pass_steps}
+use Rattle.server_core.proofs.Words.{reached, IsAt, IsBetweenCalls, Makes, Moves, Seen, pass_whole, with_step, Pass, due_of}
+use Rattle.server_core.proofs.Words.{pass_steps}
 use Rattle.server_core.proofs.Words.{run_from, step}
 use Rattle.server_core.specs.declared.event.Step.TheVariants as made
 use Rattle.server_core.proofs.{Calls.one_step, Calls.moves_on, Ready.heard_closed}

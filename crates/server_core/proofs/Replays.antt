@@ -3,7 +3,8 @@ use Rattle.server_core.proofs.Words.{ap, append-nil, append_assoc, arith, sym, �
 use Rattle.server_core.proofs.Words.{get_or, length, map, refl, suc, ℕ, ◌++◌, ◌+◌, ◌<◌, ◌∷◌, ◌≡◌, ◌≤◌, map-map, Book, orderly_nil}
 use Rattle.server_core.proofs.Words.{remembers_own, desk_of, Gateway, World, opened_gateway, opening, AreSettings, SettingLists}
 use Rattle.server_core.proofs.Words.{GatewaySetting, entries, gateway_of, gateways_after, kept_gateway, reached, schedule}
-use Rattle.server_core.proofs.Words.{step_of, usual_limits, AreBooksOf, Does, IsAt, IsOpened, IsBetweenCalls, Seen, with_lines, Step}
+use Rattle.server_core.proofs.Words.{step_of, usual_limits, AreBooksOf, Does, IsAt, IsOpened, IsBetweenCalls, Seen, with_lines}
+use Rattle.server_core.proofs.Words.{Step}
 use Rattle.server_core.proofs.Words.{Event, event_steps, schedule_from, entries_from, run_from}
 use Rattle.server_core.specs.declared.event.Event.TheVariants as events
 use Rattle.server_core.specs.declared.entry.Line.TheVariants as says

@@ -3,7 +3,8 @@ use Rattle.server_core.proofs.Words.{ap, append-nil, append_assoc, arith, sym, �
 use Rattle.server_core.proofs.Words.{Ok, Option, Some, [], length, map, refl, slice_get, ℕ, ◌++◌, ◌+◌, ◌-◌, ◌<◌, ◌∷◌, ◌≡◌}
 use Rattle.server_core.proofs.Words.{numbered, Candidate, candidates, next_of, Standing, candidate_of, Ending, Open, desk_of}
 use Rattle.server_core.proofs.Words.{desk_settled, may_settle, World, given_steps, reached, AreHere, IsAt, Moves, Seen, ids_of}
-use Rattle.server_core.proofs.Words.{Settle, Try, AreTries, EndsTries, GoesOn, IsAnswered, IsGivenTo, MovesOn, HasTicketOut, IsSame}
+use Rattle.server_core.proofs.Words.{Settle, Try, AreTries, EndsTries, GoesOn, IsAnswered, IsGivenTo, MovesOn, HasTicketOut}
+use Rattle.server_core.proofs.Words.{IsSame}
 use Rattle.server_core.proofs.Words.{IsSettled, end_lines, tries_from, TriedOut, step_lines, run_from, step}
 use Rattle.server_core.specs.Steps as replies
 use Rattle.server_core.proofs.Calls.{reached_append, lines_append}

@@ -74,7 +74,8 @@ module _ {A : Type 0} (t : Standing) (old mid : Seen A) (gateway i : ℕ) (book 
   steps_noted : map step_of mid.steps ≡ map step_of old.steps ++ Try n ∷ []
   steps_noted = rw noted (map-append step_of old.steps (made.Try n ∷ []))
 
-  module _ (c : Candidate) (at : candidate_of t ≡ Some c) (asked : book.id ≡ c.gateway) (w : World) (out : HasTicketOut w t old) where
+  module _ (c : Candidate) (at : candidate_of t ≡ Some c) (asked : book.id ≡ c.gateway) (w : World)
+      (out : HasTicketOut w t old) where
     mid_books : AreBooksOf mid.books w.gateways
     mid_books = rw noted out.books
 

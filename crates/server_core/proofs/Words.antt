@@ -69,13 +69,15 @@ pub use Rattle.server_core.specs.Promise.{jobs_given, setting_of, with_given}
 pub use Rattle.server_core.specs.Schedule.{answer_steps, closing_steps, due_from, due_numbers, given_steps, is_accepted, is_none}
 pub use Rattle.server_core.specs.Schedule.{reached, schedule, step_of, up_to_first, usual_limits}
 pub use Rattle.server_core.specs.Server.{AreBooksOf, AreHeard, AreHere, Does, HasHeard, IsAt, IsBookOf, IsCancelled, IsIdle}
-pub use Rattle.server_core.specs.Server.{IsOpened, IsBetweenCalls, Makes, Moves, Seen, cancelled_line, heard_line, ids_of, is_among}
+pub use Rattle.server_core.specs.Server.{IsOpened, IsBetweenCalls, Makes, Moves, Seen, cancelled_line, heard_line, ids_of}
+pub use Rattle.server_core.specs.Server.{is_among}
 pub use Rattle.server_core.specs.Server.{pass_whole, queued_line, seen, with_lines, with_step}
 pub use Rattle.server_core.specs.Steps.{After, Cancel, Given, Hear, Heard, Pass, Queue, Queued, Reply, Run, Settle, Step, Take}
 pub use Rattle.server_core.specs.Steps.{Tick, Try, answers_after, cancel, cancel_at, cancel_of, cancel_sent, ending_of, hear}
 pub use Rattle.server_core.specs.Steps.{hear_by, pass, queue, refused, run, sent_by, sent_for, settle, settle_as, settle_of, take}
 pub use Rattle.server_core.specs.Steps.{take_by, terms, tick, tick_at, tried_by, try, try_candidate, try_of, try_on}
-pub use Rattle.server_core.specs.Tries.{AreTries, EndsTries, GoesOn, IsAnswered, IsGivenTo, MovesOn, HasTicketOut, IsSame, IsSettled}
+pub use Rattle.server_core.specs.Tries.{AreTries, EndsTries, GoesOn, IsAnswered, IsGivenTo, MovesOn, HasTicketOut, IsSame}
+pub use Rattle.server_core.specs.Tries.{IsSettled}
 pub use Rattle.server_core.specs.{Tries.end_lines, Tries.tries_from, DeskCalls.DeskCallsAreSteps, DeskCalls.told}
 pub use Rattle.server_core.specs.{declared.entry.Line.Line, declared.event.Event.Event}
 unfoldable pub use Rattle.resv_list.specs.Reservations.{net}

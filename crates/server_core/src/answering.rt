@@ -70,7 +70,8 @@ impl<S: BuildHasher, A: Allocator + Copy> Server<S, A> {
         outcome: Outcome,
         receipt: Option<Receipt<A>>,
     ) -> Result<(), NoMemory>
-        ensures { OnOk result (seen self.new ≡ with_lines place (end_lines outcome.number outcome.result receipt) (seen self.old)) }
+        ensures { OnOk result
+            (seen self.new ≡ with_lines place (end_lines outcome.number outcome.result receipt) (seen self.old)) }
     {
         let number = outcome.number;
         match (outcome.result, receipt) {

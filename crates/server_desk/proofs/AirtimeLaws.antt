@@ -1,6 +1,7 @@
 use Rattle.server_desk.proofs.Words.{ℕ, ◌≡◌, ◌-◌, Bool, true, false, List, [], ◌∷◌, ◌++◌, slice_set, if◌then◌else◌, Option, Some}
 use Rattle.server_desk.proofs.Words.{None, Result, Ok, Err, refl, arith, Limits, numbered, is_closed_at, Job, Heard1, TakeFault}
-use Rattle.server_desk.proofs.Words.{SettingLists, Register, Asked, Decision, Refuse, Join, Open, decide, Known, NotGiven, Pending}
+use Rattle.server_desk.proofs.Words.{SettingLists, Register, Asked, Decision, Refuse, Join, Open, decide, Known, NotGiven}
+use Rattle.server_desk.proofs.Words.{Pending}
 use Rattle.server_desk.proofs.Words.{Done, take_answer, take_known, answered_at, total_at, DeskView, total_of, desk_of, desk_hear}
 use Rattle.server_desk.proofs.Words.{desk_take, desk_taken, known_after}
 use Rattle.server_desk.specs.declared.faults.TakeFault.TheVariants.{NotReady}

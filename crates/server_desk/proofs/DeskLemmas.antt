@@ -2,7 +2,8 @@
 use Rattle.server_desk.proofs.Words.{Register, ℕ, ◌≡◌, ◌==◌, ◌<◌, List, map, length, slice_get, slice_set, get_or, Option, Some}
 use Rattle.server_desk.proofs.Words.{None, Result, Ok, Err, IfOk, OnOk, OnErr, refl, option_map, sym, ap, ◌∙◌, arith}
 use Rattle.server_desk.proofs.Words.{slice_get_within, nat_tests, length-map, length-set, map-set, All-set, All-push, Payload}
-use Rattle.server_desk.proofs.Words.{KnownDevice, Known, Device, Asked, device_with, Gatherings, shown, outs, IsSendable, IsServable}
+use Rattle.server_desk.proofs.Words.{KnownDevice, Known, Device, Asked, device_with, Gatherings, shown, outs, IsSendable}
+use Rattle.server_desk.proofs.Words.{IsServable}
 use Rattle.server_desk.proofs.Words.{AreOut, IsDesk, DeskView, desk_queue, slice_get_read}
 use Rattle.server_desk.proofs.Places.{some_inj, all_get, map_set, map_there, found_there}
 use Rattle.server_desk.specs.declared.faults.QueueFault.{QueueFault}

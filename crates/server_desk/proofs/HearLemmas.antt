@@ -2,7 +2,8 @@
 use Rattle.server_desk.proofs.Words.{length_push, nat_tests, slice_get_within, decide, ℕ, ◌≡◌, ◌+◌, ◌<◌, ◌==◌, Bool, false, List}
 use Rattle.server_desk.proofs.Words.{[], ◌∷◌, ◌++◌, map, length, slice_get, slice_set, Some, Result, Ok, Err, IfOk, OnErr}
 use Rattle.server_desk.proofs.Words.{MatchResult, IsOkUnless, refl, sym, ap, ◌∙◌, arith, addr_of, Heard, HearFault, Gatherings}
-use Rattle.server_desk.proofs.Words.{hear_answer, after_hearing, with_copy, hear_step, KnownDevice, Known, NotGiven, NewUplink, Heard1}
+use Rattle.server_desk.proofs.Words.{hear_answer, after_hearing, with_copy, hear_step, KnownDevice, Known, NotGiven, NewUplink}
+use Rattle.server_desk.proofs.Words.{Heard1}
 use Rattle.server_desk.proofs.Words.{Device, Asked, Register, copy_of, named_fault, answer_to, shown, IsServable, IsDesk}
 use Rattle.server_desk.proofs.Words.{desk_answer, desk_hear, length-map, length-set, map-set, All-push, DeskFault, NoMemory}
 use Rattle.uplink_gather.specs.Hearing.{opening}

@@ -1,7 +1,8 @@
 -- How many tickets and stubs of a device are out.
 use Rattle.server_desk.proofs.Words.{ℕ, ◌⊎◌, zero, suc, ◌≡◌, ◌≢◌, ◌+◌, nat_lt, Bool, true, false, if◌then◌else◌, List, [], ◌∷◌}
 use Rattle.server_desk.proofs.Words.{◌++◌, length, slice_get, slice_set, Option, Some, refl, inl, inr, sym, ap, ◌∙◌, subst, arith}
-use Rattle.server_desk.proofs.Words.{eq-eqb, nat_tests, Asked, Known, NotGiven, Pending, Done, Sent, is_engaged, own_out, count_out}
+use Rattle.server_desk.proofs.Words.{eq-eqb, nat_tests, Asked, Known, NotGiven, Pending, Done, Sent, is_engaged, own_out}
+use Rattle.server_desk.proofs.Words.{count_out}
 use Rattle.server_desk.proofs.Words.{AreOut}
 use Rattle.server_desk.proofs.Places.{some_inj, get_set_cases}
 
@@ -67,7 +68,8 @@ module _ (outs : List Bool) (asked : List Asked) (known : List Known) (i : ℕ) 
   pub out_given : slice_get known i ≡ Some NotGiven → slice_get outs a.device ≡ Some false
       → AreOut (slice_set outs a.device true) asked (slice_set known i Pending)
   out_given stated was =
-      out_written outs asked known i a NotGiven Pending false true there stated was h (λ c d e f. omega (arith, e, f, own_given a))
+      out_written outs asked known i a NotGiven Pending false true there stated was h
+      (λ c d e f. omega (arith, e, f, own_given a))
 
   -- the answer that was out is settled
   pub out_settled : (sent : Option Sent) (old : Bool) → slice_get known i ≡ Some Pending → slice_get outs a.device ≡ Some old

@@ -1,7 +1,8 @@
 -- An answer is settled, as the desk settles it.
 use Rattle.server_desk.proofs.Words.{ℕ, ◌≡◌, ◌-◌, Bool, true, false, ◌&&◌, if◌then◌else◌, List, slice_get, slice_set, get_or}
 use Rattle.server_desk.proofs.Words.{Option, Some, None, refl, option_map_or, sym, ap, ◌∙◌, get_or_from_slice_get, length-set}
-use Rattle.server_desk.proofs.Words.{map-set, All-drop, Gatherings, numbered, Ending, KnownDevice, Known, NotGiven, Pending, Done, Sent}
+use Rattle.server_desk.proofs.Words.{map-set, All-drop, Gatherings, numbered, Ending, KnownDevice, Known, NotGiven, Pending}
+use Rattle.server_desk.proofs.Words.{Done, Sent}
 use Rattle.server_desk.proofs.Words.{is_given, Device, Asked, sent_of, has_carried, is_here, may_settle, without_head, delivered}
 use Rattle.server_desk.proofs.Words.{shown, outs, IsSendable, IsServable, desk_settled}
 use Rattle.server_desk.proofs.Places.{map_set, map_there}
@@ -26,7 +27,8 @@ settled_servable : (t : Bool) (device : Device) → IsServable device → IsServ
 settled_servable true device i = record { setting = i.setting; queue = All-drop IsSendable 1 device.queue i.queue; down = i.down }
 settled_servable false device i = i
 
-module _ {A : Type 0} (keys : List ℕ) (kepts : List (KnownDevice A)) (gathered : Gatherings) (asked : List Asked) (known : List Known)
+module _ {A : Type 0} (keys : List ℕ) (kepts : List (KnownDevice A)) (gathered : Gatherings) (asked : List Asked)
+    (known : List Known)
     (i : Holds keys kepts gathered asked known) (n : ℕ) (waits : numbered n known ≡ Some Pending) where
   -- what the uplink says of which the ticket was given
   pub its_uplink : (a : Asked) → a ≡ get_or asked (n - 1) a → numbered n asked ≡ Some a

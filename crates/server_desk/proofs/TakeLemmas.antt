@@ -3,7 +3,8 @@ use Rattle.server_desk.proofs.Words.{slice_get_read, get_or, ℕ, zero, suc, ◌
 use Rattle.server_desk.proofs.Words.{map, length, All, slice_get, slice_set, Option, Some, None, Result, Ok, Err, IfOk, refl}
 use Rattle.server_desk.proofs.Words.{option_map, ForSome, sym, ap, ◌∙◌, subst, arith, nat_tests, length-map, length-set, map-set}
 use Rattle.server_desk.proofs.Words.{All-head, HeardCopy, Gatherings, numbered, is_closed_at, copies_of, length-ranked}
-use Rattle.server_desk.proofs.Words.{All-ranked, IsHeard, Job, Payload, IsJob, IsPort, payload_len, KnownDevice, Known, NotGiven, Pending}
+use Rattle.server_desk.proofs.Words.{All-ranked, IsHeard, Job, Payload, IsJob, IsPort, payload_len, KnownDevice, Known}
+use Rattle.server_desk.proofs.Words.{NotGiven, Pending}
 use Rattle.server_desk.proofs.Words.{Done, is_not_given, Device, Asked, head, is_engaged, job_for, fault_of, given_or}
 use Rattle.server_desk.proofs.Words.{take_answer, with_counter_given, shown, outs, IsSendable, IsServable, IsGathered, MayBeGiven}
 use Rattle.server_desk.proofs.Words.{desk_take, TakeFault, slice_get_cases, slice_get_within, inl, inr}
@@ -47,7 +48,8 @@ number_too (suc i) xs ys x l e = elim (slice_get_cases ys i).1
     [ inl h ↦ (h.0, h.2) | inr h ↦ absurd (omega (arith, h.0, l, slice_get_within xs i x e)) ]
 
 -- what is true of a known uplink on a desk
-module _ {A : Type 0} (keys : List ℕ) (kepts : List (KnownDevice A)) (gathered : Gatherings) (asked : List Asked) (known : List Known)
+module _ {A : Type 0} (keys : List ℕ) (kepts : List (KnownDevice A)) (gathered : Gatherings) (asked : List Asked)
+    (known : List Known)
     (i : Holds keys kepts gathered asked known) (n : ℕ) (a : Asked) (p : numbered n asked ≡ Some a) where
   -- its device stands among the others
   pub within_here : a.device < length kepts

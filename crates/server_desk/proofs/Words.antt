@@ -39,7 +39,8 @@ pub use Rattle.server_desk.specs.Hearing.{Decision, Join, Open, Opening, Refuse,
 pub use Rattle.server_desk.specs.Hearing.{decide_copy, decide_device, decide_frame, decide_mic, decide_place, decide_room}
 pub use Rattle.server_desk.specs.Hearing.{is_last, named_fault}
 unfoldable pub use Rattle.server_desk.specs.Hearing.{decide}
-pub use Rattle.server_desk.specs.Invariant.{AreOut, IsDesk, IsGathered, MayBeGiven, IsSendable, IsServable, count_out, desk_answer, outs}
+pub use Rattle.server_desk.specs.Invariant.{AreOut, IsDesk, IsGathered, MayBeGiven, IsSendable, IsServable, count_out}
+pub use Rattle.server_desk.specs.Invariant.{desk_answer, outs}
 pub use Rattle.server_desk.specs.Invariant.{own_out, shown, verdict_of}
 pub use Rattle.server_desk.specs.Register.{Asked, Device, Register, device_with, first_at, next_place, opened_device}
 pub use Rattle.server_desk.specs.Settings.{AreSettings, IsDeviceInRange, IsGatewayInRange, SettingLists, are_counts_in_range}

@@ -19,7 +19,8 @@ module _ (d : DeskView) (n : ℕ) (job : Job) where
   by_device a None e = absurd (cc (e))
   by_device a (Some device) e = by_fault a device (take_fault d.reg d.known a device) e
 
-  by_state : (a : _) (t : Bool) → (if t then take_asked d.reg d.known n a (slice_get d.reg.devices a.device) else Err Taken) ≡ Ok job
+  by_state : (a : _) (t : Bool) → (if t then take_asked d.reg d.known n a (slice_get d.reg.devices a.device) else Err Taken)
+      ≡ Ok job
       → job.number ≡ n
   by_state a true e = by_device a (slice_get d.reg.devices a.device) e
   by_state a false e = absurd (cc (e))

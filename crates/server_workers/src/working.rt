@@ -2,8 +2,8 @@
 ghost use Rattle.std.specs.Prelude.{◌≡◌, ◌+◌, ◌↔◌, ◌++◌, List, IsTrue, vec_capacity};
 ghost use Rattle.answer_ticket.specs.declared.outcome.Outcome.{Outcome as Ends};
 ghost use Rattle.server_workers.specs.Works.{IsOpen, HasMore, airtime_of};
-ghost use Rattle.server_workers.specs.Working.{HasFiled, HasRoom, IsMore, items_of, receipts_of, outcomes_of, skipped_of, refused_of};
-ghost use Rattle.server_workers.specs.Working.{strays_of};
+ghost use Rattle.server_workers.specs.Working.{HasFiled, HasRoom, IsMore, items_of, receipts_of, outcomes_of};
+ghost use Rattle.server_workers.specs.Working.{skipped_of, refused_of, strays_of};
 
 use crate::{Gate, Handled, Ledger, Station, Worked};
 use answer_ticket::{Outcome, Receipt};

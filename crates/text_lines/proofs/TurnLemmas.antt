@@ -108,7 +108,8 @@ module _ {S : Type 0} (turns : Turns S) (s : S) (starved : List ℕ) (read : Lis
       ++ text_of (turns.answer b (1 + length read) (reached turns starved 1 s read) line)
   text-next = ap text_of answers-next ∙ text_of-append (answers turns starved 1 s read) _
 
-module _ {S : Type 0} (turns : Turns S) (by_kept : TurnsByKept turns) (Old Mid Now : S → Type 0) (before mid after : Option (List ℕ)) (number : ℕ)
+module _ {S : Type 0} (turns : Turns S) (by_kept : TurnsByKept turns) (Old Mid Now : S → Type 0)
+    (before mid after : Option (List ℕ)) (number : ℕ)
     (held pending pending_after : List ℕ) (refused : Bool) where
   -- one line more was answered
   pub AreTurns-next : {E : Type 0} (r : Bool)
