@@ -5,7 +5,8 @@ Usage: cases.py PROGRAM [NAME ..]      (NAME: a case; none: all of them)
 
 A case is a folder cases/NAME with
     args     the arguments, one word a line, in whatever bytes; none: no arguments
-    stdin    the standard input; none: the null device
+    stdin    the standard input
+    from     the path of a file of the repository that is the standard input; with neither it is the null device
     stdout   what standard output must be, byte for byte; none: it is not compared
     stderr   the same of standard error
     status   the exit status that is wanted; none: 0
@@ -25,7 +26,8 @@ import sys
 import tempfile
 
 SECONDS = 120
-CASES = pathlib.Path(__file__).resolve().parent.parent / "cases"
+TOP = pathlib.Path(__file__).resolve().parent.parent
+CASES = TOP / "cases"
 
 
 def wanted(case, name):
@@ -57,9 +59,10 @@ def runs_of(name):
 
 def input_of(case, broken, folder):
     """What the program reads."""
-    given = case / "stdin"
-    path = folder if b"input" in broken else given if given.is_file() else os.devnull
-    return os.open(path, os.O_RDONLY)
+    if b"input" in broken:
+        return os.open(folder, os.O_RDONLY)
+    given = [case / "stdin"] + [TOP / path.decode() for path in words_in(case / "from")]
+    return os.open(next((path for path in given if path.is_file()), os.devnull), os.O_RDONLY)
 
 
 def output_of(broken):
