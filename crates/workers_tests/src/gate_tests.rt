@@ -5,7 +5,7 @@ use crate::fixtures::{TestStation, closed, hear_copy, heard_by, station_of};
 use answer_ticket::Ending;
 use rx_windows::Window;
 use server_core::Heard1;
-use server_workers::{Blank, Gate, Ledger, MAX_TURNS, NoGate, PARTS, Handled};
+use server_workers::{Blank, Gate, Handled, Ledger, MAX_TURNS, NoGate, PARTS};
 use std::alloc::Global;
 use std::marker::Brand;
 use std::sync::Wait;
