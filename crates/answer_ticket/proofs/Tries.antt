@@ -7,7 +7,7 @@ use Rattle.gateway_book.specs.declared.ask.Ask.{Ask}
 use Rattle.gateway_book.specs.Answer.{refusal_of}
 use Rattle.gateway_book.specs.Book.{Book, terms_of}
 use Rattle.rx_windows.specs.declared.candidate.Candidate.{Candidate}
-use Rattle.rx_windows.specs.WindowLaws.{length-candidates_of}
+use Rattle.rx_windows.proofs.WindowLaws.{length-candidates_of}
 use Rattle.answer_ticket.specs.declared.tried.Tried.{Tried}
 use Rattle.answer_ticket.specs.declared.tried.Tried.TheVariants.{NoMemory}
 use Rattle.answer_ticket.specs.Job.{Job, IsJob, candidates, ask_for}

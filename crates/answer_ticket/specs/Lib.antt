@@ -8,7 +8,6 @@ pub use Rattle.radio_airtime.specs.Bounds
 pub use Rattle.radio_bands.specs.Band
 pub use Rattle.resv_list.specs.Fit
 pub use Rattle.resv_list.specs.Sorted
-pub use Rattle.resv_list.specs.SortedLaws
 pub use Rattle.resv_list.specs.Reservations
 pub use Rattle.gateway_book.specs.Disjoint
 pub use Rattle.gateway_book.specs.Lawful
@@ -23,5 +22,3 @@ pub use Rattle.uplink_gather.specs.Hearing
 pub use Rattle.rx_windows.specs.Rank
 pub use Rattle.rx_windows.specs.Windows
 pub use Rattle.rx_windows.specs.Laws
-pub use Rattle.rx_windows.specs.RankLaws
-pub use Rattle.rx_windows.specs.WindowLaws

@@ -9,7 +9,7 @@ use Rattle.gateway_book.specs.declared.refusal.Refusal.{Refusal}
 use Rattle.gateway_book.specs.declared.refusal.Refusal.TheVariants.{Passed, Taken}
 use Rattle.gateway_book.specs.Answer.{Terms, ask_end, IsAsked, refused_if, no_band, too_long, past_end, passed, overlap, taken}
 use Rattle.gateway_book.specs.Answer.{overfull, duty_full, first_some, refusal_of}
-use Rattle.gateway_book.specs.AnswerLaws.{first_none}
+use Rattle.gateway_book.proofs.AnswerLaws.{first_none}
 
 -- What `book` learns of an ask from the parts that look at it.
 

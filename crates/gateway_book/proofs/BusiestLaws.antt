@@ -9,10 +9,10 @@ use Rattle.resv_list.specs.declared.reservation.Reservation.{Reservation}
 use Rattle.resv_list.specs.Sorted.{RisesFrom}
 use Rattle.resv_list.specs.Reservations.{start_of, is_in, spent, IsByStart}
 use Rattle.gateway_book.specs.Least.{least}
-use Rattle.gateway_book.specs.LeastLaws.{least_is_least}
+use Rattle.gateway_book.proofs.LeastLaws.{least_is_least}
 use Rattle.gateway_book.specs.Duty.{starts_in}
 use Rattle.gateway_book.specs.Busiest.{IsBusiestAnswer, greatest, most_spent, busiest_of, busier}
-use Rattle.gateway_book.specs.DutyLaws.{OfStarts-from, all_at, Contains-filter, filter-Contains}
+use Rattle.gateway_book.proofs.DutyLaws.{OfStarts-from, all_at, Contains-filter, filter-Contains}
 use Rattle.gateway_book.proofs.DutyRow.{none_more}
 
 -- the greatest is one of the numbers, and none of them is greater

@@ -8,8 +8,8 @@ use Rattle.resv_list.specs.declared.reservation.Reservation.{Reservation}
 use Rattle.resv_list.specs.Reservations.{airtime_us, is_in, begun, spent, net}
 use Rattle.resv_list.specs.Begun.{begun-cons, begun-nil}
 use Rattle.gateway_book.specs.Duty.{is_overfull, full_hour}
-use Rattle.gateway_book.specs.DutyLaws.{OfStarts, next_is, next_between, none_before_next, spent_later, few_hours, OfStarts-from}
-use Rattle.gateway_book.specs.DutyLaws.{within_limit, full_hour_answers}
+use Rattle.gateway_book.proofs.DutyLaws.{OfStarts, next_is, next_between, none_before_next, spent_later, few_hours, OfStarts-from}
+use Rattle.gateway_book.proofs.DutyLaws.{within_limit, full_hour_answers}
 use Rattle.gateway_book.specs.Laws.{IsOpening, IsDutyAnswer}
 
 -- What the row of the duty cycle says, for every list and every natural moment.

@@ -8,11 +8,11 @@ use Rattle.radio_bands.specs.declared.band.Band.{Band}
 use Rattle.radio_bands.specs.Band.{hour, limit_of}
 use Rattle.resv_list.specs.declared.reservation.Reservation.{Reservation}
 use Rattle.resv_list.specs.Sorted.{RisesFrom}
-use Rattle.resv_list.specs.SortedLaws.{RisesFrom-filter}
-use Rattle.resv_list.specs.Walk.{rest_from, rest_from-Some}
+use Rattle.resv_list.proofs.SortedLaws.{RisesFrom-filter}
+use Rattle.resv_list.proofs.Walk.{rest_from, rest_from-Some}
 use Rattle.resv_list.specs.Reservations.{start_of, is_in, begun, IsByStart, member_from}
 use Rattle.gateway_book.specs.Least.{least}
-use Rattle.gateway_book.specs.SpacedLaws.{least-find}
+use Rattle.gateway_book.proofs.SpacedLaws.{least-find}
 use Rattle.gateway_book.specs.Duty.{is_within_hour, would_pass, is_overfull, starts_in, full_hour, opens_full}
 use Rattle.gateway_book.proofs.DutyRow.{begun_wider, duty_row_is_exact}
 

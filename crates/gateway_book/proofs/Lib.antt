@@ -1,3 +1,13 @@
+pub mod AnswerLaws
+pub mod ApartLaws
+pub mod CancelLaws
+pub mod DutyLaws
+pub mod DutyKept
+pub mod KeptLaws
+pub mod LeastLaws
+pub mod OrderlyLaws
+pub mod RememberedLaws
+pub mod SpacedLaws
 pub mod OverlapLaws
 pub mod DutyRow
 pub mod DutySearch

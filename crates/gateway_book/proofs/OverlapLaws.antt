@@ -10,7 +10,7 @@ use Rattle.resv_list.specs.declared.reservation.Reservation.{Reservation}
 use Rattle.resv_list.specs.Reservations.{start_of, end_of, IsByStart, member_before, member_from}
 use Rattle.gateway_book.specs.Lawful.{AreApart}
 use Rattle.gateway_book.specs.Answer.{overlap}
-use Rattle.gateway_book.specs.ApartLaws.{ends_later, first_has_least_start, spaced_apart, apart_spaced}
+use Rattle.gateway_book.proofs.ApartLaws.{ends_later, first_has_least_start, spaced_apart, apart_spaced}
 
 -- Only two neighbours of what is asked for can overlap it: the last member that begins before it, and
 -- the first that doesn't.

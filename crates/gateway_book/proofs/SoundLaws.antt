@@ -1,17 +1,17 @@
 use Rattle.std.specs.Prelude.{ℕ, ◌≡◌, ◌+◌, ◌<◌, ◌≤◌, List, [], length, Some, None, find, not}
 use Rattle.std.proofs.Common.{refl, sym, ap, subst, ◌∙◌, arith}
 use Rattle.resv_list.specs.declared.reservation.Reservation.{Reservation}
-use Rattle.resv_list.specs.SortedLaws.{length-place_by}
+use Rattle.resv_list.proofs.SortedLaws.{length-place_by}
 use Rattle.resv_list.specs.Reservations.{start_of, IsByStart, place, airtime_us, net, without}
 use Rattle.gateway_book.specs.Kept.{kept}
-use Rattle.gateway_book.specs.KeptLaws.{kept-own, net-place}
+use Rattle.gateway_book.proofs.KeptLaws.{kept-own, net-place}
 use Rattle.gateway_book.specs.declared.ask.Ask.{Ask}
 use Rattle.gateway_book.specs.Answer.{IsAsked, total_limit, refusal_of}
-use Rattle.gateway_book.specs.AnswerLaws.{accepted, book_step-accepted}
+use Rattle.gateway_book.proofs.AnswerLaws.{accepted, book_step-accepted}
 use Rattle.gateway_book.specs.Step.{is_named, without_named, book_step}
-use Rattle.gateway_book.specs.CancelLaws.{fewer, net_named}
+use Rattle.gateway_book.proofs.CancelLaws.{fewer, net_named}
 use Rattle.gateway_book.specs.Orderly.{IsOrderly, MayJoin}
-use Rattle.gateway_book.specs.OrderlyLaws.{orderly_nil, orderly_placed, orderly_filter, may_join}
+use Rattle.gateway_book.proofs.OrderlyLaws.{orderly_nil, orderly_placed, orderly_filter, may_join}
 use Rattle.gateway_book.specs.Book.{Book, IsSound, terms_of, with_booked, with_cancelled, state_of}
 
 -- What a book keeps when it is opened and when it books.

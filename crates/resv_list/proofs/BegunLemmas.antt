@@ -3,8 +3,7 @@ use Rattle.std.proofs.Common.{refl, ap, arith, zero, suc, get_or}
 use Rattle.std.proofs.lemmas.Bool.{lt-ltb, le-ltb, ltb-true, le-leb, lt-leb}
 use Rattle.radio_bands.specs.declared.band.Band.{Band}
 use Rattle.resv_list.specs.declared.reservation.Reservation.{Reservation}
-use Rattle.resv_list.specs.Sorted.{RisesFrom}
-use Rattle.resv_list.specs.SortedLaws.{IsCut}
+use Rattle.resv_list.specs.Sorted.{IsCut, RisesFrom}
 use Rattle.resv_list.proofs.CutLemmas.{cut_rest}
 use Rattle.resv_list.specs.Reservations.{start_of, airtime_us, is_in, share, begun}
 use Rattle.resv_list.specs.Begun.{begun-cons, begun-nil}

@@ -5,8 +5,8 @@ use Rattle.std.proofs.Common.{refl, sym, ap, ◌∙◌, arith, zero, suc, get_or
 use Rattle.std.proofs.lemmas.Bool.{ltb-true, ltb-false}
 use Rattle.std.proofs.lemmas.Bool.Decides.{nat_tests}
 use Rattle.std.proofs.lemmas.Option.{slice_get_within}
-use Rattle.resv_list.specs.Sorted.{last, RisesFrom, place_by}
-use Rattle.resv_list.specs.SortedLaws.{IsCut, at_none}
+use Rattle.resv_list.specs.Sorted.{IsCut, last, RisesFrom, place_by}
+use Rattle.resv_list.proofs.SortedLaws.{at_none}
 
 -- A list that rises, cut in two where a test no longer passes.
 

@@ -1,3 +1,5 @@
+pub mod SortedLaws
+pub mod Walk
 pub mod NearestLemmas
 pub mod CutLemmas
 pub mod BegunLemmas

@@ -1,8 +1,6 @@
 pub mod Fit
 pub mod Sorted
-pub mod SortedLaws
 pub mod Free
-pub mod Walk
 pub mod SameFields
 pub mod Reservations
 pub mod Begun
@@ -11,4 +9,3 @@ pub use Rattle.radio_airtime.specs.DataRate
 pub use Rattle.radio_airtime.specs.TimeOnAir
 pub use Rattle.radio_airtime.specs.Bounds
 pub use Rattle.radio_bands.specs.Band
-pub use Rattle.radio_bands.specs.BandLaws

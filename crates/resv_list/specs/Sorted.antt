@@ -1,4 +1,6 @@
-use Rattle.std.specs.Prelude.{ℕ, ◌+◌, ◌≤◌, nat_lt, nat_le, if◌then◌else◌, List, [], ◌∷◌, Option, Some, None, filter, find, ⊤}
+use Rattle.std.specs.Prelude.{ℕ, ◌≡◌, ◌+◌, ◌≤◌, nat_lt, nat_le, if◌then◌else◌, Bool, true, false, List, [], ◌∷◌, Option, Some, None}
+use Rattle.std.specs.Prelude.{filter, find, ⊤}
+use Rattle.std.specs.List.Sorted.{IsPartitionPoint}
 use Rattle.std.specs.Coded.{×_prop, Unit-prop, le_prop}
 
 -- Words for a list sorted by a key that no two members share.
@@ -8,6 +10,10 @@ abbrev pub last : {X : Type 0} → List X → Option X
 last [] = None
 last (x ∷ []) = Some x
 last (x ∷ y ∷ ys) = last (y ∷ ys)
+
+-- where a test passes before a place and fails from it on, the list parts there
+abbrev pub IsCut : {X : Type 0} → (X → Bool) → List X → ℕ → Type 0
+IsCut test xs i = IsPartitionPoint (λ y. test y ≡ true) (λ y. test y ≡ false) xs i
 
 module _ {X : Type 0} (key : X → ℕ) where
   -- the keys rise from `low` on, and no two are the same

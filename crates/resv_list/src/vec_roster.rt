@@ -2,8 +2,7 @@ ghost use Rattle.std.specs.Prelude.{◌≡◌, ◌≤◌, [], ◌<◌, length, i
 ghost use Rattle.std.specs.Prelude.{if◌then◌else◌};
 ghost use Rattle.resv_list.specs.declared.reservation.Reservation.{Reservation as Member};
 ghost use Rattle.resv_list.specs.declared.roster.TheConstants.{MAX_MEMBERS};
-ghost use Rattle.resv_list.specs.Sorted.{RisesFrom, RisesFrom-prop};
-ghost use Rattle.resv_list.specs.SortedLaws.{IsCut};
+ghost use Rattle.resv_list.specs.Sorted.{IsCut, RisesFrom, RisesFrom-prop};
 ghost use Rattle.resv_list.specs.Reservations.{start_of, IsByStart, place, member_before, member_from, member_at, without, begun};
 ghost use Rattle.resv_list.specs.Reservations.{is_in, airtime_us};
 

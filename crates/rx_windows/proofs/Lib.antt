@@ -1,2 +1,4 @@
+pub mod RankLaws
+pub mod WindowLaws
 pub mod KeyLemmas
 pub mod RankLemmas

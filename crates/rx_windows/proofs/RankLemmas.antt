@@ -15,7 +15,7 @@ use Rattle.std.proofs.lemmas.Map.Keys.{IsDistinct-IsPermutation}
 use Rattle.uplink_gather.specs.declared.heard.HeardCopy.{HeardCopy}
 use Rattle.rx_windows.specs.Rank.{HaveDistinctGateways, IsBefore, is_before, placed, ranked}
 use Rattle.rx_windows.specs.Laws.{IsRanking, OneRanking}
-use Rattle.rx_windows.specs.RankLaws.{AllPairs-head, AllPairs-tail, placed-permutation, ranked-permutation, All-ranked}
+use Rattle.rx_windows.proofs.RankLaws.{AllPairs-head, AllPairs-tail, placed-permutation, ranked-permutation, All-ranked}
 
 -- The order decides between two gateways, sorting by insertion gives a ranking, and there is no other.
 

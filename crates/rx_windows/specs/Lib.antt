@@ -2,6 +2,4 @@ pub mod Window
 pub mod Rank
 pub mod Windows
 pub mod Laws
-pub mod RankLaws
-pub mod WindowLaws
 pub use Rattle.radio_airtime.specs.DataRate

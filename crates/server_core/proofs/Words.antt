@@ -14,13 +14,14 @@ pub use Rattle.std.specs.Prelude.{⊤, ◌&&◌, ◌++◌, ◌+◌, ◌-◌, ◌
 pub use Rattle.resv_list.specs.Reservations.{IsByStart, airtime_us, member_from, place, start_of, without}
 pub use Rattle.resv_list.specs.{Sorted.RisesFrom, Sorted.place_by, declared.reservation.Reservation.Reservation}
 pub use Rattle.gateway_book.specs.Book.{Book, airtime_answer, state_of, with_booked, with_cancelled}
-pub use Rattle.gateway_book.specs.OrderlyLaws.{may_join, orderly_filter, orderly_nil, orderly_placed}
+pub use Rattle.gateway_book.proofs.OrderlyLaws.{may_join, orderly_filter, orderly_nil, orderly_placed}
 pub use Rattle.gateway_book.specs.Step.{State, after_cancel, book_step, cancel_answer, cancel_step, found_or, is_fit-IsFit}
 pub use Rattle.gateway_book.specs.Step.{is_named, tick_step, without_named}
-pub use Rattle.gateway_book.specs.Remembers.{orderly_booked, orderly_cancelled, remembers_answer, remembers_booked}
-pub use Rattle.gateway_book.specs.Remembers.{remembers_cancel, remembers_cancelled, remembers_own, remembers_ticked}
-pub use Rattle.gateway_book.specs.{Answer.IsAsked, Answer.refusal_of, AnswerLaws.accepted, AnswerLaws.book_step-accepted}
-pub use Rattle.gateway_book.specs.{CancelLaws.named_found, CancelLaws.named_none, CancelLaws.net_named, KeptLaws.net-place}
+pub use Rattle.gateway_book.proofs.RememberedLaws.{orderly_booked, orderly_cancelled, remembers_answer, remembers_booked}
+pub use Rattle.gateway_book.proofs.RememberedLaws.{remembers_cancel, remembers_cancelled, remembers_own, remembers_ticked}
+pub use Rattle.gateway_book.specs.Answer.{IsAsked, refusal_of}
+pub use Rattle.gateway_book.proofs.{AnswerLaws.accepted, AnswerLaws.book_step-accepted}
+pub use Rattle.gateway_book.proofs.{CancelLaws.named_found, CancelLaws.named_none, CancelLaws.net_named, KeptLaws.net-place}
 pub use Rattle.gateway_book.specs.{Orderly.IsOrderly, declared.ask.Ask.Ask, declared.cancel.CancelFault.CancelFault}
 pub use Rattle.gateway_book.specs.{declared.cancel.CancelFault.TheVariants.Begun, declared.cancel.CancelFault.TheVariants.NotHere}
 pub use Rattle.gateway_book.specs.{declared.refusal.Refusal.Refusal, declared.totals.Totals.Totals, Lawful.IsLawful}
@@ -32,8 +33,9 @@ pub use Rattle.uplink_gather.specs.Hearing.{hear_answer, place_of, with_copy}
 pub use Rattle.uplink_gather.specs.declared.answers.Heard.TheVariants.{Joined, Opened}
 pub use Rattle.uplink_gather.specs.{declared.answers.Place.TheVariants.Joins, declared.fault.HearFault.HearFault}
 pub use Rattle.uplink_gather.specs.{declared.heard.HeardCopy.HeardCopy, declared.limits.Limits.Limits}
-pub use Rattle.rx_windows.specs.{Laws.IsWindowOf, RankLaws.AllPairs-head, RankLaws.AllPairs-tail, WindowLaws.IsWindowOf-ranked}
-pub use Rattle.rx_windows.specs.{WindowLaws.on_gateways_that_heard, Windows.candidates_of, declared.candidate.Candidate.Candidate}
+pub use Rattle.rx_windows.specs.{Laws.IsWindowOf, Windows.candidates_of, declared.candidate.Candidate.Candidate}
+pub use Rattle.rx_windows.proofs.RankLaws.{AllPairs-head, AllPairs-tail}
+pub use Rattle.rx_windows.proofs.WindowLaws.{IsWindowOf-ranked, on_gateways_that_heard}
 pub use Rattle.answer_ticket.specs.Job.{Job, Payload, ask_for, candidate_at, candidates}
 pub use Rattle.answer_ticket.specs.Tried.{IsBooked, IsReceipt, IsWrong, next_of, refusal_by}
 pub use Rattle.answer_ticket.specs.{Ended.answered_as, Ticket.Standing, Ticket.candidate_of, declared.outcome.Ending.Ending}

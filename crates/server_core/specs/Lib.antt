@@ -9,7 +9,6 @@ pub use Rattle.radio_airtime.specs.DataRate
 pub use Rattle.radio_airtime.specs.TimeOnAir
 pub use Rattle.radio_airtime.specs.Bounds
 pub use Rattle.radio_bands.specs.Band
-pub use Rattle.radio_bands.specs.BandLaws
 pub use Rattle.server_desk.specs.SettingsFault
 pub use Rattle.server_desk.specs.Settings
 pub use Rattle.server_desk.specs.Register

@@ -8,7 +8,7 @@ use Rattle.uplink_gather.specs.Hearing.{opening}
 use Rattle.server_desk.proofs.Places.{some_inj, all_get}
 use Rattle.server_desk.proofs.Numbers.{at_number}
 use Rattle.std.proofs.lemmas.List.Quantifiers.{all_pairs_push}
-use Rattle.uplink_gather.specs.HearingLaws.{joins_at, answer_joined}
+use Rattle.uplink_gather.proofs.HearingLaws.{joins_at, answer_joined}
 
 -- what is true of all is true where one is written anew that keeps it
 all_rewritten : {X : Type 0} (P : X → Type 0) (f : X → X) (n : ℕ) (xs : List X) (o : Option X) → numbered n xs ≡ o

@@ -25,7 +25,7 @@ pub use Rattle.uplink_gather.specs.declared.answers.Place.TheVariants.{Joins, Op
 pub use Rattle.uplink_gather.specs.declared.fault.HearFault.{HearFault}
 pub use Rattle.uplink_gather.specs.declared.heard.HeardCopy.{HeardCopy}
 pub use Rattle.uplink_gather.specs.declared.limits.Limits.{Limits}
-pub use Rattle.rx_windows.specs.RankLaws.{All-ranked, AllPairs-head, AllPairs-tail, length-ranked}
+pub use Rattle.rx_windows.proofs.RankLaws.{All-ranked, AllPairs-head, AllPairs-tail, length-ranked}
 pub use Rattle.rx_windows.specs.Windows.{IsHeard}
 pub use Rattle.answer_ticket.specs.Ended.{IsWithinLongest, longest_us}
 pub use Rattle.answer_ticket.specs.Job.{IsJob, IsPort, Job, Payload, payload_len}

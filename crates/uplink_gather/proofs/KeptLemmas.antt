@@ -10,7 +10,7 @@ use Rattle.uplink_gather.specs.declared.stored.Stored.{Stored}
 use Rattle.uplink_gather.specs.Gatherings.{Gathering, numbered, newest}
 use Rattle.uplink_gather.proofs.NumberedLemmas.{numbered_at, numbered_within}
 use Rattle.uplink_gather.proofs.NewestLemmas.{newest_push, newest-set}
-use Rattle.uplink_gather.specs.GatheringLaws.{newest_stands}
+use Rattle.uplink_gather.proofs.GatheringLaws.{newest_stands}
 use Rattle.uplink_gather.specs.Indexed.{Index, text_at, number_of, Renews, shown, open_from, IsWhole}
 use Rattle.uplink_gather.proofs.UnclosedLemmas.{open_from-push, open_from-set}
 

@@ -1,3 +1,5 @@
+pub mod GatheringLaws
+pub mod HearingLaws
 pub mod IndexLemmas
 pub mod UnclosedLemmas
 pub mod KeptLemmas

@@ -1,5 +1,5 @@
 use Rattle.std.proofs.Common.{true, false, sym, ◌∙◌}
-use Rattle.gateway_book.specs.CancelLaws.{named_found, named_none}
+use Rattle.gateway_book.proofs.CancelLaws.{named_found, named_none}
 use Rattle.gateway_book.proofs.cancel.named.Goals as goal
 
 pub returns-in_err-member-clause-member : goal.returns-in_err-member-clause-member

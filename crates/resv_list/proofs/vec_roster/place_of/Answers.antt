@@ -1,6 +1,6 @@
 use Rattle.std.proofs.Common.{ℕ, nat_lt, rules, subst, sym}
 use Rattle.std.proofs.lemmas.List.Sorted.{IsPartitionedBy-ltb, IsPartitionPoint-from_clause}
-use Rattle.resv_list.specs.SortedLaws.{IsCut}
+use Rattle.resv_list.specs.Sorted.{IsCut}
 use Rattle.resv_list.proofs.CutLemmas.{RisesFrom-IsNonDecreasingBy, place_by-cut}
 use Rattle.resv_list.specs.Reservations.{start_of}
 use Rattle.resv_list.proofs.vec_roster.place_of.Goals as goal

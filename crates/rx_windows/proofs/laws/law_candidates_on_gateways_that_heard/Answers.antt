@@ -1,4 +1,4 @@
-use Rattle.rx_windows.specs.WindowLaws.{on_gateways_that_heard}
+use Rattle.rx_windows.proofs.WindowLaws.{on_gateways_that_heard}
 use Rattle.rx_windows.proofs.laws.law_candidates_on_gateways_that_heard.Goals as goal
 
 pub returns : goal.returns

@@ -2,7 +2,7 @@ use Rattle.gateway_book.specs.Answer.{refusal_of}
 use Rattle.gateway_book.specs.Book.{terms_of}
 use Rattle.gateway_book.proofs.AdmittedLaws.{not_refused}
 use Rattle.gateway_book.proofs.SoundLaws.{may_book_inside, sound_after, stepped}
-use Rattle.gateway_book.specs.OrderlyLaws.{free_where_clear}
+use Rattle.gateway_book.proofs.OrderlyLaws.{free_where_clear}
 use Rattle.gateway_book.proofs.book.GatewayBook.book.Goals as goal
 
 pub insert-requires : goal.insert-requires

@@ -6,7 +6,7 @@ use Rattle.gateway_book.proofs.OverlapLaws.{or_else}
 use Rattle.gateway_book.specs.Answer.{overlap}
 use Rattle.gateway_book.specs.Book.{Book}
 use Rattle.gateway_book.proofs.OverlapLaws.{overlap-neighbours}
-use Rattle.gateway_book.specs.ApartLaws.{ends_later}
+use Rattle.gateway_book.proofs.ApartLaws.{ends_later}
 use Rattle.gateway_book.proofs.book.GatewayBook.first_overlap.Goals as goal
 
 pub returns-in-Some : goal.returns-in-Some

@@ -1,6 +1,6 @@
 use Rattle.std.proofs.Common.{◌≡◌, Bool, true, false, List, refl, subst, sym, ◌∙◌, if◌then◌else◌, arith, insert, is_ok}
 use Rattle.resv_list.specs.declared.reservation.Reservation.{Reservation}
-use Rattle.resv_list.specs.SortedLaws.{RisesFrom-place_by}
+use Rattle.resv_list.proofs.SortedLaws.{RisesFrom-place_by}
 use Rattle.resv_list.specs.Reservations.{start_of, place, IsByStart}
 use Rattle.resv_list.proofs.vec_roster.VecRosterRoster.insert.Goals as goal
 

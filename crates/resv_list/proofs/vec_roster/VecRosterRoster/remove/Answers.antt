@@ -1,7 +1,7 @@
 use Rattle.std.proofs.Common.{◌≡◌, ◌<◌, List, slice_get, length, remove, sym, ◌∙◌, subst}
 use Rattle.resv_list.specs.declared.reservation.Reservation.{Reservation}
 use Rattle.resv_list.specs.Reservations.{start_of, IsByStart, member_at, without}
-use Rattle.resv_list.specs.SortedLaws.{RisesFrom-filter}
+use Rattle.resv_list.proofs.SortedLaws.{RisesFrom-filter}
 use Rattle.resv_list.proofs.CutLemmas.{slice_get-read}
 use Rattle.resv_list.proofs.vec_roster.VecRosterRoster.remove.Goals as goal
 

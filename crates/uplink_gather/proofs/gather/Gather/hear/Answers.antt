@@ -2,7 +2,7 @@ use Rattle.std.proofs.Common.{sym, ap, ◌∙◌, Ok, ℕ, ◌≡◌, List, Opti
 use Rattle.uplink_gather.specs.declared.answers.Place.TheVariants.{Joins}
 use Rattle.uplink_gather.specs.Gatherings.{Gathering, Gatherings, numbered}
 use Rattle.uplink_gather.specs.Hearing.{place_of}
-use Rattle.uplink_gather.specs.HearingLaws.{joins_at}
+use Rattle.uplink_gather.proofs.HearingLaws.{joins_at}
 use Rattle.uplink_gather.proofs.gather.Gather.hear.Goals as goal
 
 joins_some : (s : Gatherings) (bytes : List ℕ) (gateway arrived n : ℕ) → place_of s bytes gateway arrived ≡ Ok (Joins n)

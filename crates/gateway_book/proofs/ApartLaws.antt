@@ -10,7 +10,7 @@ use Rattle.gateway_book.specs.Disjoint.{AreDisjoint}
 use Rattle.gateway_book.specs.Lawful.{AreApart}
 use Rattle.gateway_book.specs.Least.{first_start}
 use Rattle.gateway_book.specs.Spaced.{SpacedFrom}
-use Rattle.gateway_book.specs.SpacedLaws.{least-find}
+use Rattle.gateway_book.proofs.SpacedLaws.{least-find}
 
 -- Laws that tie the forms that the code looks at to the definitions.
 

@@ -5,7 +5,7 @@ use Rattle.uplink_gather.specs.declared.heard.HeardCopy.{HeardCopy}
 use Rattle.rx_windows.specs.declared.plan.Plan.{Plan}
 use Rattle.rx_windows.specs.declared.candidate.Candidate.{Candidate}
 use Rattle.rx_windows.specs.Rank.{ranked}
-use Rattle.rx_windows.specs.RankLaws.{Contains-ranked}
+use Rattle.rx_windows.proofs.RankLaws.{Contains-ranked}
 use Rattle.rx_windows.specs.Windows.{rx1_of, rx2_of, candidates_of}
 use Rattle.rx_windows.specs.Laws.{IsWindowOf, OnGatewaysThatHeard}
 

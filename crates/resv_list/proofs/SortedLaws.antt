@@ -1,6 +1,5 @@
 use Rattle.std.specs.Prelude.{ℕ, ◌≡◌, ◌≢◌, ◌+◌, ◌<◌, ◌≤◌, nat_lt, Bool, true, false, not, List, [], ◌∷◌, length, filter, find}
 use Rattle.std.specs.Prelude.{All, map, cond, ◌==◌, None}
-use Rattle.std.specs.List.Sorted.{IsPartitionPoint}
 use Rattle.std.proofs.Common.{refl, arith, zero, suc}
 use Rattle.std.proofs.lemmas.Bool.{ltb-true, ltb-false}
 use Rattle.std.proofs.lemmas.Bool.Decides.{nat_tests}
@@ -12,12 +11,6 @@ module _ {X : Type 0} (key : X → ℕ) where
   RisesFrom-lower low high [] h r = tt
   RisesFrom-lower low high (x ∷ xs) h r = (omega arith, r.1)
 
--- Where a test passes before a place and fails from it on, the list parts there.
-
-abbrev pub IsCut : {X : Type 0} → (X → Bool) → List X → ℕ → Type 0
-IsCut test xs i = IsPartitionPoint (λ y. test y ≡ true) (λ y. test y ≡ false) xs i
-
-module _ {X : Type 0} (key : X → ℕ) where
   grown : (x y : X) (ys : List X) (t : Bool) → length (place_by key x ys) ≡ length ys + 1
       → length (cond t (y ∷ place_by key x ys) (x ∷ y ∷ ys)) ≡ length (y ∷ ys) + 1
   grown x y ys true h = omega arith

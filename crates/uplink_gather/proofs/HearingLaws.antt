@@ -6,7 +6,7 @@ use Rattle.uplink_gather.specs.declared.answers.Place.{Place}
 use Rattle.uplink_gather.specs.declared.answers.Place.TheVariants.{Joins, Opens}
 use Rattle.uplink_gather.specs.declared.answers.Heard.TheVariants.{Opened, Joined}
 use Rattle.uplink_gather.specs.Gatherings.{Gathering, Gatherings, numbered, newest, copies_of}
-use Rattle.uplink_gather.specs.GatheringLaws.{newest_stands}
+use Rattle.uplink_gather.proofs.GatheringLaws.{newest_stands}
 use Rattle.uplink_gather.specs.Hearing.{place_by, place_of, takes_copies, has_gateway, delay, late_us, is_crowded, answer_at}
 use Rattle.uplink_gather.specs.Hearing.{hear_answer}
 

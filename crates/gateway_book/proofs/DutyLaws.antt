@@ -8,7 +8,7 @@ use Rattle.radio_bands.specs.Band.{hour, limit_of}
 use Rattle.resv_list.specs.declared.reservation.Reservation.{Reservation}
 use Rattle.resv_list.specs.Reservations.{start_of, airtime_us, is_in, share, begun, spent, place}
 use Rattle.resv_list.specs.Begun.{begun-cons, begun-nil}
-use Rattle.gateway_book.specs.LeastLaws.{least_is_least}
+use Rattle.gateway_book.proofs.LeastLaws.{least_is_least}
 use Rattle.gateway_book.specs.Duty.{is_within_hour, would_pass, is_overfull, starts_in, full_hour}
 use Rattle.gateway_book.specs.Laws.{IsOpening, IsDutyAnswer}
 

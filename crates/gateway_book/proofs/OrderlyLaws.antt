@@ -6,17 +6,17 @@ use Rattle.radio_bands.specs.declared.band.Band.{Band}
 use Rattle.resv_list.specs.declared.reservation.Reservation.{Reservation}
 use Rattle.resv_list.specs.Fit.{IsFit}
 use Rattle.resv_list.specs.Begun.{begun-nil}
-use Rattle.resv_list.specs.SortedLaws.{RisesFrom-place_by, RisesFrom-filter}
+use Rattle.resv_list.proofs.SortedLaws.{RisesFrom-place_by, RisesFrom-filter}
 use Rattle.resv_list.specs.Reservations.{start_of, end_of, IsByStart, IsFree, place, airtime_us}
 use Rattle.gateway_book.specs.declared.ask.Ask.{Ask}
 use Rattle.gateway_book.specs.Answer.{Terms, IsAsked, ask_airtime, overlap, refusal_of}
-use Rattle.gateway_book.specs.AnswerLaws.{accepted}
+use Rattle.gateway_book.proofs.AnswerLaws.{accepted}
 use Rattle.gateway_book.specs.Duty.{full_hour}
-use Rattle.gateway_book.specs.DutyKept.{duty_placed}
-use Rattle.gateway_book.specs.CancelLaws.{SpacedFrom-filter, begun-filter}
+use Rattle.gateway_book.proofs.DutyKept.{duty_placed}
+use Rattle.gateway_book.proofs.CancelLaws.{SpacedFrom-filter, begun-filter}
 use Rattle.gateway_book.specs.Spaced.{overlaps}
-use Rattle.gateway_book.specs.SpacedLaws.{SpacedFrom-place_by, free_of_clear}
-use Rattle.gateway_book.specs.ApartLaws.{ends_later, first_has_least_start, apart_spaced, spaced_apart}
+use Rattle.gateway_book.proofs.SpacedLaws.{SpacedFrom-place_by, free_of_clear}
+use Rattle.gateway_book.proofs.ApartLaws.{ends_later, first_has_least_start, apart_spaced, spaced_apart}
 use Rattle.gateway_book.specs.Orderly.{IsOrderly, MayJoin}
 
 -- What stays orderly: no list at all, a list that is joined by what it may hold, and a part of a list.

@@ -6,11 +6,11 @@ use Rattle.std.proofs.lemmas.Bool.Decides.{nat_tests}
 use Rattle.radio_bands.specs.declared.band.Band.{Band}
 use Rattle.resv_list.specs.declared.reservation.Reservation.{Reservation}
 use Rattle.resv_list.specs.Sorted.{RisesFrom, first_from}
-use Rattle.resv_list.specs.SortedLaws.{at_none}
+use Rattle.resv_list.proofs.SortedLaws.{at_none}
 use Rattle.resv_list.specs.Begun.{begun-cons}
 use Rattle.resv_list.specs.Reservations.{start_of, airtime_us, begun, net, IsByStart, member_from, without}
 use Rattle.gateway_book.specs.Spaced.{SpacedFrom}
-use Rattle.gateway_book.specs.SpacedLaws.{SpacedFrom-lower}
+use Rattle.gateway_book.proofs.SpacedLaws.{SpacedFrom-lower}
 use Rattle.gateway_book.specs.Step.{is_named, without_named}
 
 -- What is taken out of a list, and what the rest keeps.

@@ -3,7 +3,7 @@ use Rattle.std.proofs.Common.{refl, sym, ap, ◌∙◌, arith}
 use Rattle.std.proofs.lemmas.Bool.{le-ltb}
 use Rattle.resv_list.specs.declared.reservation.Reservation.{Reservation}
 use Rattle.resv_list.specs.Sorted.{RisesFrom, place_by, sort_by}
-use Rattle.resv_list.specs.SortedLaws.{RisesFrom-filter}
+use Rattle.resv_list.proofs.SortedLaws.{RisesFrom-filter}
 use Rattle.resv_list.specs.Reservations.{start_of, IsByStart, place, airtime_us, net}
 use Rattle.gateway_book.specs.Kept.{kept}
 

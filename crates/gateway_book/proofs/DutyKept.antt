@@ -4,12 +4,12 @@ use Rattle.std.proofs.Common.{arith, subst}
 use Rattle.std.proofs.lemmas.Bool.Decides.{nat_tests}
 use Rattle.radio_bands.specs.declared.band.Band.{Band}
 use Rattle.radio_bands.specs.Band.{hour, limit_of, band_of}
-use Rattle.radio_bands.specs.BandLaws.{lies_in-true, LiesIn-band_of}
+use Rattle.radio_bands.proofs.BandLaws.{lies_in-true, LiesIn-band_of}
 use Rattle.resv_list.specs.declared.reservation.Reservation.{Reservation}
 use Rattle.resv_list.specs.Reservations.{airtime_us, is_in, spent, place}
 use Rattle.gateway_book.specs.Duty.{full_hour}
 use Rattle.gateway_book.specs.Laws.{IsDutyAnswer}
-use Rattle.gateway_book.specs.DutyLaws.{full_hour_answers, begun-place}
+use Rattle.gateway_book.proofs.DutyLaws.{full_hour_answers, begun-place}
 
 -- A reservation that overfills no hour keeps the limits of every hour.
 
