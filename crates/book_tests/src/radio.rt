@@ -42,6 +42,66 @@ fn bands_of_channels_at_the_edges(rt: HostRuntime) {
     }
 }
 
+/// The sub-bands' edges in Hz (ETSI EN 300 220-2, annex B, as this project's profile has them).
+const EDGES: [(Band, u32, u32); 6] = [
+    (Band::K, 863_000_000, 865_000_000),
+    (Band::L, 865_000_000, 868_000_000),
+    (Band::M, 868_000_000, 868_600_000),
+    (Band::N, 868_700_000, 869_200_000),
+    (Band::P, 869_400_000, 869_650_000),
+    (Band::Q, 869_700_000, 870_000_000),
+];
+
+#[test]
+fn channels_keep_within_the_edges_of_their_bands(rt: HostRuntime) {
+    // half the bandwidth to either side of the centre
+    for (rate, half_hz) in [(DataRate::Dr5, 62_500), (DataRate::Dr6, 125_000)] {
+        for (band, low_hz, high_hz) in EDGES {
+            assert_eq!(rt;
+                Band::of(low_hz + half_hz, rate),
+                Some(band),
+                "lowest, {rate:?}"
+            );
+            assert_eq!(rt;
+                Band::of(low_hz + half_hz - 1, rate),
+                None,
+                "below {band:?}"
+            );
+            assert_eq!(rt;
+                Band::of(high_hz - half_hz, rate),
+                Some(band),
+                "highest, {rate:?}"
+            );
+            assert_eq!(rt;
+                Band::of(high_hz - half_hz + 1, rate),
+                None,
+                "above {band:?}"
+            );
+        }
+    }
+}
+
+#[test]
+fn data_rates_by_their_numbers(rt: HostRuntime) {
+    // bandwidth in Hz and the greatest PHYPayload in bytes (RP002, EU863-870, as this project's profile has them)
+    let rows = [
+        (0, DataRate::Dr0, 125_000, 64),
+        (1, DataRate::Dr1, 125_000, 64),
+        (2, DataRate::Dr2, 125_000, 64),
+        (3, DataRate::Dr3, 125_000, 128),
+        (4, DataRate::Dr4, 125_000, 255),
+        (5, DataRate::Dr5, 125_000, 255),
+        (6, DataRate::Dr6, 250_000, 255),
+    ];
+    for (number, rate, bandwidth_hz, max_phy) in rows {
+        assert_eq!(rt; DataRate::from_number(number), Some(rate));
+        assert_eq!(rt; rate.number(), number);
+        assert_eq!(rt; rate.bandwidth_hz(), bandwidth_hz, "at {rate:?}");
+        assert_eq!(rt; rate.max_phy(), max_phy, "at {rate:?}");
+    }
+    assert_eq!(rt; DataRate::from_number(7), None);
+}
+
 #[test]
 fn limits_of_bands(rt: HostRuntime) {
     let cases = [

@@ -161,6 +161,44 @@ fn published_uplink(rt: HostRuntime) -> Result<(), Fail> {
     Ok(())
 }
 
+// FRMPayload is under NwkSKey on FPort 0, and else under AppSKey; these bytes were made with OpenSSL's AES and CMAC.
+#[test]
+fn ports_choose_the_key_of_the_payload(rt: HostRuntime) -> Result<(), Fail> {
+    let under_nwk = [
+        0x80, 0xda, 0x1b, 0x01, 0x26, 0x00, 0x07, 0x00, 0x00, 0xd1, 0x2b, 0x3f, 0x28, 0x90, 0xe3,
+        0xb6, 0xc1,
+    ];
+    let under_app = [
+        0x80, 0xda, 0x1b, 0x01, 0x26, 0x00, 0x07, 0x00, 0x01, 0x37, 0x24, 0xba, 0xf8, 0x76, 0xa3,
+        0xc0, 0x99,
+    ];
+    for (port, wanted) in [(0, under_nwk), (1, under_app)] {
+        let body = Some(Body {
+            port,
+            payload: b"test",
+        });
+        let full = Up { body, ..empty_up() };
+        assert!(rt; up(rt.alloc(), &full)?.as_slice() == wanted.as_slice());
+    }
+    Ok(())
+}
+
+#[test]
+fn longest_uplink_is_read(rt: HostRuntime) -> Result<(), Fail> {
+    let zeros = [0u8; 242];
+    let body = Some(Body {
+        port: 1,
+        payload: &zeros,
+    });
+    let full = Up { body, ..empty_up() };
+    let frame = up(rt.alloc(), &full)?;
+    let uplink = read(frame.as_slice())?;
+    assert_eq!(rt; frame.len(), 255);
+    assert_eq!(rt; (uplink.port, uplink.payload_at), (Some(1), 9));
+    assert!(rt; has_mic(frame.as_slice(), 7));
+    Ok(())
+}
+
 /// What bytes say as an uplink.
 fn read(bytes: &[u8]) -> Result<Uplink, FrameFault> {
     read_uplink(bytes)

@@ -14,7 +14,7 @@ use Rattle.gateway_book.proofs.AnswerLaws.{accepted}
 use Rattle.gateway_book.specs.Duty.{full_hour}
 use Rattle.gateway_book.proofs.DutyKept.{duty_placed}
 use Rattle.gateway_book.proofs.CancelLaws.{SpacedFrom-filter, begun-filter}
-use Rattle.gateway_book.specs.Spaced.{overlaps}
+use Rattle.gateway_book.specs.Disjoint.{overlaps}
 use Rattle.gateway_book.proofs.SpacedLaws.{SpacedFrom-place_by, free_of_clear}
 use Rattle.gateway_book.proofs.ApartLaws.{ends_later, first_has_least_start, apart_spaced, spaced_apart}
 use Rattle.gateway_book.specs.Orderly.{IsOrderly, MayJoin}

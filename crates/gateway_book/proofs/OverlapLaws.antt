@@ -4,7 +4,8 @@ use Rattle.std.proofs.Common.{refl, sym, ap, ◌∙◌, arith}
 use Rattle.std.proofs.lemmas.Bool.{leb-true, leb-false, le-leb, lt-leb, lt-ltb, le-ltb, ltb-true, ltb-false}
 use Rattle.std.proofs.lemmas.Bool.Decides.{nat_tests}
 use Rattle.resv_list.specs.Sorted.{last, below, last_below, first_from}
-use Rattle.gateway_book.specs.Spaced.{keep_if, SpacedFrom, overlaps}
+use Rattle.gateway_book.specs.Disjoint.{overlaps}
+use Rattle.gateway_book.specs.Spaced.{keep_if, SpacedFrom}
 use Rattle.std.specs.Option.{option_map}
 use Rattle.resv_list.specs.declared.reservation.Reservation.{Reservation}
 use Rattle.resv_list.specs.Reservations.{start_of, end_of, IsByStart, member_before, member_from}

@@ -7,7 +7,8 @@ use Rattle.std.proofs.lemmas.Bool.Decides.{nat_tests}
 use Rattle.std.proofs.lemmas.List.Elements.{All-cons}
 use Rattle.resv_list.specs.Sorted.{RisesFrom, place_by}
 use Rattle.gateway_book.specs.Least.{least, at_most}
-use Rattle.gateway_book.specs.Spaced.{SpacedFrom, overlaps}
+use Rattle.gateway_book.specs.Disjoint.{overlaps}
+use Rattle.gateway_book.specs.Spaced.{SpacedFrom}
 
 module _ {X : Type 0} (key : X → ℕ) where
   -- what a test finds in a rising list lies above the lower bound

@@ -10,12 +10,12 @@ use Rattle.gateway_book.specs.declared.ask.Ask.{Ask}
 use Rattle.gateway_book.specs.declared.refusal.Refusal.{Refusal}
 use Rattle.gateway_book.specs.declared.refusal.Refusal.TheVariants.{NoBand, TooLong, PastEnd, Passed, Taken, DutyFull, Full}
 use Rattle.gateway_book.specs.declared.refusal.Refusal.TheVariants.{TotalsFull}
-use Rattle.gateway_book.specs.Disjoint.{is_clear}
+use Rattle.gateway_book.specs.Disjoint.{overlaps}
 use Rattle.gateway_book.specs.Kept.{kept}
 use Rattle.gateway_book.specs.Least.{first_start}
 use Rattle.gateway_book.specs.Duty.{full_hour}
 use Rattle.radio_bands.specs.declared.band.Band.{Band}
-use Rattle.resv_list.specs.Reservations.{spent}
+use Rattle.resv_list.specs.Reservations.{start_of, end_of, spent}
 
 -- The answer of a book to an ask: the first of eight rows that holds, or none where it is accepted.
 
@@ -65,7 +65,7 @@ passed terms ask = refused_if (nat_lt ask.start terms.floor) Passed
 
 -- the least start of a member that is not disjoint from what covers `from` up to `to`
 unfoldable pub overlap : List Reservation → ℕ → ℕ → Option ℕ
-overlap l from to = first_start (λ r. not (is_clear from to r)) l
+overlap l from to = first_start (overlaps start_of end_of from to) l
 
 -- a member is not disjoint from it: the least start of such a member
 abbrev pub taken : List Reservation → Ask → Option Refusal

@@ -5,7 +5,7 @@ use Rattle.gateway_book.specs.declared.totals.Totals.{Totals}
 use Rattle.gateway_book.specs.Lawful.{IsLawful}
 use Rattle.gateway_book.specs.Kept.{kept}
 use Rattle.gateway_book.specs.Answer.{Rules, Terms, total_limit}
-use Rattle.gateway_book.specs.Step.{State, without_named}
+use Rattle.gateway_book.specs.Step.{State, terms_at, without_named}
 use Rattle.gateway_book.specs.declared.cancel.CancelFault.{CancelFault}
 
 -- What callers see of a gateway's book: its kept list by start, and its totals.
@@ -18,11 +18,13 @@ pub record Book : Type 0 where
   pub cancelled : ℕ
   pub retired : ℕ
 
-abbrev pub terms_of : Book → Terms
-terms_of b = record { floor = b.floor; rules = b.rules; booked = b.booked }
-
+-- its part in a gateway's step
 abbrev pub state_of : Book → State
 state_of b = record { floor = b.floor; list = b.list; booked = b.booked; cancelled = b.cancelled }
+
+-- what its answers rest on beside the list
+abbrev pub terms_of : Book → Terms
+terms_of b = terms_at b.rules (state_of b)
 
 -- the book with one more reservation in its place
 abbrev pub with_booked : Book → Reservation → Book
@@ -33,7 +35,7 @@ abbrev pub with_cancelled : Book → ℕ → ℕ → ℕ → Book
 with_cancelled b number start airtime =
     record b { list = without_named b.list number start; cancelled = b.cancelled + airtime }
 
--- what a caller is told of it
+-- what a caller of `cancel` is told: the airtime of what was taken out, or why nothing was
 abbrev pub airtime_answer : Result Reservation CancelFault → Result ℕ CancelFault
 airtime_answer (Ok r) = Ok (airtime_us r)
 airtime_answer (Err fault) = Err fault

@@ -1,4 +1,4 @@
-use Rattle.std.specs.Prelude.{ℕ, ◌≤◌, nat_le, Bool, ◌||◌, ◌⊎◌}
+use Rattle.std.specs.Prelude.{ℕ, ◌≤◌, nat_le, Bool, not, ◌||◌, ◌⊎◌}
 use Rattle.resv_list.specs.declared.reservation.Reservation.{Reservation}
 use Rattle.resv_list.specs.Reservations.{end_of}
 
@@ -8,6 +8,6 @@ use Rattle.resv_list.specs.Reservations.{end_of}
 abbrev pub AreDisjoint : Reservation → Reservation → Type 0
 AreDisjoint r s = (end_of r ≤ s.start) ⊎ (end_of s ≤ r.start)
 
--- whether the reservation is disjoint from a transmission that covers `from` up to `to`
-abbrev pub is_clear : ℕ → ℕ → Reservation → Bool
-is_clear from to r = nat_le (end_of r) from || nat_le to r.start
+-- whether what begins at its key and lasts until its end is not disjoint from what covers `from` up to `to`
+abbrev pub overlaps : {X : Type 0} → (X → ℕ) → (X → ℕ) → ℕ → ℕ → X → Bool
+overlaps key end from to x = not (nat_le (end x) from || nat_le to (key x))

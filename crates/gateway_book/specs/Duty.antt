@@ -6,8 +6,8 @@ use Rattle.resv_list.specs.Reservations.{start_of, is_in, spent}
 use Rattle.gateway_book.specs.declared.duty.FullHour.{FullHour}
 use Rattle.gateway_book.specs.Least.{least}
 
--- Duty cycle over one hour (ETSI EN 300 220-2): within any hour, wherever it opens, the airtime of a
--- sub-band that begins in it keeps the band's limit. An hour is half open.
+-- Duty cycle over one hour, after this project's profile (the limits are those of ETSI EN 300 220-2, annex B): within any
+-- hour, wherever it opens, the airtime of a sub-band that begins in it keeps the band's limit. An hour is half open.
 
 -- whether the moment lies in the hour that opens at t
 abbrev pub is_within_hour : ℕ → ℕ → Bool

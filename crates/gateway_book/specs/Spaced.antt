@@ -1,4 +1,4 @@
-use Rattle.std.specs.Prelude.{ℕ, ◌≤◌, nat_le, Bool, not, ◌||◌, List, [], ◌∷◌, Option, Some, None, cond, ⊤}
+use Rattle.std.specs.Prelude.{ℕ, ◌≤◌, Bool, List, [], ◌∷◌, Option, Some, None, cond, ⊤}
 
 -- Lists whose members begin at a key and last until their end, in the form that the code looks at:
 -- neighbours are spaced.
@@ -12,7 +12,3 @@ module _ {X : Type 0} (key end : X → ℕ) where
   abbrev pub SpacedFrom : ℕ → List X → Type 0
   SpacedFrom low [] = ⊤
   SpacedFrom low (x ∷ xs) = (low ≤ key x) × SpacedFrom (end x) xs
-
-  -- whether a member overlaps what covers `from` up to `to`
-  abbrev pub overlaps : ℕ → ℕ → X → Bool
-  overlaps from to x = not (nat_le (end x) from || nat_le to (key x))

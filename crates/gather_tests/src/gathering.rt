@@ -97,6 +97,25 @@ const OTHER_NUMBERS: [Step; 14] = [
     Step::Bytes(u64::MAX, &[]),
 ];
 
+const HEARD_BEFORE: [Step; 4] = [
+    Step::Hear(1, 1, 1_000, Ok(Heard::Opened { n: 1 })),
+    Step::Hear(1, 2, 1_000, Ok(Heard::Joined { n: 1, copies: 2 })),
+    Step::Hear(1, 3, 1_000, Ok(Heard::Joined { n: 1, copies: 3 })),
+    Step::Hear(1, 1, 1_000, Err(HearFault::SameGateway)),
+];
+
+const ONE_OF_THREE: [Step; 9] = [
+    Step::Hear(1, 1, 1_000, Ok(Heard::Opened { n: 1 })),
+    Step::Hear(2, 1, 1_000, Ok(Heard::Opened { n: 2 })),
+    Step::Hear(3, 1, 1_000, Ok(Heard::Opened { n: 3 })),
+    Step::Close(2, true),
+    Step::IsClosed(1, false),
+    Step::IsClosed(2, true),
+    Step::IsClosed(3, false),
+    Step::Close(1, true),
+    Step::Due(201_001, Some(3)),
+];
+
 /// A copy that this gateway heard.
 fn copy_of(gateway: u16) -> HeardCopy {
     HeardCopy {
@@ -167,6 +186,8 @@ fn worked_gatherings(rt: HostRuntime) -> Result<(), Fail> {
         ),
         ("no more ever than may be", one_ever, ONE_EVER.as_slice()),
         ("arrivals in any order", AMPLE, ANY_ORDER.as_slice()),
+        ("an earlier copy's gateway", AMPLE, HEARD_BEFORE.as_slice()),
+        ("one of three is closed", AMPLE, ONE_OF_THREE.as_slice()),
         ("other numbers", AMPLE, OTHER_NUMBERS.as_slice()),
     ] {
         assert_eq!(rt;

@@ -95,6 +95,49 @@ fn three_copies(rt: HostRuntime) -> Result<(), Fail> {
 }
 
 #[test]
+fn of_equal_signals_the_smaller_gateway_is_first(rt: HostRuntime) {
+    let mut copies = [
+        copy(9, 5_000_000, 55, -80),
+        copy(2, 6_000_000, 55, -80),
+        copy(5, 7_000_000, 55, -80),
+    ];
+    rank(&mut copies);
+    let ranked = [
+        copy(2, 6_000_000, 55, -80),
+        copy(5, 7_000_000, 55, -80),
+        copy(9, 5_000_000, 55, -80),
+    ];
+    assert!(rt; copies.as_slice() == ranked.as_slice());
+}
+
+#[test]
+fn offsets_of_rx1_end_at_dr0(rt: HostRuntime) -> Result<(), Fail> {
+    let slow = HeardCopy {
+        rate: DataRate::Dr1,
+        ..copy(1, 5_000_000, 0, -100)
+    };
+    // 113 bytes fit DR3, which is two below DR5, and 64 bytes are the most at DR0
+    let cases = [
+        (copy(1, 5_000_000, 0, -100), 2, DataRate::Dr3, true),
+        (copy(1, 5_000_000, 0, -100), 5, DataRate::Dr0, false),
+        (slow, 1, DataRate::Dr0, false),
+        (slow, 2, DataRate::Dr0, false),
+        (slow, 5, DataRate::Dr0, false),
+    ];
+    for (heard, offset, rate, carries) in cases {
+        assert!(rt; heard.at <= 1 << 60 && offset <= 5);
+        let found = candidates(rt.alloc(), &[heard], &plan(1, offset, Some(100)))?;
+        let rx1 = Candidate {
+            len: if carries { 113 } else { 12 },
+            carries,
+            ..first(1, 6_000_000, rate)
+        };
+        assert!(rt; found.as_slice() == [rx1, second(1, 7_000_000)].as_slice());
+    }
+    Ok(())
+}
+
+#[test]
 fn no_copies(rt: HostRuntime) -> Result<(), Fail> {
     let found = candidates(rt.alloc(), &[], &plan(1, 0, None))?;
     assert!(rt; found.is_empty());

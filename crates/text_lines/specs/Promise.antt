@@ -1,9 +1,9 @@
 -- What a text promises of a reader and a writer that tell their bytes. `output` is a function of the numbers of those lines
 -- that found no memory, and of the lines of the input.
-use Rattle.std.specs.Prelude.{◌≡◌, ◌<◌, ◌≤◌, ℕ, Bool, List, [], length, refl, Option, Some, None, Result, Ok, Err, ⊤}
+use Rattle.std.specs.Prelude.{◌≡◌, ◌<◌, ◌≤◌, ℕ, Bool, true, false, List, [], length, refl, Option, Some, None, Result, Ok, Err, ⊤}
 use Rattle.std.specs.Io.KnownBytes.{Appends, Consumes}
 use Rattle.std.specs.Str.Lines.{lines}
-use Rattle.text_lines.specs.Calls.{next_count}
+use Rattle.text_lines.specs.Calls.{CountsWhere}
 use Rattle.text_lines.specs.Line.{text_of}
 use Rattle.text_lines.specs.Turns.{has_refusal}
 use Rattle.text_lines.specs.Writing.{WritesFront, WritesAllBut-refl}
@@ -65,14 +65,18 @@ KeepsLimit (Some bytes) (Ok _) = length bytes ≤ INPUT_LIMIT
 KeepsLimit (Some bytes) (Err TooMuch) = INPUT_LIMIT < length bytes
 KeepsLimit (Some bytes) (Err _) = ⊤
 
+abbrev pub is_read : LineFault → Bool
+is_read Read = true
+is_read _ = false
+
+abbrev pub is_write : LineFault → Bool
+is_write Write = true
+is_write _ = false
+
 -- a call of the reader failed exactly where `Read` is answered
 abbrev pub CountsReads : {T : Type 0} → ℕ → ℕ → Result T LineFault → Type 0
-CountsReads old new (Ok _) = new ≡ old
-CountsReads old new (Err Read) = new ≡ next_count old
-CountsReads old new (Err _) = new ≡ old
+CountsReads old new result = CountsWhere is_read old new result
 
 -- a call of the writer failed exactly where `Write` is answered
 abbrev pub CountsWrites : {T : Type 0} → ℕ → ℕ → Result T LineFault → Type 0
-CountsWrites old new (Ok _) = new ≡ old
-CountsWrites old new (Err Write) = new ≡ next_count old
-CountsWrites old new (Err _) = new ≡ old
+CountsWrites old new result = CountsWhere is_write old new result

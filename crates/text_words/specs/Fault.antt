@@ -1,5 +1,5 @@
-use Rattle.std.specs.Prelude.{◌≡◌, ℕ, List, Result, Ok, Err, codes}
-use Rattle.text_lines.specs.Calls.{next_count}
+use Rattle.std.specs.Prelude.{ℕ, Bool, true, false, List, Result, codes}
+use Rattle.text_lines.specs.Calls.{CountsWhere}
 use Rattle.text_lines.specs.declared.answering.LineFault.{LineFault}
 use Rattle.text_lines.specs.declared.answering.LineFault.TheVariants.{Read as LinesRead, Write as LinesWrite}
 use Rattle.text_lines.specs.declared.answering.LineFault.TheVariants.{TooMuch as LinesTooMuch}
@@ -16,17 +16,21 @@ name_of TooMuch = codes "TooMuch"
 name_of (Settings name) = name.now
 name_of NoMemory = codes "NoMemory"
 
+abbrev pub is_read : TextFault → Bool
+is_read Read = true
+is_read _ = false
+
+abbrev pub is_write : TextFault → Bool
+is_write Write = true
+is_write _ = false
+
 -- a call of the reader failed exactly where `Read` is answered
 abbrev pub CountsReads : {T : Type 0} → ℕ → ℕ → Result T TextFault → Type 0
-CountsReads old new (Ok _) = new ≡ old
-CountsReads old new (Err Read) = new ≡ next_count old
-CountsReads old new (Err _) = new ≡ old
+CountsReads old new result = CountsWhere is_read old new result
 
 -- a call of the writer failed exactly where `Write` is answered
 abbrev pub CountsWrites : {T : Type 0} → ℕ → ℕ → Result T TextFault → Type 0
-CountsWrites old new (Ok _) = new ≡ old
-CountsWrites old new (Err Write) = new ≡ next_count old
-CountsWrites old new (Err _) = new ≡ old
+CountsWrites old new result = CountsWhere is_write old new result
 
 -- why lines were not answered to their end
 abbrev pub fault_of : LineFault → TextFault
