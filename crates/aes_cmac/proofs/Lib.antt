@@ -1,3 +1,4 @@
+pub mod Lengths
 pub mod TableFacts
 pub mod WordFacts
 pub mod RoundFacts

@@ -10,7 +10,7 @@ use Rattle.std.specs.Prelude.{◌==◌, bit_xor}
 use Rattle.std.proofs.lemmas.List.{get_or-map, get_or-take, length-take-le, take_all, take_more_set, map_push, get_or_append_left}
 use Rattle.aes_cmac.specs.Aes.{xor_bytes, shift_rows, sub_bytes, mix_columns, state_after, ciphertext, added_word, next_word}
 use Rattle.aes_cmac.specs.Aes.{key_words, round_key, word_at, round_constant, rot_word, sub_word}
-use Rattle.aes_cmac.specs.Lengths.{length-key_words}
+use Rattle.aes_cmac.proofs.Lengths.{length-key_words}
 use Rattle.aes_cmac.specs.Words.{word_bytes, byte_of, four_words, IsSchedule}
 use Rattle.aes_cmac.proofs.WordFacts.{word_bytes-xor, sixteen, four_equal}
 

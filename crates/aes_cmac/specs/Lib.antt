@@ -4,4 +4,3 @@ pub mod Mac
 pub mod Words
 pub mod KeyFields
 pub mod Progress
-pub mod Lengths

@@ -7,7 +7,7 @@ use Rattle.std.proofs.lemmas.Nat.{xor_comm}
 use Rattle.std.proofs.lemmas.List.{length-append, length-take-le, take_at, drop_at}
 use Rattle.aes_cmac.specs.Aes.{xor_bytes, ciphertext}
 use Rattle.aes_cmac.specs.Mac.{cmac}
-use Rattle.aes_cmac.specs.Lengths.{length-ciphertext, length-cmac}
+use Rattle.aes_cmac.proofs.Lengths.{length-ciphertext, length-cmac}
 use Rattle.lora_frame.specs.Blocks.{key_stream, stream_seed, crypted, block_count, mic_of, first_block}
 use Rattle.lora_frame.specs.Frame.{payload_key, down_frame, down_bytes, down_message, body_bytes, header_bytes, down_control}
 use Rattle.lora_frame.specs.Laws.{IsKeyPair, sent_payload}

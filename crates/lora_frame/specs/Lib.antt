@@ -1,6 +1,5 @@
 pub use Rattle.aes_cmac.specs.Aes
 pub use Rattle.aes_cmac.specs.Mac
-pub use Rattle.aes_cmac.specs.Lengths
 pub mod Blocks
 pub mod Counter
 pub mod Reading

@@ -1,5 +1,5 @@
 use Rattle.std.proofs.Common.{sym, ◌∙◌, arith, rules}
-use Rattle.aes_cmac.specs.Lengths.{length-xor_bytes}
+use Rattle.aes_cmac.proofs.Lengths.{length-xor_bytes}
 use Rattle.aes_cmac.proofs.MacFacts.{same_more, same_all, get_or-xor_bytes}
 use Rattle.aes_cmac.proofs.state.sum_of.Goals as goal
 
