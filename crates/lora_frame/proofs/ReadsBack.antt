@@ -11,6 +11,7 @@ use Rattle.lora_frame.specs.Blocks.{crypted, mic_of}
 use Rattle.lora_frame.specs.Frame.{bit_worth, body_len, body_bytes, header_bytes, payload_key, up_bytes, up_message}
 use Rattle.lora_frame.specs.Faults.{up_fault, has_high_port}
 use Rattle.lora_frame.specs.Laws.{IsKeyPair, sent_record}
+use Rattle.lora_frame.specs.Types.{unconfirmed_up, confirmed_up, up_type}
 use Rattle.lora_frame.specs.Reading.{uplink_of, HasMic, frame_type, addr_of, control_of, control_bit, options_end, mic_place}
 use Rattle.lora_frame.specs.Reading.{has_port}
 use Rattle.lora_frame.specs.declared.parts.Body.{Body}
@@ -20,9 +21,9 @@ use Rattle.lora_frame.proofs.RoundTrips.{length-crypted, length-payload_key, len
 
 -- an uplink without fault, field by field
 uplink_of-ok : (bytes : List ℕ) (confirmed adr req ack : Bool) (addr low n place : ℕ) (port : Option ℕ) (mic : List ℕ)
-    → 12 ≤ length bytes → length bytes ≤ 255 → (frame_type bytes == 2 || frame_type bytes == 4) ≡ true
+    → 12 ≤ length bytes → length bytes ≤ 255 → (frame_type bytes == unconfirmed_up || frame_type bytes == confirmed_up) ≡ true
     → (slice_index bytes 0 % 4 == 0) ≡ true
-    → options_end bytes ≤ mic_place bytes → (frame_type bytes == 4) ≡ confirmed → addr_of bytes ≡ addr
+    → options_end bytes ≤ mic_place bytes → (frame_type bytes == confirmed_up) ≡ confirmed → addr_of bytes ≡ addr
     → control_bit bytes 128 ≡ adr → control_bit bytes 64 ≡ req → control_bit bytes 32 ≡ ack
     → from_le_bytes w16 (take 2 (drop 6 bytes)) ≡ low → control_of bytes % 16 ≡ n
     → (if has_port bytes then Some (slice_index bytes (options_end bytes)) else None) ≡ port
@@ -46,15 +47,15 @@ uplink_of-ok bytes confirmed adr req ack addr low n place port mic long short ki
     rw (t1, t2, kind, major, t3, ← ec, ← ea, ← ed, ← er, ← ek, ← el, ← en, ← ep, ← et, ← em) refl
 
 -- MHDR says whether the uplink is confirmed, and that it is a data uplink
-type_is : (b : Bool) → (32 * (if b then 4 else 2) / 32 == 4) ≡ b
+type_is : (b : Bool) → (32 * up_type b / 32 == confirmed_up) ≡ b
 type_is true = refl
 type_is false = refl
 
-type_fits : (b : Bool) → ((32 * (if b then 4 else 2) / 32 == 2) || (32 * (if b then 4 else 2) / 32 == 4)) ≡ true
+type_fits : (b : Bool) → ((32 * up_type b / 32 == unconfirmed_up) || (32 * up_type b / 32 == confirmed_up)) ≡ true
 type_fits true = refl
 type_fits false = refl
 
-major_is : (b : Bool) → (32 * (if b then 4 else 2) % 4 == 0) ≡ true
+major_is : (b : Bool) → (32 * up_type b % 4 == 0) ≡ true
 major_is true = refl
 major_is false = refl
 
@@ -127,7 +128,7 @@ fields_read_back : (confirmed adr req ack : Bool) (addr counter : ℕ) (o : List
     (message mic : List ℕ)
     → IsKeyPair keys → addr < 2 ^ 32 → length o ≤ 15 → 12 + length o + body_len body ≤ 255
     → c ≡ bit_worth adr 0x80 + bit_worth req 0x40 + bit_worth ack 0x20 + length o
-    → message ≡ header_bytes (if confirmed then 4 else 2) addr c counter ++ o ++ body_bytes keys 0 addr counter body
+    → message ≡ header_bytes (up_type confirmed) addr c counter ++ o ++ body_bytes keys 0 addr counter body
     → length mic ≡ 4
     → uplink_of (message ++ mic) ≡ Ok (record {
       confirmed = confirmed;
@@ -142,7 +143,7 @@ fields_read_back : (confirmed adr req ack : Bool) (addr counter : ℕ) (o : List
       mic = mic;
     })
 fields_read_back confirmed adr req ack addr counter o body keys c message mic pair fits short room ec em four =
-    let head : List ℕ = header_bytes (if confirmed then 4 else 2) addr c counter in
+    let head : List ℕ = header_bytes (up_type confirmed) addr c counter in
     let front : List ℕ = head ++ o in
     let rest : List ℕ = body_bytes keys 0 addr counter body in
     let eight : length head ≡ 8 = refl in

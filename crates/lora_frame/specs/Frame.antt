@@ -1,6 +1,7 @@
 -- The bytes of data frames (LoRaWAN L2 1.0.4 section 4), as joined lists.
 use Rattle.std.specs.Prelude.{ℕ, ◌+◌, ◌*◌, ◌%◌, Bool, ◌==◌, List, [], ◌∷◌, ◌++◌, length, Option, Some, None, if◌then◌else◌}
 use Rattle.std.specs.Int.{w16, w32, to_le_bytes}
+use Rattle.lora_frame.specs.Types.{unconfirmed_down, up_type}
 use Rattle.lora_frame.specs.Blocks.{crypted, mic_of}
 use Rattle.lora_frame.specs.declared.parts.Body.{Body}
 use Rattle.lora_frame.specs.declared.parts.Keys.{Keys}
@@ -46,10 +47,10 @@ control_bits ack pending = bit_worth ack 0x20 + bit_worth pending 0x10
 abbrev pub down_control : Down → ℕ
 down_control down = control_bits down.ack down.pending
 
--- a downlink but its MIC: an unconfirmed data downlink, type 3
+-- a downlink but its MIC: an unconfirmed data downlink
 abbrev pub message_of_parts : Keys → ℕ → ℕ → ℕ → Option (ℕ × List ℕ) → List ℕ
 message_of_parts keys addr counter control parts =
-    header_bytes 3 addr control counter ++ parts_bytes keys 1 addr counter parts
+    header_bytes unconfirmed_down addr control counter ++ parts_bytes keys 1 addr counter parts
 
 abbrev pub down_message : Down → Keys → List ℕ
 down_message down keys = message_of_parts keys down.addr down.counter (down_control down) (parts_of down.body)
@@ -68,10 +69,10 @@ abbrev pub up_control : Up → ℕ
 up_control up =
     bit_worth up.adr 0x80 + bit_worth up.adr_ack_req 0x40 + bit_worth up.ack 0x20 + length up.options.now
 
--- an uplink but its MIC: type 4 where it is confirmed, else type 2
+-- an uplink but its MIC
 abbrev pub up_message : Up → Keys → List ℕ
 up_message up keys =
-    header_bytes (if up.confirmed then 4 else 2) up.addr (up_control up) up.counter ++ up.options.now
+    header_bytes (up_type up.confirmed) up.addr (up_control up) up.counter ++ up.options.now
     ++ body_bytes keys 0 up.addr up.counter up.body
 
 -- an uplink

@@ -1,5 +1,6 @@
 pub use Rattle.aes_cmac.specs.Aes
 pub use Rattle.aes_cmac.specs.Mac
+pub mod Types
 pub mod Blocks
 pub mod Counter
 pub mod Reading

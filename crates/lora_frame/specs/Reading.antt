@@ -3,6 +3,7 @@ use Rattle.std.specs.Prelude.{◌≡◌, ℕ, ◌+◌, ◌-◌, ◌/◌, ◌%◌
 use Rattle.std.specs.Prelude.{Some, None, Result, Ok, Err, if◌then◌else◌}
 use Rattle.std.specs.Int.{w16, w32, from_le_bytes}
 use Rattle.std.specs.Str.{bytes_eq}
+use Rattle.lora_frame.specs.Types.{unconfirmed_up, confirmed_up}
 use Rattle.lora_frame.specs.Blocks.{mic_of}
 use Rattle.lora_frame.specs.declared.reading.Uplink.{Uplink}
 use Rattle.lora_frame.specs.declared.reading.FrameFault.{FrameFault}
@@ -39,7 +40,7 @@ addr_of bytes = from_le_bytes w32 (take 4 (drop 1 bytes))
 -- what the frame says
 abbrev pub uplink_record : List ℕ → Uplink
 uplink_record bytes = record {
-  confirmed = frame_type bytes == 4;
+  confirmed = frame_type bytes == confirmed_up;
   addr = addr_of bytes;
   adr = control_bit bytes 128;
   adr_ack_req = control_bit bytes 64;
@@ -56,7 +57,7 @@ abbrev pub uplink_of : List ℕ → Result Uplink FrameFault
 uplink_of bytes =
     if nat_lt (length bytes) 12 then Err Short
     else if nat_lt 255 (length bytes) then Err Long
-    else if not (frame_type bytes == 2 || frame_type bytes == 4) then Err NotData
+    else if not (frame_type bytes == unconfirmed_up || frame_type bytes == confirmed_up) then Err NotData
     else if not (slice_index bytes 0 % 4 == 0) then Err Major
     else if nat_lt (mic_place bytes) (options_end bytes) then Err OptionsCut
     else Ok (uplink_record bytes)

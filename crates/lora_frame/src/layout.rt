@@ -1,4 +1,4 @@
-// Places and lengths in a data frame (LoRaWAN L2 1.0.4 section 4).
+// Places, lengths and types of data frames (LoRaWAN L2 1.0.4 section 4).
 
 /// The place of DevAddr, after MHDR.
 pub(crate) const ADDR_AT: usize = 1;
@@ -26,3 +26,12 @@ pub(crate) const MAX_OPTIONS: usize = 15;
 
 /// The bytes of the longest FRMPayload, beside FPort.
 pub(crate) const MAX_PAYLOAD: usize = MAX_LEN - EMPTY_LEN - 1;
+
+/// The type of an unconfirmed data uplink, in the top three bits of MHDR.
+pub(crate) const UNCONFIRMED_UP: u8 = 2;
+
+/// The type of an unconfirmed data downlink.
+pub(crate) const UNCONFIRMED_DOWN: u8 = 3;
+
+/// The type of a confirmed data uplink.
+pub(crate) const CONFIRMED_UP: u8 = 4;

@@ -6,7 +6,10 @@ ghost use Rattle.std.specs.Int.{w16, from_le_bytes};
 ghost use Rattle.lora_frame.specs.Reading.{mic_place, options_end, uplink_of, uplink_record, HasMic, has_mic};
 
 use crate::blocks::{UP, mic};
-use crate::layout::{ADDR_AT, CONTROL_AT, COUNTER_AT, EMPTY_LEN, MAX_LEN, MIC_LEN, OPTIONS_AT};
+use crate::layout::{
+    ADDR_AT, CONFIRMED_UP, CONTROL_AT, COUNTER_AT, EMPTY_LEN, MAX_LEN, MIC_LEN, OPTIONS_AT,
+    UNCONFIRMED_UP,
+};
 use aes_cmac::Key;
 use thiserror::Error;
 
@@ -116,7 +119,7 @@ fn uplink_from(bytes: &[u8]) -> Uplink
     let control = bytes[CONTROL_AT];
     let options_end = options_end(bytes);
     Uplink {
-        confirmed: bytes[0] / 32 == 4,
+        confirmed: bytes[0] / 32 == CONFIRMED_UP,
         addr: u32::from_le_bytes(four_at(bytes, ADDR_AT)),
         adr: control / 128 % 2 == 1,
         adr_ack_req: control / 64 % 2 == 1,
@@ -141,7 +144,7 @@ pub fn read_uplink(bytes: &[u8]) -> Result<Uplink, FrameFault>
         return Err(FrameFault::Long);
     }
     let kind = bytes[0] / 32;
-    if kind != 2 && kind != 4 {
+    if kind != UNCONFIRMED_UP && kind != CONFIRMED_UP {
         return Err(FrameFault::NotData);
     }
     if bytes[0] % 4 != 0 {

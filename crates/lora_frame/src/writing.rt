@@ -4,10 +4,13 @@ ghost use Rattle.std.specs.Prelude.{◌≡◌, ◌↔◌, ◌+◌, ◌≤◌, �
 ghost use Rattle.std.specs.Prelude.{vec_capacity};
 ghost use Rattle.lora_frame.specs.Frame.{header_bytes, body_bytes, body_len, payload_key, with_mic, bit_worth, down_control};
 ghost use Rattle.lora_frame.specs.Frame.{up_control, down_bytes, up_bytes};
+ghost use Rattle.lora_frame.specs.Types.{up_type};
 ghost use Rattle.lora_frame.specs.Faults.{down_fault, up_fault, has_high_port};
 
 use crate::blocks::{DOWN, UP, append, append_crypted, mic};
-use crate::layout::{EMPTY_LEN, MAX_LEN, MAX_OPTIONS, MAX_PAYLOAD};
+use crate::layout::{
+    CONFIRMED_UP, EMPTY_LEN, MAX_LEN, MAX_OPTIONS, MAX_PAYLOAD, UNCONFIRMED_DOWN, UNCONFIRMED_UP,
+};
 use crate::parts::{Body, Down, Keys, Up};
 use aes_cmac::Key;
 use std::alloc::Allocator;
@@ -120,10 +123,14 @@ fn up_control(up: &Up) -> u8
 
 // The type of an uplink.
 fn up_kind(up: &Up) -> u8
-    ensures kind { result ≡ (if up.now.confirmed then 4 else 2) }
+    ensures kind { result ≡ up_type up.now.confirmed }
     ensures low { result < 8 }
 {
-    if up.confirmed { 4 } else { 2 }
+    if up.confirmed {
+        CONFIRMED_UP
+    } else {
+        UNCONFIRMED_UP
+    }
 }
 
 // MHDR and FHDR without FOpts.
@@ -198,7 +205,12 @@ pub fn downlink<A: Allocator>(alloc: A, down: &Down, keys: &Keys) -> Result<Vec<
     };
     append(
         &mut frame,
-        &header(3, down.addr, down_control(down), down.counter),
+        &header(
+            UNCONFIRMED_DOWN,
+            down.addr,
+            down_control(down),
+            down.counter,
+        ),
     );
     append_body(&mut frame, keys, DOWN, down.addr, down.counter, down.body);
     append_mic(&mut frame, keys, DOWN, down.addr, down.counter);
@@ -209,7 +221,7 @@ pub fn downlink<A: Allocator>(alloc: A, down: &Down, keys: &Keys) -> Result<Vec<
 /// 4.2 and 4.3). No key has a part in them.
 pub fn uplink_header(up: &Up) -> [u8; 8]
     requires { length up.now.options.now ≤ MAX_OPTIONS }
-    ensures { result ≡ header_bytes (if up.now.confirmed then 4 else 2) up.now.addr (up_control up.now) up.now.counter }
+    ensures { result ≡ header_bytes (up_type up.now.confirmed) up.now.addr (up_control up.now) up.now.counter }
 {
     header(up_kind(up), up.addr, up_control(up), up.counter)
 }
