@@ -1,0 +1,78 @@
+#!/bin/sh
+# What a booking costs in `airbook book`, by how many transmissions are kept: seconds, peak memory, and ratios of this run.
+# With OTHER=path of a second program, as one that was built on another roster, also how much faster the first one is. Needs
+# python3 and the program that the gate builds (or PROGRAM=path).
+set -eu
+top=$(cd "$(dirname "$0")/.." && pwd)
+exec python3 - "${PROGRAM:-$top/crates/airbook/out/airbook}" "${OTHER:-}" <<'P'
+import subprocess, sys, tempfile, time
+
+program, other = sys.argv[1:]
+HOUR, STEP = 3_600_000_000, 6_000_000          # 600 in each hour, six seconds apart
+RUNS, PAIRS, LINES = 5, 20_000, 100_000
+
+
+def book(number, start):
+    return f"book {number} {start} 868300000 6 12\n"
+
+
+def kept(count):
+    return "".join(book(i, i * STEP) for i in range(count))
+
+
+def pairs(count):
+    """Bookings between the members that are kept, spread over all of them, each cancelled at once."""
+    places = ((i * 7919 % count) * STEP + STEP // 2 for i in range(PAIRS))
+    return "".join(book(count + i, start) + f"cancel {count + i} {start}\n" for i, start in enumerate(places))
+
+
+def start(path, given):
+    return subprocess.Popen([path, "book", "--cap", "65536"], stdin=given, stdout=subprocess.DEVNULL)
+
+
+def run(path, text):
+    """The least seconds of some runs."""
+    best = None
+    with tempfile.TemporaryFile() as given:
+        given.write(text.encode())
+        for _ in range(RUNS):
+            given.seek(0)
+            started = time.monotonic()
+            if start(path, given).wait() not in (0, 1):
+                raise SystemExit(f"{path} book failed")
+            seconds = time.monotonic() - started
+            best = seconds if best is None else min(best, seconds)
+    return best
+
+
+def memory(path, text):
+    """The most memory in KiB while all of the text is read and the input is still open."""
+    child = start(path, subprocess.PIPE)
+    child.stdin.write(text.encode())
+    child.stdin.flush()
+    time.sleep(0.5)
+    with open(f"/proc/{child.pid}/status") as status:
+        found = next(int(line.split()[1]) for line in status if line.startswith("VmHWM"))
+    child.stdin.close()
+    child.wait()
+    return found
+
+
+def pair(path, count):
+    """What one booking and its cancelling cost in microseconds, beside this many members."""
+    return (run(path, kept(count) + pairs(count)) - run(path, kept(count))) / PAIRS * 1e6
+
+
+few, many = pair(program, 1_024), pair(program, 65_536)
+print(f"a booking and its cancelling: {few:.2f} us beside 1,024 members, {many:.2f} us beside 65,536, {many / few:.2f} of that")
+rising = run(program, kept(65_536)) - run(program, "")
+each = (memory(program, kept(65_536)) - memory(program, "")) * 1024 / 65_536
+print(f"65,536 rising bookings: {rising * 1000:.0f} ms, {each:.0f} bytes a member")
+whole = run(program, kept(LINES))
+print(f"{LINES:,} lines, 600 in each hour, 65,536 kept: {whole:.2f} s")
+if other:
+    few, many = pair(other, 1_024), pair(other, 65_536)
+    print(f"the other: {few:.2f} us beside 1,024 members, {many:.2f} us beside 65,536, {many / few:.2f} of that")
+    before = run(other, kept(LINES))
+    print(f"the other: {before:.2f} s for these lines, {before / whole:.2f} times as long")
+P
