@@ -97,7 +97,7 @@ known_out (Some (Out refusal)) = refl
 known_out (Some (Settled sent)) = refl
 
 -- what is out and on a gateway of the settings may be settled
-may : (w : World) (n : ℕ) (ending : Ending) → told w n ≡ Some ending → is_here (ids w) ending ≡ true
+pub may : (w : World) (n : ℕ) (ending : Ending) → told w n ≡ Some ending → is_here (ids w) ending ≡ true
     → may_settle (ids w) (known w) n ending ≡ true
 may w n ending e h = rw (numbered-map known_of n w.answers, known_out (numbered n w.answers), e) h
 

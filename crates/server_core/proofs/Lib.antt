@@ -6,9 +6,11 @@ pub mod KnownSteps
 pub mod GatewaySteps
 pub mod TakeStep
 pub mod Runs
+pub mod Headlines
 pub mod DeskSteps
 pub mod Ready
 pub mod Calls
+pub mod BookSteps
 pub mod BookCalls
 pub mod TrySteps
 pub mod Settled

@@ -1,6 +1,8 @@
 pub mod Steps
 pub mod Promise
 pub mod DeskCalls
+pub mod BookCalls
+pub mod Headline
 pub mod Schedule
 pub mod Entries
 pub mod Server

@@ -1,7 +1,11 @@
 // What the definitions of the whole system mean together, as laws: a function's contract is the statement.
 
+ghost use Rattle.server_core.specs.BookCalls.{BookCallsAreSteps};
 ghost use Rattle.server_core.specs.DeskCalls.{DeskCallsAreSteps};
+ghost use Rattle.server_core.specs.Headline.{EveryRunKeepsHeadline};
 ghost use Rattle.server_core.specs.Promise.{EveryInterleavingIsSafe};
+
+use std::alloc::Allocator;
 
 /// What holds over every interleaving. A step is what happens in one holding of one lock: a payload is queued, a copy
 /// of an uplink is heard, time passes for the gatherings, a ticket is given, an answer is settled (the desk's lock); a
@@ -36,4 +40,27 @@ pub fn law_every_interleaving()
 ///   keep this gateway.
 pub fn law_desk_calls_are_steps()
     ensures { DeskCallsAreSteps }
+{}
+
+/// The calls of a ticket and of a gateway's book are the steps of the whole system, by what their own contracts say of them.
+/// For every state of the system, and every gateway's book beside it:
+///
+/// - a ticket that is given stands where its answer does; given up, it is a stub that ends as its answer would;
+/// - a ticket that is tried on a gateway's book and is booked, goes on or is out is a try of its number: the same reply, the
+///   book is that gateway's then, no other gateway and no other answer changes, and what is handed back is the ticket or the
+///   stub of what the answer is then; where the book is another gateway's or finds no memory, ticket and book stay;
+/// - a stub is taken by the desk, and its settling is the step;
+/// - what is booked for a number, settled or not, is cancelled on its gateway's book as by the step, which answers that
+///   nothing is there where nothing is booked or no such gateway is;
+/// - time that passes for a gateway's book is the step, which answers nothing where no such gateway is.
+pub fn law_book_calls_are_steps<A: Allocator>()
+    ensures { BookCallsAreSteps A }
+{}
+
+/// The headline, for every settings that are accepted, all limits of gathering and every list of steps: the reservations of a
+/// gateway are pairwise disjoint, each as long as the formula says; in each sub-band the airtime that begins within any hour
+/// keeps the limit; a number stands at most once over all gateways; and each reservation takes RX1 or RX2 of a copy of the
+/// gathered uplink with its number, on the gateway that heard this copy. The statement says so with no other words than these.
+pub fn law_every_run_keeps_headline()
+    ensures { EveryRunKeepsHeadline }
 {}

@@ -17,7 +17,10 @@ mod trying;
 pub use books::{Book, empty_book};
 pub use entry::{Entry, Line};
 pub use event::{Event, Step};
-pub use laws::{law_desk_calls_are_steps, law_every_interleaving};
+pub use laws::{
+    law_book_calls_are_steps, law_desk_calls_are_steps, law_every_interleaving,
+    law_every_run_keeps_headline,
+};
 pub use lines::{cancelled_line, heard_line, queued_line};
 pub use replayed::Replay;
 pub use replaying::replay;

@@ -1,0 +1,287 @@
+-- The calls of a ticket and of a gateway's book are the steps of the world.
+use Rattle.server_core.proofs.Words.{ap, arith, sym, ◌∙◌, IsSome, IsSomeAnd, IsTrue, option_and_then, option_map, Bool, Err, IfOk}
+use Rattle.server_core.proofs.Words.{List, None, Ok, OnErr, Option, Result, Some, [], false, if◌then◌else◌, map, max, refl}
+use Rattle.server_core.proofs.Words.{slice_get, slice_set, suc, true, zero, ℕ, ◌+◌, ◌==◌, ◌∷◌, ◌≡◌, Reservation, Book}
+use Rattle.server_core.proofs.Words.{with_booked, with_cancelled, book_step, cancel_step, tick_step, orderly_booked}
+use Rattle.server_core.proofs.Words.{orderly_cancelled, remembers_answer, remembers_booked, remembers_cancel, remembers_cancelled}
+use Rattle.server_core.proofs.Words.{remembers_ticked, IsAsked, refusal_of, CancelFault, NotHere, Refusal, numbered, rewritten}
+use Rattle.server_core.proofs.Words.{Candidate, Job, ask_for, next_of, refusal_by, answered_as, Standing}
+use Rattle.server_core.proofs.Words.{candidate_of, Ending, Unanswered, Outcome, Answer, Booked, Open, Out, Waiting}
+use Rattle.server_core.proofs.Words.{numbered-here, some_inj, next_place, is_here, Gateway, World, TakeFault}
+use Rattle.server_core.proofs.Words.{gateway_with, known, found_there, Sent, IsBookOf, is_among, Cancel, Reply, Step, Take}
+use Rattle.server_core.proofs.Words.{Tick, Try, cancel_of, cancel_sent, ending_of, refused, sent_by, sent_for, settle_as}
+use Rattle.server_core.proofs.Words.{settle_of, take_by, terms, tried_by, take_answer, step}
+use Rattle.server_desk.specs.Register.{first_at}
+use Rattle.uplink_gather.proofs.KeptLemmas.{set_same}
+use Rattle.answer_ticket.specs.declared.tried.Tried.{Tried}
+use Rattle.answer_ticket.specs.declared.tried.Tried.TheVariants as tried
+use Rattle.answer_ticket.specs.Tried.{TriedAs}
+use Rattle.server_core.specs.BookCalls.{IsBookAt, IsStepAt, IsTicketIn, IsStubIn, IsTryStep, LeavesStub, LeavesTicket, IsTry}
+use Rattle.server_core.specs.BookCalls.{IsSettleStep, IsCancel, BookCallsAreSteps, sent_at}
+use Rattle.server_core.specs.Steps as replies
+use Rattle.server_core.proofs.{Members.equal_where_tested, DeskSteps.desk_calls_are_steps, DeskSteps.may}
+use Rattle.server_core.proofs.TakeStep.{ticket, still_waits}
+
+-- What was found is found again where it was written anew.
+
+later_by : {X : Type 0} (o : Option (ℕ × X)) (i : ℕ) (y : X) → option_map next_place o ≡ Some (i, y)
+    → (j : ℕ) × (o ≡ Some (j, y)) × (i ≡ suc j)
+later_by None i y e = absurd (cc (e))
+later_by {X} (Some p) i y e =
+    let q = some_inj e in
+    (p.0, ap (λ (x : X). Some (p.0, x)) (ap (λ (z : ℕ × X). z.1) q), sym (ap (λ (z : ℕ × X). z.0) q))
+
+module _ {X : Type 0} (test : X → Bool) (v : X) (passes : test v ≡ true) where
+  again_by : (x : X) (xs : List X) (t : Bool) (i : ℕ) (y : X) → test x ≡ t
+      → ((j : ℕ) → first_at test xs ≡ Some (j, y) → first_at test (slice_set xs j v) ≡ Some (j, v))
+      → (if t then Some (0, x) else option_map next_place (first_at test xs)) ≡ Some (i, y)
+      → first_at test (slice_set (x ∷ xs) i v) ≡ Some (i, v)
+  again_by x xs true zero y h rest f = rw passes refl
+  again_by x xs true (suc i) y h rest f = let q = ap (λ (z : ℕ × X). z.0) (some_inj f) in absurd (omega (arith, q))
+  again_by x xs false i y h rest f = let s = later_by (first_at test xs) i y f in rw (s.2, h, rest s.0 s.1) refl
+
+  found_again : (xs : List X) (i : ℕ) (y : X) → first_at test xs ≡ Some (i, y) → first_at test (slice_set xs i v) ≡ Some (i, v)
+  found_again [] i y f = absurd (cc (f))
+  found_again (x ∷ xs) i y f = again_by x xs (test x) i y refl (λ j. found_again xs j y) f
+
+-- a gateway that was found is among the ids
+among_by : (id : ℕ) (x : Gateway) (xs : List Gateway) (t : Bool) (i : ℕ) (g : Gateway) → (x.id == id) ≡ t
+    → ((j : ℕ) → gateway_with id xs ≡ Some (j, g) → is_among (map (λ y. y.id) xs) id ≡ true)
+    → (if t then Some (0, x) else option_map next_place (gateway_with id xs)) ≡ Some (i, g)
+    → is_among (map (λ y. y.id) (x ∷ xs)) id ≡ true
+among_by id x xs true i g h rest f = rw h refl
+among_by id x xs false i g h rest f = let s = later_by (gateway_with id xs) i g f in rw (h, rest s.0 s.1) refl
+
+found_among : (id : ℕ) (xs : List Gateway) (i : ℕ) (g : Gateway) → gateway_with id xs ≡ Some (i, g)
+    → is_among (map (λ y. y.id) xs) id ≡ true
+found_among id [] i g f = absurd (cc (f))
+found_among id (x ∷ xs) i g f = among_by id x xs (x.id == id) i g refl (λ j. found_among id xs j g) f
+
+-- A gateway's book is asked.
+
+module _ (w : World) (id at : ℕ) (old : Book) (b : IsBookAt id at w.gateways old) where
+  there : (slice_get w.gateways at ≡ Some b.gateway) × ((b.gateway.id == id) ≡ true)
+  there = found_there (λ (g : Gateway). g.id == id) w.gateways (at, b.gateway) b.found
+
+  own : b.gateway.id ≡ id
+  own = equal_where_tested b.gateway.id id there.1
+
+  stepped : (s : Step) (answers : List Answer) (new : Book) (reply : Reply) (v : Gateway) → v.id ≡ b.gateway.id → IsBookOf new v
+      → step w s ≡ (record w { answers = answers; gateways = slice_set w.gateways at v }, reply)
+      → IsStepAt w s id at answers new reply
+  stepped s answers new reply v same keeps is =
+      record {
+        gateway = v;
+        after = is;
+        found = found_again (λ (g : Gateway). g.id == id) v (rw same there.1) w.gateways at b.gateway b.found;
+        keeps = keeps;
+      }
+
+  -- time passes for it
+  pub tick_at_book : (now : ℕ) (new : Book) → new ≡ record old { floor = max old.floor now }
+      → IsStepAt w (Tick id now) id at w.answers new (replies.Ticked (Some new.floor))
+  unfolding step
+  tick_at_book now new ticked =
+      let k = b.keeps in
+      let v : Gateway = record (b.gateway) { state = tick_step b.gateway.state now } in
+      let keeps : IsBookOf new v =
+      rw ticked (assumption (k, remembers_ticked old b.gateway.state k.orderly k.remembers now)) in
+      stepped (Tick id now) w.answers new (replies.Ticked (Some new.floor)) v refl keeps
+      (rw (b.found, ticked, k.remembers.floor) refl)
+
+pub tick_no_book : (w : World) (id now : ℕ) → gateway_with id w.gateways ≡ None → step w (Tick id now) ≡ (w, replies.Ticked None)
+unfolding step
+tick_no_book w id now f = rw f refl
+
+-- What is booked is cancelled.
+
+sent_is : (w : World) (n : ℕ) (o : Option Answer) → cancel_of w n o ≡ cancel_sent w n (option_and_then sent_for o)
+sent_is w n None = refl
+sent_is w n (Some answer) = refl
+
+cancel_is : (w : World) (n : ℕ) (o : Option Sent) → sent_at w n ≡ o → step w (Cancel n) ≡ cancel_sent w n o
+unfolding step
+cancel_is w n o e = sent_is w n (numbered n w.answers) ∙ ap (cancel_sent w n) e
+
+pub cancel_no_book : (w : World) (n : ℕ) (sent : Sent) → sent_at w n ≡ Some sent → gateway_with sent.gateway w.gateways ≡ None
+    → step w (Cancel n) ≡ (w, replies.Cancelled (Err NotHere))
+cancel_no_book w n sent e f = cancel_is w n (Some sent) e ∙ rw f refl
+
+-- it is the same gateway's book
+same_by : (n start : ℕ) (old new : Book) (r : Result ℕ CancelFault) → IfOk r (λ airtime. new ≡ with_cancelled old n start airtime)
+    → OnErr r (new ≡ old) → (new.id ≡ old.id) × (new.rules ≡ old.rules)
+same_by n start old new (Ok airtime) c e = (cc (c), cc (c))
+same_by n start old new (Err fault) c e = (cc (e), cc (e))
+
+pub same_book : (n start : ℕ) (old new : Book) (r : Result ℕ CancelFault) → IsCancel n start old new r
+    → (new.id ≡ old.id) × (new.rules ≡ old.rules)
+same_book n start old new r c = same_by n start old new r c.cancelled c.refused
+
+pub cancel_at_book : (w : World) (n at : ℕ) (sent : Sent) (old new : Book) (result : Result ℕ CancelFault)
+    → sent_at w n ≡ Some sent → IsBookAt sent.gateway at w.gateways old → IsCancel n sent.start old new result
+    → IsStepAt w (Cancel n) sent.gateway at w.answers new (replies.Cancelled result)
+cancel_at_book w n at sent old new result e b c =
+    let k = b.keeps in
+    let s = b.gateway.state in
+    let same = same_book n sent.start old new result c in
+    let v : Gateway = record (b.gateway) { state = cancel_step s n sent.start } in
+    let keeps : IsBookOf new v =
+    record {
+      id = same.0 ∙ k.id;
+      rules = same.1 ∙ k.rules;
+      orderly = orderly_cancelled old s k.orderly k.remembers n sent.start;
+      remembers = remembers_cancelled old s k.orderly k.remembers n sent.start new c.step;
+    } in
+    stepped w sent.gateway at old b (Cancel n) w.answers new (replies.Cancelled result) v refl keeps
+    (cancel_is w n (Some sent) e ∙ rw b.found (cc (c.answer, remembers_cancel old s k.orderly k.remembers n sent.start)))
+
+-- A ticket is tried on a gateway's book.
+
+pub some_and : {X : Type 0} (P : X → Type 0) (o : Option X) → IsSomeAnd o P → (x : X) × (o ≡ Some x) × P x
+some_and P None h = absurd h
+some_and P (Some x) h = (x, refl, h)
+
+pub is_some_is : {X : Type 0} (o : Option X) → IsSome o → (x : X) × (o ≡ Some x)
+is_some_is None e = absurd (cc (e))
+is_some_is (Some x) e = (x, refl)
+
+module _ (w : World) (t : Standing) (out : IsTicketIn w t) (id at : ℕ) (old : Book) (b : IsBookAt id at w.gateways old)
+    (c : Candidate) (stands : candidate_of t ≡ Some c) (asked : old.id ≡ c.gateway) where
+  abbrev number : ℕ
+  number = t.job.number
+
+  gateway_is : c.gateway ≡ id
+  gateway_is = sym asked ∙ b.keeps.id ∙ own w id at old b
+
+  pub gateway_found : gateway_with c.gateway w.gateways ≡ Some (at, b.gateway)
+  gateway_found = rw gateway_is b.found
+
+  -- the gateway answers as its book does
+  pub answer_is : (o : Option Refusal) → refusal_by old t.job c ≡ o
+      → refusal_of (terms b.gateway) b.gateway.state.list (ask_for t.job c) ≡ o
+  answer_is o e =
+      let k = b.keeps in
+      rw (← k.rules) (sym (remembers_answer old b.gateway.state k.orderly k.remembers (ask_for t.job c)) ∙ e)
+
+  pub try_is : (o : Option Refusal) → refusal_by old t.job c ≡ o → step w (Try number) ≡ tried_by w number t.at t.job c (at, b.gateway) o
+  unfolding step
+  try_is o e = rw (out, stands, gateway_found, answer_is o e) refl
+
+  answer_there : (answer : Answer) (new : Book) (refusal : Option Refusal) → IsTryStep w number id at answer new refusal
+      → numbered number (step w (Try number)).0.answers ≡ Some answer
+  answer_there answer new refusal s = rw s.after (numbered-here (λ a. answer) number w.answers (Open t.at t.job) out)
+
+  stub_left : (answer : Answer) (new : Book) (refusal : Option Refusal) (ending : Ending) → ending_of answer ≡ Some ending
+      → (s : IsTryStep w number id at answer new refusal) → IsTrue (is_here (map (λ g. g.id) (slice_set w.gateways at s.gateway)) ending)
+      → LeavesStub w number id at (record { number = number; result = ending }) new refusal
+  stub_left answer new refusal ending e s here =
+      record {
+        answer = answer;
+        made = s;
+        number = refl;
+        stands = record { told = rw (answer_there answer new refusal s) e; here = rw s.after here };
+      }
+
+  refused_step : (refusal : Refusal) (answer : Answer) → refusal_by old t.job c ≡ Some refusal
+      → refused t.at t.job refusal (candidate_of (next_of t)) ≡ answer → IsTryStep w number id at answer old (Some refusal)
+  refused_step refusal answer e is =
+      stepped w id at old b (Try number) (rewritten (λ a. answer) number w.answers) old (replies.Tried (Some (Some refusal))) b.gateway refl
+      b.keeps (try_is (Some refusal) e ∙ rw (is, set_same w.gateways at b.gateway (there w id at old b).0) refl)
+
+  -- it is refused, and another follows
+  pub next_left : (refusal : Refusal) (d : Candidate) → refusal_by old t.job c ≡ Some refusal
+      → candidate_of (next_of t) ≡ Some d → LeavesTicket w number id at (next_of t) old (Some refusal)
+  next_left refusal d e follows =
+      let answer : Answer = Open (t.at + 1) t.job in
+      let s : IsTryStep w number id at answer old (Some refusal) = refused_step refusal answer e (rw follows refl) in
+      record { made = s; number = refl; stands = answer_there answer old (Some refusal) s }
+
+  -- it is refused, and it was the last
+  pub out_left : (refusal : Refusal) → refusal_by old t.job c ≡ Some refusal → candidate_of (next_of t) ≡ None
+      → LeavesStub w number id at (record { number = number; result = Unanswered refusal }) old (Some refusal)
+  out_left refusal e last =
+      stub_left (Out refusal) old (Some refusal) (Unanswered refusal) refl
+      (refused_step refusal (Out refusal) e (rw last refl)) refl
+
+  -- it is booked
+  pub booked_left : (receipt : Reservation) → refusal_by old t.job c ≡ None → IsAsked (ask_for t.job c) receipt
+      → LeavesStub w number id at (record { number = number; result = answered_as c }) (with_booked old receipt) None
+  booked_left r e a =
+      let k = b.keeps in
+      let s = b.gateway.state in
+      let ask = ask_for t.job c in
+      let new : Book = with_booked old r in
+      let v : Gateway = record (b.gateway) { state = book_step b.gateway.rules s ask } in
+      let keeps : IsBookOf new v =
+      rw (← k.rules) (assumption (
+        k,
+        orderly_booked old s k.orderly k.remembers ask r a e,
+        remembers_booked old s k.orderly k.remembers ask r a e,
+      )) in
+      let answer : Answer = Booked (sent_by t.job c) c.window c.carries in
+      let made : IsTryStep w number id at answer new None = stepped w id at old b (Try number) (rewritten (λ x. answer) number w.answers) new
+      (replies.Tried (Some None)) v refl keeps (try_is None e) in
+      stub_left answer new None (answered_as c) refl made
+      (ap (is_among (map (λ y. y.id) (slice_set w.gateways at made.gateway))) gateway_is
+      ∙ found_among id (slice_set w.gateways at made.gateway) at made.gateway made.found)
+
+try_of_book : {A : Type 0} (w : World) (t : Standing) (id at : ℕ) (old new : Book) (tried : Tried A) → IsTicketIn w t
+    → IsBookAt id at w.gateways old → (c : Candidate) → candidate_of t ≡ Some c → TriedAs t c old new tried
+    → IsTry w t id at old new tried
+try_of_book w t id at old new (tried.Booked stub receipt) out b c stands h =
+    rw (h.ended, h.book) (booked_left w t out id at old b c stands h.asked receipt.reservation h.accepted h.named.reservation)
+try_of_book w t id at old new (tried.Next ticket refusal) out b c stands h =
+    let d = is_some_is (candidate_of (next_of t)) h.follows in
+    rw (h.moved, h.book) (next_left w t out id at old b c stands h.asked refusal d.0 h.refused d.1)
+try_of_book w t id at old new (tried.Out stub refusal) out b c stands h =
+    rw (h.ended, h.book) (out_left w t out id at old b c stands h.asked refusal h.refused h.last)
+try_of_book w t id at old new (tried.Wrong ticket) out b c stands h = (h.same, h.book)
+try_of_book w t id at old new (tried.NoMemory ticket) out b c stands h = (h.same, h.book)
+
+-- What is left of a ticket is settled.
+
+settled_by : (w : World) (n : ℕ) (o : Option Answer) (ending : Ending) → option_and_then ending_of o ≡ Some ending
+    → settle_of w n o ≡ settle_as w n (Some ending)
+settled_by w n None ending e = absurd (cc (e))
+settled_by w n (Some answer) ending e = ap (settle_as w n) e
+
+settle_is : (w : World) (stub : Outcome) → IsStubIn w stub → IsSettleStep w stub
+unfolding step
+settle_is w stub s =
+    record {
+      taken = may w stub.number stub.result s.told s.here;
+      desk = desk_calls_are_steps.settle w stub.number stub.result s.told s.here;
+      after = settled_by w stub.number (numbered stub.number w.answers) stub.result s.told;
+    }
+
+-- A ticket is given.
+
+taken_by : (w : World) (n : ℕ) (job : Job) (r : Result Job TakeFault) → take_answer w.reg (known w) n ≡ r
+    → (take_by w n r).1 ≡ replies.Given (Ok job) → IsTicketIn (take_by w n r).0 (record { job = job; at = 0 })
+taken_by w n job (Err fault) e q = absurd (cc (q))
+taken_by w n job (Ok given) e q =
+    let t = ticket w.reg (known w) n given e in
+    let same : job ≡ given = cc (q) in
+    rw same (ap (λ (i : ℕ). numbered i (take_by w n (Ok given)).0.answers) (ap (λ (j : Job). j.number) (sym t.made))
+    ∙ numbered-here (λ a. Open 0 given) n w.answers Waiting (still_waits w.answers n t.state t.stated t.waits))
+
+taken_stands : (w : World) (n : ℕ) (job : Job) → (step w (Take n)).1 ≡ replies.Given (Ok job)
+    → IsTicketIn (step w (Take n)).0 (record { job = job; at = 0 })
+unfolding step
+taken_stands w n job q = taken_by w n job (take_answer w.reg (known w) n) refl q
+
+pub book_calls_are_steps : (A : Type 0) → BookCallsAreSteps A
+book_calls_are_steps A =
+    record {
+      taken = taken_stands;
+      try_on = λ w t id at old new tried out b h.
+          let x = some_and (λ c. TriedAs t c old new tried) (candidate_of t) h in
+          try_of_book w t id at old new tried out b x.0 x.1 x.2;
+      give_up = λ w t out. record { told = rw out refl; here = refl };
+      settle = settle_is;
+      cancel = cancel_at_book;
+      cancel_nothing = λ w n e. cancel_is w n None e;
+      cancel_nowhere = cancel_no_book;
+      tick = λ w id at now old new b ticked. tick_at_book w id at old b now new ticked;
+      tick_nowhere = tick_no_book;
+    }

@@ -1,0 +1,58 @@
+-- The headline follows from what is promised of every run.
+use Rattle.server_core.proofs.Words.{ap, inl, inr, subst, sym, ◌∙◌, Contains, List, Some, ◌≡◌, ◌⊎◌, Reservation, IsAsked, HeardCopy}
+use Rattle.server_core.proofs.Words.{Candidate, Job, ask_for, Gateway, SettingLists, Device, Run, IsSafe}
+use Rattle.server_core.proofs.Words.{IsOwnWindow, plan_for, map, get_contains, map_there}
+use Rattle.std.proofs.lemmas.Option.{slice_get-get_or}
+use Rattle.rx_windows.specs.Windows.{rx1_of, rx2_of}
+use Rattle.server_core.specs.Headline.{TakesRx1, TakesRx2, IsOfItsUplink, KeepsHeadline, EveryRunKeepsHeadline}
+use Rattle.server_core.proofs.Runs.{every_interleaving_is_safe}
+
+contains_map : {X Y : Type 0} (f : X → Y) (xs : List X) (x : X) → Contains xs x → Contains (map f xs) (f x)
+contains_map f xs x c =
+    get_contains (map f xs) c.0 (f x)
+    (map_there f xs c.0 x (slice_get-get_or xs c.0 x c.1 ∙ ap (λ y. Some y) c.2))
+
+-- what a candidate that is a window of the copy asks for takes that window
+module _ (device : Device) (job : Job) (copy : HeardCopy) (c : Candidate) (a : Reservation) (asked : IsAsked (ask_for job c) a) where
+  takes : (c ≡ rx1_of (plan_for device.setting job.body) copy) ⊎ (c ≡ rx2_of (plan_for device.setting job.body) copy)
+      → TakesRx1 device.setting copy a ⊎ TakesRx2 device.setting copy a
+  takes (inl e) = inl (record {
+    start = asked.start ∙ ap (λ (x : Candidate). x.start) e;
+    freq_hz = asked.freq_hz ∙ ap (λ (x : Candidate). x.freq_hz) e;
+    rate = asked.rate ∙ ap (λ (x : Candidate). x.rate) e;
+  })
+  takes (inr e) = inr (record {
+    start = asked.start ∙ ap (λ (x : Candidate). x.start) e;
+    freq_hz = asked.freq_hz ∙ ap (λ (x : Candidate). x.freq_hz) e;
+    rate = asked.rate ∙ ap (λ (x : Candidate). x.rate) e;
+  })
+
+module _ (settings : SettingLists) (r : Run) (safe : IsSafe settings r) where
+  own_uplink : (g : Gateway) (a : Reservation) → IsOwnWindow r g a → IsOfItsUplink settings r.world.reg.gathered.list g a
+  own_uplink g a o =
+      record {
+        uplink = o.gathering;
+        its_own = o.gathered;
+        copy = o.window.copy;
+        copied = o.window.heard;
+        heard = sym o.window.gateway ∙ o.here;
+        device = o.device.setting;
+        set = subst (λ l. Contains l o.device.setting) safe.devices
+            (contains_map (λ d. d.setting) r.world.reg.devices o.device o.served);
+        addr = o.its_own;
+        window = takes o.device o.job o.window.copy o.candidate a o.asked o.window.window;
+      }
+
+  pub keeps_headline : KeepsHeadline settings r
+  keeps_headline =
+      record {
+        disjoint = λ i k l g a b e x y d. (safe.lawful i g e).apart k l a b x y d;
+        hour = λ i g e band t. (safe.lawful i g e).duty band t;
+        once = λ i j k l g h a b e x f y same.
+            safe.once i j k l g h a b (record { gateway = e; member = x }) (record { gateway = f; member = y }) same;
+        own = λ i k g a e x. own_uplink g a (safe.own i k g a (record { gateway = e; member = x }));
+      }
+
+pub every_run_keeps_headline : EveryRunKeepsHeadline
+every_run_keeps_headline settings are limits steps =
+    keeps_headline settings _ (every_interleaving_is_safe settings are limits steps)
