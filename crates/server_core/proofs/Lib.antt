@@ -7,6 +7,9 @@ pub mod GatewaySteps
 pub mod TakeStep
 pub mod Runs
 pub mod Headlines
+pub mod WorkedInputs
+pub mod WorkedRun
+pub mod WorkedPromise
 pub mod DeskSteps
 pub mod Ready
 pub mod Calls

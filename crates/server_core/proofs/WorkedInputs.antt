@@ -1,0 +1,152 @@
+-- What a worked run is made of: two gateways and a device, which sends confirmed uplinks without a payload.
+use Rattle.server_core.proofs.Words.{arith, List, [], None, Option, length, refl, true, ℕ, ◌++◌, ◌∷◌, ◌≡◌, State, book_step}
+use Rattle.server_core.proofs.Words.{Gathering, HeardCopy, Limits, Candidate, Job, ask_for, Ending, Answer, Device, Gateway}
+use Rattle.server_core.proofs.Words.{World, SettingLists, Asked, Sent, Heard1, DeviceSetting, Bool, false}
+use Rattle.std.specs.Prelude.{pos, negsuc}
+use Rattle.std.specs.Str.{bytes_eq}
+use Rattle.std.proofs.lemmas.Slice.Eq.{bytes_eq-Decides}
+use Rattle.radio_airtime.specs.declared.data_rate.DataRate.TheVariants.{Dr0, Dr5}
+use Rattle.lora_frame.specs.Blocks.{mic_of}
+use Rattle.lora_frame.specs.Reading.{has_mic}
+use Rattle.lora_frame.proofs.RoundTrips.{length-mic}
+use Rattle.rx_windows.specs.declared.candidate.Window.TheVariants.{Rx1}
+use Rattle.answer_ticket.specs.declared.outcome.Ending.TheVariants.{Answered}
+
+-- a session key
+abbrev pub nwk : List ℕ
+nwk = 1 ∷ 2 ∷ 3 ∷ 4 ∷ 5 ∷ 6 ∷ 7 ∷ 8 ∷ 9 ∷ 10 ∷ 11 ∷ 12 ∷ 13 ∷ 14 ∷ 15 ∷ 16 ∷ []
+
+abbrev pub address : ℕ
+address = 0x26011bda
+
+abbrev pub device : DeviceSetting
+device = record {
+  addr = address;
+  nwk = nwk;
+  app = nwk;
+  delay = 1;
+  offset = 0;
+  rx2_freq = 869525000;
+  rx2_rate = Dr0;
+  up = None;
+  down = 0;
+}
+
+abbrev pub settings : SettingLists
+settings = record {
+  gateways = record { id = 1; cap = 4096 } ∷ record { id = 2; cap = 4096 } ∷ [];
+  devices = device ∷ [];
+}
+
+abbrev pub limits : Limits
+limits = record { max_open = 16; max_ever = 16; max_copies = 16 }
+
+-- a confirmed uplink without a payload, but its MIC (LoRaWAN L2 1.0.4, section 4): its counter is below 256
+abbrev pub message : ℕ → List ℕ
+message counter = 0x80 ∷ 0xda ∷ 0x1b ∷ 0x01 ∷ 0x26 ∷ 0 ∷ counter ∷ 0 ∷ []
+
+-- its MIC under the key
+pub record Mic (counter : ℕ) : Type 0 where
+  pub a : ℕ
+  pub b : ℕ
+  pub c : ℕ
+  pub d : ℕ
+  pub is : mic_of nwk 0 address counter (message counter) ≡ a ∷ b ∷ c ∷ d ∷ []
+
+four_bytes : (l : List ℕ) → length l ≡ 4 → (a : ℕ) × (b : ℕ) × (c : ℕ) × (d : ℕ) × (l ≡ a ∷ b ∷ c ∷ d ∷ [])
+four_bytes (a ∷ b ∷ c ∷ d ∷ []) e = (a, b, c, d, refl)
+four_bytes [] e = absurd (omega (arith, e))
+four_bytes (a ∷ []) e = absurd (omega (arith, e))
+four_bytes (a ∷ b ∷ []) e = absurd (omega (arith, e))
+four_bytes (a ∷ b ∷ c ∷ []) e = absurd (omega (arith, e))
+four_bytes (a ∷ b ∷ c ∷ d ∷ x ∷ more) e = absurd (omega (arith, e))
+
+pub mic : (counter : ℕ) → Mic counter
+mic counter =
+    let x = four_bytes (mic_of nwk 0 address counter (message counter))
+    (length-mic nwk (message counter) 0 address counter refl) in
+    record { a = x.0; b = x.1; c = x.2; d = x.3; is = x.4 }
+
+-- the uplink
+abbrev pub uplink : ℕ → List ℕ
+uplink counter =
+    message counter ++ (mic counter).a ∷ (mic counter).b ∷ (mic counter).c ∷ (mic counter).d ∷ []
+
+pub bytes_same : (bytes : List ℕ) → bytes_eq bytes bytes ≡ true
+bytes_same bytes = (bytes_eq-Decides bytes bytes).1 refl
+
+pub has_its_mic : (counter : ℕ) → has_mic (uplink counter) nwk counter ≡ true
+unfolding has_mic
+has_its_mic counter = let m = mic counter in rw m.is (bytes_same (m.a ∷ m.b ∷ m.c ∷ m.d ∷ []))
+
+-- as a gateway hears it, with this SNR
+abbrev pub copy_at : ℕ → ℕ → ℕ → Heard1
+copy_at gateway at snr = record { gateway = gateway; at = at; freq_hz = 868100000; rate = 5; snr = pos snr; rssi = negsuc 89 }
+
+-- what stands in the world when the device's last uplink and next downlink have these counters
+abbrev pub device_at : Option ℕ → ℕ → Device
+device_at up down = record { setting = device; queue = []; up = up; down = down }
+
+abbrev pub asked : Asked
+asked = record { device = 0; confirmed = true; adr_ack_req = false }
+
+abbrev pub gateway_at : ℕ → State → Gateway
+gateway_at id state = record { id = id; rules = record { cap = 4096 }; state = state }
+
+abbrev pub unused : State
+unused = record { floor = 0; list = []; booked = 0; cancelled = 0 }
+
+abbrev pub kept_copy : ℕ → ℕ → ℕ → HeardCopy
+kept_copy gateway at snr =
+    record { gateway = gateway; at = at; freq_hz = 868100000; rate = Dr5; snr = pos snr; rssi = negsuc 89 }
+
+abbrev pub world : Device → List Gathering → List Asked → List Answer → List Gateway → World
+world device gathered asked answers gateways = record {
+  reg = record { devices = device ∷ []; gathered = record { list = gathered; limits = limits }; asked = asked };
+  answers = answers;
+  gateways = gateways;
+}
+
+-- the device's answer to uplink n, which two gateways heard: it has no payload to send
+abbrev pub job : ℕ → ℕ → List HeardCopy → Job
+job n counter copies = record {
+  number = n;
+  addr = address;
+  ack = true;
+  counter = counter;
+  queued = 0;
+  body = None;
+  copies = copies;
+  plan = record { delay = 1; offset = 0; rx2_freq = 869525000; rx2_rate = Dr0; payload = None };
+  keys = record { nwk = nwk; app = nwk };
+}
+
+abbrev pub both_copies : List HeardCopy
+both_copies = kept_copy 1 5000000 55 ∷ kept_copy 2 9000000 50 ∷ []
+
+-- RX1 on a gateway
+abbrev pub rx1 : ℕ → ℕ → Candidate
+rx1 gateway start = record {
+  gateway = gateway;
+  window = Rx1;
+  start = start;
+  freq_hz = 868100000;
+  rate = Dr5;
+  len = 12;
+  carries = false;
+}
+
+abbrev pub sent_at : ℕ → ℕ → Sent
+sent_at gateway start = record { gateway = gateway; start = start; airtime = 41216 }
+
+abbrev pub answered_at : ℕ → ℕ → Ending
+answered_at gateway start = Answered gateway Rx1 start 41216 false
+
+-- a gateway that has booked RX1 for this job
+abbrev pub with_booked : Job → ℕ → ℕ → Gateway
+with_booked job gateway start =
+    gateway_at gateway (book_step (record { cap = 4096 }) unused (ask_for job (rx1 gateway start)))
+
+-- a gathering of these bytes
+abbrev pub gathering : List ℕ → ℕ → List HeardCopy → Bool → Gathering
+gathering bytes opened copies closed = record { bytes = bytes; opened = opened; copies = copies; closed = closed }

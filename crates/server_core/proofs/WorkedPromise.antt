@@ -1,0 +1,155 @@
+-- What the promise says of the worked run: each of its records has a member there, and each of its clauses tells a fact.
+use Rattle.server_core.proofs.Words.{ap, arith, inl, inr, subst, sym, ◌∙◌, All-cons, All-head, All-nil, AllPairs-cons}
+use Rattle.server_core.proofs.Words.{Contains, IsSome, Some, [], length, refl, slice_get, suc, true, zero}
+use Rattle.server_core.proofs.Words.{◌+◌, ◌≡◌, ◌≢◌, ◌≤◌, ◌⊎◌, ◌∷◌, Reservation, IsAsked, Gathering, HeardCopy, numbered}
+use Rattle.server_core.proofs.Words.{AllPairs-head, Candidate, Job, ask_for, candidates, Device, Gateway, AreSettings}
+use Rattle.server_core.proofs.Words.{some_inj, GatewaySetting, HaveOwnCounters, IsMember, IsOwnWindow, IsSafe}
+use Rattle.server_core.proofs.Words.{plan_for, setting_of, net}
+use Rattle.radio_airtime.specs.TimeOnAir.{airtime_of}
+use Rattle.radio_bands.specs.declared.band.Band.TheVariants.{M}
+use Rattle.radio_bands.specs.Band.{band_of}
+use Rattle.resv_list.specs.Reservations.{begun, spent}
+use Rattle.gateway_book.specs.Answer.{overlap}
+use Rattle.gateway_book.specs.Kept.{kept}
+use Rattle.gateway_book.specs.Duty.{full_hour}
+use Rattle.server_desk.specs.Settings.{IsGatewayInRange, IsDeviceInRange}
+use Rattle.server_core.proofs.Runs.{every_interleaving_is_safe}
+use Rattle.server_core.proofs.WorkedInputs.{settings, limits, device, kept_copy, both_copies, gathering, uplink, rx1, device_at}
+use Rattle.server_core.proofs.WorkedRun.{job_1, job_2, gateway_1, gateway_2, w13, steps, after, whole_run}
+
+-- the settings are accepted
+are : AreSettings settings.gateways settings.devices
+unfolding band_of
+are =
+    let g : IsGatewayInRange (record { id = 1; cap = 4096 }) = record { id = omega arith; cap = omega arith } in
+    let h : IsGatewayInRange (record { id = 2; cap = 4096 }) = record { id = omega arith; cap = omega arith } in
+    let d : IsDeviceInRange device = record { delay = omega arith; offset = omega arith; down = omega arith } in
+    let one : GatewaySetting = record { id = 1; cap = 4096 } in
+    let two : GatewaySetting = record { id = 2; cap = 4096 } in
+    record {
+      gateway_count = omega arith;
+      device_count = omega arith;
+      gateways_in_range = All-cons IsGatewayInRange one (two ∷ []) g (All-cons IsGatewayInRange two [] h (All-nil IsGatewayInRange));
+      ids_differ = AllPairs-cons (λ a b. a.id ≢ b.id) one (two ∷ [])
+          (All-cons (λ b. one.id ≢ b.id) two [] (λ e. absurd (omega (arith, e))) (All-nil (λ b. one.id ≢ b.id)))
+          (λ i j x l m. absurd (omega arith));
+      devices_in_range = All-cons IsDeviceInRange device [] d (All-nil IsDeviceInRange);
+      rx2_in_bands = All-cons (λ d. IsSome (band_of d.rx2_freq d.rx2_rate)) device [] refl
+          (All-nil (λ d. IsSome (band_of d.rx2_freq d.rx2_rate)));
+      addrs_differ = λ i j x l m. absurd (omega arith);
+    }
+
+-- the gateway's first member is what this candidate asks for
+record HoldsFirst (g : Gateway) (job : Job) (c : Candidate) : Type 0 where
+  pub member : Reservation
+  pub there : slice_get g.state.list 0 ≡ Some member
+  pub asked : IsAsked (ask_for job c) member
+
+first_held : HoldsFirst gateway_1 job_1 (rx1 1 6000000)
+unfolding airtime_of band_of overlap full_hour kept begun
+first_held =
+    record {
+      member = _;
+      there = refl;
+      asked = record { number = refl; start = refl; freq_hz = refl; rate = refl; len = refl };
+    }
+
+second_held : HoldsFirst gateway_2 job_2 (rx1 2 10000000)
+unfolding airtime_of band_of overlap full_hour kept begun
+second_held =
+    record {
+      member = _;
+      there = refl;
+      asked = record { number = refl; start = refl; freq_hz = refl; rate = refl; len = refl };
+    }
+
+first_member : IsMember w13 0 0 gateway_1 first_held.member
+first_member = record { gateway = refl; member = first_held.there }
+
+second_member : IsMember w13 1 0 gateway_2 second_held.member
+second_member = record { gateway = refl; member = second_held.there }
+
+one_of_one : {X : Type 0} (x z : X) → Contains (x ∷ []) z → z ≡ x
+one_of_one x z (zero, l, e) = sym e
+one_of_one x z (suc k, l, e) = absurd (omega (arith, l))
+
+one_of_two : {X : Type 0} (x y z : X) → Contains (x ∷ y ∷ []) z → (z ≡ x) ⊎ (z ≡ y)
+one_of_two x y z (zero, l, e) = inl (sym e)
+one_of_two x y z (suc zero, l, e) = inr (sym e)
+one_of_two x y z (suc (suc k), l, e) = absurd (omega (arith, l))
+
+module _ (safe : IsSafe settings after) where
+  gateway_set : Some (setting_of gateway_2) ≡ slice_get settings.gateways 1
+  gateway_set = ap (λ l. slice_get l 1) safe.gateways
+
+  device_set : Some (device_at (Some 1) 2).setting ≡ slice_get settings.devices 0
+  device_set = ap (λ l. slice_get l 0) safe.devices
+
+  two_told : length w13.reg.asked ≡ 2
+  two_told = safe.told
+
+  two_answered : length w13.answers ≡ 2
+  two_answered = safe.answered
+
+  hour_kept : spent gateway_1.state.list M 6000000 ≤ 36000000
+  hour_kept = (safe.lawful 0 gateway_1 refl).duty M 6000000
+
+  booked_is : 41216 ≡ 0 + net gateway_1.state.list
+  unfolding airtime_of band_of overlap full_hour kept begun
+  booked_is = safe.counted 0 gateway_1 refl
+
+  -- the two gateways hold different numbers
+  numbers_differ : first_held.member.number ≡ second_held.member.number → ⊥
+  numbers_differ e =
+      let same = (safe.once 0 1 0 0 gateway_1 gateway_2 first_held.member second_held.member first_member second_member e).0 in
+      absurd (omega (arith, same))
+
+  -- what the second gateway holds is RX1 of the copy that it heard, by the second ticket
+  own : IsOwnWindow after gateway_2 second_held.member
+  own = safe.own 1 0 gateway_2 second_held.member second_member
+
+  number_is : second_held.member.number ≡ 2
+  number_is = second_held.asked.number
+
+  its_gathering : own.gathering ≡ gathering (uplink 1) 300000 both_copies true
+  its_gathering = some_inj (sym own.gathered ∙ ap (λ n. numbered n w13.reg.gathered.list) number_is)
+
+  its_job : own.job ≡ job_2
+  its_job = elim (one_of_two job_1 job_2 own.job own.given)
+      [ inl e ↦ absurd (omega (arith, ap (λ (j : Job). j.number) e, own.asked.number, number_is)) | inr e ↦ e ]
+
+  its_copy : own.window.copy ≡ kept_copy 2 9000000 50
+  its_copy =
+      let here : own.window.copy.gateway ≡ 2 = sym own.window.gateway ∙ own.here in
+      let heard : Contains both_copies own.window.copy =
+      subst (λ (g : Gathering). Contains g.copies own.window.copy) its_gathering own.window.heard in
+      elim (one_of_two (kept_copy 1 5000000 55) (kept_copy 2 9000000 50) own.window.copy heard)
+      [ inl e ↦ absurd (omega (arith, ap (λ (c : HeardCopy). c.gateway) e, here)) | inr e ↦ e ]
+
+  its_start : own.candidate.start ≡ 10000000
+  its_start = sym own.asked.start ∙ second_held.asked.start
+
+  its_place : Contains (candidates job_2) own.candidate
+  its_place = subst (λ (j : Job). Contains (candidates j) own.candidate) its_job own.tried
+
+  its_device : own.device ≡ device_at (Some 1) 2
+  its_device = one_of_one (device_at (Some 1) 2) own.device own.served
+
+  its_address : 0x26011bda ≡ own.job.addr
+  its_address = ap (λ (d : Device). d.setting.addr) (sym its_device) ∙ own.its_own ∙ sym own.addr
+
+  its_plan : own.job.plan ≡ job_2.plan
+  its_plan =
+      own.plan ∙ ap (λ (d : Device). plan_for d.setting own.job.body) its_device ∙ ap (λ (j : Job). plan_for device j.body) its_job
+
+  -- the two tickets answer different uplinks, and have different counters
+  tickets_differ : job_1.number ≢ job_2.number
+  tickets_differ = All-head (λ b. job_1.number ≢ b.number) job_2 [] (AllPairs-head (λ a b. a.number ≢ b.number) job_1 (job_2 ∷ [])
+      safe.tickets)
+
+  counters_differ : job_1.counter ≢ job_2.counter
+  counters_differ =
+      All-head (HaveOwnCounters job_1) job_2 [] (AllPairs-head HaveOwnCounters job_1 (job_2 ∷ []) safe.counters) refl
+
+pub safe_run : IsSafe settings after
+safe_run = subst (IsSafe settings) whole_run (every_interleaving_is_safe settings are limits steps)
