@@ -153,8 +153,8 @@ module _ (w : World) (t : Standing) (out : IsTicketIn w t) (id at : ℕ) (old : 
   gateway_is : c.gateway ≡ id
   gateway_is = sym asked ∙ b.keeps.id ∙ own w id at old b
 
-  pub gateway_found : gateway_with c.gateway w.gateways ≡ Some (at, b.gateway)
-  gateway_found = rw gateway_is b.found
+  pub found_for : gateway_with c.gateway w.gateways ≡ Some (at, b.gateway)
+  found_for = rw gateway_is b.found
 
   -- the gateway answers as its book does
   pub answer_is : (o : Option Refusal) → refusal_by old t.job c ≡ o
@@ -165,7 +165,7 @@ module _ (w : World) (t : Standing) (out : IsTicketIn w t) (id at : ℕ) (old : 
 
   pub try_is : (o : Option Refusal) → refusal_by old t.job c ≡ o → step w (Try number) ≡ tried_by w number t.at t.job c (at, b.gateway) o
   unfolding step
-  try_is o e = rw (out, stands, gateway_found, answer_is o e) refl
+  try_is o e = rw (out, stands, found_for, answer_is o e) refl
 
   answer_there : (answer : Answer) (new : Book) (refusal : Option Refusal) → IsTryStep w number id at answer new refusal
       → numbered number (step w (Try number)).0.answers ≡ Some answer

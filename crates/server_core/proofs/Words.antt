@@ -13,7 +13,7 @@ pub use Rattle.std.specs.Prelude.{is_some, length, map, max, nat_le, nat_lt, not
 pub use Rattle.std.specs.Prelude.{⊤, ◌&&◌, ◌++◌, ◌+◌, ◌-◌, ◌<◌, ◌==◌, ◌||◌, ◌∷◌, ◌≡◌, ◌≢◌, ◌≤◌, ◌⊎◌}
 pub use Rattle.resv_list.specs.Reservations.{IsByStart, airtime_us, member_from, place, start_of, without}
 pub use Rattle.resv_list.specs.{Sorted.RisesFrom, Sorted.place_by, declared.reservation.Reservation.Reservation}
-pub use Rattle.gateway_book.specs.Book.{Book, airtime_answer, state_of, with_booked, with_cancelled}
+pub use Rattle.gateway_book.specs.Book.{Book, with_booked, with_cancelled}
 pub use Rattle.gateway_book.proofs.OrderlyLaws.{may_join, orderly_filter, orderly_nil, orderly_placed}
 pub use Rattle.gateway_book.specs.Step.{State, after_cancel, book_step, cancel_answer, cancel_step, found_or, is_fit-IsFit}
 pub use Rattle.gateway_book.specs.Step.{is_named, tick_step, without_named}

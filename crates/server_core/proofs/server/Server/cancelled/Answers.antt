@@ -17,7 +17,8 @@ index_mut-requires g c =
 
 pub returns : goal.returns
 returns g c =
+    let call = c.cancel.ensures in
     was_cancelled c.args.number (seen c.args.self.now) _ c.requires c.in-Some.sent c.in-Some.ensures c.in-Some-place_of.at
     c.index_mut.result.now c.cancel.new.self c.cancel.result
-    (rw c.deref.ensures.value at c.in-Some-place_of.ensures) c.index_mut.ensures.value c.cancel.ensures.answer
-    c.cancel.ensures.step c.cancel.ensures.cancelled c.cancel.ensures.refused refl
+    (rw c.deref.ensures.value at c.in-Some-place_of.ensures) c.index_mut.ensures.value
+    (record { answer = call.answer; cancelled = call.cancelled; step = call.step; refused = call.refused }) refl
