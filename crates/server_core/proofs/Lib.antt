@@ -10,6 +10,7 @@ pub mod Headlines
 pub mod WorkedInputs
 pub mod WorkedRun
 pub mod WorkedPromise
+pub mod WorkedHeadline
 pub mod DeskSteps
 pub mod Ready
 pub mod Calls

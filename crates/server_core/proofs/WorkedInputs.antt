@@ -142,10 +142,9 @@ sent_at gateway start = record { gateway = gateway; start = start; airtime = 412
 abbrev pub answered_at : ℕ → ℕ → Ending
 answered_at gateway start = Answered gateway Rx1 start 41216 false
 
--- a gateway that has booked RX1 for this job
-abbrev pub with_booked : Job → ℕ → ℕ → Gateway
-with_booked job gateway start =
-    gateway_at gateway (book_step (record { cap = 4096 }) unused (ask_for job (rx1 gateway start)))
+-- the gateway after it booked RX1 for this job
+abbrev pub with_booked : Job → ℕ → Gateway → Gateway
+with_booked job start g = record g { state = book_step g.rules g.state (ask_for job (rx1 g.id start)) }
 
 -- a gathering of these bytes
 abbrev pub gathering : List ℕ → ℕ → List HeardCopy → Bool → Gathering

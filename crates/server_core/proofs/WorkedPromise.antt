@@ -1,6 +1,6 @@
 -- What the promise says of the worked run: each of its records has a member there, and each of its clauses tells a fact.
 use Rattle.server_core.proofs.Words.{ap, arith, inl, inr, subst, sym, ◌∙◌, All-cons, All-head, All-nil, AllPairs-cons}
-use Rattle.server_core.proofs.Words.{Contains, IsSome, Some, [], length, refl, slice_get, suc, true, zero}
+use Rattle.server_core.proofs.Words.{Contains, IsSome, Some, [], length, refl, slice_get, suc, true, ℕ, zero}
 use Rattle.server_core.proofs.Words.{◌+◌, ◌≡◌, ◌≢◌, ◌≤◌, ◌⊎◌, ◌∷◌, Reservation, IsAsked, Gathering, HeardCopy, numbered}
 use Rattle.server_core.proofs.Words.{AllPairs-head, Candidate, Job, ask_for, candidates, Device, Gateway, AreSettings}
 use Rattle.server_core.proofs.Words.{some_inj, GatewaySetting, HaveOwnCounters, IsMember, IsOwnWindow, IsSafe}
@@ -15,10 +15,10 @@ use Rattle.gateway_book.specs.Duty.{full_hour}
 use Rattle.server_desk.specs.Settings.{IsGatewayInRange, IsDeviceInRange}
 use Rattle.server_core.proofs.Runs.{every_interleaving_is_safe}
 use Rattle.server_core.proofs.WorkedInputs.{settings, limits, device, kept_copy, both_copies, gathering, uplink, rx1, device_at}
-use Rattle.server_core.proofs.WorkedRun.{job_1, job_2, gateway_1, gateway_2, w13, steps, after, whole_run}
+use Rattle.server_core.proofs.WorkedRun.{job_1, job_2, job_3, gateway_1, gateway_3, w17, steps, after, whole_run}
 
 -- the settings are accepted
-are : AreSettings settings.gateways settings.devices
+pub are : AreSettings settings.gateways settings.devices
 unfolding band_of
 are =
     let g : IsGatewayInRange (record { id = 1; cap = 4096 }) = record { id = omega arith; cap = omega arith } in
@@ -39,13 +39,13 @@ are =
       addrs_differ = λ i j x l m. absurd (omega arith);
     }
 
--- the gateway's first member is what this candidate asks for
-record HoldsFirst (g : Gateway) (job : Job) (c : Candidate) : Type 0 where
+-- the gateway's member at place k is what this candidate asks for
+pub record HoldsAt (g : Gateway) (k : ℕ) (job : Job) (c : Candidate) : Type 0 where
   pub member : Reservation
-  pub there : slice_get g.state.list 0 ≡ Some member
+  pub there : slice_get g.state.list k ≡ Some member
   pub asked : IsAsked (ask_for job c) member
 
-first_held : HoldsFirst gateway_1 job_1 (rx1 1 6000000)
+pub first_held : HoldsAt gateway_1 0 job_1 (rx1 1 6000000)
 unfolding airtime_of band_of overlap full_hour kept begun
 first_held =
     record {
@@ -54,7 +54,7 @@ first_held =
       asked = record { number = refl; start = refl; freq_hz = refl; rate = refl; len = refl };
     }
 
-second_held : HoldsFirst gateway_2 job_2 (rx1 2 10000000)
+pub second_held : HoldsAt gateway_3 0 job_2 (rx1 2 10000000)
 unfolding airtime_of band_of overlap full_hour kept begun
 second_held =
     record {
@@ -63,36 +63,58 @@ second_held =
       asked = record { number = refl; start = refl; freq_hz = refl; rate = refl; len = refl };
     }
 
-first_member : IsMember w13 0 0 gateway_1 first_held.member
+pub third_held : HoldsAt gateway_3 1 job_3 (rx1 2 13000000)
+unfolding airtime_of band_of overlap full_hour kept begun
+third_held =
+    record {
+      member = _;
+      there = refl;
+      asked = record { number = refl; start = refl; freq_hz = refl; rate = refl; len = refl };
+    }
+
+first_member : IsMember w17 0 0 gateway_1 first_held.member
 first_member = record { gateway = refl; member = first_held.there }
 
-second_member : IsMember w13 1 0 gateway_2 second_held.member
+second_member : IsMember w17 1 0 gateway_3 second_held.member
 second_member = record { gateway = refl; member = second_held.there }
 
-one_of_one : {X : Type 0} (x z : X) → Contains (x ∷ []) z → z ≡ x
+pub one_of_one : {X : Type 0} (x z : X) → Contains (x ∷ []) z → z ≡ x
 one_of_one x z (zero, l, e) = sym e
 one_of_one x z (suc k, l, e) = absurd (omega (arith, l))
 
-one_of_two : {X : Type 0} (x y z : X) → Contains (x ∷ y ∷ []) z → (z ≡ x) ⊎ (z ≡ y)
+one_of_three : {X : Type 0} (x y u z : X) → Contains (x ∷ y ∷ u ∷ []) z → (z ≡ x) ⊎ ((z ≡ y) ⊎ (z ≡ u))
+one_of_three x y u z (zero, l, e) = inl (sym e)
+one_of_three x y u z (suc zero, l, e) = inr (inl (sym e))
+one_of_three x y u z (suc (suc zero), l, e) = inr (inr (sym e))
+one_of_three x y u z (suc (suc (suc k)), l, e) = absurd (omega (arith, l))
+
+pub one_of_two : {X : Type 0} (x y z : X) → Contains (x ∷ y ∷ []) z → (z ≡ x) ⊎ (z ≡ y)
 one_of_two x y z (zero, l, e) = inl (sym e)
 one_of_two x y z (suc zero, l, e) = inr (sym e)
 one_of_two x y z (suc (suc k), l, e) = absurd (omega (arith, l))
 
 module _ (safe : IsSafe settings after) where
-  gateway_set : Some (setting_of gateway_2) ≡ slice_get settings.gateways 1
+  gateway_set : Some (setting_of gateway_3) ≡ slice_get settings.gateways 1
   gateway_set = ap (λ l. slice_get l 1) safe.gateways
 
-  device_set : Some (device_at (Some 1) 2).setting ≡ slice_get settings.devices 0
+  device_set : Some (device_at (Some 2) 3).setting ≡ slice_get settings.devices 0
   device_set = ap (λ l. slice_get l 0) safe.devices
 
-  two_told : length w13.reg.asked ≡ 2
-  two_told = safe.told
+  all_told : length w17.reg.asked ≡ 3
+  all_told = safe.told
 
-  two_answered : length w13.answers ≡ 2
-  two_answered = safe.answered
+  all_answered : length w17.answers ≡ 3
+  all_answered = safe.answered
 
   hour_kept : spent gateway_1.state.list M 6000000 ≤ 36000000
   hour_kept = (safe.lawful 0 gateway_1 refl).duty M 6000000
+
+  -- what the second gateway holds is disjoint: its second member starts after its first ended
+  disjoint : second_held.member.start + airtime_of second_held.member.rate second_held.member.len ≤ third_held.member.start
+  disjoint =
+      let apart = (safe.lawful 1 gateway_3 refl).apart 0 1 second_held.member third_held.member second_held.there third_held.there
+      (λ e. absurd (omega (arith, e))) in
+      elim apart [ inl e ↦ e | inr e ↦ absurd (omega (arith, e, second_held.asked.start, third_held.asked.start)) ]
 
   booked_is : 41216 ≡ 0 + net gateway_1.state.list
   unfolding airtime_of band_of overlap full_hour kept begun
@@ -101,22 +123,25 @@ module _ (safe : IsSafe settings after) where
   -- the two gateways hold different numbers
   numbers_differ : first_held.member.number ≡ second_held.member.number → ⊥
   numbers_differ e =
-      let same = (safe.once 0 1 0 0 gateway_1 gateway_2 first_held.member second_held.member first_member second_member e).0 in
+      let same = (safe.once 0 1 0 0 gateway_1 gateway_3 first_held.member second_held.member first_member second_member e).0 in
       absurd (omega (arith, same))
 
   -- what the second gateway holds is RX1 of the copy that it heard, by the second ticket
-  own : IsOwnWindow after gateway_2 second_held.member
-  own = safe.own 1 0 gateway_2 second_held.member second_member
+  own : IsOwnWindow after gateway_3 second_held.member
+  own = safe.own 1 0 gateway_3 second_held.member second_member
 
   number_is : second_held.member.number ≡ 2
   number_is = second_held.asked.number
 
   its_gathering : own.gathering ≡ gathering (uplink 1) 300000 both_copies true
-  its_gathering = some_inj (sym own.gathered ∙ ap (λ n. numbered n w13.reg.gathered.list) number_is)
+  its_gathering = some_inj (sym own.gathered ∙ ap (λ n. numbered n w17.reg.gathered.list) number_is)
 
   its_job : own.job ≡ job_2
-  its_job = elim (one_of_two job_1 job_2 own.job own.given)
-      [ inl e ↦ absurd (omega (arith, ap (λ (j : Job). j.number) e, own.asked.number, number_is)) | inr e ↦ e ]
+  its_job = elim (one_of_three job_1 job_2 job_3 own.job own.given) [
+    | inl e ↦ absurd (omega (arith, ap (λ (j : Job). j.number) e, own.asked.number, number_is))
+    | inr (inl e) ↦ e
+    | inr (inr e) ↦ absurd (omega (arith, ap (λ (j : Job). j.number) e, own.asked.number, number_is))
+  ]
 
   its_copy : own.window.copy ≡ kept_copy 2 9000000 50
   its_copy =
@@ -132,8 +157,8 @@ module _ (safe : IsSafe settings after) where
   its_place : Contains (candidates job_2) own.candidate
   its_place = subst (λ (j : Job). Contains (candidates j) own.candidate) its_job own.tried
 
-  its_device : own.device ≡ device_at (Some 1) 2
-  its_device = one_of_one (device_at (Some 1) 2) own.device own.served
+  its_device : own.device ≡ device_at (Some 2) 3
+  its_device = one_of_one (device_at (Some 2) 3) own.device own.served
 
   its_address : 0x26011bda ≡ own.job.addr
   its_address = ap (λ (d : Device). d.setting.addr) (sym its_device) ∙ own.its_own ∙ sym own.addr
@@ -144,12 +169,12 @@ module _ (safe : IsSafe settings after) where
 
   -- the two tickets answer different uplinks, and have different counters
   tickets_differ : job_1.number ≢ job_2.number
-  tickets_differ = All-head (λ b. job_1.number ≢ b.number) job_2 [] (AllPairs-head (λ a b. a.number ≢ b.number) job_1 (job_2 ∷ [])
+  tickets_differ = All-head (λ b. job_1.number ≢ b.number) job_2 (job_3 ∷ []) (AllPairs-head (λ a b. a.number ≢ b.number) job_1 (job_2 ∷ job_3 ∷ [])
       safe.tickets)
 
   counters_differ : job_1.counter ≢ job_2.counter
   counters_differ =
-      All-head (HaveOwnCounters job_1) job_2 [] (AllPairs-head HaveOwnCounters job_1 (job_2 ∷ []) safe.counters) refl
+      All-head (HaveOwnCounters job_1) job_2 (job_3 ∷ []) (AllPairs-head HaveOwnCounters job_1 (job_2 ∷ job_3 ∷ []) safe.counters) refl
 
 pub safe_run : IsSafe settings after
 safe_run = subst (IsSafe settings) whole_run (every_interleaving_is_safe settings are limits steps)

@@ -1,7 +1,7 @@
--- A worked run: the two gateways hear two uplinks of the device, one after the other. The first is answered on the first
--- gateway; there the answer to the second, in the same window, is refused, and it goes to the second gateway. In the end the
--- first is cancelled. Each step computes.
-use Rattle.server_core.proofs.Words.{true, false, List, [], ◌∷◌, ℕ, ◌≡◌, Some, None, Ok, refl}
+-- A worked run: three uplinks of the device, one after another. Both gateways hear the first two. The first is answered on the
+-- first gateway; there the answer to the second, in the same window, is refused, and it goes to the second gateway, as does
+-- the answer to the third, which this one alone hears. From there on, two of the three are cancelled. Each step computes.
+use Rattle.server_core.proofs.Words.{true, false, Bool, List, [], ◌∷◌, ◌++◌, Asked, ℕ, ◌≡◌, Some, None, Ok, refl}
 use Rattle.server_core.proofs.Words.{Gathering, Job, Answer, Waiting, Open, Booked, Settled, Gateway, World, Step, Reply, Hear}
 use Rattle.server_core.proofs.Words.{Pass, Take, Settle, Try, Cancel, opening, step, decide, due_of, take_answer, Run, run, run_from}
 use Rattle.radio_airtime.specs.TimeOnAir.{airtime_of}
@@ -27,6 +27,9 @@ first = uplink 0
 abbrev second : List ℕ
 second = uplink 1
 
+abbrev third : List ℕ
+third = uplink 2
+
 abbrev none_booked : List Gateway
 none_booked = gateway_at 1 unused ∷ gateway_at 2 unused ∷ []
 
@@ -49,7 +52,7 @@ heard_2 = rw (bytes_same first, bytes_same first) refl
 abbrev done : Gathering
 done = gathering first 1000 both_copies true
 
-abbrev w3 : World
+abbrev pub w3 : World
 w3 = world (device_at (Some 0) 0) (done ∷ []) (asked ∷ []) (Waiting ∷ []) none_booked
 
 passed_3 : step w2 (Pass 201001) ≡ (w3, replies.Passed (Some 1))
@@ -59,15 +62,15 @@ passed_3 = refl
 abbrev pub job_1 : Job
 job_1 = job 1 0 both_copies
 
-abbrev w4 : World
+abbrev pub w4 : World
 w4 = world (device_at (Some 0) 1) (done ∷ []) (asked ∷ []) (Open 0 job_1 ∷ []) none_booked
 
-taken_4 : step w3 (Take 1) ≡ (w4, replies.Given (Ok job_1))
+pub taken_4 : step w3 (Take 1) ≡ (w4, replies.Given (Ok job_1))
 unfolding step take_answer ranked
 taken_4 = refl
 
 abbrev pub gateway_1 : Gateway
-gateway_1 = with_booked job_1 1 6000000
+gateway_1 = with_booked job_1 6000000 (gateway_at 1 unused)
 
 abbrev one_booked : List Gateway
 one_booked = gateway_1 ∷ gateway_at 2 unused ∷ []
@@ -86,19 +89,22 @@ settled_6 : step w5 (Settle 1) ≡ (w6, replies.Ended (Some (answered_at 1 60000
 unfolding step
 settled_6 = refl
 
-abbrev answers : Answer → List Answer
-answers answer = Settled (Some (sent_at 1 6000000)) ∷ answer ∷ []
+abbrev first_settled : Answer
+first_settled = Settled (Some (sent_at 1 6000000))
+
+abbrev then_second : Answer → List Answer
+then_second answer = first_settled ∷ answer ∷ []
 
 abbrev w7 : World
 w7 = world (device_at (Some 1) 1) (done ∷ gathering second 300000 (kept_copy 1 5000000 55 ∷ []) false ∷ [])
-    (asked ∷ asked ∷ []) (answers Waiting) one_booked
+    (asked ∷ asked ∷ []) (then_second Waiting) one_booked
 
 heard_7 : step w6 (Hear second (copy_at 1 5000000 55) 300000) ≡ (w7, replies.Heard (Ok (Opened 2 false)))
 unfolding step decide newest band_of
 heard_7 = rw (has_its_mic 1) refl
 
 abbrev w8 : World
-w8 = world (device_at (Some 1) 1) (done ∷ gathering second 300000 both_copies false ∷ []) (asked ∷ asked ∷ []) (answers Waiting)
+w8 = world (device_at (Some 1) 1) (done ∷ gathering second 300000 both_copies false ∷ []) (asked ∷ asked ∷ []) (then_second Waiting)
     one_booked
 
 heard_8 : step w7 (Hear second (copy_at 2 9000000 50) 300100) ≡ (w8, replies.Heard (Ok (Joined 2 2)))
@@ -109,7 +115,7 @@ abbrev both_done : List Gathering
 both_done = done ∷ gathering second 300000 both_copies true ∷ []
 
 abbrev w9 : World
-w9 = world (device_at (Some 1) 1) both_done (asked ∷ asked ∷ []) (answers Waiting) one_booked
+w9 = world (device_at (Some 1) 1) both_done (asked ∷ asked ∷ []) (then_second Waiting) one_booked
 
 passed_9 : step w8 (Pass 500001) ≡ (w9, replies.Passed (Some 2))
 unfolding step due_of
@@ -119,46 +125,106 @@ abbrev pub job_2 : Job
 job_2 = job 2 1 both_copies
 
 abbrev w10 : World
-w10 = world (device_at (Some 1) 2) both_done (asked ∷ asked ∷ []) (answers (Open 0 job_2)) one_booked
+w10 = world (device_at (Some 1) 2) both_done (asked ∷ asked ∷ []) (then_second (Open 0 job_2)) one_booked
 
 taken_10 : step w9 (Take 2) ≡ (w10, replies.Given (Ok job_2))
 unfolding step take_answer ranked
 taken_10 = refl
 
 abbrev w11 : World
-w11 = world (device_at (Some 1) 2) both_done (asked ∷ asked ∷ []) (answers (Open 1 job_2)) one_booked
+w11 = world (device_at (Some 1) 2) both_done (asked ∷ asked ∷ []) (then_second (Open 1 job_2)) one_booked
 
 tried_11 : step w10 (Try 2) ≡ (w11, replies.Tried (Some (Some (Taken 6000000))))
 unfolding step candidates_of airtime_of band_of overlap full_hour kept begun
 tried_11 = refl
 
-abbrev pub gateway_2 : Gateway
-gateway_2 = with_booked job_2 2 10000000
+abbrev gateway_2 : Gateway
+gateway_2 = with_booked job_2 10000000 (gateway_at 2 unused)
 
 abbrev two_booked : List Gateway
 two_booked = gateway_1 ∷ gateway_2 ∷ []
 
 abbrev w12 : World
-w12 = world (device_at (Some 1) 2) both_done (asked ∷ asked ∷ []) (answers (Booked (sent_at 2 10000000) Rx1 false)) two_booked
+w12 = world (device_at (Some 1) 2) both_done (asked ∷ asked ∷ []) (then_second (Booked (sent_at 2 10000000) Rx1 false)) two_booked
 
 tried_12 : step w11 (Try 2) ≡ (w12, replies.Tried (Some None))
 unfolding step candidates_of airtime_of band_of overlap full_hour kept begun
 tried_12 = refl
 
-abbrev pub w13 : World
-w13 = world (device_at (Some 1) 2) both_done (asked ∷ asked ∷ []) (answers (Settled (Some (sent_at 2 10000000)))) two_booked
+abbrev second_settled : Answer
+second_settled = Settled (Some (sent_at 2 10000000))
+
+abbrev w13 : World
+w13 = world (device_at (Some 1) 2) both_done (asked ∷ asked ∷ []) (then_second second_settled) two_booked
 
 settled_13 : step w12 (Settle 2) ≡ (w13, replies.Ended (Some (answered_at 2 10000000)))
 unfolding step
 settled_13 = refl
 
-abbrev pub w14 : World
-w14 = world (device_at (Some 1) 2) both_done (asked ∷ asked ∷ []) (answers (Settled (Some (sent_at 2 10000000))))
-    (gateway_at 1 (record { floor = 0; list = []; booked = 41216; cancelled = 41216 }) ∷ gateway_2 ∷ [])
+abbrev then_third : Answer → List Answer
+then_third answer = first_settled ∷ second_settled ∷ answer ∷ []
 
-pub cancelled_14 : step w13 (Cancel 1) ≡ (w14, replies.Cancelled (Ok 41216))
+abbrev all_asked : List Asked
+all_asked = asked ∷ asked ∷ asked ∷ []
+
+abbrev gathered : Bool → List Gathering
+gathered closed = both_done ++ gathering third 600000 (kept_copy 2 12000000 50 ∷ []) closed ∷ []
+
+abbrev w14 : World
+w14 = world (device_at (Some 2) 2) (gathered false) all_asked (then_third Waiting) two_booked
+
+heard_14 : step w13 (Hear third (copy_at 2 12000000 50) 600000) ≡ (w14, replies.Heard (Ok (Opened 3 false)))
+unfolding step decide newest band_of
+heard_14 = rw (has_its_mic 2) refl
+
+abbrev w15 : World
+w15 = world (device_at (Some 2) 2) (gathered true) all_asked (then_third Waiting) two_booked
+
+passed_15 : step w14 (Pass 800001) ≡ (w15, replies.Passed (Some 3))
+unfolding step due_of
+passed_15 = refl
+
+abbrev pub job_3 : Job
+job_3 = job 3 2 (kept_copy 2 12000000 50 ∷ [])
+
+abbrev w16 : World
+w16 = world (device_at (Some 2) 3) (gathered true) all_asked (then_third (Open 0 job_3)) two_booked
+
+taken_16 : step w15 (Take 3) ≡ (w16, replies.Given (Ok job_3))
+unfolding step take_answer ranked
+taken_16 = refl
+
+abbrev pub gateway_3 : Gateway
+gateway_3 = with_booked job_3 13000000 gateway_2
+
+abbrev pub w17 : World
+w17 = world (device_at (Some 2) 3) (gathered true) all_asked (then_third (Booked (sent_at 2 13000000) Rx1 false))
+    (gateway_1 ∷ gateway_3 ∷ [])
+
+tried_17 : step w16 (Try 3) ≡ (w17, replies.Tried (Some None))
+unfolding step candidates_of airtime_of band_of overlap full_hour kept begun
+tried_17 = refl
+
+abbrev w18 : World
+w18 = world (device_at (Some 2) 3) (gathered true) all_asked (then_third (Booked (sent_at 2 13000000) Rx1 false))
+    (gateway_at 1 (record { floor = 0; list = []; booked = 41216; cancelled = 41216 }) ∷ gateway_3 ∷ [])
+
+-- a transmission whose answer is settled is cancelled
+pub cancelled_18 : step w17 (Cancel 1) ≡ (w18, replies.Cancelled (Ok 41216))
 unfolding step airtime_of band_of overlap full_hour kept begun
-cancelled_14 = refl
+cancelled_18 = refl
+
+abbrev w19 : World
+w19 = record w18 {
+  gateways = gateway_at 1 (record { floor = 0; list = []; booked = 41216; cancelled = 41216 }) ∷ record gateway_2 {
+    state = record gateway_2.state { booked = 82432; cancelled = 41216 };
+  } ∷ [];
+}
+
+-- so is one whose answer is not
+pub cancelled_19 : step w18 (Cancel 3) ≡ (w19, replies.Cancelled (Ok 41216))
+unfolding step airtime_of band_of overlap full_hour kept begun
+cancelled_19 = refl
 
 abbrev pub steps : List Step
 steps =
@@ -175,6 +241,10 @@ steps =
     ∷ Try 2
     ∷ Try 2
     ∷ Settle 2
+    ∷ Hear third (copy_at 2 12000000 50) 600000
+    ∷ Pass 800001
+    ∷ Take 3
+    ∷ Try 3
     ∷ []
 
 abbrev pub said : List Reply
@@ -192,10 +262,14 @@ said =
     ∷ replies.Tried (Some (Some (Taken 6000000)))
     ∷ replies.Tried (Some None)
     ∷ replies.Ended (Some (answered_at 2 10000000))
+    ∷ replies.Heard (Ok (Opened 3 false))
+    ∷ replies.Passed (Some 3)
+    ∷ replies.Given (Ok job_3)
+    ∷ replies.Tried (Some None)
     ∷ []
 
 abbrev pub after : Run
-after = record { world = w13; replies = said }
+after = record { world = w17; replies = said }
 
 pub whole_run : run settings limits steps ≡ after
 unfolding run_from
@@ -214,4 +288,8 @@ whole_run =
       tried_11,
       tried_12,
       settled_13,
+      heard_14,
+      passed_15,
+      taken_16,
+      tried_17,
     ) refl

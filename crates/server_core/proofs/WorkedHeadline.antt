@@ -1,0 +1,62 @@
+-- What the headline and the law of book calls say of the worked run: each clause tells a fact.
+use Rattle.server_core.proofs.Words.{ap, arith, inl, inr, subst, sym, ◌∙◌, Contains, None, [], refl, true, ◌+◌, ◌≡◌, ◌≤◌, ◌∷◌}
+use Rattle.server_core.proofs.Words.{Gathering, HeardCopy, numbered, some_inj, desk_of, Done, DeskView, Settle, step}
+use Rattle.radio_airtime.specs.TimeOnAir.{airtime_of}
+use Rattle.radio_bands.specs.declared.band.Band.TheVariants.{M}
+use Rattle.resv_list.specs.Reservations.{begun}
+use Rattle.answer_ticket.specs.declared.outcome.Ending.TheVariants.{GivenUp}
+use Rattle.server_core.specs.Headline.{TakesRx1, IsOfItsUplink, KeepsHeadline}
+use Rattle.server_core.specs.BookCalls.{IsTicketIn, IsStubIn, BookCallsAreSteps}
+use Rattle.server_core.proofs.Headlines.{every_run_keeps_headline}
+use Rattle.server_core.proofs.WorkedInputs.{settings, limits, device, kept_copy, both_copies, gathering, uplink}
+use Rattle.server_core.proofs.WorkedRun.{job_1, gateway_1, gateway_3, w3, w4, w17, taken_4, steps, after, whole_run}
+use Rattle.server_core.proofs.WorkedPromise.{are, first_held, second_held, third_held, one_of_one, one_of_two}
+
+module _ (kept : KeepsHeadline settings after) where
+  disjoint : second_held.member.start + airtime_of second_held.member.rate second_held.member.len ≤ third_held.member.start
+  disjoint = elim (kept.disjoint 1 0 1 gateway_3 second_held.member third_held.member refl second_held.there third_held.there
+      (λ e. absurd (omega (arith, e))))
+      [ inl e ↦ e | inr e ↦ absurd (omega (arith, e, second_held.asked.start, third_held.asked.start)) ]
+
+  hour_kept : begun M 10000000 3610000000 gateway_3.state.list ≤ 36000000
+  hour_kept = kept.hour 1 gateway_3 refl M 10000000
+
+  numbers_differ : first_held.member.number ≡ second_held.member.number → ⊥
+  numbers_differ e =
+      let same = (kept.once 0 1 0 0 gateway_1 gateway_3 first_held.member second_held.member refl first_held.there refl
+      second_held.there e).0 in
+      absurd (omega (arith, same))
+
+  own : IsOfItsUplink settings w17.reg.gathered.list gateway_3 second_held.member
+  own = kept.own 1 0 gateway_3 second_held.member refl second_held.there
+
+  its_uplink : own.uplink ≡ gathering (uplink 1) 300000 both_copies true
+  its_uplink = some_inj (sym own.its_own ∙ ap (λ n. numbered n w17.reg.gathered.list) second_held.asked.number)
+
+  its_copy : own.copy ≡ kept_copy 2 9000000 50
+  its_copy =
+      let heard : Contains both_copies own.copy = subst (λ (g : Gathering). Contains g.copies own.copy) its_uplink own.copied in
+      elim (one_of_two (kept_copy 1 5000000 55) (kept_copy 2 9000000 50) own.copy heard)
+      [ inl e ↦ absurd (omega (arith, ap (λ (c : HeardCopy). c.gateway) e, own.heard)) | inr e ↦ e ]
+
+  its_device : own.device ≡ device
+  its_device = one_of_one device own.device own.set
+
+  -- it takes RX1 of that copy, and not RX2
+  its_window : TakesRx1 device (kept_copy 2 9000000 50) second_held.member
+  its_window = elim (rw (its_copy, its_device) at own.window)
+      [ inl e ↦ e | inr e ↦ absurd (omega (arith, e.start, second_held.asked.start)) ]
+
+pub headline_run : KeepsHeadline settings after
+headline_run = subst (KeepsHeadline settings) whole_run (every_run_keeps_headline settings are limits steps)
+
+-- the first ticket, had it been given up
+module _ {A : Type 0} (calls : BookCallsAreSteps A) where
+  stands : IsTicketIn w4 (record { job = job_1; at = 0 })
+  stands = rw taken_4 at (calls.taken w3 1 job_1 (rw taken_4 refl))
+
+  given_up : IsStubIn w4 (record { number = 1; result = GivenUp })
+  given_up = calls.give_up w4 (record { job = job_1; at = 0 }) stands
+
+  settled : desk_of (step w4 (Settle 1)).0 ≡ (let d : DeskView = record (desk_of w4) { known = Done None ∷ [] } in d)
+  settled = (calls.settle w4 (record { number = 1; result = GivenUp }) given_up).desk
