@@ -99,7 +99,7 @@ sent_is : (w : World) (n : ℕ) (o : Option Answer) → cancel_of w n o ≡ canc
 sent_is w n None = refl
 sent_is w n (Some answer) = refl
 
-cancel_is : (w : World) (n : ℕ) (o : Option Sent) → sent_at w n ≡ o → step w (Cancel n) ≡ cancel_sent w n o
+pub cancel_is : (w : World) (n : ℕ) (o : Option Sent) → sent_at w n ≡ o → step w (Cancel n) ≡ cancel_sent w n o
 unfolding step
 cancel_is w n o e = sent_is w n (numbered n w.answers) ∙ ap (cancel_sent w n) e
 

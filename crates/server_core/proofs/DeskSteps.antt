@@ -23,7 +23,7 @@ by_option P (Some x) n s = s x refl
 
 module _ (w : World) (P : After → Type 0) where
   -- by the gateway with this id
-  gateway_walk : (id : ℕ) (Q : Option (ℕ × Gateway) → Type 0) → Q None
+  pub gateway_walk : (id : ℕ) (Q : Option (ℕ × Gateway) → Type 0) → Q None
       → ((i : ℕ) (g : Gateway) → slice_get w.gateways i ≡ Some g → g.id ≡ id → Q (Some (i, g))) → Q (gateway_with id w.gateways)
   gateway_walk id Q none there = by_option Q (gateway_with id w.gateways) (λ e. none) (λ found e.
       let f = found_there (λ (g : Gateway). g.id == id) w.gateways found e in

@@ -1,12 +1,14 @@
 -- What the headline and the law of book calls say of the worked run: each clause tells a fact.
 use Rattle.server_core.proofs.Words.{ap, arith, inl, inr, subst, sym, ◌∙◌, Contains, None, [], refl, true, ◌+◌, ◌≡◌, ◌≤◌, ◌∷◌}
 use Rattle.server_core.proofs.Words.{Gathering, HeardCopy, numbered, some_inj, desk_of, Done, DeskView, Settle, step}
+use Rattle.server_core.proofs.Words.{Try, Tick, opening, Standing, Outcome, GatewaySetting}
 use Rattle.radio_airtime.specs.TimeOnAir.{airtime_of}
 use Rattle.radio_bands.specs.declared.band.Band.TheVariants.{M}
 use Rattle.resv_list.specs.Reservations.{begun}
 use Rattle.answer_ticket.specs.declared.outcome.Ending.TheVariants.{GivenUp}
 use Rattle.server_core.specs.Headline.{TakesRx1, IsOfItsUplink, KeepsHeadline}
-use Rattle.server_core.specs.BookCalls.{IsTicketIn, IsStubIn, BookCallsAreSteps}
+use Rattle.server_core.specs.BookCalls.{IsBookAt, IsTicketIn, IsStubIn, BookCallsAreSteps}
+use Rattle.server_core.specs.Staying.{unused_book, OthersLeaveAlone}
 use Rattle.server_core.proofs.Headlines.{every_run_keeps_headline}
 use Rattle.server_core.proofs.WorkedInputs.{settings, limits, device, kept_copy, both_copies, gathering, uplink}
 use Rattle.server_core.proofs.WorkedRun.{job_1, gateway_1, gateway_3, w3, w4, w17, taken_4, steps, after, whole_run}
@@ -50,13 +52,33 @@ module _ (kept : KeepsHeadline settings after) where
 pub headline_run : KeepsHeadline settings after
 headline_run = subst (KeepsHeadline settings) whole_run (every_run_keeps_headline settings are limits steps)
 
--- the first ticket, had it been given up
-module _ {A : Type 0} (calls : BookCallsAreSteps A) where
-  stands : IsTicketIn w4 (record { job = job_1; at = 0 })
+-- the first ticket, had it been given up after a try of another number and a tick at the other gateway
+module _ {A : Type 0} (calls : BookCallsAreSteps A) (alone : OthersLeaveAlone) where
+  abbrev first_ticket : Standing
+  first_ticket = record { job = job_1; at = 0 }
+
+  stands : IsTicketIn w4 first_ticket
   stands = rw taken_4 at (calls.taken w3 1 job_1 (rw taken_4 refl))
 
-  given_up : IsStubIn w4 (record { number = 1; result = GivenUp })
-  given_up = calls.give_up w4 (record { job = job_1; at = 0 }) stands
+  still_stands : IsTicketIn (step w4 (Try 2)).0 first_ticket
+  still_stands = alone.ticket w4 (Try 2) first_ticket stands refl
+
+  abbrev given_up : Outcome
+  given_up = record { number = 1; result = GivenUp }
+
+  still_out : IsStubIn (step w4 (Tick 2 7)).0 given_up
+  still_out = alone.stub w4 (Tick 2 7) given_up (calls.give_up w4 first_ticket stands) refl
 
   settled : desk_of (step w4 (Settle 1)).0 ≡ (let d : DeskView = record (desk_of w4) { known = Done None ∷ [] } in d)
-  settled = (calls.settle w4 (record { number = 1; result = GivenUp }) given_up).desk
+  settled = (calls.settle w4 given_up (calls.give_up w4 first_ticket stands)).desk
+
+  -- the first gateway's book, before the first step and after a tick at the other gateway
+  abbrev first_gateway : GatewaySetting
+  first_gateway = record { id = 1; cap = 4096 }
+
+  opened : IsBookAt 1 0 (opening settings limits).gateways (unused_book first_gateway)
+  opened = alone.opened settings are limits 0 first_gateway refl
+
+  still_kept : IsBookAt 1 0 (step (opening settings limits) (Tick 2 7)).0.gateways (unused_book first_gateway)
+  still_kept = alone.book (opening settings limits) (Tick 2 7) 1 0 (unused_book first_gateway) opened
+      (λ e. absurd (omega (arith, some_inj e)))

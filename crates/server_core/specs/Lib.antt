@@ -2,6 +2,7 @@ pub mod Steps
 pub mod Promise
 pub mod DeskCalls
 pub mod BookCalls
+pub mod Staying
 pub mod Headline
 pub mod Schedule
 pub mod Entries

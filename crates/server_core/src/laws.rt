@@ -4,6 +4,7 @@ ghost use Rattle.server_core.specs.BookCalls.{BookCallsAreSteps};
 ghost use Rattle.server_core.specs.DeskCalls.{DeskCallsAreSteps};
 ghost use Rattle.server_core.specs.Headline.{EveryRunKeepsHeadline};
 ghost use Rattle.server_core.specs.Promise.{EveryInterleavingIsSafe};
+ghost use Rattle.server_core.specs.Staying.{OthersLeaveAlone};
 
 use std::alloc::Allocator;
 
@@ -63,4 +64,12 @@ pub fn law_book_calls_are_steps<A: Allocator>()
 /// gathered uplink with its number, on the gateway that heard this copy. The statement says so with no other words than these.
 pub fn law_every_run_keeps_headline()
     ensures { EveryRunKeepsHeadline }
+{}
+
+/// What is out stays that of the system through the steps of others, so that calls in any order are the steps of one run: before
+/// the first step the empty book of each gateway of the settings is the system's; a ticket or a stub stays that of its number's
+/// answer through every step but a try and the settling of this number; and a gateway's book stays that gateway's through every
+/// step that asks for no book or for another gateway's.
+pub fn law_others_leave_alone()
+    ensures { OthersLeaveAlone }
 {}
