@@ -221,7 +221,8 @@ module _ {A : Type 0} (n : ℕ) (old new : Seen A) (ready : IsBetweenCalls old) 
             desk = cc;
             steps = cc;
             outcomes = cc;
-            books = rw is (map_set (λ (x : Book). x.id) old.books i book after b.there (same_book n sent.start book after result call).0);
+            books = rw is (map_set (λ (x : Book). x.id) old.books i book after b.there
+                (same_book n sent.start book after result call).0);
             kept = λ w at. rw is (books_stepped w (Cancel n) sent.gateway i w.answers after _ old.books at.books (stepped w at));
             reply = λ w at. rw (stepped w at).after refl;
           }

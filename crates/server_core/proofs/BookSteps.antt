@@ -163,7 +163,8 @@ module _ (w : World) (t : Standing) (out : IsTicketIn w t) (id at : ℕ) (old : 
       let k = b.keeps in
       rw (← k.rules) (sym (remembers_answer old b.gateway.state k.orderly k.remembers (ask_for t.job c)) ∙ e)
 
-  pub try_is : (o : Option Refusal) → refusal_by old t.job c ≡ o → step w (Try number) ≡ tried_by w number t.at t.job c (at, b.gateway) o
+  pub try_is : (o : Option Refusal) → refusal_by old t.job c ≡ o
+      → step w (Try number) ≡ tried_by w number t.at t.job c (at, b.gateway) o
   unfolding step
   try_is o e = rw (out, stands, found_for, answer_is o e) refl
 
@@ -172,7 +173,8 @@ module _ (w : World) (t : Standing) (out : IsTicketIn w t) (id at : ℕ) (old : 
   answer_there answer new refusal s = rw s.after (numbered-here (λ a. answer) number w.answers (Open t.at t.job) out)
 
   stub_left : (answer : Answer) (new : Book) (refusal : Option Refusal) (ending : Ending) → ending_of answer ≡ Some ending
-      → (s : IsTryStep w number id at answer new refusal) → IsTrue (is_here (map (λ g. g.id) (slice_set w.gateways at s.gateway)) ending)
+      → (s : IsTryStep w number id at answer new refusal)
+      → IsTrue (is_here (map (λ g. g.id) (slice_set w.gateways at s.gateway)) ending)
       → LeavesStub w number id at (record { number = number; result = ending }) new refusal
   stub_left answer new refusal ending e s here =
       record {
@@ -185,7 +187,8 @@ module _ (w : World) (t : Standing) (out : IsTicketIn w t) (id at : ℕ) (old : 
   refused_step : (refusal : Refusal) (answer : Answer) → refusal_by old t.job c ≡ Some refusal
       → refused t.at t.job refusal (candidate_of (next_of t)) ≡ answer → IsTryStep w number id at answer old (Some refusal)
   refused_step refusal answer e is =
-      stepped w id at old b (Try number) (rewritten (λ a. answer) number w.answers) old (replies.Tried (Some (Some refusal))) b.gateway refl
+      stepped w id at old b (Try number) (rewritten (λ a. answer) number w.answers) old
+      (replies.Tried (Some (Some refusal))) b.gateway refl
       b.keeps (try_is (Some refusal) e ∙ rw (is, set_same w.gateways at b.gateway (there w id at old b).0) refl)
 
   -- it is refused, and another follows
@@ -219,7 +222,8 @@ module _ (w : World) (t : Standing) (out : IsTicketIn w t) (id at : ℕ) (old : 
         remembers_booked old s k.orderly k.remembers ask r a e,
       )) in
       let answer : Answer = Booked (sent_by t.job c) c.window c.carries in
-      let made : IsTryStep w number id at answer new None = stepped w id at old b (Try number) (rewritten (λ x. answer) number w.answers) new
+      let made : IsTryStep w number id at answer new None =
+      stepped w id at old b (Try number) (rewritten (λ x. answer) number w.answers) new
       (replies.Tried (Some None)) v refl keeps (try_is None e) in
       stub_left answer new None (answered_as c) refl made
       (ap (is_among (map (λ y. y.id) (slice_set w.gateways at made.gateway))) gateway_is

@@ -1,5 +1,6 @@
 -- The headline follows from what is promised of every run.
-use Rattle.server_core.proofs.Words.{ap, inl, inr, subst, sym, ◌∙◌, Contains, List, Some, ◌≡◌, ◌⊎◌, Reservation, IsAsked, HeardCopy}
+use Rattle.server_core.proofs.Words.{ap, inl, inr, subst, sym, ◌∙◌, Contains, List, Some, ◌≡◌, ◌⊎◌}
+use Rattle.server_core.proofs.Words.{Reservation, IsAsked, HeardCopy}
 use Rattle.server_core.proofs.Words.{Candidate, Job, ask_for, Gateway, SettingLists, Device, Run, IsSafe}
 use Rattle.server_core.proofs.Words.{IsOwnWindow, plan_for, map, get_contains, map_there}
 use Rattle.std.proofs.lemmas.Option.{slice_get-get_or}
@@ -13,7 +14,8 @@ contains_map f xs x c =
     (map_there f xs c.0 x (slice_get-get_or xs c.0 x c.1 ∙ ap (λ y. Some y) c.2))
 
 -- what a candidate that is a window of the copy asks for takes that window
-module _ (device : Device) (job : Job) (copy : HeardCopy) (c : Candidate) (a : Reservation) (asked : IsAsked (ask_for job c) a) where
+module _ (device : Device) (job : Job) (copy : HeardCopy) (c : Candidate) (a : Reservation)
+    (asked : IsAsked (ask_for job c) a) where
   takes : (c ≡ rx1_of (plan_for device.setting job.body) copy) ⊎ (c ≡ rx2_of (plan_for device.setting job.body) copy)
       → TakesRx1 device.setting copy a ⊎ TakesRx2 device.setting copy a
   takes (inl e) = inl (record {

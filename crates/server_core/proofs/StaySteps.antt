@@ -1,6 +1,8 @@
 -- What is out stays that of the world through the steps of others.
-use Rattle.server_core.proofs.Words.{ap, sym, true≢false, ◌∙◌, AllPairs, Bool, Err, List, None, Ok, Option, Result, Some, [], false}
-use Rattle.server_core.proofs.Words.{if◌then◌else◌, map, option_and_then, option_map, refl, slice_get, slice_set, suc, true, zero, ℕ}
+use Rattle.server_core.proofs.Words.{ap, sym, true≢false, ◌∙◌, AllPairs, Bool, Err, List, None, Ok}
+use Rattle.server_core.proofs.Words.{Option, Result, Some, [], false}
+use Rattle.server_core.proofs.Words.{if◌then◌else◌, map, option_and_then, option_map, refl}
+use Rattle.server_core.proofs.Words.{slice_get, slice_set, suc, true, zero, ℕ}
 use Rattle.server_core.proofs.Words.{◌==◌, ◌∷◌, ◌≡◌, ◌≢◌, inl, inr, remembers_own, Refusal, orderly_nil, AllPairs-head}
 use Rattle.server_core.proofs.Words.{AllPairs-tail, numbered, rewritten, Candidate, Job, Ending, Outcome, Answer, Waiting}
 use Rattle.server_core.proofs.Words.{Open, is_given, known_of, Decision, Join, Refuse, all_get, next_place, numbered-append}
@@ -15,7 +17,8 @@ use Rattle.server_desk.specs.Answers as answers
 use Rattle.server_core.specs.BookCalls.{IsStubIn, sent_at}
 use Rattle.server_core.specs.Staying.{spends, gateway_asked, unused_book, OthersLeaveAlone}
 use Rattle.server_core.proofs.Members.{equal_where_tested}
-use Rattle.server_core.proofs.DeskSteps.{by_option, gateway_walk, tick_walk, cancel_walk, try_walk, settle_walk, desk_calls_are_steps}
+use Rattle.server_core.proofs.DeskSteps.{by_option, gateway_walk, tick_walk, cancel_walk, try_walk}
+use Rattle.server_core.proofs.DeskSteps.{settle_walk, desk_calls_are_steps}
 use Rattle.server_core.proofs.TakeStep.{ticket, still_waits}
 use Rattle.server_core.proofs.BookSteps.{cancel_is}
 
@@ -69,7 +72,8 @@ unfolding step
 ids_stay w (Queue addr payload) = refl
 ids_stay w (Hear bytes heard arrived) = refl
 ids_stay w (Pass now) = refl
-ids_stay w (Take m) = elim (take_answer w.reg (known w) m) as (λ r. ids (take_by w m r).0 ≡ ids w) [ Ok job ↦ refl | Err fault ↦ refl ]
+ids_stay w (Take m) = elim (take_answer w.reg (known w) m) as (λ r. ids (take_by w m r).0 ≡ ids w)
+    [ Ok job ↦ refl | Err fault ↦ refl ]
 ids_stay w (Settle m) = settle_walk w (λ x. ids x.0 ≡ ids w) m (λ f. refl) (λ answer ending e f told. refl)
 ids_stay w (Try m) = ap (λ d. d.ids) (desk_calls_are_steps.try w m)
 ids_stay w (Cancel m) = ap (λ d. d.ids) (desk_calls_are_steps.cancel w m)

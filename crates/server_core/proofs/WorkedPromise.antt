@@ -29,7 +29,8 @@ are =
     record {
       gateway_count = omega arith;
       device_count = omega arith;
-      gateways_in_range = All-cons IsGatewayInRange one (two ∷ []) g (All-cons IsGatewayInRange two [] h (All-nil IsGatewayInRange));
+      gateways_in_range = All-cons IsGatewayInRange one (two ∷ []) g
+          (All-cons IsGatewayInRange two [] h (All-nil IsGatewayInRange));
       ids_differ = AllPairs-cons (λ a b. a.id ≢ b.id) one (two ∷ [])
           (All-cons (λ b. one.id ≢ b.id) two [] (λ e. absurd (omega (arith, e))) (All-nil (λ b. one.id ≢ b.id)))
           (λ i j x l m. absurd (omega arith));
@@ -165,16 +166,19 @@ module _ (safe : IsSafe settings after) where
 
   its_plan : own.job.plan ≡ job_2.plan
   its_plan =
-      own.plan ∙ ap (λ (d : Device). plan_for d.setting own.job.body) its_device ∙ ap (λ (j : Job). plan_for device j.body) its_job
+      own.plan ∙ ap (λ (d : Device). plan_for d.setting own.job.body) its_device
+      ∙ ap (λ (j : Job). plan_for device j.body) its_job
 
   -- the two tickets answer different uplinks, and have different counters
   tickets_differ : job_1.number ≢ job_2.number
-  tickets_differ = All-head (λ b. job_1.number ≢ b.number) job_2 (job_3 ∷ []) (AllPairs-head (λ a b. a.number ≢ b.number) job_1 (job_2 ∷ job_3 ∷ [])
-      safe.tickets)
+  tickets_differ =
+      All-head (λ b. job_1.number ≢ b.number) job_2 (job_3 ∷ [])
+      (AllPairs-head (λ a b. a.number ≢ b.number) job_1 (job_2 ∷ job_3 ∷ []) safe.tickets)
 
   counters_differ : job_1.counter ≢ job_2.counter
   counters_differ =
-      All-head (HaveOwnCounters job_1) job_2 (job_3 ∷ []) (AllPairs-head HaveOwnCounters job_1 (job_2 ∷ job_3 ∷ []) safe.counters) refl
+      All-head (HaveOwnCounters job_1) job_2 (job_3 ∷ [])
+      (AllPairs-head HaveOwnCounters job_1 (job_2 ∷ job_3 ∷ []) safe.counters) refl
 
 pub safe_run : IsSafe settings after
 safe_run = subst (IsSafe settings) whole_run (every_interleaving_is_safe settings are limits steps)

@@ -3,7 +3,8 @@
 -- the answer to the third, which this one alone hears. From there on, two of the three are cancelled. Each step computes.
 use Rattle.server_core.proofs.Words.{true, false, Bool, List, [], ◌∷◌, ◌++◌, Asked, ℕ, ◌≡◌, Some, None, Ok, refl}
 use Rattle.server_core.proofs.Words.{Gathering, Job, Answer, Waiting, Open, Booked, Settled, Gateway, World, Step, Reply, Hear}
-use Rattle.server_core.proofs.Words.{Pass, Take, Settle, Try, Cancel, opening, step, decide, due_of, take_answer, Run, run, run_from}
+use Rattle.server_core.proofs.Words.{Pass, Take, Settle, Try, Cancel, opening, step, decide, due_of, take_answer}
+use Rattle.server_core.proofs.Words.{Run, run, run_from}
 use Rattle.radio_airtime.specs.TimeOnAir.{airtime_of}
 use Rattle.radio_bands.specs.Band.{band_of}
 use Rattle.resv_list.specs.Reservations.{begun}
@@ -18,7 +19,8 @@ use Rattle.rx_windows.specs.declared.candidate.Window.TheVariants.{Rx1}
 use Rattle.server_desk.specs.declared.heard.DeskHeard.TheVariants.{Opened, Joined}
 use Rattle.server_core.specs.Steps as replies
 use Rattle.server_core.proofs.WorkedInputs.{settings, limits, uplink, bytes_same, has_its_mic, copy_at, device_at, asked}
-use Rattle.server_core.proofs.WorkedInputs.{gateway_at, unused, kept_copy, world, job, both_copies, sent_at, answered_at, with_booked}
+use Rattle.server_core.proofs.WorkedInputs.{gateway_at, unused, kept_copy, world, job, both_copies, sent_at}
+use Rattle.server_core.proofs.WorkedInputs.{answered_at, with_booked}
 use Rattle.server_core.proofs.WorkedInputs.{gathering}
 
 abbrev first : List ℕ
@@ -104,7 +106,8 @@ unfolding step decide newest band_of
 heard_7 = rw (has_its_mic 1) refl
 
 abbrev w8 : World
-w8 = world (device_at (Some 1) 1) (done ∷ gathering second 300000 both_copies false ∷ []) (asked ∷ asked ∷ []) (then_second Waiting)
+w8 = world (device_at (Some 1) 1) (done ∷ gathering second 300000 both_copies false ∷ []) (asked ∷ asked ∷ [])
+    (then_second Waiting)
     one_booked
 
 heard_8 : step w7 (Hear second (copy_at 2 9000000 50) 300100) ≡ (w8, replies.Heard (Ok (Joined 2 2)))
