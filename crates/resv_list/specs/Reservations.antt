@@ -24,6 +24,10 @@ end_of r = end_at r.start r.rate r.len
 abbrev pub is_in : Band → Reservation → Bool
 is_in band r = lies_in r.freq_hz r.rate band
 
+-- how long it is on air where its channel lies in the sub-band, and 0 where it doesn't
+abbrev pub airtime_in : Band → Reservation → ℕ
+airtime_in band r = if is_in band r then airtime_us r else 0
+
 -- the starts rise, and no two are the same
 abbrev pub IsByStart : List Reservation → Type 0
 IsByStart l = RisesFrom start_of 0 l

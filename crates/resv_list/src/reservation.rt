@@ -27,6 +27,8 @@ pub struct Reservation {
 pub const LAST_END: u64 = 1 << 61;
 
 impl Reservation {
+    ghost use Rattle.resv_list.specs.Reservations.{airtime_in};
+
     /// The reservation with these fields, or `None` where they are not fit.
     pub fn new(number: u64, start: u64, freq_hz: u32, rate: DataRate, len: u8) -> Option<Self>
         ensures fit { IsSome result ↔ IsFit start freq_hz rate len }
@@ -58,6 +60,18 @@ impl Reservation {
         ensures short { result < 10000000 }
     {
         airtime(self.rate, self.len)
+    }
+
+    /// Its time on air, in microseconds, where its channel lies in the sub-band, and 0 where it doesn't.
+    pub fn airtime_in(&self, band: Band) -> u64
+        ensures value { result ≡ airtime_in band self.now }
+        ensures short { result < 10000000 }
+    {
+        if band.holds(self.freq_hz, self.rate) {
+            self.airtime()
+        } else {
+            0
+        }
     }
 
     /// When it ends, in microseconds of the gateway's clock.

@@ -1,10 +1,8 @@
 ghost use Rattle.std.specs.Prelude.{◌≡◌, ◌≤◌, [], ◌<◌, length, insert, remove, nat_lt, slice_get, vec_len, MatchOption, IfSome};
-ghost use Rattle.std.specs.Prelude.{if◌then◌else◌};
 ghost use Rattle.resv_list.specs.declared.reservation.Reservation.{Reservation as Member};
 ghost use Rattle.resv_list.specs.declared.roster.TheConstants.{MAX_MEMBERS};
 ghost use Rattle.resv_list.specs.Sorted.{IsCut, RisesFrom, RisesFrom-prop};
 ghost use Rattle.resv_list.specs.Reservations.{start_of, IsByStart, place, member_before, member_from, member_at, without, begun};
-ghost use Rattle.resv_list.specs.Reservations.{is_in, airtime_us};
 
 use crate::{MAX_MEMBERS, Reservation, Roster, RosterFault};
 use radio_bands::Band;
@@ -143,19 +141,7 @@ fn begun_before(members: &[Reservation], band: Band, from: u64, to: u64) -> u64
         if member.start >= to {
             return sum;
         }
-        sum += airtime_in(member, band);
+        sum += member.airtime_in(band);
     }
     sum
-}
-
-/// The airtime of a member of the band, and 0 of one of another.
-fn airtime_in(member: &Reservation, band: Band) -> u64
-    ensures value { result ≡ (if is_in band member.now then airtime_us member.now else 0) }
-    ensures short { result < 10000000 }
-{
-    if band.holds(member.freq_hz, member.rate) {
-        member.airtime()
-    } else {
-        0
-    }
 }
