@@ -1,0 +1,6 @@
+pub mod ShapeLemmas
+pub mod SplitLemmas
+pub mod TreeLemmas
+pub mod NearLemmas
+pub mod SumLemmas
+pub mod HeightLemmas

@@ -1,0 +1,151 @@
+use Rattle.std.specs.Prelude.{ℕ, ◌≡◌, ◌+◌, ◌-◌, ◌<◌, ◌≤◌, nat_lt, nat_le, Bool, true, false, ◌&&◌, List, [], ◌∷◌, ◌++◌, cond}
+use Rattle.std.proofs.Common.{refl, arith, ◌∙◌, sym}
+use Rattle.std.proofs.lemmas.Bool.{le-leb, ltb-true, ltb-false}
+use Rattle.radio_bands.specs.declared.band.Band.{Band}
+use Rattle.resv_list.specs.declared.reservation.Reservation.{Reservation}
+use Rattle.resv_list.specs.Sorted.{RisesFrom}
+use Rattle.resv_list.specs.Reservations.{start_of, is_in, airtime_us, airtime_in, share, begun}
+use Rattle.resv_list.specs.Begun.{begun-cons, begun-nil}
+use Rattle.resv_list.proofs.BegunLemmas.{share_before, share_after, share_within, begun_late}
+use Rattle.resv_tree.specs.Sums.{total_in}
+use Rattle.resv_tree.specs.Shape.{Shape, Leaf, Fork, entries, kept_sum, IsWhole}
+use Rattle.resv_tree.proofs.SplitLemmas.{middle_from}
+
+-- Sums of airtime.
+
+pub total_in-nil : (band : Band) → total_in band [] ≡ 0
+unfolding total_in
+total_in-nil band = refl
+
+pub total_in-cons : (band : Band) (r : Reservation) (rs : List Reservation)
+    → total_in band (r ∷ rs) ≡ airtime_in band r + total_in band rs
+unfolding total_in
+total_in-cons band r rs = refl
+
+total_in-append : (band : Band) (ls rs : List Reservation) → total_in band (ls ++ rs) ≡ total_in band ls + total_in band rs
+total_in-append band [] rs = omega (arith, total_in-nil band)
+total_in-append band (x ∷ ls) rs =
+    omega (arith, total_in-append band ls rs, total_in-cons band x ls, total_in-cons band x (ls ++ rs))
+
+-- the sum that a whole tree keeps is that of its members
+pub kept_sum-total : (t : Shape) (band : Band) → IsWhole t → kept_sum t band ≡ total_in band (entries t)
+kept_sum-total Leaf band w = sym (total_in-nil band)
+kept_sum-total (Fork l e r h n s) band w =
+    omega (
+      arith,
+      w.2.sums band,
+      kept_sum-total l band w.0,
+      kept_sum-total r band w.1,
+      total_in-append band (entries l) (e ∷ entries r),
+      total_in-cons band e (entries r),
+    )
+
+-- what begins before a moment is no more than all
+pub begun_le-total : (band : Band) (to : ℕ) (l : List Reservation) → begun band 0 to l ≤ total_in band l
+begun_le-total band to [] = omega (arith, begun-nil band 0 to)
+begun_le-total band to (r ∷ rs) =
+    omega (
+      arith,
+      part (is_in band r) (nat_lt r.start to),
+      begun-cons band 0 to r rs,
+      total_in-cons band r rs,
+      begun_le-total band to rs,
+    )
+  where
+    part : (p q : Bool) → cond (p && nat_le 0 r.start && q) (airtime_us r) 0 ≤ cond p (airtime_us r) 0
+    part true true = rw (le-leb 0 r.start (omega arith)) (omega arith)
+    part true false = rw (le-leb 0 r.start (omega arith)) (omega arith)
+    part false q = omega arith
+
+-- where the one between begins before the moment, all to the left do
+pub begun_right : (band : Band) (low to : ℕ) (ls : List Reservation) (x : Reservation) (rs : List Reservation)
+    → RisesFrom start_of low (ls ++ x ∷ rs) → x.start < to
+    → begun band 0 to (ls ++ x ∷ rs) ≡ total_in band ls + airtime_in band x + begun band 0 to rs
+begun_right band low to [] x rs r h =
+    omega (arith, begun-cons band 0 to x rs, share_within band 0 to x (omega arith) h, total_in-nil band)
+begun_right band low to (y ∷ ls) x rs r h =
+    let m = middle_from start_of (y.start + 1) ls x rs r.1 in
+    omega (
+      arith,
+      begun-cons band 0 to y (ls ++ x ∷ rs),
+      share_within band 0 to y (omega arith) (omega arith),
+      total_in-cons band y ls,
+      begun_right band (y.start + 1) to ls x rs r.1 h,
+    )
+
+-- and where it doesn't, nothing to the right does
+pub begun_left : (band : Band) (low to : ℕ) (ls : List Reservation) (x : Reservation) (rs : List Reservation)
+    → RisesFrom start_of low (ls ++ x ∷ rs) → to ≤ x.start → begun band 0 to (ls ++ x ∷ rs) ≡ begun band 0 to ls
+begun_left band low to [] x rs r h =
+    begun_late band 0 to x.start (x ∷ rs) h (omega arith, r.1) ∙ sym (begun-nil band 0 to)
+begun_left band low to (y ∷ ls) x rs r h =
+    omega (
+      arith,
+      begun-cons band 0 to y (ls ++ x ∷ rs),
+      begun-cons band 0 to y ls,
+      begun_left band (y.start + 1) to ls x rs r.1 h,
+    )
+
+-- what begins in a stretch begins before its end and not before its beginning
+share_between : (band : Band) (from to : ℕ) (r : Reservation) → from ≤ to
+    → share band from to r + share band 0 from r ≡ share band 0 to r
+share_between band from to r h = by (nat_lt r.start from) (nat_lt r.start to) refl refl
+  where
+    by : (s t : Bool) → nat_lt r.start from ≡ s → nat_lt r.start to ≡ t
+        → share band from to r + share band 0 from r ≡ share band 0 to r
+    by true true s t = omega (
+      arith,
+      share_before band from to r (ltb-true r.start from s),
+      share_within band 0 from r (omega arith) (ltb-true r.start from s),
+      share_within band 0 to r (omega arith) (ltb-true r.start to t),
+    )
+    by true false s t = absurd (omega (arith, h, ltb-true r.start from s, ltb-false r.start to t))
+    by false true s t = omega (
+      arith,
+      share_within band from to r (ltb-false r.start from s) (ltb-true r.start to t),
+      share_after band 0 from r (ltb-false r.start from s),
+      share_within band 0 to r (omega arith) (ltb-true r.start to t),
+    )
+    by false false s t = omega (
+      arith,
+      share_after band from to r (ltb-false r.start to t),
+      share_after band 0 from r (ltb-false r.start from s),
+      share_after band 0 to r (ltb-false r.start to t),
+    )
+
+pub begun_between : (band : Band) (from to : ℕ) (l : List Reservation) → from ≤ to
+    → begun band from to l + begun band 0 from l ≡ begun band 0 to l
+begun_between band from to [] h = omega (arith, begun-nil band from to, begun-nil band 0 from, begun-nil band 0 to)
+begun_between band from to (r ∷ rs) h =
+    omega (
+      arith,
+      begun-cons band from to r rs,
+      begun-cons band 0 from r rs,
+      begun-cons band 0 to r rs,
+      share_between band from to r h,
+      begun_between band from to rs h,
+    )
+
+share_reversed : (band : Band) (from to : ℕ) (r : Reservation) → to ≤ from → share band from to r ≡ 0
+share_reversed band from to r h = by (nat_lt r.start to) refl
+  where
+    by : (t : Bool) → nat_lt r.start to ≡ t → share band from to r ≡ 0
+    by true t = share_before band from to r (omega (arith, h, ltb-true r.start to t))
+    by false t = share_after band from to r (ltb-false r.start to t)
+
+-- nothing begins in a stretch that ends before it begins
+pub begun_reversed : (band : Band) (from to : ℕ) (l : List Reservation) → to ≤ from → begun band from to l ≡ 0
+begun_reversed band from to [] h = begun-nil band from to
+begun_reversed band from to (r ∷ rs) h =
+    omega (arith, begun-cons band from to r rs, share_reversed band from to r h, begun_reversed band from to rs h)
+
+-- so what begins in a stretch is a difference
+pub begun_difference : (band : Band) (from to : ℕ) (l : List Reservation)
+    → begun band 0 to l - begun band 0 from l ≡ begun band from to l
+begun_difference band from to l = by (nat_lt to from) refl
+  where
+    by : (t : Bool) → nat_lt to from ≡ t → begun band 0 to l - begun band 0 from l ≡ begun band from to l
+    by true t =
+        let h = ltb-true to from t in
+        omega (arith, begun_between band to from l (omega arith), begun_reversed band from to l (omega arith))
+    by false t = omega (arith, begun_between band from to l (ltb-false to from t))

@@ -1,0 +1,108 @@
+use Rattle.std.specs.Prelude.{ℕ, ◌≡◌, ◌+◌, ◌*◌, ◌<◌, ◌≤◌, ◌∷◌, ◌++◌, List, Some}
+use Rattle.std.specs.Option.{option_or}
+use Rattle.std.proofs.Common.{subst, sym, ◌∙◌, ap, arith}
+use Rattle.radio_bands.specs.declared.band.Band.{Band}
+use Rattle.resv_list.specs.Reservations.{begun, airtime_in, start_of, place, member_at, without, IsFree, IsByStart}
+use Rattle.resv_list.specs.declared.reservation.Reservation.{Reservation}
+use Rattle.resv_list.specs.Sorted.{place_by, last_below, first_from}
+use Rattle.resv_list.proofs.SortedLaws.{RisesFrom-place_by, RisesFrom-filter}
+use Rattle.resv_tree.specs.Entries.{Entry, key_of, IsByKey}
+use Rattle.resv_tree.specs.Shape.{Shape, entries, kept_sum, count_of, IsWhole}
+use Rattle.resv_tree.specs.Parts.{IsMadeOf}
+use Rattle.resv_tree.proofs.SplitLemmas.{rises_left, rises_right, place_left, place_right, at_left, at_right, at_middle}
+use Rattle.resv_tree.proofs.NearLemmas.{last_left, last_right, first_left, first_right}
+use Rattle.resv_tree.proofs.SumLemmas.{begun_left, begun_right, kept_sum-total, begun_le-total}
+use Rattle.resv_tree.proofs.ShapeLemmas.{count_bounds_sum}
+use Rattle.resv_tree.proofs.HeightLemmas.{counts}
+
+-- A call on a tree against the same call on one of its sides.
+
+module _ {t l r : Shape} {e : Entry} where
+  pub left_by_key : IsMadeOf t l e r → IsByKey (entries t) → IsByKey (entries l)
+  left_by_key m b = rises_left key_of 0 _ _ _ (subst IsByKey m.entries b)
+
+  pub right_by_key : IsMadeOf t l e r → IsByKey (entries t) → IsByKey (entries r)
+  right_by_key m b = rises_right key_of 0 _ _ _ (subst IsByKey m.entries b)
+
+  pub placed_left : (x : Entry) → IsMadeOf t l e r → key_of x ≤ key_of e
+      → place_by key_of x (entries t) ≡ place_by key_of x (entries l) ++ e ∷ entries r
+  placed_left x m h = ap (place_by key_of x) m.entries ∙ place_left key_of x _ _ _ h
+
+  pub placed_right : (x : Entry) → IsMadeOf t l e r → IsByKey (entries t) → key_of e < key_of x
+      → place_by key_of x (entries t) ≡ entries l ++ e ∷ place_by key_of x (entries r)
+  placed_right x m b h = ap (place_by key_of x) m.entries ∙ place_right key_of 0 x _ _ _ (subst IsByKey m.entries b) h
+
+  pub found_left : (at : ℕ) → IsMadeOf t l e r → IsByKey (entries t) → at < key_of e
+      → member_at at (entries t) ≡ member_at at (entries l)
+  found_left at m b h = ap (member_at at) m.entries ∙ (at_left key_of 0 at _ _ _ (subst IsByKey m.entries b) h).0
+
+  pub found_right : (at : ℕ) → IsMadeOf t l e r → IsByKey (entries t) → key_of e < at
+      → member_at at (entries t) ≡ member_at at (entries r)
+  found_right at m b h = ap (member_at at) m.entries ∙ (at_right key_of 0 at _ _ _ (subst IsByKey m.entries b) h).0
+
+  pub found_middle : (at : ℕ) → IsMadeOf t l e r → IsByKey (entries t) → key_of e ≡ at → member_at at (entries t) ≡ Some e
+  found_middle at m b h = ap (member_at at) m.entries ∙ (at_middle key_of 0 at _ _ _ (subst IsByKey m.entries b) h).0
+
+  pub left_of_left : (at : ℕ) → IsMadeOf t l e r → IsByKey (entries t) → at < key_of e
+      → without at (entries t) ≡ without at (entries l) ++ e ∷ entries r
+  left_of_left at m b h = ap (without at) m.entries ∙ (at_left key_of 0 at _ _ _ (subst IsByKey m.entries b) h).1
+
+  pub left_of_right : (at : ℕ) → IsMadeOf t l e r → IsByKey (entries t) → key_of e < at
+      → without at (entries t) ≡ entries l ++ e ∷ without at (entries r)
+  left_of_right at m b h = ap (without at) m.entries ∙ (at_right key_of 0 at _ _ _ (subst IsByKey m.entries b) h).1
+
+  pub left_of_middle : (at : ℕ) → IsMadeOf t l e r → IsByKey (entries t) → key_of e ≡ at
+      → without at (entries t) ≡ entries l ++ entries r
+  left_of_middle at m b h = ap (without at) m.entries ∙ (at_middle key_of 0 at _ _ _ (subst IsByKey m.entries b) h).1
+
+  pub before_left : (k : ℕ) → IsMadeOf t l e r → IsByKey (entries t) → k ≤ key_of e
+      → last_below key_of k (entries t) ≡ last_below key_of k (entries l)
+  before_left k m b h = ap (last_below key_of k) m.entries ∙ last_left key_of 0 k _ _ _ (subst IsByKey m.entries b) h
+
+  pub before_right : (k : ℕ) → IsMadeOf t l e r → IsByKey (entries t) → key_of e < k
+      → last_below key_of k (entries t) ≡ option_or (last_below key_of k (entries r)) (Some e)
+  before_right k m b h = ap (last_below key_of k) m.entries ∙ last_right key_of 0 k _ _ _ (subst IsByKey m.entries b) h
+
+  pub from_left : (k : ℕ) → IsMadeOf t l e r → k ≤ key_of e
+      → first_from key_of k (entries t) ≡ option_or (first_from key_of k (entries l)) (Some e)
+  from_left k m h = ap (first_from key_of k) m.entries ∙ first_left key_of k _ _ _ h
+
+  pub from_right : (k : ℕ) → IsMadeOf t l e r → IsByKey (entries t) → key_of e < k
+      → first_from key_of k (entries t) ≡ first_from key_of k (entries r)
+  from_right k m b h = ap (first_from key_of k) m.entries ∙ first_right key_of 0 k _ _ _ (subst IsByKey m.entries b) h
+
+  pub spent_left : (band : Band) (to : ℕ) → IsMadeOf t l e r → IsByKey (entries t) → to ≤ key_of e
+      → begun band 0 to (entries t) ≡ begun band 0 to (entries l)
+  spent_left band to m b h = ap (begun band 0 to) m.entries ∙ begun_left band 0 to _ _ _ (subst IsByKey m.entries b) h
+
+  pub spent_right : (band : Band) (to : ℕ) → IsMadeOf t l e r → IsByKey (entries t) → key_of e < to
+      → begun band 0 to (entries t) ≡ kept_sum l band + airtime_in band e + begun band 0 to (entries r)
+  spent_right band to m b h =
+      let all = ap (begun band 0 to) m.entries ∙ begun_right band 0 to _ _ _ (subst IsByKey m.entries b) h in
+      omega (arith, all, kept_sum-total _ band m.left)
+
+-- what begins before a moment is bounded by the count
+pub spent_short : (t : Shape) (band : Band) (to : ℕ) → IsWhole t → begun band 0 to (entries t) ≤ 10000000 * count_of t
+spent_short t band to w =
+    omega (arith, count_bounds_sum t band w, kept_sum-total t band w, begun_le-total band to (entries t))
+
+-- the list stays by start
+pub placed_by_start : (r : Reservation) (l m : List Reservation) → m ≡ place r l → IsFree r.start l → IsByStart l → IsByStart m
+placed_by_start r l m e free b = subst IsByStart (sym e) (RisesFrom-place_by start_of 0 r l (omega arith) free b)
+
+pub without_by_start : (at : ℕ) (l m : List Reservation) → m ≡ without at l → IsByStart l → IsByStart m
+without_by_start at l m e b = subst IsByStart (sym e) (RisesFrom-filter start_of _ 0 l b)
+
+pub ruleset sides = (left_by_key, right_by_key)
+
+pub ruleset placing = (sides, placed_left, placed_right)
+
+pub ruleset removing = (sides, found_left, found_right, found_middle, left_of_left, left_of_right, left_of_middle)
+
+pub ruleset looking_before = (sides, before_left, before_right)
+
+pub ruleset looking_from = (sides, from_left, from_right)
+
+pub ruleset spending = (sides, spent_left, spent_right, spent_short, count_bounds_sum)
+
+pub ruleset staying = (counts, placed_by_start, without_by_start)

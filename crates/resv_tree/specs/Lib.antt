@@ -1,0 +1,4 @@
+pub mod Entries
+pub mod Sums
+pub mod Shape
+pub mod Parts

@@ -1,0 +1,22 @@
+use Rattle.std.specs.Prelude.{ℕ, ◌+◌, List, [], ◌∷◌}
+use Rattle.radio_bands.specs.declared.band.Band.{Band}
+use Rattle.radio_bands.specs.declared.band.Band.TheVariants.{K, L, M, N, P, Q}
+use Rattle.resv_list.specs.declared.reservation.Reservation.{Reservation}
+use Rattle.resv_list.specs.Reservations.{airtime_in}
+use Rattle.resv_tree.specs.declared.sums.Sums.{Sums}
+
+-- Airtime by sub-bands.
+
+-- the sum that is kept for a sub-band
+abbrev pub sum_in : Sums → Band → ℕ
+sum_in s K = s.k
+sum_in s L = s.l
+sum_in s M = s.m
+sum_in s N = s.n
+sum_in s P = s.p
+sum_in s Q = s.q
+
+-- the airtime of the members of the sub-band
+unfoldable pub total_in : Band → List Reservation → ℕ
+total_in band [] = 0
+total_in band (r ∷ rs) = airtime_in band r + total_in band rs

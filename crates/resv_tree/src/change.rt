@@ -1,0 +1,92 @@
+ghost use Rattle.std.specs.Prelude.{◌≡◌, ◌+◌, ◌≤◌, ◌<◌, ◌∷◌, [], ◌++◌};
+ghost use Rattle.resv_list.specs.Reservations.{member_at, without};
+ghost use Rattle.resv_list.specs.Sorted.{place_by};
+ghost use Rattle.resv_tree.specs.Entries.{key_of, IsByKey};
+ghost use Rattle.resv_tree.specs.Shape.{shape, shape_of, entry_of, entries, IsWhole, count_of};
+
+use crate::join::join;
+use crate::node::{Entry, Link, Node, fork, open};
+use resv_list::MAX_MEMBERS;
+use std::alloc::Allocator;
+
+/// The tree with one more node in its place.
+#[tactic(auto, using(crate::proofs::TreeLemmas::placing))]
+pub(crate) fn insert<A: Allocator + Clone>(link: Link<A>, node: Box<Node<A>, A>) -> Box<Node<A>, A>
+    requires whole { IsWhole (shape_of link) }
+    requires by_key { IsByKey (entries (shape_of link)) }
+    requires room { count_of (shape_of link) < MAX_MEMBERS }
+    ensures entries { entries (shape result.value) ≡ place_by key_of (entry_of node.value) (entries (shape_of link)) }
+    ensures count { count_of (shape result.value) ≡ count_of (shape_of link) + 1 }
+    ensures whole { IsWhole (shape result.value) }
+{
+    let Some(top) = link else {
+        return fork(None, node, None);
+    };
+    let (left, top, right) = open(top);
+    if top.entry().start < node.entry().start {
+        let right = insert(right, node);
+        join(left, top, Some(right))
+    } else {
+        let left = insert(left, node);
+        join(Some(left), top, right)
+    }
+}
+
+/// The tree without the entry at the key, and that entry; takes no memory.
+#[tactic(auto, using(crate::proofs::TreeLemmas::removing))]
+pub(crate) fn remove<A: Allocator + Clone>(link: Link<A>, key: u64) -> (Link<A>, Option<Entry>)
+    requires whole { IsWhole (shape_of link) }
+    requires by_key { IsByKey (entries (shape_of link)) }
+    requires room { count_of (shape_of link) ≤ MAX_MEMBERS }
+    ensures removed { result.1 ≡ member_at key (entries (shape_of link)) }
+    ensures left { entries (shape_of result.0) ≡ without key (entries (shape_of link)) }
+    ensures count { count_of (shape_of result.0) ≤ count_of (shape_of link) }
+    ensures whole { IsWhole (shape_of result.0) }
+{
+    let Some(top) = link else {
+        return (None, None);
+    };
+    let (left, top, right) = open(top);
+    let entry = top.entry();
+    if key < entry.start {
+        let (left, removed) = remove(left, key);
+        return (Some(join(left, top, right)), removed);
+    }
+    if entry.start < key {
+        let (right, removed) = remove(right, key);
+        return (Some(join(left, top, right)), removed);
+    }
+    (concat(left, right), Some(entry))
+}
+
+/// The tree of two sides: the last node of the left one goes between them.
+fn concat<A: Allocator + Clone>(left: Link<A>, right: Link<A>) -> Link<A>
+    requires left { IsWhole (shape_of left) }
+    requires right { IsWhole (shape_of right) }
+    requires room { count_of (shape_of left) + count_of (shape_of right) ≤ MAX_MEMBERS }
+    ensures entries { entries (shape_of result) ≡ entries (shape_of left) ++ entries (shape_of right) }
+    ensures count { count_of (shape_of result) ≡ count_of (shape_of left) + count_of (shape_of right) }
+    ensures whole { IsWhole (shape_of result) }
+{
+    let Some(left) = left else {
+        return right;
+    };
+    let (rest, last) = pop(left);
+    Some(join(rest, last, right))
+}
+
+/// The tree without its last node, and that node.
+fn pop<A: Allocator + Clone>(top: Box<Node<A>, A>) -> (Link<A>, Box<Node<A>, A>)
+    requires whole { IsWhole (shape top.value) }
+    requires room { count_of (shape top.value) ≤ MAX_MEMBERS }
+    ensures entries { entries (shape top.value) ≡ entries (shape_of result.0) ++ entry_of result.1.value ∷ [] }
+    ensures count { count_of (shape top.value) ≡ count_of (shape_of result.0) + 1 }
+    ensures whole { IsWhole (shape_of result.0) }
+{
+    let (left, top, right) = open(top);
+    let Some(right) = right else {
+        return (left, top);
+    };
+    let (rest, last) = pop(right);
+    (Some(join(left, top, rest)), last)
+}

@@ -1,0 +1,71 @@
+ghost use Rattle.std.specs.Prelude.{◌≡◌, ◌+◌, ◌<◌, ◌^◌};
+ghost use Rattle.radio_bands.specs.declared.band.Band.{Band as SubBand};
+ghost use Rattle.resv_list.specs.Reservations.{airtime_in};
+
+use radio_bands::Band;
+use resv_list::Reservation;
+
+/// The airtime of some members in each sub-band, in microseconds.
+#[derive(Clone, Copy)]
+pub(crate) struct Sums {
+    k: u64,
+    l: u64,
+    m: u64,
+    n: u64,
+    p: u64,
+    q: u64,
+}
+
+impl Sums {
+    ghost use Rattle.resv_tree.specs.Sums.{sum_in};
+
+    /// The sums of no member.
+    pub(crate) const NONE: Sums = Sums {
+        k: 0,
+        l: 0,
+        m: 0,
+        n: 0,
+        p: 0,
+        q: 0,
+    };
+
+    /// The airtime in the sub-band.
+    pub(crate) fn in_band(&self, band: Band) -> u64
+        ensures { result ≡ sum_in self.now band }
+    {
+        match band {
+            Band::K => self.k,
+            Band::L => self.l,
+            Band::M => self.m,
+            Band::N => self.n,
+            Band::P => self.p,
+            Band::Q => self.q,
+        }
+    }
+
+    /// The sums of two sides and the member between them.
+    pub(crate) fn around(left: &Sums, entry: &Reservation, right: &Sums) -> Sums
+        requires fits { (band : SubBand) → sum_in left.now band + sum_in right.now band < 2 ^ 63 }
+        ensures value { (band : SubBand) → sum_in result band
+            ≡ sum_in left.now band + airtime_in band entry.now + sum_in right.now band }
+        ensures short { (band : SubBand) → airtime_in band entry.now < 10000000 }
+    {
+        Sums {
+            k: left.with(entry, right, Band::K),
+            l: left.with(entry, right, Band::L),
+            m: left.with(entry, right, Band::M),
+            n: left.with(entry, right, Band::N),
+            p: left.with(entry, right, Band::P),
+            q: left.with(entry, right, Band::Q),
+        }
+    }
+
+    /// The same in one sub-band.
+    fn with(&self, entry: &Reservation, right: &Sums, band: Band) -> u64
+        requires fits { sum_in self.now band + sum_in right.now band < 2 ^ 63 }
+        ensures value { result ≡ sum_in self.now band + airtime_in band entry.now + sum_in right.now band }
+        ensures short { airtime_in band entry.now < 10000000 }
+    {
+        self.in_band(band) + entry.airtime_in(band) + right.in_band(band)
+    }
+}
