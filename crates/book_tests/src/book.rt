@@ -1,13 +1,14 @@
-// Worked books: calls in turn, each with what it is to answer.
+// Worked books: calls in turn, each with what it is to answer, over each of the rosters.
+ghost use Rattle.std.specs.Prelude.{◌≡◌, []};
 
 use gateway_book::{Ask, CancelFault, GatewayBook, OpenFault, Refusal, Totals};
 use radio_airtime::DataRate;
 use radio_bands::Band;
 use resv_list::{Reservation, Roster, VecRoster};
+use resv_tree::TreeRoster;
 use std::alloc::Global;
+use std::process::Abort;
 use std::test::Fail;
-
-type Book = GatewayBook<VecRoster<Global>>;
 
 /// A call, and what it is to answer; an ask answers when its reservation ends.
 #[derive(Clone, Copy)]
@@ -101,8 +102,10 @@ fn slow_ask(start: u64, freq_hz: u32) -> Ask {
     }
 }
 
-fn opened(alloc: Global, id: u16, cap: u32) -> Result<Book, OpenFault> {
-    GatewayBook::new(VecRoster::new(alloc), id, cap)
+fn opened<R: Roster + Drop>(rt: &impl Abort, roster: R, id: u16, cap: u32) -> GatewayBook<R>
+    requires { R.list roster ≡ [] }
+{
+    GatewayBook::new(roster, id, cap).expect(rt, "the cap is in range")
 }
 
 fn booked<R: Roster>(book: &mut GatewayBook<R>, ask: Ask) -> Result<Reservation, Refusal> {
@@ -158,19 +161,27 @@ fn worked<'a>() -> [Worked<'a>; 6] {
     ]
 }
 
+/// Runs a book's steps over an empty roster.
+fn run_worked<R: Roster + Drop>(rt: &impl Abort, roster: R, worked: Worked<'_>)
+    requires { R.list roster ≡ [] }
+{
+    let (name, cap, steps, all, cancelled) = worked;
+    let mut book = opened(rt, roster, 1, cap);
+    assert_eq!(rt; first_wrong(&mut book, steps), None, "step of: {name}");
+    let (_, _, totals) = told(&book);
+    assert_eq!(rt;
+        (totals.booked, totals.cancelled),
+        (all, cancelled),
+        "{name}"
+    );
+}
+
 #[test]
-fn worked_books(rt: HostRuntime) -> Result<(), Fail> {
-    for (name, cap, steps, all, cancelled) in worked() {
-        let mut book = opened(rt.alloc(), 1, cap)?;
-        assert_eq!(rt; first_wrong(&mut book, steps), None, "step of: {name}");
-        let (_, _, totals) = told(&book);
-        assert_eq!(rt;
-            (totals.booked, totals.cancelled),
-            (all, cancelled),
-            "{name}"
-        );
+fn worked_books(rt: HostRuntime) {
+    for steps in worked() {
+        run_worked(&rt, VecRoster::new(rt.alloc()), steps);
+        run_worked(&rt, TreeRoster::new(rt.alloc()), steps);
     }
-    Ok(())
 }
 
 #[test]
@@ -182,7 +193,8 @@ fn opens_with_a_cap_in_range(rt: HostRuntime) {
         (65_537, Some(OpenFault::BadCap)),
     ];
     for (cap, fault) in cases {
-        assert_eq!(rt; opened(rt.alloc(), 7, cap).err(), fault, "at {cap}");
+        let opened = GatewayBook::new(VecRoster::new(rt.alloc()), 7, cap);
+        assert_eq!(rt; opened.err(), fault, "at {cap}");
     }
 }
 
@@ -192,14 +204,16 @@ const NEIGHBOURS: [Step; 3] = [
     Step::Busiest(Band::K, None),
 ];
 
-#[test]
-fn keeps_what_it_has_booked(rt: HostRuntime) -> Result<(), Fail> {
-    let mut book = opened(rt.alloc(), 7, 65_536)?;
+/// Books two that touch, over an empty roster, and looks at all that the book tells.
+fn keeps_two<R: Roster + Drop>(rt: &impl Abort, roster: R, alloc: Global) -> Result<(), Fail>
+    requires { R.list roster ≡ [] }
+{
+    let mut book = opened(rt, roster, 7, 65_536);
     let first = booked(&mut book, ask_in_m(1, 10_000_000))?;
     let second = booked(&mut book, ask_in_m(2, 10_041_216))?;
     assert_eq!(rt; (first.end(), second.end()), (10_041_216, 10_082_432));
     assert_eq!(rt; first_wrong(&mut book, &NEIGHBOURS), None);
-    let members = book.list(rt.alloc())?;
+    let members = book.list(alloc)?;
     assert_eq!(rt; members.as_slice(), [first, second].as_slice());
     let totals = Totals {
         booked: 82_432,
@@ -214,8 +228,16 @@ fn keeps_what_it_has_booked(rt: HostRuntime) -> Result<(), Fail> {
 }
 
 #[test]
-fn fills_an_hour_of_the_widest_limit(rt: HostRuntime) -> Result<(), Fail> {
-    let mut book = opened(rt.alloc(), 1, 65_536)?;
+fn keeps_what_it_has_booked(rt: HostRuntime) -> Result<(), Fail> {
+    keeps_two(&rt, VecRoster::new(rt.alloc()), rt.alloc())?;
+    keeps_two(&rt, TreeRoster::new(rt.alloc()), rt.alloc())
+}
+
+/// Fills an hour of sub-band P over an empty roster.
+fn fills_an_hour<R: Roster + Drop>(rt: &impl Abort, roster: R) -> Result<(), Refusal>
+    requires { R.list roster ≡ [] }
+{
+    let mut book = opened(rt, roster, 1, 65_536);
     for place in 0..363 {
         booked(&mut book, slow_ask(place * 991_232, 869_525_000))?;
     }
@@ -229,4 +251,10 @@ fn fills_an_hour_of_the_widest_limit(rt: HostRuntime) -> Result<(), Fail> {
         Err(full)
     );
     Ok(())
+}
+
+#[test]
+fn fills_an_hour_of_the_widest_limit(rt: HostRuntime) -> Result<(), Fail> {
+    fills_an_hour(&rt, VecRoster::new(rt.alloc()))?;
+    Ok(fills_an_hour(&rt, TreeRoster::new(rt.alloc()))?)
 }
