@@ -1,35 +1,28 @@
-use Rattle.server_desk.proofs.Words.{ℕ, ◌≡◌, ◌-◌, Bool, true, false, List, [], ◌∷◌, ◌++◌, slice_set, if◌then◌else◌, Option, Some}
+use Rattle.server_desk.proofs.Words.{ℕ, ◌≡◌, ◌-◌, Bool, true, false, List, if◌then◌else◌, Option, Some}
 use Rattle.server_desk.proofs.Words.{None, Result, Ok, Err, refl, arith, Limits, numbered, is_closed_at, Job, Heard1, TakeFault}
 use Rattle.server_desk.proofs.Words.{SettingLists, Register, Asked, Decision, Refuse, Join, Open, decide, Known, NotGiven}
 use Rattle.server_desk.proofs.Words.{Pending}
-use Rattle.server_desk.proofs.Words.{Done, take_answer, take_known, answered_at, total_at, DeskView, total_of, desk_of, desk_hear}
+use Rattle.server_desk.proofs.Words.{Done, take_answer, take_known, settled_airtime, DeskView, total_of, desk_of, desk_hear}
 use Rattle.server_desk.proofs.Words.{desk_take, desk_taken, known_after}
 use Rattle.server_desk.specs.declared.faults.TakeFault.TheVariants.{NotReady}
 use Rattle.server_desk.specs.World.{opening}
 use Rattle.server_desk.proofs.Numbers.{at_number}
-use Rattle.server_desk.proofs.AirtimeSums.{answered_push, answered_set, total_nil, total_more, total_none}
+use Rattle.server_desk.proofs.AirtimeSums.{settled_push, settled_set}
 
 -- Which calls leave the airtime of all settled answers as it is: all but `settle`.
 
 -- before anything was heard there is none
 pub total-opening : (settings : SettingLists) (limits : Limits) → total_of (desk_of (opening settings limits)) ≡ 0
-total-opening settings limits = total_nil (desk_of (opening settings limits)).ids
+total-opening settings limits = refl
 
--- an answer that adds nothing
-total_same : (known more : List Known) → ((id : ℕ) → answered_at id more ≡ answered_at id known) → (ids : List ℕ)
-    → total_at ids more ≡ total_at ids known
-total_same known more e ids =
-    omega (arith, total_more known more NotGiven (λ id. omega (arith, e id)) ids, total_none ids NotGiven (λ id. refl))
-
-heard_by : (ids : List ℕ) (known : List Known) (decision : Decision)
-    → total_at ids (known_after decision known) ≡ total_at ids known
-heard_by ids known (Refuse fault) = refl
-heard_by ids known (Join n) = refl
-heard_by ids known (Open o) = total_same known (known ++ NotGiven ∷ []) (λ id. answered_push id known) ids
+heard_by : (known : List Known) (decision : Decision) → settled_airtime (known_after decision known) ≡ settled_airtime known
+heard_by known (Refuse fault) = refl
+heard_by known (Join n) = refl
+heard_by known (Open o) = settled_push known
 
 pub total-hear : (d : DeskView) (bytes : List ℕ) (heard : Heard1) (arrived : ℕ)
     → total_of (desk_hear d bytes heard arrived) ≡ total_of d
-total-hear d bytes heard arrived = heard_by d.ids d.known (decide d.ids d.reg bytes heard arrived)
+total-hear d bytes heard arrived = heard_by d.known (decide d.ids d.reg bytes heard arrived)
 
 -- a ticket is given only where none was
 waits_by : (reg : Register) (known : List Known) (n : ℕ) (job : Job) (t : Bool) (o : Option Asked) (k : Option Known)
@@ -54,8 +47,7 @@ taken_by d n (Err fault) e = refl
 taken_by d n (Ok job) e =
     let found = waits d.reg d.known n job e in
     let at = at_number n d.known NotGiven found in
-    rw found (total_same d.known (slice_set d.known (n - 1) Pending)
-    (λ id. omega (arith, answered_set id d.known (n - 1) NotGiven Pending at)) d.ids)
+    rw found (omega (arith, settled_set d.known (n - 1) NotGiven Pending at))
 
 pub total-take : (d : DeskView) (n : ℕ) → total_of (desk_take d n) ≡ total_of d
 total-take d n = taken_by d n (take_answer d.reg d.known n) refl

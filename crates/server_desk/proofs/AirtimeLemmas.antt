@@ -5,13 +5,14 @@ use Rattle.server_desk.proofs.Words.{Err, refl, option_map, sym, ap, ◌∙◌, 
 use Rattle.server_desk.proofs.Words.{All-nil, All-map, All-push, All-set, AllPairs-head, AllPairs-tail, longest_us}
 use Rattle.server_desk.proofs.Words.{IsWithinLongest, Ending, HeardCopy, HearFault, Heard, Opened, Joined, Gatherings}
 use Rattle.server_desk.proofs.Words.{after_hearing, GatewaySetting, Known, NotGiven, Pending, Done, Sent, first_at, sent_of}
-use Rattle.server_desk.proofs.Words.{is_here, answered_at, total_at, answered_for, sent_airtime, airtime_of_ending, total_limit}
+use Rattle.server_desk.proofs.Words.{is_here, is_booked_on, answered_at, answered_for, sent_airtime, airtime_of_ending}
+use Rattle.server_desk.proofs.Words.{total_limit}
 use Rattle.server_desk.proofs.Words.{whole_airtime, AreAirtimes, raised, CanRaise, kept_by}
 use Rattle.server_desk.proofs.Numbers.{at_number}
 use Rattle.answer_ticket.specs.declared.outcome.Ending.TheVariants.{Answered, Unanswered, GivenUp}
 use Rattle.std.proofs.lemmas.List.Kept.{AllPairs-cons}
-use Rattle.server_desk.proofs.AirtimeSums.{answered_set, answered_push, same_airtimes, total_more, answered_found, raises}
-use Rattle.server_desk.proofs.AirtimeSums.{total_none, answered_short}
+use Rattle.server_desk.proofs.AirtimeSums.{answered_set, answered_push, same_airtimes, answered_found}
+use Rattle.server_desk.proofs.AirtimeSums.{raises, answered_short}
 
 module _ (ids airtimes : List ℕ) (limit : ℕ) (known : List Known) (i : AreAirtimes ids airtimes limit known) where
   pub as_many : length airtimes ≡ length ids
@@ -32,16 +33,17 @@ module _ (ids airtimes : List ℕ) (limit : ℕ) (known : List Known) (i : AreAi
 
   -- where more is known, by what this adds
   more_airtimes : (more : List Known) (k : Known) → ((id : ℕ) → answered_at id more ≡ answered_at id known + known_airtime id k)
-      → All (λ k. whole_airtime k ≤ longest_us) more → length more ≤ limit
+      → All (λ k. is_booked_on ids k ≡ true) more → All (λ k. whole_airtime k ≤ longest_us) more → length more ≤ limit
       → AreAirtimes ids (raised ids (kept_by (Some k)) airtimes) limit more
-  more_airtimes more k e short few =
+  more_airtimes more k e here short few =
       let told = raised_by k ∙ same_airtimes _ (λ id. answered_at id more) (λ id. sym (e id)) ids in
-      record { differ = i.differ; told = rw i.told told; short = short; few = few; limited = i.limited }
+      record { differ = i.differ; told = rw i.told told; here = here; short = short; few = few; limited = i.limited }
 
   -- where a copy opened a gathering
   pub opened_airtimes : length known < limit → AreAirtimes ids airtimes limit (known ++ NotGiven ∷ [])
   opened_airtimes h =
       more_airtimes _ NotGiven (λ id. omega (arith, answered_push id known))
+      (All-push (λ k. is_booked_on ids k ≡ true) known NotGiven i.here refl)
       (All-push (λ k. whole_airtime k ≤ longest_us) known NotGiven i.short (omega arith))
       (omega (arith, length-append known (NotGiven ∷ []), h))
 
@@ -50,23 +52,18 @@ module _ (ids airtimes : List ℕ) (limit : ℕ) (known : List Known) (i : AreAi
     adds : (id : ℕ) → answered_at id (slice_set known (n - 1) new) ≡ answered_at id known + known_airtime id new
     adds id = omega (arith, answered_set id known (n - 1) old new (at_number n known old there), none id)
 
-    pub set_airtimes : whole_airtime new ≤ longest_us
+    pub set_airtimes : is_booked_on ids new ≡ true → whole_airtime new ≤ longest_us
         → AreAirtimes ids (raised ids (kept_by (Some new)) airtimes) limit (slice_set known (n - 1) new)
-    set_airtimes short =
-        more_airtimes _ new adds (All-set (λ k. whole_airtime k ≤ longest_us) known (n - 1) new short i.short)
+    set_airtimes here short =
+        more_airtimes _ new adds (All-set (λ k. is_booked_on ids k ≡ true) known (n - 1) new here i.here)
+        (All-set (λ k. whole_airtime k ≤ longest_us) known (n - 1) new short i.short)
         (omega (arith, length-set known (n - 1) new, i.few))
 
-    pub set_total : total_at ids (slice_set known (n - 1) new) ≡ total_at ids known + total_at ids (new ∷ [])
-    set_total = total_more known (slice_set known (n - 1) new) new adds ids
-
-  -- what was sent is on air once, if it is on one of the gateways
-  pub total_here : (ending : Ending) → is_here ids ending ≡ true
-      → total_at ids (Done (sent_of ending) ∷ []) ≡ airtime_of_ending ending
-  total_here (Answered gateway window start airtime carried) here =
-      let sent : Sent = record { gateway = gateway; start = start; airtime = airtime } in
-      rw here at (raises (λ id. 0) sent ids i.differ).1
-  total_here (Unanswered refusal) here = total_none ids (Done None) (λ id. refl)
-  total_here GivenUp here = total_none ids (Done None) (λ id. refl)
+-- an answer that may be settled was booked on one of the gateways, if it was booked
+pub booked_here : (ids : List ℕ) (ending : Ending) → is_here ids ending ≡ true → is_booked_on ids (Done (sent_of ending)) ≡ true
+booked_here ids (Answered gateway window start airtime carried) here = here
+booked_here ids (Unanswered refusal) here = refl
+booked_here ids GivenUp here = refl
 
 -- hearing a copy leaves the limits as they are
 pub limits_kept : (r : Result Heard HearFault) (s : Gatherings) (bytes : List ℕ) (copy : HeardCopy) (arrived : ℕ)
@@ -91,6 +88,7 @@ first_airtimes gateways limit d h =
     record {
       differ = ids_differ gateways d;
       told = sym (map-map (λ id. answered_at id []) (λ (g : GatewaySetting). g.id) gateways);
+      here = All-nil (λ k. is_booked_on (map (λ g. g.id) gateways) k ≡ true);
       short = All-nil (λ k. whole_airtime k ≤ longest_us);
       few = omega arith;
       limited = h;

@@ -3,7 +3,8 @@ use Rattle.server_desk.proofs.Words.{◌++◌, ℕ, zero, suc, ◌≡◌, ◌≢
 use Rattle.server_desk.proofs.Words.{[], ◌∷◌, map, length, slice_get, slice_set, get_or, All, AllPairs, Option, Some, None, refl}
 use Rattle.server_desk.proofs.Words.{ap, ◌∙◌, subst, arith, list_any, option_map, nat_tests, All-head, All-tail, AllPairs-head}
 use Rattle.server_desk.proofs.Words.{AllPairs-tail, longest_us, Known, NotGiven, Pending, Done, Sent, own_airtime, known_airtime}
-use Rattle.server_desk.proofs.Words.{answered_at, answered_for, total_at, total_limit, whole_airtime, AreAirtimes, raised_at}
+use Rattle.server_desk.proofs.Words.{answered_at, answered_for, total_at, total_limit, whole_airtime, settled_airtime}
+use Rattle.server_desk.proofs.Words.{is_booked_on, AreAirtimes, raised_at}
 use Rattle.server_desk.proofs.Words.{raised, first_at, next_place}
 use Rattle.server_desk.proofs.Places.{some_inj}
 
@@ -23,18 +24,18 @@ same_airtimes f h e [] = refl
 same_airtimes f h e (id ∷ ids) = cc (e id, same_airtimes f h e ids)
 
 -- the total of more answers is that of the old ones and of the one that is new
-pub total_more : (known more : List Known) (k : Known)
+total_more : (known more : List Known) (k : Known)
     → ((id : ℕ) → answered_at id more ≡ answered_at id known + known_airtime id k)
     → (ids : List ℕ) → total_at ids more ≡ total_at ids known + total_at ids (k ∷ [])
 total_more known more k e [] = refl
 total_more known more k e (id ∷ ids) = omega (arith, e id, total_more known more k e ids)
 
 -- before anything was heard there is none, nor is there where nothing was sent
-pub total_nil : (ids : List ℕ) → total_at ids [] ≡ 0
+total_nil : (ids : List ℕ) → total_at ids [] ≡ 0
 total_nil [] = refl
 total_nil (id ∷ ids) = omega (arith, total_nil ids)
 
-pub total_none : (ids : List ℕ) (k : Known) → ((id : ℕ) → known_airtime id k ≡ 0) → total_at ids (k ∷ []) ≡ 0
+total_none : (ids : List ℕ) (k : Known) → ((id : ℕ) → known_airtime id k ≡ 0) → total_at ids (k ∷ []) ≡ 0
 total_none [] k e = refl
 total_none (id ∷ ids) k e = omega (arith, e id, total_none ids k e)
 
@@ -116,25 +117,48 @@ answered_short id (k ∷ known) a = omega (
   answered_short id known (All-tail (λ x. whole_airtime x ≤ longest_us) k known a),
 )
 
--- nor were they all
-one_short : (ids : List ℕ) (k : Known) → AllPairs (λ a b. a ≢ b) ids → total_at ids (k ∷ []) ≤ whole_airtime k
-one_short ids NotGiven d = omega (arith, total_none ids NotGiven (λ id. refl))
-one_short ids Pending d = omega (arith, total_none ids Pending (λ id. refl))
-one_short ids (Done None) d = omega (arith, total_none ids (Done None) (λ id. refl))
-one_short ids (Done (Some sent)) d = grind (arith, (raises (λ id. 0) sent ids d).1)
+-- the airtime of all settled answers: one is written anew, one more comes, and it has its bound
+pub settled_set : (known : List Known) (i : ℕ) (old new : Known) → slice_get known i ≡ Some old
+    → settled_airtime (slice_set known i new) + whole_airtime old ≡ settled_airtime known + whole_airtime new
+settled_set [] i old new e = absurd (cc)
+settled_set (k ∷ known) zero old new e = omega (arith, ap whole_airtime (some_inj e))
+settled_set (k ∷ known) (suc i) old new e = omega (arith, settled_set known i old new e)
 
-total_short : (ids : List ℕ) (known : List Known) → AllPairs (λ a b. a ≢ b) ids → All (λ k. whole_airtime k ≤ longest_us) known
-    → total_at ids known ≤ longest_us * length known
-total_short ids [] d a = omega (arith, total_nil ids)
-total_short ids (k ∷ known) d a =
-    omega (
-      arith,
-      total_more known (k ∷ known) k (λ id. omega arith) ids,
-      one_short ids k d,
-      All-head (λ x. whole_airtime x ≤ longest_us) k known a,
-      total_short ids known d (All-tail (λ x. whole_airtime x ≤ longest_us) k known a),
-    )
+pub settled_push : (known : List Known) → settled_airtime (known ++ NotGiven ∷ []) ≡ settled_airtime known
+settled_push [] = refl
+settled_push (k ∷ known) = omega (arith, settled_push known)
+
+settled_short : (known : List Known) → All (λ k. whole_airtime k ≤ longest_us) known
+    → settled_airtime known ≤ longest_us * length known
+settled_short [] a = omega arith
+settled_short (k ∷ known) a = omega (
+  arith,
+  All-head (λ x. whole_airtime x ≤ longest_us) k known a,
+  settled_short known (All-tail (λ x. whole_airtime x ≤ longest_us) k known a),
+)
 
 pub within_limit : (ids airtimes : List ℕ) (limit : ℕ) (known : List Known) → AreAirtimes ids airtimes limit known
-    → total_at ids known ≤ total_limit
-within_limit ids airtimes limit known i = omega (arith, total_short ids known i.differ i.short, i.few, i.limited)
+    → settled_airtime known ≤ total_limit
+within_limit ids airtimes limit known i = omega (arith, settled_short known i.short, i.few, i.limited)
+
+-- where each was booked on one of the gateways, it is that of all gateways
+one_whole : (ids : List ℕ) (k : Known) → AllPairs (λ a b. a ≢ b) ids → is_booked_on ids k ≡ true
+    → total_at ids (k ∷ []) ≡ whole_airtime k
+one_whole ids NotGiven d here = total_none ids NotGiven (λ id. refl)
+one_whole ids Pending d here = total_none ids Pending (λ id. refl)
+one_whole ids (Done None) d here = total_none ids (Done None) (λ id. refl)
+one_whole ids (Done (Some sent)) d here = rw here at (raises (λ id. 0) sent ids d).1
+
+total_whole : (ids : List ℕ) (known : List Known) → AllPairs (λ a b. a ≢ b) ids → All (λ k. is_booked_on ids k ≡ true) known
+    → total_at ids known ≡ settled_airtime known
+total_whole ids [] d a = total_nil ids
+total_whole ids (k ∷ known) d a = omega (
+  arith,
+  total_more known (k ∷ known) k (λ id. omega arith) ids,
+  one_whole ids k d (All-head (λ x. is_booked_on ids x ≡ true) k known a),
+  total_whole ids known d (All-tail (λ x. is_booked_on ids x ≡ true) k known a),
+)
+
+pub whole_told : (ids airtimes : List ℕ) (limit : ℕ) (known : List Known) → AreAirtimes ids airtimes limit known
+    → total_at ids known ≡ settled_airtime known
+whole_told ids airtimes limit known i = total_whole ids known i.differ i.here

@@ -1,5 +1,5 @@
-use Rattle.std.specs.Prelude.{ℕ, ◌+◌, ◌≤◌, ◌≢◌, ◌^◌, ◌*◌, ◌<◌, ◌==◌, ◌≡◌, if◌then◌else◌, List, [], ◌∷◌, map, length, slice_set}
-use Rattle.std.specs.Prelude.{get_or, All, AllPairs, Option, Some, None}
+use Rattle.std.specs.Prelude.{ℕ, ◌+◌, ◌≤◌, ◌≢◌, ◌^◌, ◌*◌, ◌<◌, ◌==◌, ◌≡◌, Bool, true, if◌then◌else◌, List, [], ◌∷◌, map, length}
+use Rattle.std.specs.Prelude.{slice_set, get_or, All, AllPairs, Option, Some, None}
 use Rattle.std.specs.List.{list_any}
 use Rattle.answer_ticket.specs.declared.outcome.Ending.{Ending}
 use Rattle.answer_ticket.specs.Ended.{longest_us}
@@ -63,11 +63,25 @@ whole_airtime NotGiven = 0
 whole_airtime Pending = 0
 whole_airtime (Done sent) = sent_airtime sent
 
--- what the desk keeps of the airtimes: one for each of its gateways, which differ; and there are at most `limit` answers,
--- each on air for no longer than an answer may be, so that the sums fit in 64 bits
+-- the airtime of all settled answers
+abbrev pub settled_airtime : List Known → ℕ
+settled_airtime [] = 0
+settled_airtime (k ∷ known) = whole_airtime k + settled_airtime known
+
+-- what was booked, if anything, was booked on a gateway with one of these ids
+abbrev pub is_booked_on : List ℕ → Known → Bool
+is_booked_on ids NotGiven = true
+is_booked_on ids Pending = true
+is_booked_on ids (Done None) = true
+is_booked_on ids (Done (Some sent)) = list_any (λ id. id == sent.gateway) ids
+
+-- what the desk keeps of the airtimes: one for each of its gateways, which differ, and on one of which each answer was
+-- booked; and there are at most `limit` answers, each on air for no longer than an answer may be, so that the sums fit in
+-- 64 bits
 pub record AreAirtimes (ids airtimes : List ℕ) (limit : ℕ) (known : List Known) : Type 0 where
   pub differ : AllPairs (λ a b. a ≢ b) ids
   pub told : airtimes ≡ map (λ id. answered_at id known) ids
+  pub here : All (λ k. is_booked_on ids k ≡ true) known
   pub short : All (λ k. whole_airtime k ≤ longest_us) known
   pub few : length known ≤ limit
   pub limited : limit < 2 ^ 32

@@ -12,7 +12,7 @@ use Rattle.server_desk.specs.Passing.{pass_step}
 use Rattle.server_desk.specs.Answers.{Known, NotGiven, Pending}
 use Rattle.server_desk.specs.Taking.{take_answer, after_taking}
 use Rattle.server_desk.specs.Settling.{may_settle, after_settling, known_settled}
-use Rattle.server_desk.specs.Airtime.{total_at}
+use Rattle.server_desk.specs.Airtime.{settled_airtime}
 use Rattle.server_desk.specs.World.{World, ids, known}
 
 -- The desk's part of the world: all but the books, and of an answer that is out no more than that it is out. What each call
@@ -28,7 +28,7 @@ desk_of w = record { ids = ids w; reg = w.reg; known = known w }
 
 -- the airtime of all settled answers, as the desk knows them
 abbrev pub total_of : DeskView → ℕ
-total_of d = total_at d.ids d.known
+total_of d = settled_airtime d.known
 
 abbrev pub desk_queue : DeskView → ℕ → Payload → DeskView
 desk_queue d addr payload = record d { reg = queue_step d.reg addr payload }

@@ -1,9 +1,10 @@
 // How long each gateway was on air for the answers that were settled.
 
-ghost use Rattle.std.specs.Prelude.{◌≡◌, ◌==◌, ◌<◌, length, IfSome};
+ghost use Rattle.std.specs.Prelude.{◌≡◌, ◌≢◌, ◌==◌, ◌<◌, length, AllPairs, IfSome};
 ghost use Rattle.std.specs.Option.{option_map};
 ghost use Rattle.server_desk.specs.Register.{first_at};
-ghost use Rattle.server_desk.specs.Airtime.{CanRaise, answered_for, raised};
+ghost use Rattle.server_desk.specs.Airtime.{CanRaise, answered_for, raised, total_at};
+ghost use Rattle.server_desk.specs.Desk.{total_of};
 
 use crate::Desk;
 use crate::answers::Sent;
@@ -11,6 +12,16 @@ use std::alloc::Allocator;
 use std::hash::BuildHasher;
 
 impl<S: BuildHasher, A: Allocator> Desk<S, A> {
+    /// The numbers of the desk's gateways, in the order of its settings: no two are the same, and all settled answers that
+    /// were booked were booked on one of them. Takes no memory.
+    pub fn gateways(&self) -> &[u16]
+        ensures same { result.now ≡ self.now.ids }
+        ensures differ { AllPairs (λ a b. a ≢ b) self.now.ids }
+        ensures whole { total_at self.now.ids self.now.known ≡ total_of self.now }
+    {
+        self.gateways.as_slice()
+    }
+
     /// The airtime, in microseconds, of the settled answers that were booked on the gateway with this number; `None`
     /// where it isn't in the desk's settings. Takes no memory.
     #[tactic(auto, using(crate::proofs::AirtimeLemmas::as_many))]

@@ -4,8 +4,8 @@ ghost use Rattle.std.specs.Prelude.{◌≡◌, ◌+◌, ◌≤◌, true, Ok, Err
 ghost use Rattle.answer_ticket.specs.Ended.{IsWithinLongest, IsOfCandidate};
 ghost use Rattle.uplink_gather.specs.Gatherings.{numbered};
 ghost use Rattle.server_desk.specs.Settling.{may_settle, has_carried, sent_of, kept_by};
-ghost use Rattle.server_desk.specs.Airtime.{airtime_of_ending, total_at, total_limit};
-ghost use Rattle.server_desk.specs.Desk.{desk_settle, desk_settled};
+ghost use Rattle.server_desk.specs.Airtime.{airtime_of_ending, total_limit};
+ghost use Rattle.server_desk.specs.Desk.{desk_settle, desk_settled, total_of};
 
 use crate::Desk;
 use crate::airtimes::raise;
@@ -24,9 +24,8 @@ impl<S: BuildHasher, A: Allocator> Desk<S, A> {
             (result ≡ Err stub) }
         ensures step { self.new ≡ desk_settle self.old stub.number stub.result }
         ensures booked { IfOk result (λ outcome. IsOfCandidate outcome.result) }
-        ensures total { OnOk result (total_at self.new.ids self.new.known
-            ≡ total_at self.old.ids self.old.known + airtime_of_ending stub.result) }
-        ensures limit { OnOk result (total_at self.new.ids self.new.known ≤ total_limit) }
+        ensures total { OnOk result (total_of self.new ≡ total_of self.old + airtime_of_ending stub.result) }
+        ensures limit { OnOk result (total_of self.new ≤ total_limit) }
     {
         if !self.may_settle(&stub) {
             return Err(stub);
@@ -65,9 +64,8 @@ impl<S: BuildHasher, A: Allocator> Desk<S, A> {
         requires out { may_settle self.old.ids self.old.known outcome.now.number outcome.now.result ≡ true }
         requires short { IsWithinLongest outcome.now.result }
         ensures step { self.new ≡ desk_settled outcome.now.result outcome.now.number self.old }
-        ensures total { total_at self.new.ids self.new.known
-            ≡ total_at self.old.ids self.old.known + airtime_of_ending outcome.now.result }
-        ensures limit { total_at self.new.ids self.new.known ≤ total_limit }
+        ensures total { total_of self.new ≡ total_of self.old + airtime_of_ending outcome.now.result }
+        ensures limit { total_of self.new ≤ total_limit }
     {
         let place = outcome.number as usize - 1;
         let device = self.asked[place].device;

@@ -18,7 +18,7 @@ use std::hash::BuildHasher;
 use std::marker::Model;
 
 /// What stands behind the desk's lock: the desk, and the tally of the ledger. Its type keeps that the tally is the airtime
-/// of all settled answers, over the desk's gateways, in microseconds. Seen as its desk.
+/// of all settled answers, in microseconds. Seen as its desk.
 #[derive(Drop)]
 pub struct Office<B: Ledger, S: BuildHasher, A: Allocator = Global> {
     desk: Desk<S, A>,
@@ -28,13 +28,13 @@ pub struct Office<B: Ledger, S: BuildHasher, A: Allocator = Global> {
 impl<B: Ledger, S: BuildHasher, A: Allocator> Model for Office<B, S, A> {
     ghost use Rattle.std.specs.Prelude.{◌≡◌};
     ghost use Rattle.server_core.specs.Desk.{DeskView};
-    ghost use Rattle.server_core.specs.Airtime.{total_at};
+    ghost use Rattle.server_core.specs.Desk.{total_of};
 
     ghost Value = { DeskView };
 
     ghost view = { λ o. o.desk };
 
-    ghost invariant = { λ o. o.tally ≡ total_at o.desk.ids o.desk.known };
+    ghost invariant = { λ o. o.tally ≡ total_of o.desk };
 }
 
 impl<B: Ledger, S: BuildHasher, A: Allocator + Copy> Office<B, S, A> {

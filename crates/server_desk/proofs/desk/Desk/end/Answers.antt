@@ -1,8 +1,8 @@
-use Rattle.server_desk.proofs.Words.{sym, arith, slice_get_within, Pending, Done, refl}
+use Rattle.server_desk.proofs.Words.{sym, arith, slice_get_within, Pending, Done, refl, sent_of}
 use Rattle.server_desk.proofs.Numbers.{at_number}
 use Rattle.server_desk.proofs.TakeLemmas.{at_here}
-use Rattle.server_desk.proofs.AirtimeLemmas.{can_raise, short_ending, set_airtimes, set_total, total_here}
-use Rattle.server_desk.proofs.AirtimeSums.{within_limit}
+use Rattle.server_desk.proofs.AirtimeLemmas.{can_raise, short_ending, set_airtimes, booked_here}
+use Rattle.server_desk.proofs.AirtimeSums.{settled_set, within_limit}
 use Rattle.server_desk.proofs.SettleLemmas.{its_uplink, settled_holds, settled_here, is_out}
 use Rattle.server_desk.proofs.desk.Desk.end.Goals as goal
 
@@ -15,7 +15,7 @@ invariant_of-self g c =
           c.settle.ensures.shown c.sent_of-sent.result c.settle.ensures.out c.settle.ensures.setting,
       rw (c.raise.ensures, c.deref.ensures.value, c.sent_of-sent.ensures)
           (set_airtimes _ _ _ _ c.self.invariant.1 c.args.outcome.now.number Pending (Done _) out.0 (λ id. refl)
-          (short_ending c.args.outcome.now.result c.requires.short)),
+          (booked_here _ c.args.outcome.now.result out.1) (short_ending c.args.outcome.now.result c.requires.short)),
     )
 
 pub returns-clause-step : goal.returns-clause-step
@@ -41,12 +41,13 @@ index_mut-requires-2 g c =
 pub returns-clause-total : goal.returns-clause-total
 returns-clause-total g c =
     let out = is_out _ _ c.args.outcome.now.number c.args.outcome.now.result (rw (← c.self.view_is) at c.requires.out) in
-    rw (← c.self.view_is, c.sent_of-sent.ensures, ← total_here _ _ _ _ c.self.invariant.1 c.args.outcome.now.result out.1)
-    (set_total _ _ _ _ c.self.invariant.1 c.args.outcome.now.number Pending (Done _) out.0 (λ id. refl))
+    let at = at_number c.args.outcome.now.number c.self.inside.known.items Pending out.0 in
+    rw (← c.self.view_is, c.sent_of-sent.ensures)
+    (omega (arith, settled_set c.self.inside.known.items _ Pending (Done (sent_of c.args.outcome.now.result)) at))
 
 pub returns-clause-limit : goal.returns-clause-limit
 returns-clause-limit g c =
     let out = is_out _ _ c.args.outcome.now.number c.args.outcome.now.result (rw (← c.self.view_is) at c.requires.out) in
     rw c.sent_of-sent.ensures (within_limit _ _ _ _
     (set_airtimes _ _ _ _ c.self.invariant.1 c.args.outcome.now.number Pending (Done _) out.0 (λ id. refl)
-    (short_ending c.args.outcome.now.result c.requires.short)))
+    (booked_here _ c.args.outcome.now.result out.1) (short_ending c.args.outcome.now.result c.requires.short)))
