@@ -1,19 +1,24 @@
 -- Lemmas on what some books keep, one after another, and on numbers of which none stands twice.
 use Rattle.std.proofs.Common.{◌≡◌, ◌≢◌, ℕ, zero, suc, ◌+◌, ◌-◌, ◌<◌, ◌≤◌, Bool, true, false, cond, List, [], ◌∷◌, ◌++◌, inl, inr}
-use Rattle.std.proofs.Common.{map, length, get_or, take, refl, sym, ap, subst, ◌∙◌, arith}
-use Rattle.std.specs.Prelude.{◌==◌, Contains, count_by}
+use Rattle.std.proofs.Common.{drop, length-drop, map, length, get_or, take, refl, sym, ap, subst, ◌∙◌, arith}
+use Rattle.std.specs.Prelude.{◌==◌, Contains, count_by, sum_by}
 use Rattle.std.specs.List.Sorted.{IsPermutation, IsNonDecreasingBy}
 use Rattle.std.proofs.lemmas.Bool.Decides.{nat_tests}
-use Rattle.std.proofs.lemmas.List.{take_more, append-nil, get_or-map, length-map, map-append}
+use Rattle.std.proofs.lemmas.List.{get_or-take, get_or-drop, length-take, take-append-drop, take_more, append-nil, get_or-map}
+use Rattle.std.proofs.lemmas.List.{length-map, map-append}
 use Rattle.std.proofs.lemmas.Simd.{map-map}
 use Rattle.std.proofs.lemmas.Grind.{flat_map-append}
 use Rattle.std.proofs.lemmas.List.Elements.{Contains-append_cases}
 use Rattle.std.proofs.lemmas.List.Sorted.{IsPermutation-sym, IsPermutation-map, Contains-permutation, sum_by-IsPermutation}
-use Rattle.std.proofs.lemmas.List.Sums.{sum_by-cons}
+use Rattle.std.proofs.lemmas.List.Sorted.{IsNonDecreasingBy-take, IsPermutation-refl, IsPermutation-trans, IsPermutation-cons}
+use Rattle.std.proofs.lemmas.List.Sorted.{IsPermutation-middle}
+use Rattle.std.proofs.lemmas.List.Sums.{sum_by-append, sum_by-cons}
 use Rattle.radio_bands.specs.Band.{hour}
 use Rattle.resv_list.specs.declared.reservation.Reservation.{Reservation}
 use Rattle.gateway_book.specs.Book.{Book}
-use Rattle.book_audit.specs.Audit.{Shelved, held_by, HasBook, IsKeptOrPast, kept_numbers, EachStandsOnce}
+use Rattle.book_audit.specs.Audit.{Shelved, held_by, HasBook, IsKeptOrPast, kept_numbers, EachStandsOnce, books_of, IsDoubled}
+use Rattle.book_audit.specs.Audit.{times_of}
+use Rattle.book_audit.specs.Held.{Kept, AllDiffer, NeighboursDiffer, AreAlike}
 
 counted-cons : (m v : ℕ) (l : List ℕ) (t : Bool) → (v == m) ≡ t
     → count_by (λ k. k == m) (v ∷ l) ≡ cond t 1 0 + count_by (λ k. k == m) l
@@ -129,3 +134,93 @@ once_kept shelf held seen p e once =
     subst EachStandsOnce (numbers_held shelf)
     (once-permutation (λ (h : ℕ × Reservation). h.1.number) (held_by shelf) held p
     (subst (λ l. EachStandsOnce (map (λ (h : ℕ × Reservation). h.1.number) l)) e once))
+
+-- neighbours in rising order that differ: all differ
+pub all_differ : (held : List Kept) → IsNonDecreasingBy (λ (h : Kept). h.1.number) held → NeighboursDiffer held (length held)
+    → AllDiffer held
+all_differ held s a i j d l h e =
+    let differ = a j (omega arith) h d in
+    let first = s i (j - 1) d (omega arith) (omega arith) in
+    let next = s (j - 1) j d (omega arith) h in
+    omega (arith, differ, first, next, e)
+
+-- two neighbours, and then the others
+pub two_first : {X : Type 0} (xs : List X) (i : ℕ) → suc i < length xs → (a b : X) × (rest : List X)
+    × IsPermutation xs (a ∷ b ∷ rest) × ((d : X) → get_or xs i d ≡ a) × ((d : X) → get_or xs (suc i) d ≡ b)
+two_first [] i h = absurd (omega arith)
+two_first (x ∷ []) i h = absurd (omega arith)
+two_first (x ∷ y ∷ xs) zero h = (x, y, xs, IsPermutation-refl (x ∷ y ∷ xs), λ d. refl, λ d. refl)
+two_first (x ∷ y ∷ xs) (suc i) h =
+    let r = two_first (y ∷ xs) i (omega arith) in
+    let a = r.0 in
+    let b = r.1 in
+    let moved = IsPermutation-sym (a ∷ b ∷ x ∷ r.2) (x ∷ a ∷ b ∷ r.2) (IsPermutation-middle (a ∷ b ∷ []) x r.2) in (
+      a,
+      b,
+      x ∷ r.2,
+      IsPermutation-trans (x ∷ y ∷ xs) (x ∷ a ∷ b ∷ r.2) (a ∷ b ∷ x ∷ r.2)
+          (IsPermutation-cons x (y ∷ xs) (a ∷ b ∷ r.2) r.3) moved,
+      r.4,
+      r.5,
+    )
+
+abbrev pub number_of : Kept → ℕ
+number_of h = h.1.number
+
+-- a number below one at a place of a list in rising order stands before this place
+times_before : (held : List Kept) → IsNonDecreasingBy number_of held → (p n : ℕ) → p + 1 < length held
+    → ((d : Kept) → n < number_of (get_or held (p + 1) d)) → NeighboursDiffer held (p + 1)
+    → times_of n (map number_of held) ≤ 1
+times_before held s p n h above before =
+    let front = take (p + 1) held in
+    let rest = drop (p + 1) held in
+    let once = once-rising number_of front (IsNonDecreasingBy-take number_of (p + 1) held s)
+    (λ k q l d.
+    let within : k < p + 1 = omega (arith, l, length-take (p + 1) held) in
+    let earlier : k - 1 < p + 1 = omega arith in
+    rw (get_or-take (p + 1) held (k - 1) d earlier, get_or-take (p + 1) held k d within) (before k q within d)) n in
+    let later = above_none number_of n rest (λ k d l.
+    let within : p + 1 + k < length held = omega (arith, l, length-drop (p + 1) held) in
+    let rising = s (p + 1) (p + 1 + k) d (omega arith) within in
+    rw (get_or-drop (p + 1) held k d) (omega (arith, rising, above d))) in
+    let parted : map number_of held ≡ map number_of front ++ map number_of rest =
+    ap (map number_of) (sym (take-append-drop (p + 1) held)) ∙ map-append number_of front rest in
+    let count : ℕ → ℕ = λ m. cond (m == n) 1 0 in
+    omega (arith, ap (sum_by count) parted ∙ sum_by-append count (map number_of front) (map number_of rest), once, later)
+
+-- the first two neighbours with one number are two of what the books keep, and no smaller number stands twice
+pub doubled_kept : (shelf : List Shelved) (held seen : List Kept) (number gateway other : ℕ) → IsPermutation (held_by shelf) held
+    → IsNonDecreasingBy number_of held → seen ≡ held → AreAlike seen number gateway other → IsDoubled shelf number gateway other
+doubled_kept shelf held seen number gateway other p s e found =
+    let a = subst (λ l. AreAlike l number gateway other) e found in
+    let two = two_first held a.place (omega (arith, a.within)) in
+    let x = two.0 in
+    let y = two.1 in
+    let at_x : get_or held a.place x ≡ x = two.4 x in
+    let one : a.place + 1 ≡ suc a.place = omega arith in
+    let at_y : get_or held (a.place + 1) y ≡ y = ap (λ i. get_or held i y) one ∙ two.5 y in
+    let first : x ≡ (gateway, x.1) = ap (λ (g : ℕ). (g, x.1)) (ap (λ (h : Kept). h.0) (sym at_x) ∙ a.keeps x) in
+    let second : y ≡ (other, y.1) = ap (λ (g : ℕ). (g, y.1)) (ap (λ (h : Kept). h.0) (sym at_y) ∙ a.too y) in
+    record {
+      one = x.1;
+      two = y.1;
+      others = two.2;
+      kept = IsPermutation-trans (held_by shelf) held ((gateway, x.1) ∷ (other, y.1) ∷ two.2) p
+          (subst (λ h. IsPermutation held (h ∷ (other, y.1) ∷ two.2)) first
+          (subst (λ h. IsPermutation held (x ∷ h ∷ two.2)) second two.3));
+      first = ap (λ (h : Kept). h.1.number) (sym at_x) ∙ a.numbered x;
+      second = ap (λ (h : Kept). h.1.number) (sym at_y) ∙ a.alike y;
+      least = λ n l.
+          let seldom = times_before held s a.place n a.within (λ d. omega (arith, a.alike d, l)) a.before in
+          let count : ℕ → ℕ = λ m. cond (m == n) 1 0 in
+          let same = sum_by-IsPermutation count (map number_of (held_by shelf)) (map number_of held)
+          (IsPermutation-map number_of (held_by shelf) held p) in
+          subst (λ (l : List ℕ). times_of n l ≤ 1) (numbers_held shelf) (omega (arith, seldom, same));
+    }
+
+-- numbers that all differ in rising order: none stands twice
+pub once_differ : (shelf : List Shelved) (held seen : List Kept) → IsPermutation (held_by shelf) held
+    → IsNonDecreasingBy number_of held → seen ≡ held → AllDiffer seen → EachStandsOnce (kept_numbers (books_of shelf))
+once_differ shelf held seen p s e differ =
+    let d = subst AllDiffer e differ in
+    once_kept shelf held held p refl (once-rising number_of held s (λ k q l x. d (k - 1) k x (omega arith) l))

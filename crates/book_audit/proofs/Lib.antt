@@ -1,1 +1,4 @@
 pub mod HeldLemmas
+pub mod GatewaySums
+pub mod AmountLemmas
+pub mod LostLemmas

@@ -1,26 +1,82 @@
 // What the books have booked against what the desk knows.
 
-ghost use Rattle.std.specs.Prelude.{◌≡◌, ◌≢◌, All, MatchOption};
-ghost use Rattle.book_audit.specs.Audit.{airtime_at};
+ghost use Rattle.std.specs.Prelude.{◌≡◌, not, filter, find, All, IsNone};
+ghost use Rattle.book_audit.specs.Audit.{airtime_at, are_apart, has_book, of_books, of_others, all_amounts};
+ghost use Rattle.book_audit.specs.Audit.{AreTogether, HasWholeSum};
 
 use server_core::{Book, Desk};
 use std::alloc::Allocator;
 use std::hash::BuildHasher;
 
-/// The first gateway whose book has booked another airtime than its settled answers are on air for, with both, in
-/// microseconds. Takes no memory.
+/// A gateway, what its book has booked, and what the desk answers for it, in microseconds.
+pub(crate) type Amounts = (u16, (u64, u64));
+
+/// The first gateway that has booked another airtime than its settled answers are on air for: one with a book here, in
+/// the order of the books; where there is none, one of the desk's without a book, in the order of the settings. Takes no
+/// memory.
 pub(crate) fn first_apart<S: BuildHasher, A: Allocator>(
     desk: &Desk<S, A>,
     shelf: &[(u16, Book<A>)],
-) -> Option<(u16, u64, u64)>
-    ensures { MatchOption result (All (λ s. s.1.booked ≡ airtime_at desk.now s.0) shelf.now) (λ apart. apart.1 ≢ apart.2) }
+) -> Option<Amounts>
+    ensures first { result ≡ find are_apart (all_amounts desk.now shelf.now) }
+    ensures together { IsNone result → AreTogether desk.now shelf.now }
+    ensures equal { IsNone result → All (λ s. s.1.booked ≡ airtime_at desk.now s.0) shelf.now }
+    ensures sum { IsNone result → HasWholeSum desk.now shelf.now }
+{
+    let gateways = desk.gateways();
+    match apart_book(desk, shelf) {
+        Some(apart) => Some(apart),
+        None => without_book(desk, gateways, shelf),
+    }
+}
+
+/// The first book whose gateway is apart.
+fn apart_book<S: BuildHasher, A: Allocator>(
+    desk: &Desk<S, A>,
+    shelf: &[(u16, Book<A>)],
+) -> Option<Amounts>
+    ensures { result ≡ find are_apart (of_books desk.now shelf.now) }
 {
     for (gateway, book) in shelf {
         let booked = book.totals().booked;
-        let answered = desk.answered(*gateway).unwrap_or(0);
+        let answered = airtime_of(desk, *gateway);
         if booked != answered {
-            return Some((*gateway, booked, answered));
+            return Some((*gateway, (booked, answered)));
         }
     }
     None
+}
+
+/// The first of these gateways that has settled airtime and no book.
+fn without_book<S: BuildHasher, A: Allocator>(
+    desk: &Desk<S, A>,
+    gateways: &[u16],
+    shelf: &[(u16, Book<A>)],
+) -> Option<Amounts>
+    ensures { result ≡ find are_apart (of_others desk.now (filter (λ id. not (has_book shelf.now id)) gateways.now)) }
+{
+    for gateway in gateways {
+        if has_book(shelf, *gateway) {
+            continue;
+        }
+        let answered = airtime_of(desk, *gateway);
+        if answered != 0 {
+            return Some((*gateway, (0, answered)));
+        }
+    }
+    None
+}
+
+/// The airtime of a gateway's settled answers, in microseconds.
+fn airtime_of<S: BuildHasher, A: Allocator>(desk: &Desk<S, A>, gateway: u16) -> u64
+    ensures { result ≡ airtime_at desk.now gateway }
+{
+    desk.answered(gateway).unwrap_or(0)
+}
+
+/// Whether the gateway with this number has a book here.
+fn has_book<A: Allocator>(shelf: &[(u16, Book<A>)], gateway: u16) -> bool
+    ensures { result ≡ has_book shelf.now gateway }
+{
+    shelf.iter().any(|shelved| shelved.0 == gateway)
 }

@@ -10,9 +10,10 @@ pub enum FinishCause {
     /// A gateway's book and the desk don't agree on the airtime of its answers.
     #[error("gateway {gateway} has booked {booked} us, but its settled answers are on air for {answered} us")]
     Apart {
-        /// The first gateway, by number, of which this holds.
+        /// The first gateway of which this holds, in the order of the books, which a station has by number; where it holds of
+        /// none of theirs, the desk's first without a book, in the order of its settings.
         gateway: u16,
-        /// What the gateway's book has booked, in microseconds.
+        /// What the gateway's book has booked, in microseconds; 0 where it has none.
         booked: u64,
         /// The airtime of the settled answers that were booked there, in microseconds.
         answered: u64,

@@ -1,8 +1,8 @@
 // A station's books against its desk, against one another, and against receipts.
 
-ghost use Rattle.std.specs.Prelude.{◌≡◌, List, map, All, IfErr, OnOk};
-ghost use Rattle.air_ledger.specs.Tills.{Holding};
-ghost use Rattle.book_audit.specs.Audit.{airtime_at, kept_numbers, EachStandsOnce, IsAccountedFor, IsFirst, CauseTells};
+ghost use Rattle.std.specs.Prelude.{◌≡◌, All, IfErr, OnOk};
+ghost use Rattle.book_audit.specs.Audit.{airtime_at, books_of, kept_numbers, EachStandsOnce, IsAccountedFor, HasWholeSum};
+ghost use Rattle.book_audit.specs.Audit.{IsCauseOf};
 
 use crate::FinishCause;
 use crate::apart::first_apart;
@@ -13,8 +13,8 @@ use server_core::{Book, Desk};
 use std::alloc::Allocator;
 use std::hash::BuildHasher;
 
-/// Tells the first fault that the books have, in the order of `FinishCause`. Where there is no memory for the list of what
-/// they keep, nothing is compared.
+/// Tells the first fault that the books have, in the order of `FinishCause`, but never `TillMissing`: tills aren't looked at.
+/// Where there is no memory for the list of what the books keep, nothing is compared.
 pub fn compare<S: BuildHasher, A: Allocator + Copy>(
     alloc: A,
     desk: &Desk<S, A>,
@@ -22,15 +22,15 @@ pub fn compare<S: BuildHasher, A: Allocator + Copy>(
     receipts: &[Receipt<A>],
 ) -> Result<(), FinishCause>
     ensures equal { OnOk result (All (λ s. s.1.booked ≡ airtime_at desk.now s.0) shelf.now) }
-    ensures once { OnOk result (EachStandsOnce (kept_numbers (map (λ s. s.1) shelf.now))) }
+    ensures sum { OnOk result (HasWholeSum desk.now shelf.now) }
+    ensures once { OnOk result (EachStandsOnce (kept_numbers (books_of shelf.now))) }
     ensures accounted { OnOk result (All (IsAccountedFor shelf.now) receipts.now) }
-    ensures order { IfErr result (IsFirst desk.now shelf.now) }
-    ensures cause { (tills : List Holding) → IfErr result (CauseTells tills receipts.now) }
+    ensures cause { IfErr result (IsCauseOf desk.now shelf.now receipts.now) }
 {
     let Ok(held) = held_by_number(alloc, shelf) else {
         return Err(FinishCause::NoMemory);
     };
-    if let Some((gateway, booked, answered)) = first_apart(desk, shelf) {
+    if let Some((gateway, (booked, answered))) = first_apart(desk, shelf) {
         return Err(FinishCause::Apart {
             gateway,
             booked,

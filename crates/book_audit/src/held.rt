@@ -2,7 +2,8 @@
 
 ghost use Rattle.std.specs.Prelude.{◌≡◌, ◌++◌, map, IfOk, OnOk, IsNone, IfSome};
 ghost use Rattle.std.specs.List.Sorted.{IsPermutation, IsNonDecreasingBy};
-ghost use Rattle.book_audit.specs.Audit.{held_by, EachStandsOnce, StandsTwice};
+ghost use Rattle.book_audit.specs.Audit.{held_by};
+ghost use Rattle.book_audit.specs.Held.{AllDiffer, AreAlike};
 
 use resv_list::Reservation;
 use server_core::{Book, NoMemory};
@@ -27,8 +28,8 @@ pub(crate) fn held_by_number<A: Allocator + Copy>(
 /// The first number that stands twice in a list in the order of the numbers, and the gateways that keep it. Takes no memory.
 pub(crate) fn first_doubled(held: &[Held]) -> Option<(u64, u16, u16)>
     requires { IsNonDecreasingBy (λ h. h.1.number) held.now }
-    ensures none { IsNone result → EachStandsOnce (map (λ h. h.1.number) held.now) }
-    ensures twice { IfSome result (StandsTwice held.now) }
+    ensures none { IsNone result → AllDiffer held.now }
+    ensures twice { IfSome result (λ told. AreAlike held.now told.0 told.1 told.2) }
 {
     for i in 1..held.len() {
         let (gateway, member) = held[i - 1];

@@ -1,8 +1,9 @@
 // Receipts whose reservations are gone.
 
-ghost use Rattle.std.specs.Prelude.{◌≡◌, ◌+◌, ◌<◌, map, All, Contains, IsTrue, MatchOption};
-ghost use Rattle.std.specs.List.Sorted.{IsPermutation};
-ghost use Rattle.book_audit.specs.Audit.{held_by, HasBook, IsAccountedFor};
+ghost use Rattle.std.specs.Prelude.{◌≡◌, ◌+◌, ◌<◌, ◌↔◌, All, Contains, IsTrue, MatchOption};
+ghost use Rattle.std.specs.List.Sorted.{IsPermutation, IsNonDecreasingBy};
+ghost use Rattle.book_audit.specs.Audit.{held_by, HasBook, IsAccountedFor, IsLost};
+ghost use Rattle.book_audit.specs.Held.{AllDiffer};
 
 use crate::held::Held;
 use answer_ticket::Receipt;
@@ -12,14 +13,17 @@ use server_core::Book;
 use std::alloc::Allocator;
 
 /// The number of the first receipt whose gateway is unknown, or whose reservation is not kept there though the book's floor
-/// is no more than an hour past its start. `held` is what the books keep, in the order of the numbers. Takes no memory.
+/// is no more than an hour past its start. `held` is what the books keep, in the order of the numbers, which differ. Takes no
+/// memory.
 pub(crate) fn first_lost<A: Allocator>(
     shelf: &[(u16, Book<A>)],
     held: &[Held],
     receipts: &[Receipt<A>],
 ) -> Option<u64>
-    requires { IsPermutation (held_by shelf.now) held.now }
-    ensures { MatchOption result (All (IsAccountedFor shelf.now) receipts.now) (Contains (map (λ r. r.number) receipts.now)) }
+    requires same { IsPermutation (held_by shelf.now) held.now }
+    requires rising { IsNonDecreasingBy (λ h. h.1.number) held.now }
+    requires differ { AllDiffer held.now }
+    ensures { MatchOption result (All (IsAccountedFor shelf.now) receipts.now) (IsLost shelf.now receipts.now) }
 {
     for receipt in receipts {
         if !is_accounted_for(shelf, held, receipt) {
@@ -35,8 +39,10 @@ fn is_accounted_for<A: Allocator>(
     held: &[Held],
     receipt: &Receipt<A>,
 ) -> bool
-    requires { IsPermutation (held_by shelf.now) held.now }
-    ensures { IsTrue result → IsAccountedFor shelf.now receipt.now }
+    requires same { IsPermutation (held_by shelf.now) held.now }
+    requires rising { IsNonDecreasingBy (λ h. h.1.number) held.now }
+    requires differ { AllDiffer held.now }
+    ensures { IsTrue result ↔ IsAccountedFor shelf.now receipt.now }
 {
     if is_held(held, receipt.gateway, &receipt.reservation) {
         return true;
@@ -46,7 +52,9 @@ fn is_accounted_for<A: Allocator>(
 
 /// Whether the list has this reservation of the gateway with this number.
 fn is_held(held: &[Held], gateway: u16, reservation: &Reservation) -> bool
-    ensures { IsTrue result → Contains held.now (gateway, reservation.now) }
+    requires rising { IsNonDecreasingBy (λ h. h.1.number) held.now }
+    requires differ { AllDiffer held.now }
+    ensures { IsTrue result ↔ Contains held.now (gateway, reservation.now) }
 {
     let at = held.partition_point(|(_, member)| member.number < reservation.number);
     match held.get(at) {
@@ -57,11 +65,14 @@ fn is_held(held: &[Held], gateway: u16, reservation: &Reservation) -> bool
 
 /// Whether the book of the gateway with this number has a floor more than an hour past the reservation's start.
 fn is_past<A: Allocator>(shelf: &[(u16, Book<A>)], gateway: u16, reservation: &Reservation) -> bool
-    ensures { IsTrue result → HasBook shelf.now gateway (λ b. reservation.now.start + HOUR < b.floor) }
+    ensures { IsTrue result ↔ HasBook shelf.now gateway (λ b. reservation.now.start + HOUR < b.floor) }
 {
     let last = reservation.start + HOUR;
     for (id, book) in shelf {
-        if *id == gateway && last < book.totals().floor {
+        if *id != gateway {
+            continue;
+        }
+        if last < book.totals().floor {
             return true;
         }
     }
@@ -70,7 +81,7 @@ fn is_past<A: Allocator>(shelf: &[(u16, Book<A>)], gateway: u16, reservation: &R
 
 /// Whether two reservations have the same fields.
 fn is_same(one: &Reservation, other: &Reservation) -> bool
-    ensures { IsTrue result → one.now ≡ other.now }
+    ensures { IsTrue result ↔ (one.now ≡ other.now) }
 {
     one.number == other.number
         && one.start == other.start

@@ -1,6 +1,6 @@
 pub mod Tallied
 pub mod Numbered
-pub mod Ordered
+pub mod Rising
 pub mod Settled
 pub mod HandledLemmas
 pub mod ShelfLemmas

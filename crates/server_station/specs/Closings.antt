@@ -1,8 +1,13 @@
-use Rattle.std.specs.Prelude.{ℕ, List, map}
+use Rattle.std.specs.Prelude.{ℕ, ◌≡◌, ◌≢◌, List, map, ⊤}
 use Rattle.std.specs.List.{zip}
 use Rattle.gateway_book.specs.declared.totals.Totals.{Totals}
 use Rattle.gateway_book.specs.Book.{Book, totals_of}
-use Rattle.book_audit.specs.Audit.{Shelved}
+use Rattle.answer_ticket.specs.declared.tried.Receipt.{Receipt}
+use Rattle.server_core.specs.Desk.{DeskView}
+use Rattle.air_ledger.specs.Tills.{Holding, all_parts, parts_of}
+use Rattle.book_audit.specs.Audit.{Shelved, IsCauseOf}
+use Rattle.book_audit.specs.declared.cause.FinishCause.{FinishCause}
+use Rattle.book_audit.specs.declared.cause.FinishCause.TheVariants.{TillMissing, Apart, Doubled, Lost, NoMemory}
 
 -- What `finish` gives of a station's books, after this project's profile.
 
@@ -13,3 +18,17 @@ counted s = (s.0, totals_of s.1)
 -- the books of a closing beside their gateways' numbers
 abbrev pub shelved : List (ℕ × Totals) → List Book → List Shelved
 shelved totals books = zip (map (λ (t : ℕ × Totals). t.0) totals) books
+
+-- a desk, and books of the gateways with these numbers, of which this is the cause
+abbrev pub IsCauseAt : {A : Type 0} → List ℕ → List (Receipt A) → FinishCause → Type 0
+IsCauseAt ids receipts cause =
+    (desk : DeskView) × (shelf : List Shelved) × (map (λ (s : Shelved). s.0) shelf ≡ ids) × IsCauseOf desk shelf receipts cause
+
+-- why a station of these gateways isn't finished: its books are behind their locks again, so that the cause is told of some
+-- books of these gateways
+abbrev pub IsFinishCause : {A : Type 0} → List Holding → List ℕ → List (Receipt A) → FinishCause → Type 0
+IsFinishCause tills ids receipts TillMissing = parts_of tills ≢ all_parts
+IsFinishCause tills ids receipts (Apart gateway booked answered) = IsCauseAt ids receipts (Apart gateway booked answered)
+IsFinishCause tills ids receipts (Doubled number gateway other) = IsCauseAt ids receipts (Doubled number gateway other)
+IsFinishCause tills ids receipts (Lost number) = IsCauseAt ids receipts (Lost number)
+IsFinishCause tills ids receipts NoMemory = ⊤

@@ -1,6 +1,7 @@
-use Rattle.std.specs.Prelude.{ℕ, ◌≡◌, ◌<◌, ◌==◌, Bool, nat_lt, if◌then◌else◌, List, [], ◌∷◌, map, Result, ⊤, MatchResult}
+use Rattle.std.specs.Prelude.{ℕ, ◌≡◌, ◌<◌, ◌==◌, Bool, List, map, Result, ⊤, MatchResult}
 use Rattle.std.specs.Prelude.{IsOkUnless, IfOk, Option, Ok, Err}
 use Rattle.std.specs.List.{list_any}
+use Rattle.std.specs.List.Sorted.{IsPermutation, IsStrictlyIncreasing}
 use Rattle.std.specs.Option.{option_map_or}
 use Rattle.gateway_book.specs.declared.cancel.CancelFault.{CancelFault}
 use Rattle.gateway_book.specs.Book.{Book, airtime_answer}
@@ -59,18 +60,10 @@ WasTaken n answer = (old : DeskView) × IsGiven (take_answer old.reg old.known n
 abbrev pub has_gateway : List ℕ → ℕ → Bool
 has_gateway ids gateway = list_any (λ id. id == gateway) ids
 
--- numbers in rising order
-abbrev pub put_in_order : ℕ → List ℕ → List ℕ
-put_in_order id [] = id ∷ []
-put_in_order id (first ∷ ids) = if nat_lt first id then first ∷ put_in_order id ids else id ∷ first ∷ ids
-
-abbrev pub in_order : List ℕ → List ℕ
-in_order [] = []
-in_order (id ∷ ids) = put_in_order id (in_order ids)
-
--- the numbers of some gateways, in rising order
-abbrev pub ids_of : List GatewaySetting → List ℕ
-ids_of gateways = in_order (map (λ (g : GatewaySetting). g.id) gateways)
+-- these are the numbers of the gateways, each once, in rising order
+pub record AreInOrder (gateways : List GatewaySetting) (ids : List ℕ) : Type 0 where
+  pub rising : IsStrictlyIncreasing ids
+  pub same : IsPermutation (map (λ (g : GatewaySetting). g.id) gateways) ids
 
 -- a ticket was tried on a book, which became another
 abbrev pub WasTried : {A : Type 0} → Standing → Tried A → Type 0

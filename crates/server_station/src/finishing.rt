@@ -1,12 +1,12 @@
 // A station is finished.
 
 ghost use Rattle.std.specs.Prelude.{◌≡◌, ◌≢◌, ◌≤◌, [], map, All, MatchBool, IfOk, IfErr, OnOk, IsErrAnd, vec_len, vec_capacity};
+ghost use Rattle.std.specs.List.Sorted.{IsStrictlyIncreasing};
 ghost use Rattle.air_ledger.specs.Tills.{all_parts, parts_of, amount_of};
 ghost use Rattle.gateway_book.specs.Book.{totals_of};
 ghost use Rattle.server_core.specs.Desk.{total_of};
-ghost use Rattle.book_audit.specs.Audit.{airtime_at, kept_numbers, EachStandsOnce, IsAccountedFor};
-ghost use Rattle.server_station.specs.Closings.{shelved, counted};
-ghost use Rattle.book_audit.specs.Audit.{CauseTells};
+ghost use Rattle.book_audit.specs.Audit.{airtime_at, booked_by, kept_numbers, EachStandsOnce, IsAccountedFor};
+ghost use Rattle.server_station.specs.Closings.{shelved, counted, IsFinishCause};
 
 use crate::place::Place;
 use crate::shelf::{ClosingLists, Shelf, part, put_back, take_out};
@@ -19,10 +19,11 @@ use std::hash::BuildHasher;
 use std::sync::Mutex;
 
 impl<B: Ledger, S: BuildHasher, A: Allocator + Copy> Station<B, S, A> {
-    /// Ends the station: all parts of its ledger are in, each gateway has booked what its settled answers are on air for, no
-    /// number is kept twice, and the reservation of each of these receipts is kept, or its gateway's floor is more than an
-    /// hour past it. Otherwise the first of these that fails is told, in the order of `FinishCause`, and the station and the
-    /// tills are handed back as they were; `NoMemory` comes only where a growth was refused. Waits for nobody.
+    /// Ends the station: all parts of its ledger are in, each gateway has booked what its settled answers are on air for, so
+    /// that all books together have booked the tills' amount, no number is kept twice, and the reservation of each of these
+    /// receipts is kept, or its gateway's floor is more than an hour past it. Otherwise the first of these that fails is
+    /// told, in the order of `FinishCause`, and the station and the tills are handed back as they were; `NoMemory` comes only
+    /// where a growth was refused. Waits for nobody.
     pub fn finish(
         self,
         alloc: A,
@@ -32,6 +33,7 @@ impl<B: Ledger, S: BuildHasher, A: Allocator + Copy> Station<B, S, A> {
         ensures all_in { OnOk result (parts_of tills.items ≡ all_parts) }
         ensures booked { IfOk result (λ closing. closing.booked ≡ amount_of tills.items) }
         ensures answered { IfOk result (λ closing. closing.booked ≡ total_of closing.desk) }
+        ensures sum { IfOk result (λ closing. booked_by closing.books.items ≡ closing.booked) }
         ensures gateways { IfOk result (λ closing. map (λ t. t.0) closing.totals.items ≡ self) }
         ensures totals { IfOk result (λ closing. map (λ t. t.1) closing.totals.items ≡ map totals_of closing.books.items) }
         ensures equal { IfOk result (λ closing. All (λ t. t.1.booked ≡ airtime_at closing.desk t.0) closing.totals.items) }
@@ -39,7 +41,7 @@ impl<B: Ledger, S: BuildHasher, A: Allocator + Copy> Station<B, S, A> {
         ensures accounted { IfOk result (λ closing. All (IsAccountedFor (shelved closing.totals.items closing.books.items))
             receipts.now) }
         ensures missing { parts_of tills.items ≢ all_parts → IsErrAnd result (λ fault. fault.cause ≡ FinishCause.TillMissing) }
-        ensures cause { IfErr result (λ fault. CauseTells tills.items receipts.now fault.cause) }
+        ensures cause { IfErr result (λ fault. IsFinishCause tills.items self receipts.now fault.cause) }
         ensures station_back { IfErr result (λ fault. fault.station ≡ self) }
         ensures tills_back { IfErr result (λ fault. fault.tills.items ≡ tills.items) }
     {
@@ -71,6 +73,7 @@ fn shut<B: Ledger, S: BuildHasher, A: Allocator>(
     requires tally { tally ≡ total_of desk }
     requires empty { places.items ≡ [] }
     requires room { vec_len shelf ≤ vec_capacity places }
+    requires rising { IsStrictlyIncreasing (map (λ s. s.0) shelf.items) }
     ensures { result ≡ map (λ s. s.0) shelf.items }
 {
     put_back(&mut shelf, &mut places);

@@ -1,8 +1,7 @@
-ghost use Rattle.std.specs.Prelude.{◌≡◌, ◌≤◌, ◌==◌, nat_le, [], length, All, IfOk, find};
-ghost use Rattle.std.specs.List.{insert, position};
+ghost use Rattle.std.specs.Prelude.{◌≡◌, ◌≢◌, ◌==◌, map, All, AllPairs, IfOk, find};
 ghost use Rattle.std.specs.Option.{option_map};
 ghost use Rattle.server_core.specs.Settings.{IsGatewayInRange};
-ghost use Rattle.server_station.specs.Stations.{ids_of, put_in_order};
+ghost use Rattle.server_station.specs.Stations.{AreInOrder};
 
 use server_core::{Book, GatewaySetting, empty_book};
 use std::alloc::{AllocError, Allocator};
@@ -24,19 +23,31 @@ impl<A: Allocator> Model for Place<A> {
     ghost view = { λ p. p.id };
 }
 
-/// An empty book for each gateway, by their numbers.
+/// An empty book for each gateway, by their numbers, which differ.
 pub(crate) fn places_of<A: Allocator + Copy>(
     alloc: A,
     gateways: &[GatewaySetting],
 ) -> Result<Vec<Place<A>, A>, AllocError>
+    requires range { All IsGatewayInRange gateways.now }
+    requires differ { AllPairs (λ g h. g.id ≢ h.id) gateways.now }
+    ensures { IfOk result (λ places. AreInOrder gateways.now places.items) }
+{
+    let mut places = empty_places(alloc, gateways)?;
+    places.sort_unstable_by_key(|place| place.id);
+    Ok(places)
+}
+
+/// An empty book for each gateway, in their order.
+fn empty_places<A: Allocator + Copy>(
+    alloc: A,
+    gateways: &[GatewaySetting],
+) -> Result<Vec<Place<A>, A>, AllocError>
     requires { All IsGatewayInRange gateways.now }
-    ensures { IfOk result (λ places. places.items ≡ ids_of gateways.now) }
+    ensures { IfOk result (λ places. places.items ≡ map (λ g. g.id) gateways.now) }
 {
     let mut places = Vec::with_capacity(alloc, gateways.len())?;
-    for gateway in gateways.iter().rev() {
-        let place = empty_place(alloc, gateway);
-        let at = place_for(&places, gateway.id);
-        places.insert(at, place)?;
+    for gateway in gateways {
+        places.push(empty_place(alloc, gateway))?;
     }
     Ok(places)
 }
@@ -57,20 +68,4 @@ pub(crate) fn place_numbered<A: Allocator>(places: &[Place<A>], id: u16) -> Opti
     ensures { option_map (λ place. place.now) result ≡ find (λ other. other == id) places.now }
 {
     places.iter().find(|place| place.id == id)
-}
-
-/// Where a gateway with this number belongs among those with smaller and greater ones.
-#[tactic(auto, using(crate::proofs::Ordered::inserted, crate::proofs::Ordered::place_within))]
-fn place_for<A: Allocator>(places: &[Place<A>], id: u16) -> usize
-    ensures within { result ≤ length places.now }
-    ensures order { insert places.now result id ≡ put_in_order id places.now }
-{
-    first_from(places, id).unwrap_or(places.len())
-}
-
-/// The place of the first gateway whose number is not below this one.
-fn first_from<A: Allocator>(places: &[Place<A>], id: u16) -> Option<usize>
-    ensures { result ≡ position (λ other. nat_le id other) places.now }
-{
-    places.iter().position(|place| place.id >= id)
 }

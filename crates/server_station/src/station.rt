@@ -5,7 +5,8 @@ ghost use Rattle.server_core.specs.Airtime.{airtime_of_ending};
 ghost use Rattle.server_core.specs.Desk.{desk_of};
 ghost use Rattle.server_core.specs.Schedule.{usual_limits};
 ghost use Rattle.server_core.specs.World.{opening};
-ghost use Rattle.server_station.specs.Stations.{ids_of, has_gateway, gateway_to_try, WasQueued, WasHeard, WasPassed, WasTaken};
+ghost use Rattle.server_station.specs.Stations.{AreInOrder, has_gateway, gateway_to_try, WasQueued, WasHeard, WasPassed};
+ghost use Rattle.server_station.specs.Stations.{WasTaken};
 ghost use Rattle.server_station.specs.Stations.{WasTried, WasAsked, IsBehind};
 
 use crate::gate::{NoGate, is_let_in};
@@ -23,8 +24,8 @@ use std::marker::Model;
 use std::sync::{Mutex, Wait};
 
 /// A server for several threads: the desk with the ledger's tally behind one lock, and each gateway's book behind its own.
-/// Each call takes one of these locks, and waits for it, but for `new` and `finish`. Seen as the numbers of its gateways,
-/// in rising order.
+/// Each call takes one of these locks, and waits for it, but for `new` and `finish`. Seen as the numbers of its gateways; its
+/// type keeps that they rise, so that no two are the same.
 #[derive(Drop)]
 pub struct Station<B: Ledger, S: BuildHasher, A: Allocator = Global> {
     pub(crate) office: Mutex<Office<B, S, A>>,
@@ -34,10 +35,13 @@ pub struct Station<B: Ledger, S: BuildHasher, A: Allocator = Global> {
 
 impl<B: Ledger, S: BuildHasher, A: Allocator> Model for Station<B, S, A> {
     ghost use Rattle.std.specs.Prelude.{ℕ, List};
+    ghost use Rattle.std.specs.List.Sorted.{IsStrictlyIncreasing};
 
     ghost Value = { List ℕ };
 
     ghost view = { λ s. s.places.items };
+
+    ghost invariant = { λ s. IsStrictlyIncreasing s.places.items };
 }
 
 impl<B: Ledger, S: BuildHasher + Clone, A: Allocator + Copy> Station<B, S, A> {
@@ -53,7 +57,7 @@ impl<B: Ledger, S: BuildHasher + Clone, A: Allocator + Copy> Station<B, S, A> {
         requires name { blank.name ≡ B.name }
         requires parts { blank.parts ≡ B.parts }
         requires all { blank.parts ≡ PARTS }
-        ensures gateways { IfOk result (λ made. made.0 ≡ ids_of settings.now.gateways) }
+        ensures gateways { IfOk result (λ made. AreInOrder settings.now.gateways made.0) }
         ensures till { IfOk result (λ made. made.1 ≡ record { parts = PARTS; amount = 0 }) }
     {
         let desk = opening_desk(alloc, hasher, settings)?;

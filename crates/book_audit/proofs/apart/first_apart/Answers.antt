@@ -1,20 +1,24 @@
-use Rattle.std.proofs.Common.{◌≡◌, ◌<◌, length, sym, ap, ◌∙◌, arith, unwrap_or}
-use Rattle.std.proofs.lemmas.List.Elements.{AllWithin-more, at_read}
-use Rattle.book_audit.specs.Audit.{airtime_at}
+use Rattle.book_audit.proofs.AmountLemmas.{in_books, in_others, in_none, all_equal, books_equal, whole_sum}
+use Rattle.std.proofs.Common.{sym}
 use Rattle.book_audit.proofs.apart.first_apart.Goals as goal
 
-pub loop-gateway-preserved : goal.loop-gateway-preserved
-loop-gateway-preserved g c =
-    let here : c.loop-gateway-item.result.1.booked ≡ airtime_at c.args.desk.now c.loop-gateway-item.result.0 =
-    sym (ap (λ t. t.booked) c.totals-booked.ensures.totals)
-    ∙ c.if-booked-answered.false
-    ∙ c.unwrap_or-answered.ensures
-    ∙ ap (λ o. unwrap_or o 0) c.answered.ensures in
-    let within : c.loop-gateway.gateway-index < length c.args.shelf.now = omega arith in
-    AllWithin-more (λ s. s.1.booked ≡ airtime_at c.args.desk.now s.0) c.args.shelf.now 0 c.loop-gateway.gateway-index
-    c.loop-gateway.invariant
-    (at_read c.args.shelf.now (λ s. s.1.booked ≡ airtime_at c.args.desk.now s.0) c.loop-gateway.gateway-index
-    c.loop-gateway-item.result within c.loop-gateway-item.is here)
+pub returns-in-Some-clause-first : goal.returns-in-Some-clause-first
+returns-in-Some-clause-first g c = in_books c.args.desk.now c.args.shelf.now _ c.in-Some.ensures
 
-pub returns : goal.returns
-returns g c k d l = c.loop-gateway.invariant k d (omega arith) (omega arith)
+pub returns-in-None-clause-first : goal.returns-in-None-clause-first
+returns-in-None-clause-first g c =
+    in_others c.args.desk.now c.args.shelf.now _ c.gateways-gateways.ensures.same _ c.in-None.ensures c.without_book.ensures
+
+pub returns-in-None-clause-together : goal.returns-in-None-clause-together
+returns-in-None-clause-together g c h =
+    all_equal _
+    (in_none c.args.desk.now c.args.shelf.now _ c.gateways-gateways.ensures.same _ c.in-None.ensures c.without_book.ensures h)
+
+pub returns-in-None-clause-equal : goal.returns-in-None-clause-equal
+returns-in-None-clause-equal g c h = books_equal c.args.desk.now c.args.shelf.now (sym c.in-None.ensures)
+
+pub returns-in-None-clause-sum : goal.returns-in-None-clause-sum
+returns-in-None-clause-sum g c h =
+    whole_sum c.args.desk.now c.args.shelf.now
+    (in_none c.args.desk.now c.args.shelf.now _ c.gateways-gateways.ensures.same _ c.in-None.ensures c.without_book.ensures h)
+    c.gateways-gateways.ensures.differ c.gateways-gateways.ensures.whole

@@ -1,12 +1,25 @@
 use Rattle.std.proofs.Common.{◌∙◌, sym, ap, subst}
-use Rattle.book_audit.specs.Audit.{CauseTells}
-use Rattle.server_station.proofs.ClosingLemmas.{ids_closed, totals_closed, equal_closed, once_closed, accounted_closed}
+use Rattle.std.specs.List.Sorted.{IsStrictlyIncreasing}
+use Rattle.server_station.specs.Closings.{IsFinishCause}
+use Rattle.server_station.proofs.ClosingLemmas.{cause_handed, sum_closed, ids_closed, totals_closed, equal_closed, once_closed}
+use Rattle.server_station.proofs.ClosingLemmas.{accounted_closed}
 use Rattle.server_station.proofs.station.Station.finish.Goals as goal
+
+pub shut-station-requires-clause-rising : goal.shut-station-requires-clause-rising
+shut-station-requires-clause-rising g c = subst IsStrictlyIncreasing (sym c.take_out.ensures.ids) c.self.invariant
 
 pub returns-in-Err-clause-cause : goal.returns-in-Err-clause-cause
 returns-in-Err-clause-cause g c =
-    subst (CauseTells c.args.tills.items c.args.receipts.now) (sym (ap (λ f. f.cause) c.new-in-Err.ensures))
-    (c.in-Err.ensures.cause c.args.tills.items)
+    let ids = c.take_out.ensures.ids ∙ c.self.view_is in
+    let told = cause_handed c.args.self c.args.tills.items c.args.receipts.now c.parted-desk.result.0 _ _
+    c.deref-2.ensures.value ids c.in-Err.cause c.in-Err.ensures.cause in
+    subst (IsFinishCause c.args.tills.items c.args.self c.args.receipts.now) (sym (ap (λ f. f.cause) c.new-in-Err.ensures)) told
+
+pub returns-clause-sum : goal.returns-clause-sum
+returns-clause-sum g c =
+    let rising = subst IsStrictlyIncreasing (sym c.take_out.ensures.ids) c.self.invariant in
+    sum_closed c.parted-desk.result.0 _ _ _ c.close.result.booked c.deref-2.ensures.value c.close.ensures.books
+    c.close.ensures.answered rising c.in_default-compare.ensures.sum
 
 pub returns-clause-gateways : goal.returns-clause-gateways
 returns-clause-gateways g c = ids_closed _ _ c.close.ensures.totals ∙ c.take_out.ensures.ids ∙ (cc)
