@@ -60,10 +60,10 @@ found_among id (x ∷ xs) i g f = among_by id x xs (x.id == id) i g refl (λ j. 
 -- A gateway's book is asked.
 
 module _ (w : World) (id at : ℕ) (old : Book) (b : IsBookAt id at w.gateways old) where
-  there : (slice_get w.gateways at ≡ Some b.gateway) × ((b.gateway.id == id) ≡ true)
+  pub there : (slice_get w.gateways at ≡ Some b.gateway) × ((b.gateway.id == id) ≡ true)
   there = found_there (λ (g : Gateway). g.id == id) w.gateways (at, b.gateway) b.found
 
-  own : b.gateway.id ≡ id
+  pub own : b.gateway.id ≡ id
   own = equal_where_tested b.gateway.id id there.1
 
   stepped : (s : Step) (answers : List Answer) (new : Book) (reply : Reply) (v : Gateway) → v.id ≡ b.gateway.id → IsBookOf new v

@@ -15,6 +15,7 @@ pub mod DeskSteps
 pub mod Ready
 pub mod Calls
 pub mod BookSteps
+pub mod OtherCancels
 pub mod StaySteps
 pub mod BookCalls
 pub mod TrySteps

@@ -20,7 +20,7 @@ use Rattle.server_core.proofs.Members.{equal_where_tested}
 use Rattle.server_core.proofs.DeskSteps.{by_option, gateway_walk, tick_walk, cancel_walk, try_walk}
 use Rattle.server_core.proofs.DeskSteps.{settle_walk, desk_calls_are_steps}
 use Rattle.server_core.proofs.TakeStep.{ticket, still_waits}
-use Rattle.server_core.proofs.BookSteps.{cancel_is}
+use Rattle.server_core.proofs.{BookSteps.cancel_is, OtherCancels.other_cancel}
 
 not_tested : (m n : ℕ) → (m == n) ≡ false → m ≢ n
 not_tested m n h e = true≢false (sym ((unsigned_Decides m n).1 e) ∙ h)
@@ -168,4 +168,5 @@ others_leave_alone =
       ticket = λ w s t is o. answer_stays w t.job.number (Open t.at t.job) is refl s o;
       stub = stub_stays;
       book = λ w s id at book b d. record { gateway = b.gateway; found = found_stays w id s d ∙ b.found; keeps = b.keeps };
+      cancel = other_cancel;
     }

@@ -2,35 +2,40 @@
 use Rattle.server_core.proofs.Words.{ap, arith, inl, inr, subst, sym, ◌∙◌, Contains, None, [], refl, true, ◌+◌, ◌≡◌, ◌≤◌, ◌∷◌}
 use Rattle.server_core.proofs.Words.{Gathering, HeardCopy, numbered, some_inj, desk_of, Done, DeskView, Settle, step}
 use Rattle.server_core.proofs.Words.{Try, Tick, opening, Standing, Outcome, GatewaySetting}
+use Rattle.server_core.proofs.Words.{Book, CancelFault, Result, Sent, ℕ}
 use Rattle.radio_airtime.specs.TimeOnAir.{airtime_of}
 use Rattle.radio_bands.specs.declared.band.Band.TheVariants.{M}
+use Rattle.radio_bands.specs.Band.{band_of}
 use Rattle.resv_list.specs.Reservations.{begun}
+use Rattle.gateway_book.specs.Answer.{overlap}
+use Rattle.gateway_book.specs.Kept.{kept}
+use Rattle.gateway_book.specs.Duty.{full_hour}
 use Rattle.answer_ticket.specs.declared.outcome.Ending.TheVariants.{GivenUp}
 use Rattle.server_core.specs.Headline.{TakesRx1, IsOfItsUplink, KeepsHeadline}
-use Rattle.server_core.specs.BookCalls.{IsBookAt, IsTicketIn, IsStubIn, BookCallsAreSteps}
+use Rattle.server_core.specs.BookCalls.{IsBookAt, IsTicketIn, IsStubIn, IsCancel, BookCallsAreSteps}
 use Rattle.server_core.specs.Staying.{unused_book, OthersLeaveAlone}
 use Rattle.server_core.proofs.Headlines.{every_run_keeps_headline}
 use Rattle.server_core.proofs.WorkedInputs.{settings, limits, device, kept_copy, both_copies, gathering, uplink}
 use Rattle.server_core.proofs.WorkedRun.{job_1, gateway_1, gateway_3, w3, w4, w17, taken_4, steps, after, whole_run}
-use Rattle.server_core.proofs.WorkedPromise.{are, first_held, second_held, third_held, one_of_one, one_of_two}
+use Rattle.server_core.proofs.WorkedPromise.{are, safe_run, first_held, second_held, third_held, one_of_one, one_of_two}
 
-module _ (kept : KeepsHeadline settings after) where
+module _ (headline : KeepsHeadline settings after) where
   disjoint : second_held.member.start + airtime_of second_held.member.rate second_held.member.len ≤ third_held.member.start
-  disjoint = elim (kept.disjoint 1 0 1 gateway_3 second_held.member third_held.member refl second_held.there third_held.there
+  disjoint = elim (headline.disjoint 1 0 1 gateway_3 second_held.member third_held.member refl second_held.there third_held.there
       (λ e. absurd (omega (arith, e))))
       [ inl e ↦ e | inr e ↦ absurd (omega (arith, e, second_held.asked.start, third_held.asked.start)) ]
 
   hour_kept : begun M 10000000 3610000000 gateway_3.state.list ≤ 36000000
-  hour_kept = kept.hour 1 gateway_3 refl M 10000000
+  hour_kept = headline.hour 1 gateway_3 refl M 10000000
 
   numbers_differ : first_held.member.number ≡ second_held.member.number → ⊥
   numbers_differ e =
-      let same = (kept.once 0 1 0 0 gateway_1 gateway_3 first_held.member second_held.member refl first_held.there refl
+      let same = (headline.once 0 1 0 0 gateway_1 gateway_3 first_held.member second_held.member refl first_held.there refl
       second_held.there e).0 in
       absurd (omega (arith, same))
 
   own : IsOfItsUplink settings w17.reg.gathered.list gateway_3 second_held.member
-  own = kept.own 1 0 gateway_3 second_held.member refl second_held.there
+  own = headline.own 1 0 gateway_3 second_held.member refl second_held.there
 
   its_uplink : own.uplink ≡ gathering (uplink 1) 300000 both_copies true
   its_uplink = some_inj (sym own.its_own ∙ ap (λ n. numbered n w17.reg.gathered.list) second_held.asked.number)
@@ -82,3 +87,35 @@ module _ {A : Type 0} (calls : BookCallsAreSteps A) (alone : OthersLeaveAlone) w
   still_kept : IsBookAt 1 0 (step (opening settings limits) (Tick 2 7)).0.gateways (unused_book first_gateway)
   still_kept = alone.book (opening settings limits) (Tick 2 7) 1 0 (unused_book first_gateway) opened
       (λ e. absurd (omega (arith, some_inj e)))
+
+-- the first gateway's book after the run: what it holds for the first uplink isn't cancelled as the second's
+abbrev first_book : Book
+first_book = record {
+  id = 1;
+  rules = record { cap = 4096 };
+  floor = 0;
+  list = gateway_1.state.list;
+  booked = gateway_1.state.booked;
+  cancelled = 0;
+  retired = 0;
+}
+
+first_kept : IsBookAt 1 0 w17.gateways first_book
+unfolding kept airtime_of band_of overlap full_hour begun
+first_kept =
+    record {
+      gateway = gateway_1;
+      found = refl;
+      keeps = record {
+        id = refl;
+        rules = refl;
+        orderly = record { by_start = (omega arith, tt); lawful = safe_run.lawful 0 gateway_1 refl };
+        remembers = record { floor = refl; list = refl; booked = refl; cancelled = refl };
+      };
+    }
+
+module _ (alone : OthersLeaveAlone) where
+  not_cancelled : (new : Book) (result : Result ℕ CancelFault) → IsCancel 2 6000000 first_book new result → new ≡ first_book
+  not_cancelled new result c =
+      alone.cancel settings are limits steps 2 6000000 1 0 first_book new result (rw whole_run first_kept) c
+      (rw whole_run (λ sent e here begins. omega (arith, begins, ap (λ (s : Sent). s.start) (some_inj e))))

@@ -1,5 +1,6 @@
-use Rattle.std.specs.Prelude.{ℕ, ◌≡◌, ◌≢◌, ◌==◌, Bool, false, [], slice_get, Option, Some, None}
+use Rattle.std.specs.Prelude.{ℕ, ◌≡◌, ◌≢◌, ◌==◌, Bool, false, List, [], slice_get, Option, Some, None, Result}
 use Rattle.std.specs.Option.{option_map}
+use Rattle.gateway_book.specs.declared.cancel.CancelFault.{CancelFault}
 use Rattle.gateway_book.specs.Book.{Book}
 use Rattle.uplink_gather.specs.declared.limits.Limits.{Limits}
 use Rattle.uplink_gather.specs.Gatherings.{numbered}
@@ -8,11 +9,12 @@ use Rattle.answer_ticket.specs.declared.outcome.Outcome.{Outcome}
 use Rattle.answer_ticket.specs.Job.{candidate_at}
 use Rattle.answer_ticket.specs.Ticket.{Standing}
 use Rattle.server_desk.specs.declared.setting.GatewaySetting.{GatewaySetting}
+use Rattle.server_desk.specs.declared.answers.Sent.{Sent}
 use Rattle.server_desk.specs.Settings.{SettingLists, AreSettings}
 use Rattle.server_desk.specs.Answers.{Answer, Open}
 use Rattle.server_desk.specs.World.{World, opening, rules_of}
-use Rattle.server_core.specs.Steps.{Step, Settle, Try, Cancel, Tick, step}
-use Rattle.server_core.specs.BookCalls.{IsBookAt, IsTicketIn, IsStubIn, sent_at}
+use Rattle.server_core.specs.Steps.{Step, Settle, Try, Cancel, Tick, step, run}
+use Rattle.server_core.specs.BookCalls.{IsBookAt, IsTicketIn, IsStubIn, IsCancel, sent_at}
 
 -- What is out stays that of the world through the steps of others: so calls in any order, each of which is a step where its
 -- ticket, stub or book is the world's, are the steps of one run.
@@ -58,3 +60,9 @@ pub record OthersLeaveAlone : Type 0 where
   -- and a book its gateway's until a step asks for it
   pub book : (w : World) (s : Step) (id at : ℕ) (book : Book) → IsBookAt id at w.gateways book → gateway_asked w s ≢ Some id
       → IsBookAt id at (step w s).0.gateways book
+  -- after every list of steps, a cancel of another transmission than what is booked for the number there changes nothing
+  pub cancel : (settings : SettingLists) → AreSettings settings.gateways settings.devices → (limits : Limits) (steps : List Step)
+      (n start id at : ℕ) (old new : Book) (result : Result ℕ CancelFault)
+      → IsBookAt id at (run settings limits steps).world.gateways old → IsCancel n start old new result
+      → ((sent : Sent) → sent_at (run settings limits steps).world n ≡ Some sent → sent.gateway ≡ id → sent.start ≢ start)
+      → new ≡ old

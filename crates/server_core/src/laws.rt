@@ -69,7 +69,8 @@ pub fn law_every_run_keeps_headline()
 /// What is out stays that of the system through the steps of others, so that calls in any order are the steps of one run: before
 /// the first step the empty book of each gateway of the settings is the system's; a ticket or a stub stays that of its number's
 /// answer through every step but a try and the settling of this number; and a gateway's book stays that gateway's through every
-/// step that asks for no book or for another gateway's.
+/// step that asks for no book or for another gateway's. After every list of steps, a cancel on a gateway's book of anything else
+/// than what is booked there for its number changes nothing.
 pub fn law_others_leave_alone()
     ensures { OthersLeaveAlone }
 {}

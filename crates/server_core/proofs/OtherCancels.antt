@@ -1,0 +1,73 @@
+-- A cancel of what isn't booked for its number on a gateway changes nothing there.
+use Rattle.server_core.proofs.Words.{ap, subst, sym, true≢false, ◌∙◌, Bool, Err, List, None, Ok, OnErr, Option, Result, Some}
+use Rattle.server_core.proofs.Words.{[], cond, false, find, if◌then◌else◌, nat_le, refl, slice_get, suc, true, ℕ, ◌==◌, ◌&&◌, ◌∷◌}
+use Rattle.server_core.proofs.Words.{◌≡◌, ◌≢◌, Reservation, Book, is_named, remembers_cancel, CancelFault, Begun}
+use Rattle.server_core.proofs.Words.{Limits, opening, some_inj, World, AreSettings, SettingLists, Sent, IsMember, Step}
+use Rattle.server_core.proofs.Words.{run, found_or}
+use Rattle.gateway_book.specs.Book.{airtime_answer}
+use Rattle.server_core.specs.BookCalls.{IsBookAt, IsCancel, sent_at}
+use Rattle.server_core.proofs.{Members.equal_where_tested, BookSteps.there, BookSteps.own}
+use Rattle.server_core.proofs.Holds.{Holds, member_stands}
+use Rattle.server_core.proofs.Runs.{opened, run_good}
+
+-- a member that is found stands at a place and passes the test
+module _ {X : Type 0} (test : X → Bool) (x : X) where
+  abbrev IsThere : List X → Type 0
+  IsThere xs = (k : ℕ) × (slice_get xs k ≡ Some x) × (test x ≡ true)
+
+  there_by : (y : X) (ys : List X) (t : Bool) → test y ≡ t → cond t (Some y) (find test ys) ≡ Some x
+      → (find test ys ≡ Some x → IsThere ys) → IsThere (y ∷ ys)
+  there_by y ys true e f rest = (0, f, subst (λ z. test z ≡ true) (some_inj f) e)
+  there_by y ys false e f rest = let r = rest f in (suc r.0, r.1, r.2)
+
+  found_member : (xs : List X) → find test xs ≡ Some x → IsThere xs
+  found_member [] f = absurd (cc (f))
+  found_member (y ∷ ys) f = there_by y ys (test y) refl f (found_member ys)
+
+both : (s t : Bool) → (s && t) ≡ true → (s ≡ true) × (t ≡ true)
+both true t h = (refl, h)
+both false t h = absurd (true≢false (sym h))
+
+-- where nothing is found, a cancel is refused
+refused_by : (floor start : ℕ) (o : Option Reservation) (t : Bool) → ((r : Reservation) → o ≡ Some r → ⊥)
+    → (fault : CancelFault) × ((if t then Err Begun else found_or o) ≡ Err fault)
+refused_by floor start o true none = (Begun, refl)
+refused_by floor start None false none = (_, refl)
+refused_by floor start (Some r) false none = absurd (none r refl)
+
+same_if_refused : (r : Result ℕ CancelFault) (fault : CancelFault) (old new : Book) → r ≡ Err fault → OnErr r (new ≡ old)
+    → new ≡ old
+same_if_refused (Ok airtime) fault old new e h = absurd (cc (e))
+same_if_refused (Err other) fault old new e h = h
+
+module _ {settings : SettingLists} {w : World} {T : _} (h : Holds settings T w) (n start id at : ℕ) (old : Book)
+    (b : IsBookAt id at w.gateways old)
+    (other : (sent : Sent) → sent_at w n ≡ Some sent → sent.gateway ≡ id → sent.start ≢ start) where
+  not_named : (r : Reservation) → find (is_named n start) b.gateway.state.list ≡ Some r → ⊥
+  not_named r f =
+      let found = found_member (is_named n start) r b.gateway.state.list f in
+      let named = both (r.number == n) (r.start == start) found.2 in
+      let number : r.number ≡ n = equal_where_tested r.number n named.0 in
+      let begins : r.start ≡ start = equal_where_tested r.start start named.1 in
+      let member : IsMember w at found.0 b.gateway r = record { gateway = (there w id at old b).0; member = found.1 } in
+      let s = member_stands h at found.0 b.gateway r member in
+      let kept : sent_at w r.number ≡ Some s.sent = rw s.kept.there s.kept.is in
+      other s.sent (ap (sent_at w) (sym number) ∙ kept) (s.booking.gateway ∙ own w id at old b) (s.booking.start ∙ begins)
+
+  same : (new : Book) (result : Result ℕ CancelFault) → IsCancel n start old new result → new ≡ old
+  same new result c =
+      let k = b.keeps in
+      let s = b.gateway.state in
+      let none = refused_by s.floor start (find (is_named n start) s.list) (nat_le start s.floor) not_named in
+      let answered : result ≡ Err none.0 =
+      c.answer ∙ ap airtime_answer (remembers_cancel old s k.orderly k.remembers n start ∙ none.1) in
+      same_if_refused result none.0 old new answered c.refused
+
+pub other_cancel : (settings : SettingLists) → AreSettings settings.gateways settings.devices → (limits : Limits)
+    (steps : List Step) (n start id at : ℕ) (old new : Book) (result : Result ℕ CancelFault)
+    → IsBookAt id at (run settings limits steps).world.gateways old → IsCancel n start old new result
+    → ((sent : Sent) → sent_at (run settings limits steps).world n ≡ Some sent → sent.gateway ≡ id → sent.start ≢ start)
+    → new ≡ old
+other_cancel settings are limits steps n start id at old new result b c other =
+    let good = run_good settings are (λ j. ⊥) (opening settings limits) (opened settings (λ j. ⊥) limits) steps in
+    same good.holds n start id at old b other new result c
