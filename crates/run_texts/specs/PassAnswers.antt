@@ -67,7 +67,7 @@ IsAnswerTo receipts number GivenUp answer = answer ≡ line_alone number (lines.
 abbrev pub IsAnswerToTurn : ℕ → Handled Global → Answer → Type 0
 IsAnswerToTurn number (NotTaken fault) answer = answer ≡ refused_answer (number, fault)
 IsAnswerToTurn number (Settled outcome receipt) answer = IsAnswerTo (option_to_list receipt) outcome.number outcome.result answer
-IsAnswerToTurn number (Stray receipt) answer = answer ≡ stray_answer number
+IsAnswerToTurn number (Stray outcome receipt) answer = answer ≡ stray_answer number
 
 -- the answers, and behind them that to one turn
 abbrev pub IsTurnTold : ℕ → Handled Global → List Answer → List Answer → Type 0
@@ -86,4 +86,4 @@ settled_numbers outcomes = map (λ (o : Outcome). o.number) outcomes
 abbrev pub number_of : ℕ → Handled Global → ℕ
 number_of number (NotTaken fault) = number
 number_of number (Settled outcome receipt) = outcome.number
-number_of number (Stray receipt) = number
+number_of number (Stray outcome receipt) = number

@@ -84,7 +84,7 @@ impl PassAnswers {
     {
         let (answer, receipt) = match turn {
             Handled::NotTaken(fault) => (not_taken(number, fault), None),
-            Handled::Stray(receipt) => (stray(number), receipt),
+            Handled::Stray(_, receipt) => (stray(number), receipt),
             Handled::Settled(outcome, mut receipt) => {
                 let answer = answer_of(alloc, &outcome, receipt.as_mut_slice());
                 (answer, receipt)

@@ -1,4 +1,4 @@
-use Rattle.std.specs.Prelude.{ℕ, ◌≡◌, ◌+◌, Bool, true, false, Option, None, IfSome}
+use Rattle.std.specs.Prelude.{ℕ, ◌≡◌, ◌+◌, Bool, true, false, Option, None}
 use Rattle.std.specs.Option.{IsSomeAnd}
 use Rattle.radio_airtime.specs.TimeOnAir.{airtime_of}
 use Rattle.rx_windows.specs.declared.candidate.Window.{Window}
@@ -43,25 +43,27 @@ pub record IsSettled {A : Type 0} (n : ℕ) (old new : Holding) (outcome : Outco
   pub receipt : GoesWith n outcome.result booked
   pub till : new ≡ record old { amount = old.amount + airtime_of_ending outcome.result }
 
--- the stub of this number was handed back, and the till left as it was
-pub record IsStray {A : Type 0} (n : ℕ) (old new : Holding) (booked : Option (Receipt A)) : Type 0 where
-  pub receipt : IfSome booked (λ r. r.number ≡ n)
+-- the stub of this number was handed back, and the till left as it was; what was booked has its receipt all the same
+pub record IsStray {A : Type 0} (n : ℕ) (old new : Holding) (outcome : Outcome) (booked : Option (Receipt A)) : Type 0 where
+  pub number : outcome.number ≡ n
+  pub timed : IsOfCandidate outcome.result
+  pub receipt : GoesWith n outcome.result booked
   pub till : new ≡ old
 
 -- what became of the uplink with this number, and of the till
 abbrev pub IsHandled : {A : Type 0} → ℕ → Holding → Holding → Handled A → Type 0
 IsHandled n old new (NotTaken fault) = new ≡ old
 IsHandled n old new (Settled outcome receipt) = IsSettled n old new outcome receipt
-IsHandled n old new (Stray receipt) = IsStray n old new receipt
+IsHandled n old new (Stray outcome receipt) = IsStray n old new outcome receipt
 
 -- whether a ticket was given
 abbrev pub was_taken : {A : Type 0} → Handled A → Bool
 was_taken (NotTaken fault) = false
 was_taken (Settled outcome receipt) = true
-was_taken (Stray receipt) = true
+was_taken (Stray outcome receipt) = true
 
 -- the receipt of what was booked
 abbrev pub receipt_of : {A : Type 0} → Handled A → Option (Receipt A)
 receipt_of (NotTaken fault) = None
 receipt_of (Settled outcome receipt) = receipt
-receipt_of (Stray receipt) = receipt
+receipt_of (Stray outcome receipt) = receipt

@@ -16,8 +16,8 @@ pub enum Handled<A: Allocator> {
     NotTaken(TakeFault),
     /// Its answer was settled, with the receipt of what was booked.
     Settled(Outcome, Option<Receipt<A>>),
-    /// The desk handed its stub back; with the receipt of what was booked.
-    Stray(Option<Receipt<A>>),
+    /// The desk handed its stub back, whose answer ended so; with the receipt of what was booked.
+    Stray(Outcome, Option<Receipt<A>>),
 }
 
 impl<B: Ledger, S: BuildHasher, A: Allocator + Copy> Station<B, S, A> {
@@ -92,10 +92,7 @@ impl<B: Ledger, S: BuildHasher, A: Allocator + Copy> Station<B, S, A> {
         let TriedOut { stub, receipt } = ended;
         match self.settle(rt, stub, till) {
             Ok(outcome) => Handled::Settled(outcome, receipt),
-            Err(stub) => {
-                let _ = stub.end();
-                Handled::Stray(receipt)
-            }
+            Err(stub) => Handled::Stray(stub.end(), receipt),
         }
     }
 }

@@ -6,6 +6,9 @@ use Rattle.std.specs.List.{flat_map}
 use Rattle.std.specs.List.Sorted.{IsPermutation}
 use Rattle.std.specs.Int.{from_bool}
 use Rattle.std.proofs.Math.Nat.{suc-mul}
+use Rattle.std.proofs.lemmas.Grind.{flat_map-append}
+use Rattle.std.proofs.lemmas.List.Sorted.{IsPermutation-refl, IsPermutation-trans, IsPermutation-append_right}
+use Rattle.std.proofs.lemmas.List.Sorted.{IsPermutation-append_comm}
 use Rattle.std.proofs.lemmas.List.{append-nil, reverse-append}
 use Rattle.std.proofs.lemmas.List.Sums.{sum_by-append, sum_by-cons}
 use Rattle.air_ledger.specs.Tills.{Holding}
@@ -123,10 +126,26 @@ one_at_most false = omega arith
 pub begun_last : (l : List Bool) (b : Bool) → begun (l ++ b ∷ []) ≡ begun l + from_bool b
 begun_last l b = sum_by-append from_bool l (b ∷ []) ∙ ap (λ n. begun l + n) (sum_by-cons from_bool b [] ∙ omega arith)
 
+-- what a crew kept is the same from whichever end it is taken, but for the order
+from_end : {W X : Type 0} (kept : W → List X) (crew : List W) → IsPermutation (flat_map kept crew) (flat_map kept (reverse crew))
+from_end kept [] = IsPermutation-refl []
+from_end kept (w ∷ crew) =
+    let last : flat_map kept (reverse (w ∷ crew)) ≡ flat_map kept (reverse crew) ++ kept w =
+    ap (flat_map kept) (reverse-append (w ∷ []) crew)
+    ∙ flat_map-append kept (reverse crew) (w ∷ [])
+    ∙ ap (λ l. flat_map kept (reverse crew) ++ l) (append-nil (kept w)) in
+    subst (IsPermutation (kept w ++ flat_map kept crew)) (sym last)
+    (IsPermutation-trans (kept w ++ flat_map kept crew) (kept w ++ flat_map kept (reverse crew))
+    (flat_map kept (reverse crew) ++ kept w)
+    (IsPermutation-append_right (kept w) (flat_map kept crew) (flat_map kept (reverse crew)) (from_end kept crew))
+    (IsPermutation-append_comm (kept w) (flat_map kept (reverse crew))))
+
 -- what a crew did is what was put together and then sorted
-put_in_order : {X : Type 0} (old mid kept new : List X) → old ≡ [] → mid ≡ old ++ kept → IsPermutation mid new
-    → IsPermutation kept new
-put_in_order old mid kept new none e h = subst (λ l. IsPermutation l new) (e ∙ ap (λ l. l ++ kept) none) h
+put_in_order : {W X : Type 0} (kept : W → List X) (crew : List W) (old mid new : List X) → old ≡ []
+    → mid ≡ old ++ flat_map kept (reverse crew) → IsPermutation mid new → IsPermutation (flat_map kept crew) new
+put_in_order kept crew old mid new none e h =
+    IsPermutation-trans (flat_map kept crew) (flat_map kept (reverse crew)) new (from_end kept crew)
+    (subst (λ l. IsPermutation l new) (e ∙ ap (λ l. l ++ flat_map kept (reverse crew)) none) h)
 
 pub all_summed_up : {B A : Type 0} (lists : Lists A) (n : ℕ) (old mid new : Served B A) (crew : List (Worked B A))
     → AreEmptyFor n lists
@@ -135,11 +154,21 @@ pub all_summed_up : {B A : Type 0} (lists : Lists A) (n : ℕ) (old mid new : Se
     → IsGathered old crew mid → IsReordered mid new → IsSummedUp crew new
 all_summed_up {B = B} {A = A} lists n old mid new crew empty receipts outcomes skipped refused strays overrun g h =
     record {
-      receipts = put_in_order _ _ _ _ (ap (λ l. l.items) receipts ∙ empty.receipts.none) g.receipts h.receipts;
-      outcomes = put_in_order _ _ _ _ (ap (λ l. l.items) outcomes ∙ empty.outcomes.none) g.outcomes h.outcomes;
-      skipped = put_in_order _ _ _ _ (ap (λ l. l.items) skipped ∙ empty.skipped.none) g.skipped h.skipped;
-      refused = put_in_order _ _ _ _ (ap (λ l. l.items) refused ∙ empty.refused.none) g.refused h.refused;
-      strays = put_in_order _ _ _ _ (ap (λ l. l.items) strays ∙ empty.strays.none) g.strays h.strays;
+      receipts =
+          put_in_order (λ (w : Worked B A). w.receipts.items) crew _ _ _
+          (ap (λ l. l.items) receipts ∙ empty.receipts.none) g.receipts h.receipts;
+      outcomes =
+          put_in_order (λ (w : Worked B A). w.outcomes.items) crew _ _ _
+          (ap (λ l. l.items) outcomes ∙ empty.outcomes.none) g.outcomes h.outcomes;
+      skipped =
+          put_in_order (λ (w : Worked B A). w.skipped.items) crew _ _ _
+          (ap (λ l. l.items) skipped ∙ empty.skipped.none) g.skipped h.skipped;
+      refused =
+          put_in_order (λ (w : Worked B A). w.refused.items) crew _ _ _
+          (ap (λ l. l.items) refused ∙ empty.refused.none) g.refused h.refused;
+      strays =
+          put_in_order (λ (w : Worked B A). w.strays.items) crew _ _ _
+          (ap (λ l. l.items) strays ∙ empty.strays.none) g.strays h.strays;
       overrun = h.overrun ∙ g.overrun
           ∙ ap (λ n. added_up n (sum_by (λ (w : Worked B A). w.overrun) crew)) overrun;
     }

@@ -3,7 +3,7 @@ use Rattle.server_workers.specs.declared.worked.Worked.{Worked}
 
 -- A crew of workers.
 
--- no list of a worker has room for more items
+-- no list of a worker has room for more than so many items
 pub record IsWithin {B A : Type 0} (room : ℕ) (worked : Worked B A) : Type 0 where
   pub receipts : vec_capacity worked.receipts ≤ room
   pub outcomes : vec_capacity worked.outcomes ≤ room

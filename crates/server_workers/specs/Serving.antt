@@ -50,11 +50,11 @@ begun crew = sum_by from_bool crew
 
 -- what a crew did, each list in some order
 pub record IsSummedUp {B A : Type 0} (crew : List (Worked B A)) (served : Served B A) : Type 0 where
-  pub receipts : IsPermutation (flat_map (λ (w : Worked B A). w.receipts.items) (reverse crew)) served.receipts.items
-  pub outcomes : IsPermutation (flat_map (λ (w : Worked B A). w.outcomes.items) (reverse crew)) served.outcomes.items
-  pub skipped : IsPermutation (flat_map (λ (w : Worked B A). w.skipped.items) (reverse crew)) served.skipped.items
-  pub refused : IsPermutation (flat_map (λ (w : Worked B A). w.refused.items) (reverse crew)) served.refused.items
-  pub strays : IsPermutation (flat_map (λ (w : Worked B A). w.strays.items) (reverse crew)) served.strays.items
+  pub receipts : IsPermutation (flat_map (λ (w : Worked B A). w.receipts.items) crew) served.receipts.items
+  pub outcomes : IsPermutation (flat_map (λ (w : Worked B A). w.outcomes.items) crew) served.outcomes.items
+  pub skipped : IsPermutation (flat_map (λ (w : Worked B A). w.skipped.items) crew) served.skipped.items
+  pub refused : IsPermutation (flat_map (λ (w : Worked B A). w.refused.items) crew) served.refused.items
+  pub strays : IsPermutation (flat_map (λ (w : Worked B A). w.strays.items) crew) served.strays.items
   pub overrun : served.overrun ≡ added_up 0 (sum_by (λ (w : Worked B A). w.overrun) crew)
 
 -- each list has what it had, in some order, and all else is the same

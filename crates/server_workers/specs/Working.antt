@@ -46,27 +46,27 @@ items_of (Some x) = x ∷ []
 abbrev pub receipts_of : {A : Type 0} → Handled A → List (Receipt A)
 receipts_of (NotTaken fault) = []
 receipts_of (Settled outcome receipt) = items_of receipt
-receipts_of (Stray receipt) = items_of receipt
+receipts_of (Stray outcome receipt) = items_of receipt
 
 abbrev pub outcomes_of : {A : Type 0} → Handled A → List Outcome
 outcomes_of (NotTaken fault) = []
 outcomes_of (Settled outcome receipt) = outcome ∷ []
-outcomes_of (Stray receipt) = []
+outcomes_of (Stray outcome receipt) = []
 
 abbrev pub skipped_of : {A : Type 0} → ℕ → Handled A → List ℕ
 skipped_of n (NotTaken fault) = if may_come_later fault then n ∷ [] else []
 skipped_of n (Settled outcome receipt) = []
-skipped_of n (Stray receipt) = []
+skipped_of n (Stray outcome receipt) = []
 
 abbrev pub refused_of : {A : Type 0} → ℕ → Handled A → List (ℕ × TakeFault)
 refused_of n (NotTaken fault) = if may_come_later fault then [] else (n, fault) ∷ []
 refused_of n (Settled outcome receipt) = []
-refused_of n (Stray receipt) = []
+refused_of n (Stray outcome receipt) = []
 
 abbrev pub strays_of : {A : Type 0} → ℕ → Handled A → List ℕ
 strays_of n (NotTaken fault) = []
 strays_of n (Settled outcome receipt) = []
-strays_of n (Stray receipt) = n ∷ []
+strays_of n (Stray outcome receipt) = n ∷ []
 
 -- what became of number n stands at the ends of the lists, and nothing else was added
 pub record IsFiled {B A : Type 0} (n : ℕ) (old new : Worked B A) (turn : Handled A) : Type 0 where

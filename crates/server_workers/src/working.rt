@@ -122,7 +122,7 @@ fn file<A: Allocator>(
             outcomes.push_reserved(outcome);
             keep(receipts, receipt);
         }
-        Handled::Stray(receipt) => {
+        Handled::Stray(_, receipt) => {
             strays.push_reserved(number);
             keep(receipts, receipt);
         }

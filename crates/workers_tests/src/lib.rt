@@ -14,4 +14,6 @@ mod meeting_tests;
 #[cfg(test)]
 mod station_tests;
 #[cfg(test)]
+mod untouched_tests;
+#[cfg(test)]
 mod work_tests;

@@ -180,6 +180,32 @@ fn engaged<B: Ledger + Send + Sync, R: Threads + Wait + Sync>(
     Ok((skipped, told))
 }
 
+/// One worker is given 1,000 numbers by a station that heard nothing: how many it refuses. All of them wait for it at once.
+fn thousand_unheard<B: Ledger + Send + Sync, R: Threads + Wait + Sync>(
+    rt: &R,
+    alloc: Global,
+    blank: Blank,
+) -> Result<usize, Fail>
+    requires name { blank.name ≡ B.name }
+    requires parts { blank.parts ≡ B.parts }
+    requires all { blank.parts ≡ PARTS }
+{
+    let (station, till) = station_of::<B>(alloc, 1, blank)?;
+    let mut numbers = Vec::new(alloc);
+    for number in 0..1_000u64 {
+        numbers.push(number)?;
+    }
+    let served = serve(rt, alloc, &station, numbers.as_slice(), till, 1, &NoGate);
+    Ok(served.ok().ok_or("a worker is started")?.refused.len())
+}
+
+#[test]
+fn a_thousand_numbers_wait_for_one_worker(rt: HostRuntime) -> Result<(), Fail> {
+    let refused = thousand_unheard::<Brand, _>(&rt, rt.alloc(), Blank::new(PARTS as u64))?;
+    assert_eq!(rt; refused, 1_000);
+    Ok(())
+}
+
 #[test]
 fn sixteen_workers_answer_five_hundred_devices(rt: HostRuntime) -> Result<(), Fail> {
     let blank = Blank::new(PARTS as u64);
