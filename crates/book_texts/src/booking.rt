@@ -9,7 +9,8 @@ use crate::command::{Command, Said, read_line};
 use crate::reply::Reply;
 use crate::report::write_report;
 use gateway_book::{Ask, GatewayBook};
-use resv_list::{Roster, VecRoster};
+use resv_list::Roster;
+use resv_tree::TreeRoster;
 use std::alloc::Allocator;
 use text_lines::{ByteIn, ByteOut, CallFailed, LineAnswerer, TextLine, WriteBehind, answer_text};
 use text_words::TextFault;
@@ -24,7 +25,7 @@ const GATEWAY: u16 = 1;
 /// `Settings("BadCap")`: the cap is outside; nothing is read or written. `Read`, `Write`: a call of the reader or the
 /// writer failed. `TooMuch`: the input has more than 2^28 bytes. After each of these a front of the output was
 /// written. Want of memory refuses one booking, by a line of the output.
-pub fn book_text<A: Allocator, R: ByteIn, W: ByteOut>(
+pub fn book_text<A: Allocator + Clone, R: ByteIn, W: ByteOut>(
     alloc: A,
     cap: u32,
     reader: &mut R,
@@ -42,7 +43,7 @@ pub fn book_text<A: Allocator, R: ByteIn, W: ByteOut>(
     ensures read { CountsReads (R.failed_calls reader.old) (R.failed_calls reader.new) result }
     ensures write { CountsWrites (W.failed_calls writer.old) (W.failed_calls writer.new) result }
 {
-    let Ok(book) = GatewayBook::new(VecRoster::new(alloc), GATEWAY, cap) else {
+    let Ok(book) = GatewayBook::new(TreeRoster::new(alloc), GATEWAY, cap) else {
         return Err(TextFault::Settings("BadCap"));
     };
     match answer_text(BookLines { book }, reader, writer) {
