@@ -18,8 +18,8 @@ abbrev pub opened : State
 opened = record { floor = 0; list = []; booked = 0; cancelled = 0 }
 
 -- what a book has counted there: it keeps all that is booked and not cancelled
-abbrev pub counted : State → Totals
-counted s =
+abbrev pub counted_at : State → Totals
+counted_at s =
     record {
       booked = s.booked;
       cancelled = s.cancelled;
@@ -31,7 +31,7 @@ counted s =
 
 -- the report there
 abbrev pub report_at : State → List (List ℕ)
-report_at s = report_of (counted s) (kept s.list s.floor)
+report_at s = report_of (counted_at s) (kept s.list s.floor)
 
 -- what a book's answers hang on: what it is opened with, and what is reserved
 pub record Standing : Type 0 where

@@ -13,7 +13,7 @@ use Rattle.book_texts.specs.Said.{said, said-kept}
 use Rattle.book_texts.specs.Reply.{reply_line}
 use Rattle.book_texts.specs.Report.{totals_lines}
 use Rattle.book_texts.specs.Answering.{reply_to, state_after, answer_to, state_after_line}
-use Rattle.book_texts.specs.Output.{Standing, book_turns, counted}
+use Rattle.book_texts.specs.Output.{Standing, book_turns, counted_at}
 
 -- What a book does with a line, and what stands then.
 
@@ -52,4 +52,4 @@ book_turns_by_kept starved number at line = (
 pub book_ends_without_refusal : EndsWithoutRefusal book_turns
 book_ends_without_refusal at =
     let l : List Reservation = kept at.state.list at.state.floor in
-    list_any-append is_refusal (totals_lines (counted at.state)) (all_busiest_lines None l) ∙ busiest-refuses_nothing None l
+    list_any-append is_refusal (totals_lines (counted_at at.state)) (all_busiest_lines None l) ∙ busiest-refuses_nothing None l

@@ -6,7 +6,7 @@ use Rattle.server_desk.proofs.Words.{All-nil, All-map, All-push, All-set, AllPai
 use Rattle.server_desk.proofs.Words.{IsWithinLongest, Ending, HeardCopy, HearFault, Heard, Opened, Joined, Gatherings}
 use Rattle.server_desk.proofs.Words.{after_hearing, GatewaySetting, Known, NotGiven, Pending, Done, Sent, first_at, sent_of}
 use Rattle.server_desk.proofs.Words.{is_here, is_booked_on, answered_at, answered_for, sent_airtime, airtime_of_ending}
-use Rattle.server_desk.proofs.Words.{total_limit}
+use Rattle.server_desk.proofs.Words.{settled_limit}
 use Rattle.server_desk.proofs.Words.{whole_airtime, AreAirtimes, raised, CanRaise, kept_by}
 use Rattle.server_desk.proofs.Numbers.{at_number}
 use Rattle.answer_ticket.specs.declared.outcome.Ending.TheVariants.{Answered, Unanswered, GivenUp}
@@ -103,8 +103,8 @@ short_ending GivenUp h = omega arith
 pub can_raise : (ids airtimes : List ℕ) (limit : ℕ) (known : List Known) (sent : Option Sent)
     → AreAirtimes ids airtimes limit known → sent_airtime sent ≤ longest_us → CanRaise ids airtimes sent
 can_raise ids airtimes limit known sent i short =
-    let low : (id : ℕ) → answered_at id known ≤ total_limit =
+    let low : (id : ℕ) → answered_at id known ≤ settled_limit =
     λ id. omega (arith, answered_short id known i.short, i.few, i.limited) in
-    let all : All (λ x. x ≤ total_limit) airtimes = subst (All (λ x. x ≤ total_limit)) (sym i.told)
-    (All-map (λ x. x ≤ total_limit) (λ id. answered_at id known) ids (λ k d q. low (get_or ids k d))) in
+    let all : All (λ x. x ≤ settled_limit) airtimes = subst (All (λ x. x ≤ settled_limit)) (sym i.told)
+    (All-map (λ x. x ≤ settled_limit) (λ id. answered_at id known) ids (λ k d q. low (get_or ids k d))) in
     record { places = as_many ids airtimes limit known i; room = all; short = short }

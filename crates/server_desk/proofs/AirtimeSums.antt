@@ -3,7 +3,7 @@ use Rattle.server_desk.proofs.Words.{◌++◌, ℕ, zero, suc, ◌≡◌, ◌≢
 use Rattle.server_desk.proofs.Words.{[], ◌∷◌, map, length, slice_get, slice_set, get_or, All, AllPairs, Option, Some, None, refl}
 use Rattle.server_desk.proofs.Words.{ap, ◌∙◌, subst, arith, list_any, option_map, nat_tests, All-head, All-tail, AllPairs-head}
 use Rattle.server_desk.proofs.Words.{AllPairs-tail, longest_us, Known, NotGiven, Pending, Done, Sent, own_airtime, known_airtime}
-use Rattle.server_desk.proofs.Words.{answered_at, answered_for, total_at, total_limit, whole_airtime, settled_airtime}
+use Rattle.server_desk.proofs.Words.{answered_at, answered_for, total_at, settled_limit, whole_airtime, settled_airtime}
 use Rattle.server_desk.proofs.Words.{is_booked_on, AreAirtimes, raised_at}
 use Rattle.server_desk.proofs.Words.{raised, first_at, next_place}
 use Rattle.server_desk.proofs.Places.{some_inj}
@@ -138,7 +138,7 @@ settled_short (k ∷ known) a = omega (
 )
 
 pub within_limit : (ids airtimes : List ℕ) (limit : ℕ) (known : List Known) → AreAirtimes ids airtimes limit known
-    → settled_airtime known ≤ total_limit
+    → settled_airtime known ≤ settled_limit
 within_limit ids airtimes limit known i = omega (arith, settled_short known i.short, i.few, i.limited)
 
 -- where each was booked on one of the gateways, it is that of all gateways

@@ -31,7 +31,7 @@ pub use Rattle.answer_ticket.specs.Ended.{IsWithinLongest, longest_us}
 pub use Rattle.answer_ticket.specs.Job.{IsJob, IsPort, Job, Payload, payload_len}
 pub use Rattle.answer_ticket.specs.declared.outcome.Ending.{Ending}
 pub use Rattle.server_desk.specs.Airtime.{AreAirtimes, CanRaise, airtime_of_ending, answered_at, answered_for, known_airtime}
-pub use Rattle.server_desk.specs.Airtime.{own_airtime, raised, raised_at, sent_airtime, total_at, total_limit, whole_airtime}
+pub use Rattle.server_desk.specs.Airtime.{own_airtime, raised, raised_at, sent_airtime, total_at, settled_limit, whole_airtime}
 pub use Rattle.server_desk.specs.Airtime.{is_booked_on, settled_airtime}
 pub use Rattle.server_desk.specs.Answers.{Done, Pending, Known, NotGiven, Sent, is_given, is_not_given}
 pub use Rattle.server_desk.specs.Desk.{DeskView, desk_hear, desk_of, desk_queue, desk_settled, desk_take, desk_taken, known_after}

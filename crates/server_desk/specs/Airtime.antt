@@ -54,8 +54,8 @@ abbrev pub airtime_of_ending : Ending → ℕ
 airtime_of_ending ending = sent_airtime (sent_of ending)
 
 -- what all settled answers together are on air for at most
-abbrev pub total_limit : ℕ
-total_limit = longest_us * 2 ^ 32
+abbrev pub settled_limit : ℕ
+settled_limit = longest_us * 2 ^ 32
 
 -- what a settled answer is on air for, on whichever gateway
 abbrev pub whole_airtime : Known → ℕ
@@ -98,5 +98,5 @@ raised ids (Some sent) airtimes = raised_at (first_at (λ id. id == sent.gateway
 -- a desk's numbers can't leave 64 bits by one answer more
 pub record CanRaise (ids airtimes : List ℕ) (sent : Option Sent) : Type 0 where
   pub places : length airtimes ≡ length ids
-  pub room : All (λ x. x ≤ total_limit) airtimes
+  pub room : All (λ x. x ≤ settled_limit) airtimes
   pub short : sent_airtime sent ≤ longest_us

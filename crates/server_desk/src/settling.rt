@@ -4,7 +4,7 @@ ghost use Rattle.std.specs.Prelude.{◌≡◌, ◌+◌, ◌≤◌, true, Ok, Err
 ghost use Rattle.answer_ticket.specs.Ended.{IsWithinLongest, IsOfCandidate};
 ghost use Rattle.uplink_gather.specs.Gatherings.{numbered};
 ghost use Rattle.server_desk.specs.Settling.{may_settle, has_carried, sent_of, kept_by};
-ghost use Rattle.server_desk.specs.Airtime.{airtime_of_ending, total_limit};
+ghost use Rattle.server_desk.specs.Airtime.{airtime_of_ending, settled_limit};
 ghost use Rattle.server_desk.specs.Desk.{desk_settle, desk_settled, total_of};
 
 use crate::Desk;
@@ -25,7 +25,7 @@ impl<S: BuildHasher, A: Allocator> Desk<S, A> {
         ensures step { self.new ≡ desk_settle self.old stub.number stub.result }
         ensures booked { IfOk result (λ outcome. IsOfCandidate outcome.result) }
         ensures total { OnOk result (total_of self.new ≡ total_of self.old + airtime_of_ending stub.result) }
-        ensures limit { OnOk result (total_of self.new ≤ total_limit) }
+        ensures limit { OnOk result (total_of self.new ≤ settled_limit) }
     {
         if !self.may_settle(&stub) {
             return Err(stub);
@@ -65,7 +65,7 @@ impl<S: BuildHasher, A: Allocator> Desk<S, A> {
         requires short { IsWithinLongest outcome.now.result }
         ensures step { self.new ≡ desk_settled outcome.now.result outcome.now.number self.old }
         ensures total { total_of self.new ≡ total_of self.old + airtime_of_ending outcome.now.result }
-        ensures limit { total_of self.new ≤ total_limit }
+        ensures limit { total_of self.new ≤ settled_limit }
     {
         let place = outcome.number as usize - 1;
         let device = self.asked[place].device;

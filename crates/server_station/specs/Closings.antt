@@ -12,8 +12,8 @@ use Rattle.book_audit.specs.declared.cause.FinishCause.TheVariants.{TillMissing,
 -- What `finish` gives of a station's books, after this project's profile.
 
 -- what the book has counted beside the number
-abbrev pub counted : Shelved → ℕ × Totals
-counted s = (s.0, totals_of s.1)
+abbrev pub with_totals : Shelved → ℕ × Totals
+with_totals s = (s.0, totals_of s.1)
 
 -- the books of a closing beside their gateways' numbers
 abbrev pub shelved : List (ℕ × Totals) → List Book → List Shelved

@@ -37,7 +37,7 @@ pub record IsEndOf {A : Type 0} (n : ℕ) (ended : TriedOut A) : Type 0 where
   pub receipt : GoesWith n ended.stub.result ended.receipt
 
 -- the answer to this number was settled, and its airtime counted with the till
-pub record IsSettled {A : Type 0} (n : ℕ) (old new : Holding) (outcome : Outcome) (booked : Option (Receipt A)) : Type 0 where
+pub record IsTallied {A : Type 0} (n : ℕ) (old new : Holding) (outcome : Outcome) (booked : Option (Receipt A)) : Type 0 where
   pub number : outcome.number ≡ n
   pub timed : IsOfCandidate outcome.result
   pub receipt : GoesWith n outcome.result booked
@@ -53,7 +53,7 @@ pub record IsStray {A : Type 0} (n : ℕ) (old new : Holding) (outcome : Outcome
 -- what became of the uplink with this number, and of the till
 abbrev pub IsHandled : {A : Type 0} → ℕ → Holding → Holding → Handled A → Type 0
 IsHandled n old new (NotTaken fault) = new ≡ old
-IsHandled n old new (Settled outcome receipt) = IsSettled n old new outcome receipt
+IsHandled n old new (Settled outcome receipt) = IsTallied n old new outcome receipt
 IsHandled n old new (Stray outcome receipt) = IsStray n old new outcome receipt
 
 -- whether a ticket was given

@@ -6,7 +6,7 @@ ghost use Rattle.air_ledger.specs.Tills.{all_parts, parts_of, amount_of};
 ghost use Rattle.gateway_book.specs.Book.{totals_of};
 ghost use Rattle.server_core.specs.Desk.{total_of};
 ghost use Rattle.book_audit.specs.Audit.{airtime_at, booked_by, kept_numbers, EachStandsOnce, IsAccountedFor};
-ghost use Rattle.server_station.specs.Closings.{shelved, counted, IsFinishCause};
+ghost use Rattle.server_station.specs.Closings.{shelved, with_totals, IsFinishCause};
 
 use crate::place::Place;
 use crate::shelf::{ClosingLists, Shelf, part, put_back, take_out};
@@ -97,7 +97,7 @@ fn close<B: Ledger, S: BuildHasher, A: Allocator + Copy>(
     ensures booked { result.booked ≡ amount_of tills.items }
     ensures answered { result.booked ≡ total_of desk }
     ensures desk { result.desk ≡ desk }
-    ensures totals { result.totals.items ≡ map counted lists.shelf.items }
+    ensures totals { result.totals.items ≡ map with_totals lists.shelf.items }
     ensures books { result.books.items ≡ map (λ s. s.1) lists.shelf.items }
 {
     let ClosingLists {

@@ -1,7 +1,7 @@
 // A station's books, out of their locks and behind them again.
 
 ghost use Rattle.std.specs.Prelude.{◌≡◌, ◌≤◌, [], map, IfOk, vec_len, vec_capacity};
-ghost use Rattle.server_station.specs.Closings.{counted};
+ghost use Rattle.server_station.specs.Closings.{with_totals};
 
 use crate::NoMemory;
 use crate::place::Place;
@@ -76,7 +76,7 @@ pub(crate) fn part<A: Allocator + Copy>(
     requires no_books { books.old.items ≡ [] }
     requires totals_room { vec_len shelf.old ≤ vec_capacity totals.old }
     requires books_room { vec_len shelf.old ≤ vec_capacity books.old }
-    ensures totals { totals.new.items ≡ map counted shelf.old.items }
+    ensures totals { totals.new.items ≡ map with_totals shelf.old.items }
     ensures books { books.new.items ≡ map (λ s. s.1) shelf.old.items }
 {
     shelf.reverse();

@@ -15,7 +15,7 @@ use Rattle.air_ledger.specs.Tills.{Holding}
 use Rattle.server_workers.specs.declared.worked.Worked.{Worked}
 use Rattle.server_workers.specs.declared.served.Served.{Served}
 use Rattle.server_workers.specs.Works.{IsJoined}
-use Rattle.server_workers.specs.Serving.{Fits, added_up, begun, IsGathered, IsReordered, IsSummedUp}
+use Rattle.server_workers.specs.Serving.{Fits, added_up, begun_count, IsGatheredFrom, IsReordered, IsSummedUp}
 use Rattle.server_workers.specs.declared.lists.Lists.{Lists}
 use Rattle.server_workers.specs.EmptyLists.{AreEmptyFor}
 
@@ -98,7 +98,7 @@ module _ {B A : Type 0} (all : Served B A) (crew : List (Worked B A)) where
 
   -- nobody is left
   pub owed_none : (new : Served B A) (left : List (Worked B A)) → left ≡ [] → new.overrun ≤ 2 ^ 64 - 1 → IsOwed all crew new left
-      → IsGathered all crew new
+      → IsGatheredFrom all crew new
   owed_none new left none most owed =
       record {
         receipts = sym (owed.receipts ∙ ap (λ l. new.receipts.items
@@ -123,8 +123,8 @@ one_at_most true = omega arith
 one_at_most false = omega arith
 
 -- one more has begun, or has not
-pub begun_last : (l : List Bool) (b : Bool) → begun (l ++ b ∷ []) ≡ begun l + from_bool b
-begun_last l b = sum_by-append from_bool l (b ∷ []) ∙ ap (λ n. begun l + n) (sum_by-cons from_bool b [] ∙ omega arith)
+pub begun_last : (l : List Bool) (b : Bool) → begun_count (l ++ b ∷ []) ≡ begun_count l + from_bool b
+begun_last l b = sum_by-append from_bool l (b ∷ []) ∙ ap (λ n. begun_count l + n) (sum_by-cons from_bool b [] ∙ omega arith)
 
 -- what a crew kept is the same from whichever end it is taken, but for the order
 from_end : {W X : Type 0} (kept : W → List X) (crew : List W) → IsPermutation (flat_map kept crew) (flat_map kept (reverse crew))
@@ -151,7 +151,7 @@ pub all_summed_up : {B A : Type 0} (lists : Lists A) (n : ℕ) (old mid new : Se
     → AreEmptyFor n lists
     → old.receipts ≡ lists.receipts → old.outcomes ≡ lists.outcomes → old.skipped ≡ lists.skipped
     → old.refused ≡ lists.refused → old.strays ≡ lists.strays → old.overrun ≡ 0
-    → IsGathered old crew mid → IsReordered mid new → IsSummedUp crew new
+    → IsGatheredFrom old crew mid → IsReordered mid new → IsSummedUp crew new
 all_summed_up {B = B} {A = A} lists n old mid new crew empty receipts outcomes skipped refused strays overrun g h =
     record {
       receipts =

@@ -5,12 +5,12 @@ use Rattle.answer_ticket.specs.declared.outcome.Outcome.{Outcome}
 use Rattle.air_ledger.specs.Tills.{Holding}
 use Rattle.server_core.specs.Airtime.{airtime_of_ending}
 use Rattle.server_workers.specs.declared.worked.Worked.{Worked}
-use Rattle.server_workers.specs.Works.{airtime_of}
+use Rattle.server_workers.specs.Works.{outcomes_airtime}
 use Rattle.server_workers.specs.Working.{IsMore}
 
 -- the airtime of some outcomes and of more
-pub airtime_of-append : (l more : List Outcome) → airtime_of (l ++ more) ≡ airtime_of l + airtime_of more
-airtime_of-append l more = sum_by-append (λ (o : Outcome). airtime_of_ending o.result) l more
+pub outcomes_airtime-append : (l more : List Outcome) → outcomes_airtime (l ++ more) ≡ outcomes_airtime l + outcomes_airtime more
+outcomes_airtime-append l more = sum_by-append (λ (o : Outcome). airtime_of_ending o.result) l more
 
 -- a till by its parts and its amount
 pub holds : (a b : Holding) (n : ℕ) → b.parts ≡ a.parts → b.amount ≡ n → b ≡ record a { amount = n }
@@ -19,13 +19,13 @@ holds a b n p e = ap (λ k. record { parts = k; amount = b.amount }) p ∙ ap (�
 -- a worker's till has risen by the airtime of the new outcomes
 pub risen : {B A : Type 0} (old new : Worked B A) → IsMore old new
     → (more : List Outcome) × (new.outcomes.items ≡ old.outcomes.items ++ more)
-    × (new.till ≡ record old.till { amount = old.till.amount + airtime_of more })
+    × (new.till ≡ record old.till { amount = old.till.amount + outcomes_airtime more })
 risen old new m =
     let more = m.outcomes.begins.0 in
-    let all : airtime_of new.outcomes.items ≡ airtime_of old.outcomes.items + airtime_of more =
-    ap airtime_of m.outcomes.begins.1 ∙ airtime_of-append old.outcomes.items more in (
+    let all : outcomes_airtime new.outcomes.items ≡ outcomes_airtime old.outcomes.items + outcomes_airtime more =
+    ap outcomes_airtime m.outcomes.begins.1 ∙ outcomes_airtime-append old.outcomes.items more in (
       more,
       m.outcomes.begins.1,
-      holds old.till new.till (old.till.amount + airtime_of more) (new.one_part ∙ sym old.one_part)
+      holds old.till new.till (old.till.amount + outcomes_airtime more) (new.one_part ∙ sym old.one_part)
           (omega (arith, all, old.counted, new.counted)),
     )

@@ -36,7 +36,7 @@ abbrev pub HasKept : {B A X : Type 0} → (Worked B A → List X) → List X →
 HasKept kept old crew new = new ≡ old ++ flat_map kept (reverse crew)
 
 -- what a crew did was added
-pub record IsGathered {B A : Type 0} (old : Served B A) (crew : List (Worked B A)) (new : Served B A) : Type 0 where
+pub record IsGatheredFrom {B A : Type 0} (old : Served B A) (crew : List (Worked B A)) (new : Served B A) : Type 0 where
   pub receipts : HasKept (λ w. w.receipts.items) old.receipts.items crew new.receipts.items
   pub outcomes : HasKept (λ w. w.outcomes.items) old.outcomes.items crew new.outcomes.items
   pub skipped : HasKept (λ w. w.skipped.items) old.skipped.items crew new.skipped.items
@@ -45,8 +45,8 @@ pub record IsGathered {B A : Type 0} (old : Served B A) (crew : List (Worked B A
   pub overrun : new.overrun ≡ added_up old.overrun (sum_by (λ (w : Worked B A). w.overrun) crew)
 
 -- how many have begun
-abbrev pub begun : List Bool → ℕ
-begun crew = sum_by from_bool crew
+abbrev pub begun_count : List Bool → ℕ
+begun_count crew = sum_by from_bool crew
 
 -- what a crew did, each list in some order
 pub record IsSummedUp {B A : Type 0} (crew : List (Worked B A)) (served : Served B A) : Type 0 where

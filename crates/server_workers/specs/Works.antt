@@ -5,8 +5,8 @@ use Rattle.server_core.specs.Airtime.{airtime_of_ending}
 -- What workers have done, after this project's profile.
 
 -- the airtime of the answers that ended so, in microseconds
-abbrev pub airtime_of : List Outcome → ℕ
-airtime_of outcomes = sum_by (λ (o : Outcome). airtime_of_ending o.result) outcomes
+abbrev pub outcomes_airtime : List Outcome → ℕ
+outcomes_airtime outcomes = sum_by (λ (o : Outcome). airtime_of_ending o.result) outcomes
 
 -- an empty list with room for so many items
 pub record IsEmptyFor {X Z : Type 0} (room : ℕ) (list : Vec X Z) : Type 0 where

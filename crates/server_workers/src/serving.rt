@@ -2,9 +2,9 @@
 ghost use Rattle.std.specs.Prelude.{◌≡◌, ◌≢◌, ◌+◌, ◌-◌, ◌*◌, ◌<◌, ◌≤◌, ◌↔◌, All, IsErrAnd, IfOk, IfErr, length, map, ⊤, vec_len};
 ghost use Rattle.std.specs.Prelude.{vec_capacity};
 ghost use Rattle.air_ledger.specs.Tills.{all_parts};
-ghost use Rattle.server_workers.specs.Works.{airtime_of};
+ghost use Rattle.server_workers.specs.Works.{outcomes_airtime};
 ghost use Rattle.server_workers.specs.EmptyLists.{AreEmptyFor};
-ghost use Rattle.server_workers.specs.Serving.{IsOutside, HasRoomFor, IsGathered, IsSummedUp, IsSortedByNumber, begun};
+ghost use Rattle.server_workers.specs.Serving.{IsOutside, HasRoomFor, IsGatheredFrom, IsSummedUp, IsSortedByNumber, begun_count};
 
 use crate::lists::Lists;
 use crate::member::{Member, Numbers, Room};
@@ -55,7 +55,7 @@ pub fn serve<
 where
     S::Hasher: Send + Sync,
     requires { 16 < till.parts }
-    ensures till { IfOk result (λ served. served.till ≡ record till { amount = till.amount + airtime_of served.outcomes.items }) }
+    ensures till { IfOk result (λ served. served.till ≡ record till { amount = till.amount + outcomes_airtime served.outcomes.items }) }
     ensures sorted { IfOk result (λ served. IsSortedByNumber served) }
     ensures ran { IfOk result (λ served. (1 ≤ served.ran) × (served.ran ≤ workers)) }
     ensures back { IfErr result (λ fault. fault.till ≡ till) }
@@ -98,7 +98,7 @@ where
     S::Hasher: Send + Sync,
     requires crew { (length numbers.now ≡ K.room) × (0 < workers) × (workers ≤ 16) }
     requires parts { 16 < till.parts }
-    ensures till { IfOk result (λ served. served.till ≡ record till { amount = till.amount + airtime_of served.outcomes.items }) }
+    ensures till { IfOk result (λ served. served.till ≡ record till { amount = till.amount + outcomes_airtime served.outcomes.items }) }
     ensures sorted { IfOk result (λ served. IsSortedByNumber served) }
     ensures ran { IfOk result (λ served. (1 ≤ served.ran) × (served.ran ≤ workers)) }
     ensures back { IfErr result (λ fault. fault.till ≡ till) }
@@ -232,13 +232,13 @@ fn summed_up<K: Room, B: Ledger, A: Allocator>(
     requires parts { till.parts + vec_len crew ≤ all_parts }
     requires few { vec_len crew ≤ 16 }
     ensures till { IfOk result (λ served. served.till ≡ record
-        { parts = till.parts + vec_len crew; amount = till.amount + airtime_of served.outcomes.items }) }
+        { parts = till.parts + vec_len crew; amount = till.amount + outcomes_airtime served.outcomes.items }) }
     ensures sorted { IfOk result (λ served. IsSortedByNumber served) }
     ensures ran { IfOk result (λ served. (1 ≤ served.ran) × (served.ran ≤ vec_len crew)) }
     ensures back { IfErr result (λ fault. fault.till ≡ record { parts = till.parts + vec_len crew; amount = till.amount }) }
     ensures nobody { IfErr result (λ fault. fault.cause ≡ ServeCause.NoThread) }
     ensures all { IfOk result (IsSummedUp (map (λ m. m.worked) crew.items)) }
-    ensures begun { IfOk result (λ served. served.ran ≡ begun (map (λ m. m.has_begun) crew.items)) }
+    ensures begun { IfOk result (λ served. served.ran ≡ begun_count (map (λ m. m.has_begun) crew.items)) }
 {
     let mut served = Served::new(till, all);
     gather(&mut served, crew);
@@ -257,11 +257,11 @@ fn gather<K: Room, B: Ledger, A: Allocator>(
     requires room { HasRoomFor (vec_len crew * K.room) served.old }
     requires parts { served.old.till.parts + vec_len crew ≤ all_parts }
     requires few { served.old.ran + vec_len crew ≤ 16 }
-    ensures all { IsGathered served.old (map (λ m. m.worked) crew.items) served.new }
+    ensures all { IsGatheredFrom served.old (map (λ m. m.worked) crew.items) served.new }
     ensures parts { served.new.till.parts ≡ served.old.till.parts + vec_len crew }
-    ensures amount { served.new.till.amount + airtime_of served.old.outcomes.items
-        ≡ served.old.till.amount + airtime_of served.new.outcomes.items }
-    ensures ran { served.new.ran ≡ served.old.ran + begun (map (λ m. m.has_begun) crew.items) }
+    ensures amount { served.new.till.amount + outcomes_airtime served.old.outcomes.items
+        ≡ served.old.till.amount + outcomes_airtime served.new.outcomes.items }
+    ensures ran { served.new.ran ≡ served.old.ran + begun_count (map (λ m. m.has_begun) crew.items) }
     ensures most { served.new.ran ≤ served.old.ran + vec_len crew }
     ensures nobody { served.new.ran ≡ 0 → served.new.outcomes.items ≡ served.old.outcomes.items }
 {

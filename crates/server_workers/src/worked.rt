@@ -1,6 +1,6 @@
 // What a worker has done so far.
 ghost use Rattle.std.specs.Prelude.{◌≡◌, [], IfOk, IfErr};
-ghost use Rattle.server_workers.specs.Works.{airtime_of, IsEmptyFor};
+ghost use Rattle.server_workers.specs.Works.{outcomes_airtime, IsEmptyFor};
 
 use crate::lists::Lists;
 use crate::{Ledger, Till};
@@ -27,7 +27,7 @@ pub struct Worked<B: Ledger, A: Allocator = Global> {
     /// How many tries went on although the gate didn't let them in; it stays at its greatest value.
     pub overrun: u64,
     ghost one_part: { till.parts ≡ 1 },
-    ghost counted: { till.amount ≡ airtime_of outcomes.items },
+    ghost counted: { till.amount ≡ outcomes_airtime outcomes.items },
 }
 
 impl<B: Ledger, A: Allocator + Copy> Worked<B, A> {

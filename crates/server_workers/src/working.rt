@@ -1,7 +1,7 @@
 // A worker takes, tries and settles one number after another.
 ghost use Rattle.std.specs.Prelude.{◌≡◌, ◌+◌, ◌↔◌, ◌++◌, List, IsTrue, vec_capacity};
 ghost use Rattle.answer_ticket.specs.declared.outcome.Outcome.{Outcome as Ends};
-ghost use Rattle.server_workers.specs.Works.{IsOpen, HasMore, airtime_of};
+ghost use Rattle.server_workers.specs.Works.{IsOpen, HasMore, outcomes_airtime};
 ghost use Rattle.server_workers.specs.Working.{HasFiled, HasRoom, IsMore, items_of, receipts_of, outcomes_of};
 ghost use Rattle.server_workers.specs.Working.{skipped_of, refused_of, strays_of};
 
@@ -25,7 +25,7 @@ pub fn work<R: Wait, B: Ledger, S: BuildHasher, A: Allocator + Copy, G: Gate>(
 ) -> Worked<B, A>
     ensures more { IsMore worked result }
     ensures till { (more : List Ends) × (result.outcomes.items ≡ worked.outcomes.items ++ more)
-        × (result.till ≡ record worked.till { amount = worked.till.amount + airtime_of more }) }
+        × (result.till ≡ record worked.till { amount = worked.till.amount + outcomes_airtime more }) }
 {
     let mut worked = worked;
     work_on(rt, station, numbers, gate, &mut worked);

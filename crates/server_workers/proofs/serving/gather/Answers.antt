@@ -1,11 +1,11 @@
 -- Each list fits, since no worker's list outgrows the numbers.
 use Rattle.std.proofs.Common.{◌≡◌, ◌+◌, [], ◌∷◌, ◌++◌, map, ap, sym, rules, ◌∙◌, arith, vec_len}
 use Rattle.std.specs.Int.{from_bool}
-use Rattle.server_workers.specs.Works.{airtime_of}
-use Rattle.server_workers.specs.Serving.{begun}
+use Rattle.server_workers.specs.Works.{outcomes_airtime}
+use Rattle.server_workers.specs.Serving.{begun_count}
 use Rattle.std.proofs.lemmas.List.{map-append}
 use Rattle.server_workers.proofs.CrewLemmas.{one_fits, others_fit, owed_on, owed_none, one_at_most, none_on, begun_last}
-use Rattle.server_workers.proofs.WorkLemmas.{airtime_of-append}
+use Rattle.server_workers.proofs.WorkLemmas.{outcomes_airtime-append}
 use Rattle.server_workers.proofs.serving.gather.Goals as goal
 
 pub take_in-requires-clause-receipts : goal.take_in-requires-clause-receipts
@@ -52,8 +52,8 @@ loop-member-preserved g c =
     let joined = c.take_in.ensures in
     let parts : new.till.parts ≡ all.till.parts + own.till.parts = ap (λ t. t.parts) joined.till in
     let amount : new.till.amount ≡ all.till.amount + own.till.amount = ap (λ t. t.amount) joined.till in
-    let airtime : airtime_of new.outcomes.items ≡ airtime_of all.outcomes.items + airtime_of own.outcomes.items =
-    ap airtime_of joined.outcomes.items ∙ airtime_of-append all.outcomes.items own.outcomes.items in
+    let airtime : outcomes_airtime new.outcomes.items ≡ outcomes_airtime all.outcomes.items + outcomes_airtime own.outcomes.items =
+    ap outcomes_airtime joined.outcomes.items ∙ outcomes_airtime-append all.outcomes.items own.outcomes.items in
     record {
       room =
           record {
@@ -76,7 +76,7 @@ loop-member-preserved g c =
       begun =
           omega (
             arith,
-            ap begun (ap (map (λ m. m.has_begun)) c.in-Some.ensures.items
+            ap begun_count (ap (map (λ m. m.has_begun)) c.in-Some.ensures.items
                 ∙ map-append (λ m. m.has_begun) c.pop.new.self.items (c.in-Some.member ∷ [])),
             begun_last (map (λ m. m.has_begun) c.pop.new.self.items) c.in-Some.member.has_begun,
             ap from_bool c.parted-has_begun.ensures.begun,

@@ -1,6 +1,6 @@
 -- With the parts that the crew had, the till has the parts that it had before.
 use Rattle.std.proofs.Common.{◌≡◌, ◌+◌, ◌≤◌, ap, ◌∙◌, arith, subst, IfOk, vec_len}
-use Rattle.server_workers.specs.Works.{airtime_of}
+use Rattle.server_workers.specs.Works.{outcomes_airtime}
 use Rattle.server_workers.proofs.CrewLemmas.{summed_ok, summed_err}
 use Rattle.server_workers.proofs.serving.serve_by.Goals as goal
 
@@ -11,7 +11,7 @@ returns-clause-till g c =
     omega (arith, left, c.hired-crew.ensures.count, c.in-Ok.ensures.count, c.requires.parts, c.requires.crew.2) in
     let amount = ap (λ t. t.amount) c.hired-crew.ensures.till in
     summed_ok c.args.till c.hired-crew.new.till (vec_len c.hired-crew.result) parts amount (λ s. s.till)
-    (λ s. airtime_of s.outcomes.items) c.summed_up.result c.summed_up.ensures.till
+    (λ s. outcomes_airtime s.outcomes.items) c.summed_up.result c.summed_up.ensures.till
 
 pub returns-clause-back : goal.returns-clause-back
 returns-clause-back g c =
