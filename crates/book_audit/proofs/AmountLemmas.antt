@@ -10,7 +10,8 @@ use Rattle.server_core.specs.Airtime.{answered_at, total_at}
 use Rattle.server_core.specs.Desk.{DeskView, total_of}
 use Rattle.book_audit.specs.Audit.{Shelved, Amounts, are_apart, airtime_at, has_book, booked_by, books_of, of_books, of_others}
 use Rattle.book_audit.specs.Audit.{all_amounts, HasWholeSum}
-use Rattle.book_audit.proofs.GatewaySums.{is_among, own, over, whole, all_over}
+use Rattle.server_core.specs.Register.{is_among}
+use Rattle.book_audit.proofs.GatewaySums.{own, over, whole, all_over}
 
 equal_one : (a : Amounts) → are_apart a ≡ false → a.1.0 ≡ a.1.1
 equal_one a e = grind (arith, nat_tests, e)

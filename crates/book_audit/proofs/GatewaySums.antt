@@ -1,14 +1,10 @@
 -- Sums over gateways: over some numbers of what those add that are among others, and over all of these.
 use Rattle.std.proofs.Common.{ℕ, ◌≡◌, ◌≢◌, ◌+◌, Bool, true, false, if◌then◌else◌, List, [], ◌∷◌, refl, ap, sym, arith, subst}
 use Rattle.std.specs.Prelude.{◌==◌, All, AllPairs}
-use Rattle.std.specs.List.{list_any}
 use Rattle.std.proofs.lemmas.Bool.Decides.{nat_tests}
 use Rattle.std.proofs.lemmas.List.Elements.{All-head, All-tail}
+use Rattle.server_core.specs.Register.{is_among}
 use Rattle.rx_windows.proofs.RankLaws.{AllPairs-head, AllPairs-tail}
-
--- whether a number is one of these
-abbrev pub is_among : List ℕ → ℕ → Bool
-is_among ids g = list_any (λ x. x == g) ids
 
 module _ (f : ℕ → ℕ) where
   -- what a number adds, if it is among these

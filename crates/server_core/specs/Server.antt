@@ -14,6 +14,7 @@ use Rattle.server_core.specs.declared.event.Step.{Step as Made}
 use Rattle.server_core.specs.declared.entry.Entry.{Entry}
 use Rattle.server_core.specs.declared.entry.Line.{Line}
 use Rattle.server_core.specs.declared.entry.Line.TheVariants as says
+use Rattle.server_desk.specs.Register.{is_among}
 use Rattle.server_desk.specs.declared.heard.DeskHeard.{DeskHeard}
 use Rattle.server_desk.specs.declared.faults.QueueFault.{QueueFault}
 use Rattle.server_desk.specs.declared.faults.DeskFault.{DeskFault}
@@ -89,9 +90,6 @@ Does place e old new =
 -- no ticket or stub is out
 abbrev pub IsIdle : List Known → Type 0
 IsIdle known = (n : ℕ) (k : Known) → numbered n known ≡ Some k → is_given k ≡ false
-
-abbrev pub is_among : List ℕ → ℕ → Bool
-is_among ids gateway = list_any (λ id. id == gateway) ids
 
 -- each copy was heard by a gateway with one of these ids
 abbrev pub HasHeard : List ℕ → Gathering → Type 0

@@ -1,7 +1,7 @@
 -- Sums of airtimes over gateways and answers.
-use Rattle.server_desk.proofs.Words.{◌++◌, ℕ, zero, suc, ◌≡◌, ◌≢◌, ◌+◌, ◌*◌, ◌≤◌, ◌==◌, Bool, true, false, if◌then◌else◌, List}
+use Rattle.server_desk.proofs.Words.{is_among, ◌++◌, ℕ, zero, suc, ◌≡◌, ◌≢◌, ◌+◌, ◌*◌, ◌≤◌, ◌==◌, Bool, true, false, if◌then◌else◌, List}
 use Rattle.server_desk.proofs.Words.{[], ◌∷◌, map, length, slice_get, slice_set, get_or, All, AllPairs, Option, Some, None, refl}
-use Rattle.server_desk.proofs.Words.{ap, ◌∙◌, subst, arith, list_any, option_map, nat_tests, All-head, All-tail, AllPairs-head}
+use Rattle.server_desk.proofs.Words.{ap, ◌∙◌, subst, arith, option_map, nat_tests, All-head, All-tail, AllPairs-head}
 use Rattle.server_desk.proofs.Words.{AllPairs-tail, longest_us, Known, NotGiven, Pending, Done, Sent, own_airtime, known_airtime}
 use Rattle.server_desk.proofs.Words.{answered_at, answered_for, total_at, settled_limit, whole_airtime, settled_airtime}
 use Rattle.server_desk.proofs.Words.{is_booked_on, AreAirtimes, raised_at}
@@ -65,7 +65,7 @@ module _ (known : List Known) (gateway d : ℕ) where
 module _ (f : ℕ → ℕ) (sent : Sent) where
   abbrev Raises : List ℕ → Type 0
   Raises ids = (raised ids (Some sent) (map f ids) ≡ map (λ id. f id + own_airtime id (Some sent)) ids)
-      × (total_at ids (Done (Some sent) ∷ []) ≡ (if list_any (λ id. id == sent.gateway) ids then sent.airtime else 0))
+      × (total_at ids (Done (Some sent) ∷ []) ≡ (if is_among ids sent.gateway then sent.airtime else 0))
 
   elsewhere : (ids : List ℕ) → All (λ id. sent.gateway ≢ id) ids
       → (map f ids ≡ map (λ id. f id + own_airtime id (Some sent)) ids) × (total_at ids (Done (Some sent) ∷ []) ≡ 0)

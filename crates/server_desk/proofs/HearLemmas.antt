@@ -11,7 +11,6 @@ use Rattle.server_desk.proofs.Places.{map_there, some_inj, found_there}
 use Rattle.server_desk.proofs.Numbers.{length-rewritten}
 use Rattle.server_desk.proofs.DeskLemmas.{Holds, seen_reg, seen, queued_holds}
 use Rattle.server_desk.specs.declared.heard.DeskHeard.{DeskHeard}
-use Rattle.server_desk.specs.declared.heard.DeskHeard.TheVariants.{Opened}
 use Rattle.server_desk.proofs.OutLemmas.{count_push}
 use Rattle.server_desk.proofs.CopyLemmas.{all_heard}
 use Rattle.server_desk.proofs.DecisionLemmas.{IsJoin, IsNew}

@@ -43,7 +43,7 @@ unfoldable pub use Rattle.server_desk.specs.Hearing.{decide}
 pub use Rattle.server_desk.specs.Invariant.{AreOut, IsDesk, IsGathered, MayBeGiven, IsSendable, IsServable, count_out}
 pub use Rattle.server_desk.specs.Invariant.{desk_answer, outs}
 pub use Rattle.server_desk.specs.Invariant.{own_out, shown, verdict_of}
-pub use Rattle.server_desk.specs.Register.{Asked, Device, Register, device_with, first_at, next_place, opened_device}
+pub use Rattle.server_desk.specs.Register.{Asked, Device, Register, device_with, first_at, is_among, next_place, opened_device}
 pub use Rattle.server_desk.specs.Settings.{AreSettings, IsDeviceInRange, IsGatewayInRange, SettingLists, are_counts_in_range}
 pub use Rattle.server_desk.specs.Settings.{device_fault, first_fault, gateway_fault, has_rx2_band, is_device_in_range}
 pub use Rattle.server_desk.specs.Settings.{is_gateway_in_range}

@@ -1,10 +1,9 @@
 use Rattle.std.specs.Prelude.{ℕ, ◌+◌, ◌≤◌, ◌≢◌, ◌^◌, ◌*◌, ◌<◌, ◌==◌, ◌≡◌, Bool, true, if◌then◌else◌, List, [], ◌∷◌, map, length}
 use Rattle.std.specs.Prelude.{slice_set, get_or, All, AllPairs, Option, Some, None}
-use Rattle.std.specs.List.{list_any}
 use Rattle.answer_ticket.specs.declared.outcome.Ending.{Ending}
 use Rattle.answer_ticket.specs.Ended.{longest_us}
 use Rattle.server_desk.specs.Answers.{Answer, Waiting, Open, Booked, Out, Settled, Known, NotGiven, Pending, Done, Sent}
-use Rattle.server_desk.specs.Register.{first_at}
+use Rattle.server_desk.specs.Register.{is_among, first_at}
 use Rattle.server_desk.specs.Settling.{sent_of}
 
 -- How long each gateway is on air for the answers that are settled, after this project's profile.
@@ -43,7 +42,7 @@ total_at (id ∷ ids) known = answered_at id known + total_at ids known
 
 -- what the desk answers for a gateway: nothing where it has none with this id
 abbrev pub answered_for : List ℕ → List Known → ℕ → Option ℕ
-answered_for ids known id = if list_any (λ x. x == id) ids then Some (answered_at id known) else None
+answered_for ids known id = if is_among ids id then Some (answered_at id known) else None
 
 -- the airtime of an answer that ended so
 abbrev pub sent_airtime : Option Sent → ℕ
@@ -73,7 +72,7 @@ abbrev pub is_booked_on : List ℕ → Known → Bool
 is_booked_on ids NotGiven = true
 is_booked_on ids Pending = true
 is_booked_on ids (Done None) = true
-is_booked_on ids (Done (Some sent)) = list_any (λ id. id == sent.gateway) ids
+is_booked_on ids (Done (Some sent)) = is_among ids sent.gateway
 
 -- what the desk keeps of the airtimes: one for each of its gateways, which differ, and on one of which each answer was
 -- booked; and there are at most `limit` answers, each on air for no longer than an answer may be, so that the sums fit in

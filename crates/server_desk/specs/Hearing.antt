@@ -1,6 +1,5 @@
 use Rattle.std.specs.Prelude.{ℕ, ◌+◌, ◌^◌, nat_lt, ◌==◌, Bool, false, not, ◌||◌, if◌then◌else◌, is_some, List, [], ◌∷◌, ◌++◌}
 use Rattle.std.specs.Prelude.{length, slice_set, Option, Some, None, Result, Ok, Err}
-use Rattle.std.specs.List.{list_any}
 use Rattle.std.specs.Option.{option_map_or}
 use Rattle.radio_bands.specs.Band.{band_of}
 use Rattle.lora_frame.specs.declared.reading.Uplink.{Uplink}
@@ -21,7 +20,7 @@ use Rattle.server_desk.specs.declared.heard.DeskHeard.TheVariants.{Opened, Joine
 use Rattle.server_desk.specs.declared.faults.DeskFault.{DeskFault}
 use Rattle.server_desk.specs.declared.faults.DeskFault.TheVariants.{Frame, UnknownGateway, NoRate, NoBand, Moment, SameGateway}
 use Rattle.server_desk.specs.declared.faults.DeskFault.TheVariants.{TooManyCopies, Late, UnknownDevice, BadMic, Crowded, NoMemory}
-use Rattle.server_desk.specs.Register.{Device, Asked, Register, device_with}
+use Rattle.server_desk.specs.Register.{is_among, Device, Asked, Register, device_with}
 
 -- A copy of an uplink is heard. The order of the faults and the last moment are this project's profile.
 
@@ -32,7 +31,7 @@ last_moment = 2 ^ 60
 -- what is wrong with a copy's own numbers
 abbrev pub copy_fault : List ℕ → Heard1 → ℕ → Option DeskFault
 copy_fault ids heard arrived =
-    if not (list_any (λ id. id == heard.gateway) ids) then Some UnknownGateway
+    if not (is_among ids heard.gateway) then Some UnknownGateway
     else if nat_lt 6 heard.rate then Some NoRate
     else if not (is_some (band_of heard.freq_hz (rate_numbered heard.rate))) then Some NoBand
     else if nat_lt last_moment heard.at || nat_lt last_moment arrived then Some Moment

@@ -1,4 +1,5 @@
 use Rattle.std.specs.Prelude.{ℕ, suc, ◌==◌, Bool, if◌then◌else◌, List, [], ◌∷◌, Option, Some, None}
+use Rattle.std.specs.List.{list_any}
 use Rattle.std.specs.Option.{option_map}
 use Rattle.uplink_gather.specs.Gatherings.{Gatherings}
 use Rattle.answer_ticket.specs.Job.{Payload}
@@ -6,6 +7,10 @@ use Rattle.server_desk.specs.declared.setting.DeviceSetting.{DeviceSetting}
 pub use Rattle.server_desk.specs.declared.answers.Asked.{Asked}
 
 -- What the server knows of devices and uplinks.
+
+-- whether a gateway's id is one of these
+abbrev pub is_among : List ℕ → ℕ → Bool
+is_among ids gateway = list_any (λ id. id == gateway) ids
 
 -- a device: how it is set, the payloads that wait for it, its last uplink counter, and its next downlink counter, which
 -- is 2^32 where all were given

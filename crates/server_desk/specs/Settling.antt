@@ -1,12 +1,11 @@
-use Rattle.std.specs.Prelude.{ℕ, ◌==◌, Bool, true, false, ◌&&◌, if◌then◌else◌, List, drop, slice_get, slice_set, Option, Some}
+use Rattle.std.specs.Prelude.{ℕ, Bool, true, false, ◌&&◌, if◌then◌else◌, List, drop, slice_get, slice_set, Option, Some}
 use Rattle.std.specs.Prelude.{None}
-use Rattle.std.specs.List.{list_any}
 use Rattle.std.specs.Option.{option_map_or}
 use Rattle.uplink_gather.specs.Gatherings.{numbered, rewritten}
 use Rattle.answer_ticket.specs.declared.outcome.Ending.{Ending}
 use Rattle.answer_ticket.specs.declared.outcome.Ending.TheVariants.{Answered, Unanswered, GivenUp}
 use Rattle.server_desk.specs.Answers.{Known, NotGiven, Pending, Done, Sent, is_given}
-use Rattle.server_desk.specs.Register.{Device, Asked, Register}
+use Rattle.server_desk.specs.Register.{is_among, Device, Asked, Register}
 
 -- An answer is settled (this project's profile).
 
@@ -24,7 +23,7 @@ has_carried GivenUp = false
 
 -- an answer is on no gateway, or on one with one of these ids
 abbrev pub is_here : List ℕ → Ending → Bool
-is_here ids (Answered gateway window start airtime carried) = list_any (λ id. id == gateway) ids
+is_here ids (Answered gateway window start airtime carried) = is_among ids gateway
 is_here ids (Unanswered refusal) = true
 is_here ids GivenUp = true
 

@@ -1,7 +1,7 @@
 // What is looked at in a copy of an uplink beside what the desk keeps, and what is told of it.
 
 ghost use Rattle.std.specs.Prelude.{◌≡◌, ◌==◌, false};
-ghost use Rattle.std.specs.List.{list_any};
+ghost use Rattle.server_desk.specs.Register.{is_among};
 ghost use Rattle.std.specs.Option.{option_map_or};
 ghost use Rattle.rx_windows.specs.Windows.{rate_numbered};
 ghost use Rattle.server_desk.specs.Hearing.{copy_fault, copy_of, named_fault};
@@ -39,7 +39,7 @@ pub(crate) fn copy_fault(gateways: &[u16], heard: &Heard1, arrived: u64) -> Opti
 
 /// Whether a gateway has this number.
 pub(crate) fn has_gateway(gateways: &[u16], id: u16) -> bool
-    ensures { result ≡ list_any (λ x. x == id) gateways.now }
+    ensures { result ≡ is_among gateways.now id }
 {
     gateways.iter().any(|gateway| *gateway == id)
 }

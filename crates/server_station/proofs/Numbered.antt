@@ -3,22 +3,22 @@ use Rattle.std.specs.Prelude.{ℕ, ◌≡◌, ◌==◌, Bool, true, false, ◌||
 use Rattle.std.specs.Option.{option_map}
 use Rattle.std.proofs.Common.{ap, ◌∙◌, refl}
 use Rattle.std.proofs.lemmas.Bool.{eqb-true}
-use Rattle.server_station.specs.Stations.{has_gateway}
+use Rattle.server_core.specs.Register.{is_among}
 
 find_first : (first id : ℕ) (ids : List ℕ) (b : Bool) → (first == id) ≡ b
-    → find (λ x. x == id) ids ≡ cond (has_gateway ids id) (Some id) None
-    → cond b (Some first) (find (λ x. x == id) ids) ≡ cond (b || has_gateway ids id) (Some id) None
+    → find (λ x. x == id) ids ≡ cond (is_among ids id) (Some id) None
+    → cond b (Some first) (find (λ x. x == id) ids) ≡ cond (b || is_among ids id) (Some id) None
 find_first first id ids true same more = ap Some (eqb-true first id same)
 find_first first id ids false same more = more
 
 -- a number is found where it is, and nowhere else
-pub find_number : (ids : List ℕ) (id : ℕ) → find (λ x. x == id) ids ≡ cond (has_gateway ids id) (Some id) None
+pub find_number : (ids : List ℕ) (id : ℕ) → find (λ x. x == id) ids ≡ cond (is_among ids id) (Some id) None
 find_number [] id = refl
 find_number (first ∷ ids) id = find_first first id ids (first == id) refl (find_number ids id)
 
-found_or_not : {X : Type 0} (shown : X → ℕ) (ids : List ℕ) (id : ℕ) (o : Option X) (b : Bool) → has_gateway ids id ≡ b
+found_or_not : {X : Type 0} (shown : X → ℕ) (ids : List ℕ) (id : ℕ) (o : Option X) (b : Bool) → is_among ids id ≡ b
     → option_map shown o ≡ cond b (Some id) None
-    → MatchOption o (has_gateway ids id ≡ false) (λ x. (has_gateway ids id ≡ true) × (shown x ≡ id))
+    → MatchOption o (is_among ids id ≡ false) (λ x. (is_among ids id ≡ true) × (shown x ≡ id))
 found_or_not shown ids id (Some x) true e same = let at : shown x ≡ id = cc in (e, at)
 found_or_not shown ids id None true e same = absurd (cc)
 found_or_not shown ids id (Some x) false e same = absurd (cc)
@@ -27,5 +27,5 @@ found_or_not shown ids id None false e same = e
 -- what a look-up by a number finds
 pub found_number : {X : Type 0} (shown : X → ℕ) (ids : List ℕ) (id : ℕ) (o : Option X)
     → option_map shown o ≡ find (λ x. x == id) ids
-    → MatchOption o (has_gateway ids id ≡ false) (λ x. (has_gateway ids id ≡ true) × (shown x ≡ id))
-found_number shown ids id o e = found_or_not shown ids id o (has_gateway ids id) refl (e ∙ find_number ids id)
+    → MatchOption o (is_among ids id ≡ false) (λ x. (is_among ids id ≡ true) × (shown x ≡ id))
+found_number shown ids id o e = found_or_not shown ids id o (is_among ids id) refl (e ∙ find_number ids id)

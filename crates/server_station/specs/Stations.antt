@@ -56,10 +56,6 @@ IsGiven said answer =
 abbrev pub WasTaken : ℕ → Result Standing TakeFault → Type 0
 WasTaken n answer = (old : DeskView) × IsGiven (take_answer old.reg old.known n) answer
 
--- whether the station has a gateway with this number
-abbrev pub has_gateway : List ℕ → ℕ → Bool
-has_gateway ids gateway = list_any (λ id. id == gateway) ids
-
 -- these are the numbers of the gateways, each once, in rising order
 pub record AreInOrder (gateways : List GatewaySetting) (ids : List ℕ) : Type 0 where
   pub rising : IsStrictlyIncreasing ids

@@ -5,7 +5,8 @@ ghost use Rattle.server_core.specs.Airtime.{airtime_of_ending};
 ghost use Rattle.server_core.specs.Desk.{desk_of};
 ghost use Rattle.server_core.specs.Schedule.{usual_limits};
 ghost use Rattle.server_core.specs.World.{opening};
-ghost use Rattle.server_station.specs.Stations.{AreInOrder, has_gateway, gateway_to_try, WasQueued, WasHeard, WasPassed};
+ghost use Rattle.server_core.specs.Register.{is_among};
+ghost use Rattle.server_station.specs.Stations.{AreInOrder, gateway_to_try, WasQueued, WasHeard, WasPassed};
 ghost use Rattle.server_station.specs.Stations.{WasTaken};
 ghost use Rattle.server_station.specs.Stations.{WasTried, WasAsked, IsBehind};
 
@@ -127,7 +128,7 @@ impl<B: Ledger, S: BuildHasher, A: Allocator + Copy> Station<B, S, A> {
 impl<B: Ledger, S: BuildHasher, A: Allocator + Copy> Station<B, S, A> {
     /// Tries a ticket once on the book of its gateway, as `Ticket::try_on`; `Wrong` where the station has no such gateway.
     pub fn try_once<R: Wait>(&self, rt: &R, ticket: Ticket<A>) -> Tried<A>
-        ensures { MatchBool (has_gateway self.now (gateway_to_try ticket)) (WasTried ticket result)
+        ensures { MatchBool (is_among self.now (gateway_to_try ticket)) (WasTried ticket result)
             (result ≡ Tried.Wrong ticket) }
     {
         let mut overrun = 0;
@@ -142,7 +143,7 @@ impl<B: Ledger, S: BuildHasher, A: Allocator + Copy> Station<B, S, A> {
         ticket: Ticket<A>,
         overrun: &mut u64,
     ) -> Tried<A>
-        ensures tried { MatchBool (has_gateway self.now (gateway_to_try ticket)) (WasTried ticket result)
+        ensures tried { MatchBool (is_among self.now (gateway_to_try ticket)) (WasTried ticket result)
             (result ≡ Tried.Wrong ticket) }
         ensures overrun { overrun.old ≤ overrun.new }
         ensures once { overrun.new ≤ overrun.old + 1 }
@@ -166,7 +167,7 @@ impl<B: Ledger, S: BuildHasher, A: Allocator + Copy> Station<B, S, A> {
     /// Cancels what a receipt names, as the book's `cancel`, and answers its airtime in microseconds; `NotHere` where the
     /// station has no such gateway. Takes no memory.
     pub fn cancel<R: Wait>(&self, rt: &R, receipt: &Receipt<A>) -> Result<u64, CancelFault>
-        ensures { MatchBool (has_gateway self.now receipt.now.gateway)
+        ensures { MatchBool (is_among self.now receipt.now.gateway)
             (WasAsked receipt.now.number receipt.now.reservation.start result) (result ≡ Err CancelFault.NotHere) }
     {
         match self.place_of(receipt.gateway) {
@@ -181,7 +182,7 @@ impl<B: Ledger, S: BuildHasher, A: Allocator + Copy> Station<B, S, A> {
     /// Raises a gateway's floor, as the book's `tick`, and answers it; `None` where the station has no such gateway. Moments
     /// are in microseconds of the gateway's clock. Takes no memory.
     pub fn tick<R: Wait>(&self, rt: &R, gateway: u16, now: u64) -> Option<u64>
-        ensures unknown { IsNone result ↔ (has_gateway self.now gateway ≡ false) }
+        ensures unknown { IsNone result ↔ (is_among self.now gateway ≡ false) }
         ensures floor { IfSome result (λ floor. now ≤ floor) }
     {
         let place = self.place_of(gateway)?;
@@ -193,7 +194,7 @@ impl<B: Ledger, S: BuildHasher, A: Allocator + Copy> Station<B, S, A> {
     /// What a gateway's book has counted, by someone who saw so much airtime booked there, in microseconds. `Behind` where
     /// less is booked now. Takes no memory.
     pub fn totals<R: Wait>(&self, rt: &R, gateway: u16, seen: u64) -> Result<Totals, TotalsFault>
-        ensures unknown { (result ≡ Err TotalsFault.UnknownGateway) ↔ (has_gateway self.now gateway ≡ false) }
+        ensures unknown { (result ≡ Err TotalsFault.UnknownGateway) ↔ (is_among self.now gateway ≡ false) }
         ensures fresh { IfOk result (λ totals. seen ≤ totals.booked) }
         ensures balanced { IfOk result (λ totals. totals.booked ≡ totals.cancelled + totals.retired + totals.kept_airtime) }
         ensures behind { IfErr result (λ fault. IsBehind seen fault) }
@@ -212,8 +213,8 @@ impl<B: Ledger, S: BuildHasher, A: Allocator + Copy> Station<B, S, A> {
 
     /// The gateway with this number.
     fn place_of(&self, gateway: u16) -> Option<&Place<A>>
-        ensures { MatchOption result (has_gateway self.now gateway ≡ false)
-            (λ place. (has_gateway self.now gateway ≡ true) × (place.now ≡ gateway)) }
+        ensures { MatchOption result (is_among self.now gateway ≡ false)
+            (λ place. (is_among self.now gateway ≡ true) × (place.now ≡ gateway)) }
     {
         place_numbered(&self.places, gateway)
     }
