@@ -7,7 +7,8 @@ use answer_ticket::{Bytes, Copies, Ending, Job, NoMemory, Outcome, Receipt, Stub
 use gateway_book::{Ask, GatewayBook, OpenFault, Refusal};
 use lora_frame::{Key, Keys};
 use radio_airtime::DataRate;
-use resv_list::{Roster, VecRoster};
+use resv_list::Roster;
+use resv_tree::TreeRoster;
 use rx_windows::{Plan, Window};
 use std::alloc::{Allocator, Global};
 use std::test::Fail;
@@ -102,10 +103,10 @@ fn spent<A: Allocator, X>(tried: Tried<A>) -> Option<X> {
 }
 
 /// The book that these tickets are tried on.
-type Book = GatewayBook<VecRoster<Global>>;
+type Book = GatewayBook<TreeRoster<Global>>;
 
 fn opened(alloc: Global, id: u16) -> Result<Book, OpenFault> {
-    GatewayBook::new(VecRoster::new(alloc), id, 4_096)
+    GatewayBook::new(TreeRoster::new(alloc), id, 4_096)
 }
 
 /// The ticket for that answer.
