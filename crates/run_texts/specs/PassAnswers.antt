@@ -1,4 +1,4 @@
-use Rattle.std.specs.Prelude.{ℕ, ◌≡◌, ◌++◌, ◌⊎◌, Bool, List, [], ◌∷◌, map, None, Some, Contains}
+use Rattle.std.specs.Prelude.{ℕ, ◌≡◌, ◌≤◌, ◌++◌, ◌⊎◌, Bool, List, [], ◌∷◌, map, None, Some, Contains}
 use Rattle.std.specs.Global.{Global}
 use Rattle.std.specs.Option.{option_to_list}
 use Rattle.answer_ticket.specs.declared.outcome.Ending.{Ending}
@@ -87,3 +87,7 @@ abbrev pub number_of : ℕ → Handled Global → ℕ
 number_of number (NotTaken fault) = number
 number_of number (Settled outcome receipt) = outcome.number
 number_of number (Stray outcome receipt) = number
+
+-- so many workers as a station may have
+abbrev pub IsStaffed : ℕ → Type 0
+IsStaffed workers = (1 ≤ workers) × (workers ≤ 16)

@@ -4,6 +4,7 @@ ghost use Rattle.text_words.specs.Fault.{CountsReads, CountsWrites};
 ghost use Rattle.run_lines.specs.RunInput.{KeepsInputLimit};
 ghost use Rattle.run_texts.specs.RunOutput.{Runs, RunsInPart, NamesFault, NamesFaultOfWorkers, NamesWorkers, IsPlayFault};
 ghost use Rattle.run_texts.specs.RunOutput.{TellsRefusals};
+ghost use Rattle.run_texts.specs.PassAnswers.{IsStaffed};
 
 use crate::run_alone::tell_alone;
 use crate::run_settings::settings_in;
@@ -99,6 +100,7 @@ fn tell_with_workers<
 ) -> Result<bool, TextFault>
 where
     S::Hasher: Send + Sync,
+    requires { IsStaffed workers }
     ensures told { IfOk result (λ refused. TellsRefusals (W.taken writer.old) (W.taken writer.new) refused) }
     ensures untouched { IfErr result (λ fault. fault ≢ TextFault.Write → writer.new ≡ writer.old) }
     ensures fault { IfErr result (λ fault. fault ≢ TextFault.Write → IsPlayFault fault) }
@@ -125,6 +127,7 @@ fn play_text<T: Threads + Wait + Sync, S: BuildHasher + Clone + Drop + Send + Sy
 ) -> Result<Played, TextFault>
 where
     S::Hasher: Send + Sync,
+    requires { IsStaffed workers }
     ensures { IfErr result IsPlayFault }
 {
     let events = match events_of(alloc, settings.devices(), text) {

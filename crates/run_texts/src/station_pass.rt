@@ -1,12 +1,13 @@
 // The uplinks that one `pass` of a run on a station closes: workers answer them, and the calling thread the rest.
-ghost use Rattle.std.specs.Prelude.{◌≡◌, ◌++◌, IfOk};
+ghost use Rattle.std.specs.Prelude.{◌≡◌, ◌≤◌, ◌↔◌, ◌++◌, IfOk, IsErrAnd};
+ghost use Rattle.server_workers.specs.Serving.{IsOutside};
 ghost use Rattle.run_texts.specs.PassAnswers.{numbers_of};
 
 use crate::pass_answers::{Answer, PassAnswers};
 use crate::station_run::Shift;
 use answer_ticket::{Outcome, Receipt};
 use server_core::{Line, NoMemory, TakeFault};
-use server_workers::{Ledger, NoGate, Served, Station, Till, serve};
+use server_workers::{Ledger, NoGate, ServeCause, Served, Station, Till, serve};
 use std::alloc::Global;
 use std::hash::BuildHasher;
 use std::sync::Wait;
@@ -35,7 +36,7 @@ where
             entries,
             workers,
         } = self;
-        let (till, answers) = answer_with_workers(
+        let Worked { till, ran, answers } = worked_by(
             rt,
             alloc,
             &station,
@@ -43,6 +44,8 @@ where
             till,
             workers,
         );
+        let is_outside = matches!(ran, Err(ServeCause::Workers));
+        prove!(!is_outside); // As many are asked for as a station may have.
         let (answers, booked) = answers?.by_number();
         let mut shift = Shift {
             station,
@@ -93,6 +96,17 @@ where
     }
 }
 
+/// What workers made of the uplinks that one `pass` closed.
+#[derive(Drop)]
+pub(crate) struct Worked<B: Ledger> {
+    /// The till that was given, with all its parts.
+    till: Till<B>,
+    /// How many workers were started, or why none was.
+    ran: Result<u8, ServeCause>,
+    /// The answers, with those of the calling thread.
+    answers: Result<PassAnswers, NoMemory>,
+}
+
 /// Answers the uplinks with these numbers by so many workers. What they skipped, and all where none could work, the calling
 /// thread answers.
 pub fn answer_with_workers<
@@ -112,13 +126,45 @@ where
     requires { till.parts ≡ 65536 }
     ensures { result.0.parts ≡ till.parts }
 {
+    let worked = worked_by(rt, alloc, station, numbers, till, workers);
+    (worked.till, worked.answers)
+}
+
+/// The same, and how many workers were started.
+fn worked_by<B: Ledger + Send + Sync, S: BuildHasher + Send + Sync, R: Threads + Wait + Sync>(
+    rt: &R,
+    alloc: Global,
+    station: &Station<B, S>,
+    numbers: &[u64],
+    till: Till<B>,
+    workers: u8,
+) -> Worked<B>
+where
+    S::Hasher: Send + Sync,
+    requires { till.parts ≡ 65536 }
+    ensures parts { result.till.parts ≡ till.parts }
+    ensures ran { IfOk result.ran (λ ran. (1 ≤ ran) × (ran ≤ workers)) }
+    ensures outside { IsErrAnd result.ran (λ cause. cause ≡ ServeCause.Workers) ↔ IsOutside workers }
+{
     match serve(rt, alloc, station, numbers, till, workers, &NoGate) {
-        Ok(served) => after_workers(rt, alloc, station, served),
+        Ok(served) => {
+            let ran = served.ran;
+            let (till, answers) = after_workers(rt, alloc, station, served);
+            Worked {
+                till,
+                ran: Ok(ran),
+                answers,
+            }
+        }
         Err(fault) => {
             let mut till = fault.till;
             let answers = PassAnswers::with(alloc, Vec::new(alloc));
             let answers = answer_each(rt, alloc, station, numbers, &mut till, answers);
-            (till, answers)
+            Worked {
+                till,
+                ran: Err(fault.cause),
+                answers,
+            }
         }
     }
 }

@@ -1,6 +1,7 @@
 // A run on a station with workers: what the events ask for, one after another.
-ghost use Rattle.std.specs.Prelude.{◌≡◌, IfErr};
+ghost use Rattle.std.specs.Prelude.{◌≡◌, IfOk, IfErr};
 ghost use Rattle.run_texts.specs.RunOutput.{IsPlayFault};
+ghost use Rattle.run_texts.specs.PassAnswers.{IsStaffed};
 
 use crate::receipts::Receipts;
 use gateway_book::CancelFault;
@@ -30,6 +31,7 @@ pub(crate) struct Shift<B: Ledger, S: BuildHasher> {
     pub(crate) entries: Vec<Entry<Global>>,
     pub(crate) workers: u8,
     ghost whole: { till.parts ≡ 65536 },
+    ghost staffed: { IsStaffed workers },
 }
 
 /// Does what the events ask for at a station with these settings, with so many workers for the numbers that a `pass`
@@ -52,6 +54,7 @@ where
     requires name { blank.name ≡ B.name }
     requires parts { blank.parts ≡ B.parts }
     requires all { blank.parts ≡ PARTS }
+    requires staffed { IsStaffed workers }
     ensures { IfErr result IsPlayFault }
 {
     match Shift::<B, S>::new(alloc, hasher, settings, workers, blank) {
@@ -72,6 +75,8 @@ impl<B: Ledger, S: BuildHasher + Clone + Drop> Shift<B, S> {
         requires name { blank.name ≡ B.name }
         requires parts { blank.parts ≡ B.parts }
         requires all { blank.parts ≡ PARTS }
+        requires staffed { IsStaffed workers }
+        ensures { IfOk result (λ shift. shift.workers ≡ workers) }
     {
         let (station, till) = Station::new(alloc, hasher, settings, blank)?;
         Ok(Shift {

@@ -200,35 +200,80 @@ const BUSY: Seen = (
 #[test]
 fn a_queued_payload_changes_its_queue_alone(rt: HostRuntime) -> Result<(), Fail> {
     let told = after::<Brand, _>(&rt, rt.alloc(), Blank::new(PARTS as u64), Call::Queue)?;
-    assert_eq!(rt; told, (BUSY.0, 3, BUSY.2, BUSY.3, None));
+    assert_eq!(rt;
+        told,
+        (
+            [Some(4), None],
+            3,
+            [[41_216, 0, 1, 3], [41_216, 0, 1, 5]],
+            [true, true, false, false],
+            None
+        )
+    );
     Ok(())
 }
 
 #[test]
 fn an_uplink_opens_its_gathering_alone(rt: HostRuntime) -> Result<(), Fail> {
     let told = after::<Brand, _>(&rt, rt.alloc(), Blank::new(PARTS as u64), Call::Hear)?;
-    assert_eq!(rt; told, ([Some(4), Some(5)], 2, BUSY.2, BUSY.3, None));
+    assert_eq!(rt;
+        told,
+        (
+            [Some(4), Some(5)],
+            2,
+            [[41_216, 0, 1, 3], [41_216, 0, 1, 5]],
+            [true, true, false, false],
+            None
+        )
+    );
     Ok(())
 }
 
 #[test]
 fn a_pass_closes_what_is_due_alone(rt: HostRuntime) -> Result<(), Fail> {
     let told = after::<Brand, _>(&rt, rt.alloc(), Blank::new(PARTS as u64), Call::Pass)?;
-    assert_eq!(rt; told, ([None, None], 2, BUSY.2, BUSY.3, None));
+    assert_eq!(rt;
+        told,
+        (
+            [None, None],
+            2,
+            [[41_216, 0, 1, 3], [41_216, 0, 1, 5]],
+            [true, true, false, false],
+            None
+        )
+    );
     Ok(())
 }
 
 #[test]
 fn a_ticket_that_is_given_changes_its_number_alone(rt: HostRuntime) -> Result<(), Fail> {
     let told = after::<Brand, _>(&rt, rt.alloc(), Blank::new(PARTS as u64), Call::Take)?;
-    assert_eq!(rt; told, (BUSY.0, 2, BUSY.2, BUSY.3, Some(TakeFault::Taken)));
+    assert_eq!(rt;
+        told,
+        (
+            [Some(4), None],
+            2,
+            [[41_216, 0, 1, 3], [41_216, 0, 1, 5]],
+            [true, true, false, false],
+            Some(TakeFault::Taken)
+        )
+    );
     Ok(())
 }
 
 #[test]
 fn an_answer_that_is_settled_closes_no_gathering(rt: HostRuntime) -> Result<(), Fail> {
     let told = after::<Brand, _>(&rt, rt.alloc(), Blank::new(PARTS as u64), Call::GiveUp)?;
-    assert_eq!(rt; told, (BUSY.0, 2, BUSY.2, BUSY.3, Some(TakeFault::Taken)));
+    assert_eq!(rt;
+        told,
+        (
+            [Some(4), None],
+            2,
+            [[41_216, 0, 1, 3], [41_216, 0, 1, 5]],
+            [true, true, false, false],
+            Some(TakeFault::Taken)
+        )
+    );
     Ok(())
 }
 
@@ -238,9 +283,9 @@ fn a_try_books_its_candidate_alone(rt: HostRuntime) -> Result<(), Fail> {
     assert_eq!(rt;
         told,
         (
-            BUSY.0,
+            [Some(4), None],
             2,
-            [[82_432, 0, 2, 3], BUSY.2[1]],
+            [[82_432, 0, 2, 3], [41_216, 0, 1, 5]],
             [true, true, true, false],
             Some(TakeFault::Taken),
         )
@@ -253,7 +298,13 @@ fn a_cancel_takes_out_its_reservation_alone(rt: HostRuntime) -> Result<(), Fail>
     let told = after::<Brand, _>(&rt, rt.alloc(), Blank::new(PARTS as u64), Call::Cancel)?;
     assert_eq!(rt;
         told,
-        (BUSY.0, 2, [[41_216, 41_216, 0, 3], BUSY.2[1]], BUSY.3, None)
+        (
+            [Some(4), None],
+            2,
+            [[41_216, 41_216, 0, 3], [41_216, 0, 1, 5]],
+            [true, true, false, false],
+            None
+        )
     );
     Ok(())
 }
@@ -263,7 +314,13 @@ fn a_tick_raises_its_floor_alone(rt: HostRuntime) -> Result<(), Fail> {
     let told = after::<Brand, _>(&rt, rt.alloc(), Blank::new(PARTS as u64), Call::Tick)?;
     assert_eq!(rt;
         told,
-        (BUSY.0, 2, [[41_216, 0, 1, 7], BUSY.2[1]], BUSY.3, None)
+        (
+            [Some(4), None],
+            2,
+            [[41_216, 0, 1, 7], [41_216, 0, 1, 5]],
+            [true, true, false, false],
+            None
+        )
     );
     Ok(())
 }
