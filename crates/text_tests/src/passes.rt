@@ -4,11 +4,9 @@ ghost use Rattle.std.specs.Prelude.{◌≡◌, IfOk};
 
 use airbook_text::{Settings, read_settings};
 use answer_ticket::{Ending, Outcome};
-use gateway_book::GatewayBook;
-use resv_list::VecRoster;
 use run_lines::{events_of, write_lines};
 use run_texts::{Answer, PassAnswers, answer_with_workers};
-use server_core::{Entry, Event, Line, TakeFault};
+use server_core::{Book, Entry, Event, Line, TakeFault};
 use server_workers::{Blank, Ledger, PARTS, Station, Till};
 use std::alloc::Global;
 use std::hash::{BuildHasherDefault, FoldHasher};
@@ -108,7 +106,7 @@ fn told(alloc: Global, answers: PassAnswers) -> Result<Told, Fail> {
             entries.push(Entry { event: 0, line })?;
         }
     }
-    let books: Vec<GatewayBook<VecRoster<Global>>> = Vec::new(alloc);
+    let books: Vec<Book<Global>> = Vec::new(alloc);
     let mut writer = MemoryOut::new(alloc);
     let refused = write_lines(entries.as_slice(), books.as_slice(), &mut writer)?;
     Ok((refused, writer.bytes))
