@@ -39,8 +39,8 @@ pub enum OpenFault {
 
 /// The airtime book of one gateway, over any roster: which transmissions it has reserved. Its type
 /// keeps that every member is fit, that members at different places are disjoint, that in each sub-band
-/// the airtime that begins in an hour, wherever the hour opens, is within the band's limit (the limit is
-/// that of ETSI EN 300 220-2, annex B; that every hour keeps it is this project's profile), and that the
+/// the airtime that begins in an hour, wherever the hour opens, is within the band's limit (this
+/// project's profile of ETSI EN 300 220-2, duty cycle over one hour, with its sub-bands), and that the
 /// booked airtime is the sum of what was cancelled, what was retired and what is kept. Moments are in
 /// microseconds of the gateway's clock.
 #[derive(Drop)]

@@ -29,7 +29,7 @@ impl<A: Allocator + Clone> TreeRoster<A> {
         TreeRoster { root: None, alloc }
     }
 
-    /// How many levels the tree has; an empty one has none.
+    /// How many levels the tree has, none if it is empty; the clauses bound it by the number of members.
     #[tactic(auto, using(crate::proofs::HeightLemmas::counts))]
     pub fn height(&self) -> u32
         ensures not_too_high { 2 ^ (result / 2) ≤ length (⟦<TreeRoster<A> as Roster>⟧.list self.now) + 1 }

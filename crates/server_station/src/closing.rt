@@ -24,7 +24,7 @@ pub struct Closing<S: BuildHasher, A: Allocator = Global> {
 /// A station that isn't finished, as it was, with the tills as they came.
 #[derive(Drop)]
 pub struct FinishFault<B: Ledger, S: BuildHasher, A: Allocator = Global> {
-    /// The first cause that holds.
+    /// The first cause that holds; `NoMemory` may come before all others than `TillMissing`.
     pub cause: FinishCause,
     /// The station as it was.
     pub station: Station<B, S, A>,
