@@ -1,11 +1,11 @@
 -- Sums of airtimes over gateways and answers.
-use Rattle.server_desk.proofs.Words.{is_among, ◌++◌, ℕ, zero, suc, ◌≡◌, ◌≢◌, ◌+◌, ◌*◌, ◌≤◌, ◌==◌, Bool, true, false, if◌then◌else◌, List}
+use Rattle.server_desk.proofs.Words.{◌++◌, ℕ, zero, suc, ◌≡◌, ◌≢◌, ◌+◌, ◌*◌, ◌≤◌, ◌==◌, Bool, true, false, if◌then◌else◌, List}
 use Rattle.server_desk.proofs.Words.{[], ◌∷◌, map, length, slice_get, slice_set, get_or, All, AllPairs, Option, Some, None, refl}
 use Rattle.server_desk.proofs.Words.{ap, ◌∙◌, subst, arith, option_map, nat_tests, All-head, All-tail, AllPairs-head}
 use Rattle.server_desk.proofs.Words.{AllPairs-tail, longest_us, Known, NotGiven, Pending, Done, Sent, own_airtime, known_airtime}
 use Rattle.server_desk.proofs.Words.{answered_at, answered_for, total_at, settled_limit, whole_airtime, settled_airtime}
 use Rattle.server_desk.proofs.Words.{is_booked_on, AreAirtimes, raised_at}
-use Rattle.server_desk.proofs.Words.{raised, first_at, next_place}
+use Rattle.server_desk.proofs.Words.{is_among, raised, first_at, next_place}
 use Rattle.server_desk.proofs.Places.{some_inj}
 
 -- an answer is written anew, or one more comes

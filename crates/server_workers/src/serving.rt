@@ -55,7 +55,8 @@ pub fn serve<
 where
     S::Hasher: Send + Sync,
     requires { 16 < till.parts }
-    ensures till { IfOk result (λ served. served.till ≡ record till { amount = till.amount + outcomes_airtime served.outcomes.items }) }
+    ensures till { IfOk result (λ served. served.till
+        ≡ record till { amount = till.amount + outcomes_airtime served.outcomes.items }) }
     ensures sorted { IfOk result (λ served. IsSortedByNumber served) }
     ensures ran { IfOk result (λ served. (1 ≤ served.ran) × (served.ran ≤ workers)) }
     ensures back { IfErr result (λ fault. fault.till ≡ till) }
@@ -98,7 +99,8 @@ where
     S::Hasher: Send + Sync,
     requires crew { (length numbers.now ≡ K.room) × (0 < workers) × (workers ≤ 16) }
     requires parts { 16 < till.parts }
-    ensures till { IfOk result (λ served. served.till ≡ record till { amount = till.amount + outcomes_airtime served.outcomes.items }) }
+    ensures till { IfOk result (λ served. served.till
+        ≡ record till { amount = till.amount + outcomes_airtime served.outcomes.items }) }
     ensures sorted { IfOk result (λ served. IsSortedByNumber served) }
     ensures ran { IfOk result (λ served. (1 ≤ served.ran) × (served.ran ≤ workers)) }
     ensures back { IfErr result (λ fault. fault.till ≡ till) }

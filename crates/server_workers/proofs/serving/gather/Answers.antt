@@ -52,7 +52,8 @@ loop-member-preserved g c =
     let joined = c.take_in.ensures in
     let parts : new.till.parts ≡ all.till.parts + own.till.parts = ap (λ t. t.parts) joined.till in
     let amount : new.till.amount ≡ all.till.amount + own.till.amount = ap (λ t. t.amount) joined.till in
-    let airtime : outcomes_airtime new.outcomes.items ≡ outcomes_airtime all.outcomes.items + outcomes_airtime own.outcomes.items =
+    let airtime : outcomes_airtime new.outcomes.items
+    ≡ outcomes_airtime all.outcomes.items + outcomes_airtime own.outcomes.items =
     ap outcomes_airtime joined.outcomes.items ∙ outcomes_airtime-append all.outcomes.items own.outcomes.items in
     record {
       room =
