@@ -37,7 +37,7 @@ pub record Seen (A : Type 0) : Type 0 where
   pub steps : List (Made A)
   pub outcomes : List (Entry A)
 
-abbrev pub seen : {S A R : Type 0} → Server S A R → Seen A
+abbrev pub seen : {S A R : Type 0} {C : _} → Server S A R C → Seen A
 seen s = record { desk = s.desk; books = s.books.items; steps = s.steps.items; outcomes = s.outcomes.items }
 
 -- after one more step, and after more lines

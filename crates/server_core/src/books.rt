@@ -8,11 +8,11 @@ ghost use Rattle.server_core.specs.Entries.{gateway_of};
 
 use crate::GatewaySetting;
 use gateway_book::GatewayBook;
-use resv_list::VecRoster;
+use resv_tree::TreeRoster;
 use std::alloc::{AllocError, Allocator};
 
 /// The book that a server keeps of a gateway.
-pub type Book<A> = GatewayBook<VecRoster<A>>;
+pub type Book<A> = GatewayBook<TreeRoster<A>>;
 
 /// An empty book for each gateway, in their order.
 pub(crate) fn books_of<A: Allocator + Copy>(
@@ -44,14 +44,14 @@ pub fn empty_book<A: Allocator + Copy>(alloc: A, gateway: &GatewaySetting) -> Bo
     } }
 {
     // The cap of a setting is in range.
-    let Ok(book) = Book::new(VecRoster::new(alloc), gateway.id, gateway.cap) else {
+    let Ok(book) = Book::new(TreeRoster::new(alloc), gateway.id, gateway.cap) else {
         unreachable!()
     };
     book
 }
 
 /// The place of the gateway with this number.
-pub(crate) fn place_of<A: Allocator>(books: &[Book<A>], gateway: u16) -> Option<usize>
+pub(crate) fn place_of<A: Allocator + Copy>(books: &[Book<A>], gateway: u16) -> Option<usize>
     ensures { result ≡ option_map (λ found. found.0) (gateway_with gateway (map gateway_of books.now)) }
 {
     for (place, book) in books.iter().enumerate() {

@@ -5,7 +5,7 @@ use std::alloc::Allocator;
 
 /// What one thread did with a list of events, from a server that has heard nothing.
 #[derive(Drop)]
-pub struct Replay<A: Allocator> {
+pub struct Replay<A: Allocator + Copy> {
     /// The steps that it made of them.
     pub steps: Vec<Step<A>, A>,
     /// The lines that answer them, with the places of their events.

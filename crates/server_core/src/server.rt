@@ -19,7 +19,7 @@ pub const USUAL_LIMITS: Limits = Limits {
 /// A server on one thread: what its desk knows, its gateways' books in the order of the settings, the steps that it
 /// made, and the lines that it told.
 #[derive(Drop)]
-pub(crate) struct Server<S: BuildHasher, A: Allocator> {
+pub(crate) struct Server<S: BuildHasher, A: Allocator + Copy> {
     pub(crate) desk: Desk<S, A>,
     pub(crate) books: Vec<Book<A>, A>,
     pub(crate) steps: Vec<Step<A>, A>,
