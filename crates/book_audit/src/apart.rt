@@ -14,7 +14,7 @@ pub(crate) type Amounts = (u16, (u64, u64));
 /// The first gateway that has booked another airtime than its settled answers are on air for: one with a book here, in
 /// the order of the books; where there is none, one of the desk's without a book, in the order of the settings. Takes no
 /// memory.
-pub(crate) fn first_apart<S: BuildHasher, A: Allocator>(
+pub(crate) fn first_apart<S: BuildHasher, A: Allocator + Copy>(
     desk: &Desk<S, A>,
     shelf: &[(u16, Book<A>)],
 ) -> Option<Amounts>
@@ -31,7 +31,7 @@ pub(crate) fn first_apart<S: BuildHasher, A: Allocator>(
 }
 
 /// The first book whose gateway is apart.
-fn apart_book<S: BuildHasher, A: Allocator>(
+fn apart_book<S: BuildHasher, A: Allocator + Copy>(
     desk: &Desk<S, A>,
     shelf: &[(u16, Book<A>)],
 ) -> Option<Amounts>
@@ -48,7 +48,7 @@ fn apart_book<S: BuildHasher, A: Allocator>(
 }
 
 /// The first of these gateways that has settled airtime and no book.
-fn without_book<S: BuildHasher, A: Allocator>(
+fn without_book<S: BuildHasher, A: Allocator + Copy>(
     desk: &Desk<S, A>,
     gateways: &[u16],
     shelf: &[(u16, Book<A>)],
@@ -68,14 +68,14 @@ fn without_book<S: BuildHasher, A: Allocator>(
 }
 
 /// The airtime of a gateway's settled answers, in microseconds.
-fn airtime_of<S: BuildHasher, A: Allocator>(desk: &Desk<S, A>, gateway: u16) -> u64
+fn airtime_of<S: BuildHasher, A: Allocator + Copy>(desk: &Desk<S, A>, gateway: u16) -> u64
     ensures { result ≡ airtime_at desk.now gateway }
 {
     desk.answered(gateway).unwrap_or(0)
 }
 
 /// Whether the gateway with this number has a book here.
-fn has_book<A: Allocator>(shelf: &[(u16, Book<A>)], gateway: u16) -> bool
+fn has_book<A: Allocator + Copy>(shelf: &[(u16, Book<A>)], gateway: u16) -> bool
     ensures { result ≡ has_book shelf.now gateway }
 {
     shelf.iter().any(|shelved| shelved.0 == gateway)

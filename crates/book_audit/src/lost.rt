@@ -15,7 +15,7 @@ use std::alloc::Allocator;
 /// The number of the first receipt whose gateway is unknown, or whose reservation is not kept there though the book's floor
 /// is no more than an hour past its start. `held` is what the books keep, in the order of the numbers, which differ. Takes no
 /// memory.
-pub(crate) fn first_lost<A: Allocator>(
+pub(crate) fn first_lost<A: Allocator + Copy>(
     shelf: &[(u16, Book<A>)],
     held: &[Held],
     receipts: &[Receipt<A>],
@@ -34,7 +34,7 @@ pub(crate) fn first_lost<A: Allocator>(
 }
 
 /// Whether a receipt's reservation is kept by the book of its gateway, or that book is past it.
-fn is_accounted_for<A: Allocator>(
+fn is_accounted_for<A: Allocator + Copy>(
     shelf: &[(u16, Book<A>)],
     held: &[Held],
     receipt: &Receipt<A>,
@@ -64,7 +64,11 @@ fn is_held(held: &[Held], gateway: u16, reservation: &Reservation) -> bool
 }
 
 /// Whether the book of the gateway with this number has a floor more than an hour past the reservation's start.
-fn is_past<A: Allocator>(shelf: &[(u16, Book<A>)], gateway: u16, reservation: &Reservation) -> bool
+fn is_past<A: Allocator + Copy>(
+    shelf: &[(u16, Book<A>)],
+    gateway: u16,
+    reservation: &Reservation,
+) -> bool
     ensures { IsTrue result ↔ HasBook shelf.now gateway (λ b. reservation.now.start + HOUR < b.floor) }
 {
     let last = reservation.start + HOUR;
