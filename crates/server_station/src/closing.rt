@@ -10,7 +10,7 @@ use std::hash::BuildHasher;
 
 /// What a station held, once all parts of its ledger are in and its books agree with its desk.
 #[derive(Drop)]
-pub struct Closing<S: BuildHasher, A: Allocator = Global> {
+pub struct Closing<S: BuildHasher, A: Allocator + Copy = Global> {
     /// The airtime of all settled answers, in microseconds.
     pub booked: u64,
     /// What each gateway's book has counted, beside the gateway's number, by number.
@@ -23,7 +23,7 @@ pub struct Closing<S: BuildHasher, A: Allocator = Global> {
 
 /// A station that isn't finished, as it was, with the tills as they came.
 #[derive(Drop)]
-pub struct FinishFault<B: Ledger, S: BuildHasher, A: Allocator = Global> {
+pub struct FinishFault<B: Ledger, S: BuildHasher, A: Allocator + Copy = Global> {
     /// The first cause that holds; `NoMemory` may come before all others than `TillMissing`.
     pub cause: FinishCause,
     /// The station as it was.
@@ -32,7 +32,7 @@ pub struct FinishFault<B: Ledger, S: BuildHasher, A: Allocator = Global> {
     pub tills: Vec<Till<B>, A>,
 }
 
-impl<B: Ledger, S: BuildHasher, A: Allocator> FinishFault<B, S, A> {
+impl<B: Ledger, S: BuildHasher, A: Allocator + Copy> FinishFault<B, S, A> {
     /// The station and the tills with the cause.
     pub(crate) fn new(cause: FinishCause, station: Station<B, S, A>, tills: Vec<Till<B>, A>) -> Self
         ensures { result ≡ record { cause = cause; station = station; tills = tills } }

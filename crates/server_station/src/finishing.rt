@@ -64,7 +64,7 @@ impl<B: Ledger, S: BuildHasher, A: Allocator + Copy> Station<B, S, A> {
 }
 
 /// The station with its desk and its books behind locks again.
-fn shut<B: Ledger, S: BuildHasher, A: Allocator>(
+fn shut<B: Ledger, S: BuildHasher, A: Allocator + Copy>(
     desk: Desk<S, A>,
     tally: Tally<B>,
     mut shelf: Shelf<A>,
@@ -82,7 +82,7 @@ fn shut<B: Ledger, S: BuildHasher, A: Allocator>(
 }
 
 /// What comes of a station whose books were compared.
-fn close<B: Ledger, S: BuildHasher, A: Allocator>(
+fn close<B: Ledger, S: BuildHasher, A: Allocator + Copy>(
     desk: Desk<S, A>,
     tally: Tally<B>,
     tills: Vec<Till<B>, A>,
@@ -115,7 +115,7 @@ fn close<B: Ledger, S: BuildHasher, A: Allocator>(
 }
 
 /// The airtime that was counted with these tills, which is all that was counted.
-fn audited<B: Ledger, A: Allocator>(mut tally: Tally<B>, tills: Vec<Till<B>, A>) -> u64
+fn audited<B: Ledger, A: Allocator + Copy>(mut tally: Tally<B>, tills: Vec<Till<B>, A>) -> u64
     requires { parts_of tills.items ≡ all_parts }
     ensures amount { result ≡ amount_of tills.items }
     ensures total { result ≡ tally }

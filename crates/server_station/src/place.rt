@@ -10,12 +10,12 @@ use std::sync::Mutex;
 
 /// A gateway's book behind its own lock. Seen as the gateway's number.
 #[derive(Drop)]
-pub(crate) struct Place<A: Allocator> {
+pub(crate) struct Place<A: Allocator + Copy> {
     pub(crate) id: u16,
     pub(crate) book: Mutex<Book<A>>,
 }
 
-impl<A: Allocator> Model for Place<A> {
+impl<A: Allocator + Copy> Model for Place<A> {
     ghost use Rattle.std.specs.Prelude.{ℕ};
 
     ghost Value = { ℕ };
@@ -64,7 +64,7 @@ fn empty_place<A: Allocator + Copy>(alloc: A, gateway: &GatewaySetting) -> Place
 }
 
 /// The first of these gateways with this number.
-pub(crate) fn place_numbered<A: Allocator>(places: &[Place<A>], id: u16) -> Option<&Place<A>>
+pub(crate) fn place_numbered<A: Allocator + Copy>(places: &[Place<A>], id: u16) -> Option<&Place<A>>
     ensures { option_map (λ place. place.now) result ≡ find (λ other. other == id) places.now }
 {
     places.iter().find(|place| place.id == id)

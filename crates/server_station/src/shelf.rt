@@ -15,7 +15,7 @@ pub(crate) type Shelf<A> = Vec<(u16, Book<A>), A>;
 
 /// Lists with room for a station's books.
 #[derive(Drop)]
-pub(crate) struct ClosingLists<A: Allocator> {
+pub(crate) struct ClosingLists<A: Allocator + Copy> {
     pub(crate) shelf: Shelf<A>,
     pub(crate) totals: Vec<(u16, Totals), A>,
     pub(crate) books: Vec<Book<A>, A>,
@@ -37,7 +37,7 @@ impl<A: Allocator + Copy> ClosingLists<A> {
 }
 
 /// Takes all books out of their locks, in the order of the places, which keep their room.
-pub(crate) fn take_out<A: Allocator>(places: &mut Vec<Place<A>, A>, shelf: &mut Shelf<A>)
+pub(crate) fn take_out<A: Allocator + Copy>(places: &mut Vec<Place<A>, A>, shelf: &mut Shelf<A>)
     requires empty { shelf.old.items ≡ [] }
     requires room { vec_len places.old ≤ vec_capacity shelf.old }
     ensures ids { map (λ s. s.0) shelf.new.items ≡ places.old.items }
@@ -52,7 +52,7 @@ pub(crate) fn take_out<A: Allocator>(places: &mut Vec<Place<A>, A>, shelf: &mut 
 }
 
 /// Puts all books behind locks, in the order of the shelf.
-pub(crate) fn put_back<A: Allocator>(shelf: &mut Shelf<A>, places: &mut Vec<Place<A>, A>)
+pub(crate) fn put_back<A: Allocator + Copy>(shelf: &mut Shelf<A>, places: &mut Vec<Place<A>, A>)
     requires empty { places.old.items ≡ [] }
     requires room { vec_len shelf.old ≤ vec_capacity places.old }
     ensures { places.new.items ≡ map (λ s. s.0) shelf.old.items }
@@ -67,7 +67,7 @@ pub(crate) fn put_back<A: Allocator>(shelf: &mut Shelf<A>, places: &mut Vec<Plac
 }
 
 /// Parts the books from their gateways' numbers; what each has counted stands beside its number.
-pub(crate) fn part<A: Allocator>(
+pub(crate) fn part<A: Allocator + Copy>(
     shelf: &mut Shelf<A>,
     totals: &mut Vec<(u16, Totals), A>,
     books: &mut Vec<Book<A>, A>,

@@ -28,13 +28,13 @@ use std::sync::{Mutex, Wait};
 /// Each call takes one of these locks, and waits for it, but for `new` and `finish`. Seen as the numbers of its gateways; its
 /// type keeps that they rise, so that no two are the same.
 #[derive(Drop)]
-pub struct Station<B: Ledger, S: BuildHasher, A: Allocator = Global> {
+pub struct Station<B: Ledger, S: BuildHasher, A: Allocator + Copy = Global> {
     pub(crate) office: Mutex<Office<B, S, A>>,
     /// By the gateways' numbers.
     pub(crate) places: Vec<Place<A>, A>,
 }
 
-impl<B: Ledger, S: BuildHasher, A: Allocator> Model for Station<B, S, A> {
+impl<B: Ledger, S: BuildHasher, A: Allocator + Copy> Model for Station<B, S, A> {
     ghost use Rattle.std.specs.Prelude.{ℕ, List};
     ghost use Rattle.std.specs.List.Sorted.{IsStrictlyIncreasing};
 
@@ -104,7 +104,7 @@ impl<B: Ledger, S: BuildHasher, A: Allocator + Copy> Station<B, S, A> {
     }
 }
 
-impl<B: Ledger, S: BuildHasher, A: Allocator> Station<B, S, A> {
+impl<B: Ledger, S: BuildHasher, A: Allocator + Copy> Station<B, S, A> {
     /// Closes the least gathering that is due, as the desk's `pass`. Takes no memory.
     pub fn pass<R: Wait>(&self, rt: &R, now: u64) -> Option<u64>
         ensures { WasPassed now result }
@@ -125,7 +125,7 @@ impl<B: Ledger, S: BuildHasher, A: Allocator> Station<B, S, A> {
     }
 }
 
-impl<B: Ledger, S: BuildHasher, A: Allocator + Clone> Station<B, S, A> {
+impl<B: Ledger, S: BuildHasher, A: Allocator + Copy> Station<B, S, A> {
     /// Tries a ticket once on the book of its gateway, as `Ticket::try_on`; `Wrong` where the station has no such gateway.
     pub fn try_once<R: Wait>(&self, rt: &R, ticket: Ticket<A>) -> Tried<A>
         ensures { MatchBool (is_among self.now (gateway_to_try ticket)) (WasTried ticket result)
@@ -163,7 +163,7 @@ impl<B: Ledger, S: BuildHasher, A: Allocator + Clone> Station<B, S, A> {
     }
 }
 
-impl<B: Ledger, S: BuildHasher, A: Allocator> Station<B, S, A> {
+impl<B: Ledger, S: BuildHasher, A: Allocator + Copy> Station<B, S, A> {
     /// Cancels what a receipt names, as the book's `cancel`, and answers its airtime in microseconds; `NotHere` where the
     /// station has no such gateway. Takes no memory.
     pub fn cancel<R: Wait>(&self, rt: &R, receipt: &Receipt<A>) -> Result<u64, CancelFault>
