@@ -37,14 +37,24 @@ fn apart_book<S: BuildHasher, A: Allocator + Copy>(
 ) -> Option<Amounts>
     ensures { result ≡ find are_apart (of_books desk.now shelf.now) }
 {
-    for (gateway, book) in shelf {
-        let booked = book.totals().booked;
-        let answered = airtime_of(desk, *gateway);
-        if booked != answered {
-            return Some((*gateway, (booked, answered)));
+    for shelved in shelf {
+        let amounts = amounts_of(desk, shelved);
+        if are_apart(&amounts) {
+            return Some(amounts);
         }
     }
     None
+}
+
+/// What a book has booked and what the desk answers for its gateway.
+fn amounts_of<S: BuildHasher, A: Allocator + Copy>(
+    desk: &Desk<S, A>,
+    shelved: &(u16, Book<A>),
+) -> Amounts
+    ensures { result ≡ (shelved.now.0, (shelved.now.1.booked, airtime_at desk.now shelved.now.0)) }
+{
+    let (gateway, book) = shelved;
+    (*gateway, (book.totals().booked, airtime_of(desk, *gateway)))
 }
 
 /// The first of these gateways that has settled airtime and no book.
@@ -59,12 +69,20 @@ fn without_book<S: BuildHasher, A: Allocator + Copy>(
         if has_book(shelf, *gateway) {
             continue;
         }
-        let answered = airtime_of(desk, *gateway);
-        if answered != 0 {
-            return Some((*gateway, (0, answered)));
+        let amounts = (*gateway, (0, airtime_of(desk, *gateway)));
+        if are_apart(&amounts) {
+            return Some(amounts);
         }
     }
     None
+}
+
+/// Whether another airtime is booked than answered.
+fn are_apart(amounts: &Amounts) -> bool
+    ensures { result ≡ are_apart amounts.now }
+{
+    let (_gateway, (booked, answered)) = amounts;
+    booked != answered
 }
 
 /// The airtime of a gateway's settled answers, in microseconds.
