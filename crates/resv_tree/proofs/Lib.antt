@@ -4,3 +4,4 @@ pub mod TreeLemmas
 pub mod NearLemmas
 pub mod SumLemmas
 pub mod HeightLemmas
+pub mod Crossing

@@ -5,3 +5,4 @@ pub mod Settled
 pub mod HandledLemmas
 pub mod ShelfLemmas
 pub mod ClosingLemmas
+pub mod Crossing
