@@ -1,2 +1,3 @@
 pub mod CrewLemmas
 pub mod WorkLemmas
+pub mod Crossing
