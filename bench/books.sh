@@ -1,13 +1,22 @@
 #!/bin/sh
 # What a booking costs in `airbook book`, by how many transmissions are kept: seconds, peak memory, and ratios of this run.
-# With OTHER=path of a second program, as one that was built on another roster, also how much faster the first one is. Needs
-# python3 and the program that the gate builds (or PROGRAM=path).
+# With OTHER=path of a second program, as one that was built on another roster, also how much faster the first one is. Where
+# there is a rustc, also against a plain ordered map of Rust's standard library (map.rs.txt). Needs python3 and the program that
+# the gate builds (or PROGRAM=path).
 set -eu
 top=$(cd "$(dirname "$0")/.." && pwd)
-exec python3 - "${PROGRAM:-$top/crates/airbook/out/airbook}" "${OTHER:-}" <<'P'
+work=$(mktemp -d)
+trap 'rm -rf "$work"' EXIT
+map=
+if command -v rustc > "$work/log"; then
+    cp "$top/bench/map.rs.txt" "$work/map.rs"
+    rustc -O -o "$work/map" "$work/map.rs"
+    map=$work/map
+fi
+python3 - "${PROGRAM:-$top/crates/airbook/out/airbook}" "${OTHER:-}" "$map" <<'P'
 import subprocess, sys, tempfile, time
 
-program, other = sys.argv[1:]
+program, other, map_program = sys.argv[1:]
 HOUR, STEP = 3_600_000_000, 6_000_000          # 600 in each hour, six seconds apart
 RUNS, PAIRS, LINES = 5, 20_000, 100_000
 
@@ -70,6 +79,9 @@ each = (memory(program, kept(65_536)) - memory(program, "")) * 1024 / 65_536
 print(f"65,536 rising bookings: {rising * 1000:.0f} ms, {each:.0f} bytes a member")
 whole = run(program, kept(LINES))
 print(f"{LINES:,} lines, 600 in each hour, 65,536 kept: {whole:.2f} s")
+if map_program:
+    plain = pair(map_program, 65_536)
+    print(f"a plain ordered map: {plain:.2f} us beside 65,536; the book takes {many / plain:.2f} times as long")
 if other:
     few, many = pair(other, 1_024), pair(other, 65_536)
     print(f"the other: {few:.2f} us beside 1,024 members, {many:.2f} us beside 65,536, {many / few:.2f} of that")
