@@ -1,5 +1,6 @@
 #!/bin/sh
-# What a booking costs in `airbook book`, by how many transmissions are kept: seconds, peak memory, and ratios of this run.
+# What a booking costs in `airbook book`, by how many transmissions are kept: processor time, peak memory, and ratios of this
+# run.
 # With OTHER=path of a second program, as one that was built on another roster, also how much faster the first one is. Where
 # there is a rustc, also against a plain ordered map of Rust's standard library (map.rs.txt). Needs python3 and the program that
 # the gate builds (or PROGRAM=path).
@@ -14,19 +15,21 @@ if command -v rustc > "$work/log"; then
     map=$work/map
 fi
 python3 - "${PROGRAM:-$top/crates/airbook/out/airbook}" "${OTHER:-}" "$map" <<'P'
-import subprocess, sys, tempfile, time
+import os, subprocess, sys, tempfile, time
 
 program, other, map_program = sys.argv[1:]
 HOUR, STEP = 3_600_000_000, 6_000_000          # 600 in each hour, six seconds apart
-RUNS, PAIRS, LINES = 5, 20_000, 100_000
+RUNS, PAIRS, LINES = 5, 100_000, 100_000
+FEW, MANY, STRIDE = 1_024, 65_535, 7_919       # one less than a book takes, so that each of the pairs finds room
 
 
 def book(number, start):
     return f"book {number} {start} 868300000 6 12\n"
 
 
-def kept(count):
-    return "".join(book(i, i * STEP) for i in range(count))
+def kept(count, stride=1):
+    """So many bookings, in the order of their starts, or with the starts by another stride, each once."""
+    return "".join(book(i, i * stride % count * STEP) for i in range(count))
 
 
 def pairs(count):
@@ -40,16 +43,18 @@ def start(path, given):
 
 
 def run(path, text):
-    """The least seconds of some runs."""
+    """The least processor seconds of some runs."""
     best = None
     with tempfile.TemporaryFile() as given:
         given.write(text.encode())
         for _ in range(RUNS):
             given.seek(0)
-            started = time.monotonic()
-            if start(path, given).wait() not in (0, 1):
+            child = start(path, given)
+            _, status, used = os.wait4(child.pid, 0)
+            child.returncode = os.waitstatus_to_exitcode(status)
+            if child.returncode not in (0, 1):
                 raise SystemExit(f"{path} book failed")
-            seconds = time.monotonic() - started
+            seconds = used.ru_utime + used.ru_stime
             best = seconds if best is None else min(best, seconds)
     return best
 
@@ -72,19 +77,26 @@ def pair(path, count):
     return (run(path, kept(count) + pairs(count)) - run(path, kept(count))) / PAIRS * 1e6
 
 
-few, many = pair(program, 1_024), pair(program, 65_536)
-print(f"a booking and its cancelling: {few:.2f} us beside 1,024 members, {many:.2f} us beside 65,536, {many / few:.2f} of that")
+def told(name, path):
+    """What the program's bookings cost, by how many are kept; the cost beside many."""
+    few, many = pair(path, FEW), pair(path, MANY)
+    print(f"{name}: a booking and its cancelling {few:.2f} us beside {FEW:,}, {many:.2f} us beside {MANY:,}, {many / few:.2f}")
+    return many
+
+
+many = told("the program", program)
 rising = run(program, kept(65_536)) - run(program, "")
 each = (memory(program, kept(65_536)) - memory(program, "")) * 1024 / 65_536
 print(f"65,536 rising bookings: {rising * 1000:.0f} ms, {each:.0f} bytes a member")
-whole = run(program, kept(LINES))
-print(f"{LINES:,} lines, 600 in each hour, 65,536 kept: {whole:.2f} s")
 if map_program:
-    plain = pair(map_program, 65_536)
-    print(f"a plain ordered map: {plain:.2f} us beside 65,536; the book takes {many / plain:.2f} times as long")
+    plain = told("a plain ordered map", map_program)
+    print(f"beside {MANY:,} the program takes {many / plain:.2f} of the map's time")
 if other:
-    few, many = pair(other, 1_024), pair(other, 65_536)
-    print(f"the other: {few:.2f} us beside 1,024 members, {many:.2f} us beside 65,536, {many / few:.2f} of that")
-    before = run(other, kept(LINES))
-    print(f"the other: {before:.2f} s for these lines, {before / whole:.2f} times as long")
+    print(f"beside {MANY:,} the program takes {many / told('the other', other):.2f} of the other's time")
+for order, stride in (("rising", 1), ("another", STRIDE)):
+    ours = run(program, kept(LINES, stride))
+    print(f"{LINES:,} lines in {order} order, 600 in each hour, 65,536 kept: {ours:.2f} s")
+    if other:
+        theirs = run(other, kept(LINES, stride))
+        print(f"the other: {theirs:.2f} s, {theirs / ours:.2f} times as long")
 P
