@@ -8,6 +8,7 @@ pub mod TakeStep
 pub mod Runs
 pub mod Headlines
 pub mod WorkedInputs
+pub mod WorkedSteps
 pub mod WorkedRun
 pub mod WorkedPromise
 pub mod WorkedHeadline

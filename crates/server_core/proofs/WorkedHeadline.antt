@@ -2,7 +2,8 @@
 use Rattle.server_core.proofs.Words.{ap, arith, inl, inr, subst, sym, ◌∙◌, Contains, None, [], refl, true, ◌+◌, ◌≡◌, ◌≤◌, ◌∷◌}
 use Rattle.server_core.proofs.Words.{Gathering, HeardCopy, numbered, some_inj, desk_of, Done, DeskView, Settle, step}
 use Rattle.server_core.proofs.Words.{Try, Tick, opening, Standing, Outcome, GatewaySetting}
-use Rattle.server_core.proofs.Words.{Book, CancelFault, Result, Sent, ℕ}
+use Rattle.server_core.proofs.Words.{Book, CancelFault, Result, Sent, ℕ, DeviceSetting, addr_of}
+use Rattle.radio_airtime.specs.declared.data_rate.DataRate.TheVariants.{Dr3}
 use Rattle.radio_airtime.specs.TimeOnAir.{airtime_of}
 use Rattle.radio_bands.specs.declared.band.Band.TheVariants.{M}
 use Rattle.radio_bands.specs.Band.{band_of}
@@ -11,12 +12,14 @@ use Rattle.gateway_book.specs.Answer.{overlap}
 use Rattle.gateway_book.specs.Kept.{kept}
 use Rattle.gateway_book.specs.Duty.{full_hour}
 use Rattle.answer_ticket.specs.declared.outcome.Ending.TheVariants.{GivenUp}
-use Rattle.server_core.specs.Headline.{TakesRx1, IsOfItsUplink, KeepsHeadline}
+use Rattle.server_core.specs.Headline.{TakesRx1, TakesRx2, IsOfItsUplink, KeepsHeadline}
 use Rattle.server_core.specs.BookCalls.{IsBookAt, IsTicketIn, IsStubIn, IsCancel, BookCallsAreSteps}
 use Rattle.server_core.specs.Staying.{unused_book, OthersLeaveAlone}
 use Rattle.server_core.proofs.Headlines.{every_run_keeps_headline}
-use Rattle.server_core.proofs.WorkedInputs.{settings, limits, device, kept_copy, both_copies, gathering, uplink}
-use Rattle.server_core.proofs.WorkedRun.{job_1, gateway_1, gateway_3, w3, w4, w17, taken_4, steps, after, whole_run}
+use Rattle.server_core.proofs.WorkedInputs.{settings, limits, first_device, second_device, kept_copy, both_copies, gathering}
+use Rattle.server_core.proofs.WorkedInputs.{uplink}
+use Rattle.server_core.proofs.WorkedSteps.{job_1, gateway_1, gateway_3, third_copy, w3, w4, w18, taken_4}
+use Rattle.server_core.proofs.WorkedRun.{steps, after, whole_run}
 use Rattle.server_core.proofs.WorkedPromise.{are, safe_run, first_held, second_held, third_held, one_of_one, one_of_two}
 
 module _ (headline : KeepsHeadline settings after) where
@@ -34,11 +37,11 @@ module _ (headline : KeepsHeadline settings after) where
       second_held.there e).0 in
       absurd (omega (arith, same))
 
-  own : IsOfItsUplink settings w17.reg.gathered.list gateway_3 second_held.member
+  own : IsOfItsUplink settings w18.reg.gathered.list gateway_3 second_held.member
   own = headline.own 1 0 gateway_3 second_held.member refl second_held.there
 
-  its_uplink : own.uplink ≡ gathering (uplink 1) 300000 both_copies true
-  its_uplink = some_inj (sym own.its_own ∙ ap (λ n. numbered n w17.reg.gathered.list) second_held.asked.number)
+  its_uplink : own.uplink ≡ gathering (uplink 0xda 1) 300000 both_copies true
+  its_uplink = some_inj (sym own.its_own ∙ ap (λ n. numbered n w18.reg.gathered.list) second_held.asked.number)
 
   its_copy : own.copy ≡ kept_copy 2 9000000 50
   its_copy =
@@ -46,13 +49,47 @@ module _ (headline : KeepsHeadline settings after) where
       elim (one_of_two (kept_copy 1 5000000 55) (kept_copy 2 9000000 50) own.copy heard)
       [ inl e ↦ absurd (omega (arith, ap (λ (c : HeardCopy). c.gateway) e, own.heard)) | inr e ↦ e ]
 
-  its_device : own.device ≡ device
-  its_device = one_of_one device own.device own.set
+  its_device : own.device ≡ first_device
+  its_device =
+      let is : own.device.addr ≡ 0x26011bda = own.addr ∙ ap (λ (g : Gathering). addr_of g.bytes) its_uplink in
+      elim (one_of_two first_device second_device own.device own.set)
+      [ inl e ↦ e | inr e ↦ absurd (omega (arith, is, ap (λ (d : DeviceSetting). d.addr) e)) ]
 
   -- it takes RX1 of that copy, and not RX2
-  its_window : TakesRx1 device (kept_copy 2 9000000 50) second_held.member
+  its_window : TakesRx1 first_device (kept_copy 2 9000000 50) second_held.member
   its_window = elim (rw (its_copy, its_device) at own.window)
       [ inl e ↦ e | inr e ↦ absurd (omega (arith, e.start, second_held.asked.start)) ]
+
+  third_own : IsOfItsUplink settings w18.reg.gathered.list gateway_3 third_held.member
+  third_own = headline.own 1 1 gateway_3 third_held.member refl third_held.there
+
+  third_uplink : third_own.uplink ≡ gathering (uplink 0xdb 0) 600000 third_copy true
+  third_uplink = some_inj (sym third_own.its_own ∙ ap (λ n. numbered n w18.reg.gathered.list) third_held.asked.number)
+
+  third_is_heard : third_own.copy ≡ kept_copy 2 8000000 50
+  third_is_heard =
+      one_of_one (kept_copy 2 8000000 50) third_own.copy
+      (subst (λ (g : Gathering). Contains g.copies third_own.copy) third_uplink third_own.copied)
+
+  third_device : third_own.device ≡ second_device
+  third_device =
+      let is : third_own.device.addr ≡ 0x26011bdb = third_own.addr ∙ ap (λ (g : Gathering). addr_of g.bytes) third_uplink in
+      elim (one_of_two first_device second_device third_own.device third_own.set)
+      [ inl e ↦ absurd (omega (arith, is, ap (λ (d : DeviceSetting). d.addr) e)) | inr e ↦ e ]
+
+  -- it takes RX2 of its copy, as the second device listens, and not RX1
+  third_window : TakesRx2 second_device (kept_copy 2 8000000 50) third_held.member
+  third_window = elim (rw (third_is_heard, third_device) at third_own.window)
+      [ inl e ↦ absurd (omega (arith, e.start, third_held.asked.start)) | inr e ↦ e ]
+
+  third_begins : third_held.member.start ≡ 11000000
+  third_begins = third_window.start
+
+  third_channel : third_held.member.freq_hz ≡ 868500000
+  third_channel = third_window.freq_hz
+
+  third_rate : third_held.member.rate ≡ Dr3
+  third_rate = third_window.rate
 
 pub headline_run : KeepsHeadline settings after
 headline_run = subst (KeepsHeadline settings) whole_run (every_run_keeps_headline settings are limits steps)
@@ -100,7 +137,7 @@ first_book = record {
   retired = 0;
 }
 
-first_kept : IsBookAt 1 0 w17.gateways first_book
+first_kept : IsBookAt 1 0 w18.gateways first_book
 unfolding kept airtime_of band_of overlap full_hour begun
 first_kept =
     record {

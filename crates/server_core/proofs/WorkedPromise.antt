@@ -4,7 +4,7 @@ use Rattle.server_core.proofs.Words.{Contains, IsSome, Some, [], length, refl, s
 use Rattle.server_core.proofs.Words.{◌+◌, ◌≡◌, ◌≢◌, ◌≤◌, ◌⊎◌, ◌∷◌, Reservation, IsAsked, Gathering, HeardCopy, numbered}
 use Rattle.server_core.proofs.Words.{AllPairs-head, Candidate, Job, ask_for, candidates, Device, Gateway, AreSettings}
 use Rattle.server_core.proofs.Words.{some_inj, GatewaySetting, HaveOwnCounters, IsMember, IsOwnWindow, IsSafe}
-use Rattle.server_core.proofs.Words.{plan_for, setting_of, net}
+use Rattle.server_core.proofs.Words.{plan_for, setting_of, net, None, DeviceSetting, addr_of}
 use Rattle.radio_airtime.specs.TimeOnAir.{airtime_of}
 use Rattle.radio_bands.specs.declared.band.Band.TheVariants.{M}
 use Rattle.radio_bands.specs.Band.{band_of}
@@ -14,8 +14,10 @@ use Rattle.gateway_book.specs.Kept.{kept}
 use Rattle.gateway_book.specs.Duty.{full_hour}
 use Rattle.server_desk.specs.Settings.{IsGatewayInRange, IsDeviceInRange}
 use Rattle.server_core.proofs.Runs.{every_interleaving_is_safe}
-use Rattle.server_core.proofs.WorkedInputs.{settings, limits, device, kept_copy, both_copies, gathering, uplink, rx1, device_at}
-use Rattle.server_core.proofs.WorkedRun.{job_1, job_2, job_3, gateway_1, gateway_3, w17, steps, after, whole_run}
+use Rattle.server_core.proofs.WorkedInputs.{settings, limits, first_device, second_device, kept_copy, both_copies, gathering}
+use Rattle.server_core.proofs.WorkedInputs.{uplink, rx1, rx2, device_at}
+use Rattle.server_core.proofs.WorkedSteps.{job_1, job_2, job_3, gateway_1, gateway_3, third_copy, w18}
+use Rattle.server_core.proofs.WorkedRun.{steps, after, whole_run}
 
 -- the settings are accepted
 pub are : AreSettings settings.gateways settings.devices
@@ -23,7 +25,9 @@ unfolding band_of
 are =
     let g : IsGatewayInRange (record { id = 1; cap = 4096 }) = record { id = omega arith; cap = omega arith } in
     let h : IsGatewayInRange (record { id = 2; cap = 4096 }) = record { id = omega arith; cap = omega arith } in
-    let d : IsDeviceInRange device = record { delay = omega arith; offset = omega arith; down = omega arith } in
+    let d : IsDeviceInRange first_device = record { delay = omega arith; offset = omega arith; down = omega arith } in
+    let e : IsDeviceInRange second_device = record { delay = omega arith; offset = omega arith; down = omega arith } in
+    let is_in_band : DeviceSetting → Type 0 = λ d. IsSome (band_of d.rx2_freq d.rx2_rate) in
     let one : GatewaySetting = record { id = 1; cap = 4096 } in
     let two : GatewaySetting = record { id = 2; cap = 4096 } in
     record {
@@ -34,10 +38,14 @@ are =
       ids_differ = AllPairs-cons (λ a b. a.id ≢ b.id) one (two ∷ [])
           (All-cons (λ b. one.id ≢ b.id) two [] (λ e. absurd (omega (arith, e))) (All-nil (λ b. one.id ≢ b.id)))
           (λ i j x l m. absurd (omega arith));
-      devices_in_range = All-cons IsDeviceInRange device [] d (All-nil IsDeviceInRange);
-      rx2_in_bands = All-cons (λ d. IsSome (band_of d.rx2_freq d.rx2_rate)) device [] refl
-          (All-nil (λ d. IsSome (band_of d.rx2_freq d.rx2_rate)));
-      addrs_differ = λ i j x l m. absurd (omega arith);
+      devices_in_range = All-cons IsDeviceInRange first_device (second_device ∷ []) d
+          (All-cons IsDeviceInRange second_device [] e (All-nil IsDeviceInRange));
+      rx2_in_bands = All-cons is_in_band first_device (second_device ∷ []) refl
+          (All-cons is_in_band second_device [] refl (All-nil is_in_band));
+      addrs_differ = AllPairs-cons (λ a b. a.addr ≢ b.addr) first_device (second_device ∷ [])
+          (All-cons (λ b. first_device.addr ≢ b.addr) second_device [] (λ x. absurd (omega (arith, x)))
+          (All-nil (λ b. first_device.addr ≢ b.addr)))
+          (λ i j x l m. absurd (omega arith));
     }
 
 -- the gateway's member at place k is what this candidate asks for
@@ -64,7 +72,7 @@ second_held =
       asked = record { number = refl; start = refl; freq_hz = refl; rate = refl; len = refl };
     }
 
-pub third_held : HoldsAt gateway_3 1 job_3 (rx1 2 13000000)
+pub third_held : HoldsAt gateway_3 1 job_3 rx2
 unfolding airtime_of band_of overlap full_hour kept begun
 third_held =
     record {
@@ -73,11 +81,14 @@ third_held =
       asked = record { number = refl; start = refl; freq_hz = refl; rate = refl; len = refl };
     }
 
-first_member : IsMember w17 0 0 gateway_1 first_held.member
+first_member : IsMember w18 0 0 gateway_1 first_held.member
 first_member = record { gateway = refl; member = first_held.there }
 
-second_member : IsMember w17 1 0 gateway_3 second_held.member
+second_member : IsMember w18 1 0 gateway_3 second_held.member
 second_member = record { gateway = refl; member = second_held.there }
+
+third_member : IsMember w18 1 1 gateway_3 third_held.member
+third_member = record { gateway = refl; member = third_held.there }
 
 pub one_of_one : {X : Type 0} (x z : X) → Contains (x ∷ []) z → z ≡ x
 one_of_one x z (zero, l, e) = sym e
@@ -98,13 +109,13 @@ module _ (safe : IsSafe settings after) where
   gateway_set : Some (setting_of gateway_3) ≡ slice_get settings.gateways 1
   gateway_set = ap (λ l. slice_get l 1) safe.gateways
 
-  device_set : Some (device_at (Some 2) 3).setting ≡ slice_get settings.devices 0
-  device_set = ap (λ l. slice_get l 0) safe.devices
+  device_set : Some (device_at second_device (Some 0) 1).setting ≡ slice_get settings.devices 1
+  device_set = ap (λ l. slice_get l 1) safe.devices
 
-  all_told : length w17.reg.asked ≡ 3
+  all_told : length w18.reg.asked ≡ 3
   all_told = safe.told
 
-  all_answered : length w17.answers ≡ 3
+  all_answered : length w18.answers ≡ 3
   all_answered = safe.answered
 
   hour_kept : spent gateway_1.state.list M 6000000 ≤ 36000000
@@ -127,15 +138,15 @@ module _ (safe : IsSafe settings after) where
       let same = (safe.once 0 1 0 0 gateway_1 gateway_3 first_held.member second_held.member first_member second_member e).0 in
       absurd (omega (arith, same))
 
-  -- what the second gateway holds is RX1 of the copy that it heard, by the second ticket
+  -- what the second gateway holds for the second uplink is RX1 of the copy that it heard, by the second ticket
   own : IsOwnWindow after gateway_3 second_held.member
   own = safe.own 1 0 gateway_3 second_held.member second_member
 
   number_is : second_held.member.number ≡ 2
   number_is = second_held.asked.number
 
-  its_gathering : own.gathering ≡ gathering (uplink 1) 300000 both_copies true
-  its_gathering = some_inj (sym own.gathered ∙ ap (λ n. numbered n w17.reg.gathered.list) number_is)
+  its_gathering : own.gathering ≡ gathering (uplink 0xda 1) 300000 both_copies true
+  its_gathering = some_inj (sym own.gathered ∙ ap (λ n. numbered n w18.reg.gathered.list) number_is)
 
   its_job : own.job ≡ job_2
   its_job = elim (one_of_three job_1 job_2 job_3 own.job own.given) [
@@ -158,16 +169,13 @@ module _ (safe : IsSafe settings after) where
   its_place : Contains (candidates job_2) own.candidate
   its_place = subst (λ (j : Job). Contains (candidates j) own.candidate) its_job own.tried
 
-  its_device : own.device ≡ device_at (Some 2) 3
-  its_device = one_of_one (device_at (Some 2) 3) own.device own.served
+  its_address : own.device.setting.addr ≡ 0x26011bda
+  its_address = own.its_own ∙ ap (λ (g : Gathering). addr_of g.bytes) its_gathering
 
-  its_address : 0x26011bda ≡ own.job.addr
-  its_address = ap (λ (d : Device). d.setting.addr) (sym its_device) ∙ own.its_own ∙ sym own.addr
-
-  its_plan : own.job.plan ≡ job_2.plan
-  its_plan =
-      own.plan ∙ ap (λ (d : Device). plan_for d.setting own.job.body) its_device
-      ∙ ap (λ (j : Job). plan_for device j.body) its_job
+  -- of the two devices it is the first
+  its_device : own.device ≡ device_at first_device (Some 1) 2
+  its_device = elim (one_of_two (device_at first_device (Some 1) 2) (device_at second_device (Some 0) 1) own.device own.served)
+      [ inl e ↦ e | inr e ↦ absurd (omega (arith, its_address, ap (λ (d : Device). d.setting.addr) e)) ]
 
   -- the two tickets answer different uplinks, and have different counters
   tickets_differ : job_1.number ≢ job_2.number
@@ -179,6 +187,54 @@ module _ (safe : IsSafe settings after) where
   counters_differ =
       All-head (HaveOwnCounters job_1) job_2 (job_3 ∷ [])
       (AllPairs-head HaveOwnCounters job_1 (job_2 ∷ job_3 ∷ []) safe.counters) refl
+
+  -- what it holds for the third uplink is RX2 of the only copy, as the second device listens, by the third ticket
+  third_own : IsOwnWindow after gateway_3 third_held.member
+  third_own = safe.own 1 1 gateway_3 third_held.member third_member
+
+  third_gathering : third_own.gathering ≡ gathering (uplink 0xdb 0) 600000 third_copy true
+  third_gathering = some_inj (sym third_own.gathered ∙ ap (λ n. numbered n w18.reg.gathered.list) third_held.asked.number)
+
+  third_job : third_own.job ≡ job_3
+  third_job =
+      let is : third_own.job.number ≡ 3 = sym third_own.asked.number ∙ third_held.asked.number in
+      elim (one_of_three job_1 job_2 job_3 third_own.job third_own.given) [
+        | inl e ↦ absurd (omega (arith, ap (λ (j : Job). j.number) e, is))
+        | inr (inl e) ↦ absurd (omega (arith, ap (λ (j : Job). j.number) e, is))
+        | inr (inr e) ↦ e
+      ]
+
+  third_is_heard : third_own.window.copy ≡ kept_copy 2 8000000 50
+  third_is_heard =
+      one_of_one (kept_copy 2 8000000 50) third_own.window.copy
+      (subst (λ (g : Gathering). Contains g.copies third_own.window.copy) third_gathering third_own.window.heard)
+
+  third_address : third_own.device.setting.addr ≡ 0x26011bdb
+  third_address = third_own.its_own ∙ ap (λ (g : Gathering). addr_of g.bytes) third_gathering
+
+  third_device : third_own.device ≡ device_at second_device (Some 0) 1
+  third_device =
+      elim (one_of_two (device_at first_device (Some 1) 2) (device_at second_device (Some 0) 1) third_own.device third_own.served)
+      [ inl e ↦ absurd (omega (arith, third_address, ap (λ (d : Device). d.setting.addr) e)) | inr e ↦ e ]
+
+  third_start : third_own.candidate.start ≡ 11000000
+  third_start = sym third_own.asked.start ∙ third_held.asked.start
+
+  -- RX1 begins a second before
+  third_window : third_own.candidate ≡ rx2
+  third_window = elim (rw (third_device, third_job, third_is_heard) at third_own.window.window)
+      [ inl e ↦ absurd (omega (arith, third_start, ap (λ (c : Candidate). c.start) e)) | inr e ↦ e ]
+
+  third_takes : third_held.member.freq_hz ≡ 868500000
+  third_takes = third_own.asked.freq_hz ∙ ap (λ (c : Candidate). c.freq_hz) third_window
+
+  its_plan : third_own.job.plan ≡ plan_for second_device None
+  its_plan =
+      third_own.plan ∙ ap (λ (d : Device). plan_for d.setting third_own.job.body) third_device
+      ∙ ap (λ (j : Job). plan_for second_device j.body) third_job
+
+  its_job_address : third_own.job.addr ≡ 0x26011bdb
+  its_job_address = third_own.addr ∙ ap (λ (g : Gathering). addr_of g.bytes) third_gathering
 
 pub safe_run : IsSafe settings after
 safe_run = subst (IsSafe settings) whole_run (every_interleaving_is_safe settings are limits steps)
