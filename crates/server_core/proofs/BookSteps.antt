@@ -21,6 +21,7 @@ use Rattle.server_core.specs.BookCalls.{IsSettleStep, IsCancel, BookCallsAreStep
 use Rattle.server_core.specs.Steps as replies
 use Rattle.server_core.proofs.{Members.equal_where_tested, DeskSteps.desk_calls_are_steps, DeskSteps.may}
 use Rattle.server_core.proofs.TakeStep.{ticket, still_waits}
+use Rattle.server_core.proofs.UntriedSteps.{not_open, no_book}
 
 -- What was found is found again where it was written anew.
 
@@ -275,12 +276,15 @@ unfolding step
 taken_stands w n job q = taken_by w n job (take_answer w.reg (known w) n) refl q
 
 pub book_calls_are_steps : (A : Type 0) → BookCallsAreSteps A
+unfolding step
 book_calls_are_steps A =
     record {
       taken = taken_stands;
       try_on = λ w t id at old new tried out b h.
           let x = some_and (λ c. TriedAs t c old new tried) (candidate_of t) h in
           try_of_book w t id at old new tried out b x.0 x.1 x.2;
+      try_nothing = λ w n e. not_open w n (numbered n w.answers) e;
+      try_nowhere = λ w n c e f. no_book w n (numbered n w.answers) c e f;
       give_up = λ w t out. record { told = rw out refl; here = refl };
       settle = settle_is;
       cancel = cancel_at_book;

@@ -12,9 +12,12 @@ pub mod WorkedSteps
 pub mod WorkedRun
 pub mod WorkedPromise
 pub mod WorkedHeadline
+pub mod WorkedDeskCalls
+pub mod WorkedBookCalls
 pub mod DeskSteps
 pub mod Ready
 pub mod Calls
+pub mod UntriedSteps
 pub mod BookSteps
 pub mod OtherCancels
 pub mod StaySteps

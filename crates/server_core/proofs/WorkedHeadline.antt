@@ -1,26 +1,18 @@
 -- What the headline and the law of book calls say of the worked run: each clause tells a fact.
-use Rattle.server_core.proofs.Words.{ap, arith, inl, inr, subst, sym, ◌∙◌, Contains, None, [], refl, true, ◌+◌, ◌≡◌, ◌≤◌, ◌∷◌}
-use Rattle.server_core.proofs.Words.{Gathering, HeardCopy, numbered, some_inj, desk_of, Done, DeskView, Settle, step}
-use Rattle.server_core.proofs.Words.{Try, Tick, opening, Standing, Outcome, GatewaySetting}
-use Rattle.server_core.proofs.Words.{Book, CancelFault, Result, Sent, ℕ, DeviceSetting, addr_of}
+use Rattle.server_core.proofs.Words.{ap, arith, inl, inr, subst, sym, ◌∙◌, Contains, refl, true, ◌+◌, ◌≡◌, ◌≤◌}
+use Rattle.server_core.proofs.Words.{Gathering, HeardCopy, numbered, some_inj}
+use Rattle.server_core.proofs.Words.{DeviceSetting, addr_of}
 use Rattle.radio_airtime.specs.declared.data_rate.DataRate.TheVariants.{Dr3}
 use Rattle.radio_airtime.specs.TimeOnAir.{airtime_of}
 use Rattle.radio_bands.specs.declared.band.Band.TheVariants.{M}
-use Rattle.radio_bands.specs.Band.{band_of}
 use Rattle.resv_list.specs.Reservations.{begun}
-use Rattle.gateway_book.specs.Answer.{overlap}
-use Rattle.gateway_book.specs.Kept.{kept}
-use Rattle.gateway_book.specs.Duty.{full_hour}
-use Rattle.answer_ticket.specs.declared.outcome.Ending.TheVariants.{GivenUp}
 use Rattle.server_core.specs.Headline.{TakesRx1, TakesRx2, IsOfItsUplink, KeepsHeadline}
-use Rattle.server_core.specs.BookCalls.{IsBookAt, IsTicketIn, IsStubIn, IsCancel, BookCallsAreSteps}
-use Rattle.server_core.specs.Staying.{unused_book, OthersLeaveAlone}
 use Rattle.server_core.proofs.Headlines.{every_run_keeps_headline}
 use Rattle.server_core.proofs.WorkedInputs.{settings, limits, first_device, second_device, kept_copy, both_copies, gathering}
 use Rattle.server_core.proofs.WorkedInputs.{uplink}
-use Rattle.server_core.proofs.WorkedSteps.{job_1, gateway_1, gateway_3, third_copy, w3, w4, w18, taken_4}
+use Rattle.server_core.proofs.WorkedSteps.{gateway_1, gateway_3, third_copy, w18}
 use Rattle.server_core.proofs.WorkedRun.{steps, after, whole_run}
-use Rattle.server_core.proofs.WorkedPromise.{are, safe_run, first_held, second_held, third_held, one_of_one, one_of_two}
+use Rattle.server_core.proofs.WorkedPromise.{are, first_held, second_held, third_held, one_of_one, one_of_two}
 
 module _ (headline : KeepsHeadline settings after) where
   disjoint : second_held.member.start + airtime_of second_held.member.rate second_held.member.len ≤ third_held.member.start
@@ -93,66 +85,3 @@ module _ (headline : KeepsHeadline settings after) where
 
 pub headline_run : KeepsHeadline settings after
 headline_run = subst (KeepsHeadline settings) whole_run (every_run_keeps_headline settings are limits steps)
-
--- the first ticket, had it been given up after a try of another number and a tick at the other gateway
-module _ {A : Type 0} (calls : BookCallsAreSteps A) (alone : OthersLeaveAlone) where
-  abbrev first_ticket : Standing
-  first_ticket = record { job = job_1; at = 0 }
-
-  stands : IsTicketIn w4 first_ticket
-  stands = rw taken_4 at (calls.taken w3 1 job_1 (rw taken_4 refl))
-
-  still_stands : IsTicketIn (step w4 (Try 2)).0 first_ticket
-  still_stands = alone.ticket w4 (Try 2) first_ticket stands refl
-
-  abbrev given_up : Outcome
-  given_up = record { number = 1; result = GivenUp }
-
-  still_out : IsStubIn (step w4 (Tick 2 7)).0 given_up
-  still_out = alone.stub w4 (Tick 2 7) given_up (calls.give_up w4 first_ticket stands) refl
-
-  settled : desk_of (step w4 (Settle 1)).0 ≡ (let d : DeskView = record (desk_of w4) { known = Done None ∷ [] } in d)
-  settled = (calls.settle w4 given_up (calls.give_up w4 first_ticket stands)).desk
-
-  -- the first gateway's book, before the first step and after a tick at the other gateway
-  abbrev first_gateway : GatewaySetting
-  first_gateway = record { id = 1; cap = 4096 }
-
-  opened : IsBookAt 1 0 (opening settings limits).gateways (unused_book first_gateway)
-  opened = alone.opened settings are limits 0 first_gateway refl
-
-  still_kept : IsBookAt 1 0 (step (opening settings limits) (Tick 2 7)).0.gateways (unused_book first_gateway)
-  still_kept = alone.book (opening settings limits) (Tick 2 7) 1 0 (unused_book first_gateway) opened
-      (λ e. absurd (omega (arith, some_inj e)))
-
--- the first gateway's book after the run: what it holds for the first uplink isn't cancelled as the second's
-abbrev first_book : Book
-first_book = record {
-  id = 1;
-  rules = record { cap = 4096 };
-  floor = 0;
-  list = gateway_1.state.list;
-  booked = gateway_1.state.booked;
-  cancelled = 0;
-  retired = 0;
-}
-
-first_kept : IsBookAt 1 0 w18.gateways first_book
-unfolding kept airtime_of band_of overlap full_hour begun
-first_kept =
-    record {
-      gateway = gateway_1;
-      found = refl;
-      keeps = record {
-        id = refl;
-        rules = refl;
-        orderly = record { by_start = (omega arith, tt); lawful = safe_run.lawful 0 gateway_1 refl };
-        remembers = record { floor = refl; list = refl; booked = refl; cancelled = refl };
-      };
-    }
-
-module _ (alone : OthersLeaveAlone) where
-  not_cancelled : (new : Book) (result : Result ℕ CancelFault) → IsCancel 2 6000000 first_book new result → new ≡ first_book
-  not_cancelled new result c =
-      alone.cancel settings are limits steps 2 6000000 1 0 first_book new result (rw whole_run first_kept) c
-      (rw whole_run (λ sent e here begins. omega (arith, begins, ap (λ (s : Sent). s.start) (some_inj e))))

@@ -179,8 +179,8 @@ sent_at gateway start = record { gateway = gateway; start = start; airtime = 412
 abbrev pub sent_in_rx2 : Sent
 sent_in_rx2 = record { gateway = 2; start = 11000000; airtime = 144384 }
 
-abbrev pub answered_at : ℕ → ℕ → Ending
-answered_at gateway start = Answered gateway Rx1 start 41216 false
+abbrev pub ended_at : ℕ → ℕ → Ending
+ended_at gateway start = Answered gateway Rx1 start 41216 false
 
 -- the gateway after it booked a candidate of this job
 abbrev pub with_booked : Job → Candidate → Gateway → Gateway

@@ -63,7 +63,7 @@ first_held =
       asked = record { number = refl; start = refl; freq_hz = refl; rate = refl; len = refl };
     }
 
-pub second_held : HoldsAt gateway_3 0 job_2 (rx1 2 10000000)
+unfoldable pub second_held : HoldsAt gateway_3 0 job_2 (rx1 2 10000000)
 unfolding airtime_of band_of overlap full_hour kept begun
 second_held =
     record {

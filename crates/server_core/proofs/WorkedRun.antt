@@ -4,7 +4,7 @@ use Rattle.server_core.proofs.Words.{run_from}
 use Rattle.gateway_book.specs.declared.refusal.Refusal.TheVariants.{Taken}
 use Rattle.server_desk.specs.declared.heard.DeskHeard.TheVariants.{Opened, Joined}
 use Rattle.server_core.specs.Steps as replies
-use Rattle.server_core.proofs.WorkedInputs.{settings, limits, copy_at, answered_at}
+use Rattle.server_core.proofs.WorkedInputs.{settings, limits, copy_at, ended_at}
 use Rattle.server_core.proofs.WorkedSteps.{first, second, third, job_1, job_2, job_3, w18, heard_1, heard_2, passed_3, taken_4}
 use Rattle.server_core.proofs.WorkedSteps.{tried_5, settled_6, heard_7, heard_8, passed_9, taken_10, tried_11, tried_12}
 use Rattle.server_core.proofs.WorkedSteps.{settled_13, heard_14, passed_15, taken_16, tried_17, tried_18}
@@ -38,14 +38,14 @@ said =
     ∷ replies.Passed (Some 1)
     ∷ replies.Given (Ok job_1)
     ∷ replies.Tried (Some None)
-    ∷ replies.Ended (Some (answered_at 1 6000000))
+    ∷ replies.Ended (Some (ended_at 1 6000000))
     ∷ replies.Heard (Ok (Opened 2 false))
     ∷ replies.Heard (Ok (Joined 2 2))
     ∷ replies.Passed (Some 2)
     ∷ replies.Given (Ok job_2)
     ∷ replies.Tried (Some (Some (Taken 6000000)))
     ∷ replies.Tried (Some None)
-    ∷ replies.Ended (Some (answered_at 2 10000000))
+    ∷ replies.Ended (Some (ended_at 2 10000000))
     ∷ replies.Heard (Ok (Opened 3 false))
     ∷ replies.Passed (Some 3)
     ∷ replies.Given (Ok job_3)

@@ -21,7 +21,7 @@ use Rattle.server_desk.specs.declared.heard.DeskHeard.TheVariants.{Opened, Joine
 use Rattle.server_core.specs.Steps as replies
 use Rattle.server_core.proofs.WorkedInputs.{settings, limits, uplink, bytes_same, has_its_mic, copy_at, device_at}
 use Rattle.server_core.proofs.WorkedInputs.{gateway_at, unused, kept_copy, world, job, both_copies, sent_at}
-use Rattle.server_core.proofs.WorkedInputs.{answered_at, with_booked, gathering, first_alone, asked_by, first_device}
+use Rattle.server_core.proofs.WorkedInputs.{ended_at, with_booked, gathering, first_alone, asked_by, first_device}
 use Rattle.server_core.proofs.WorkedInputs.{second_device, rx1, rx2, sent_in_rx2}
 
 abbrev pub first : List ℕ
@@ -88,7 +88,7 @@ tried_5 = refl
 abbrev pub w6 : World
 w6 = world (first_alone (Some 0) 1) (done ∷ []) (asked_by 0 ∷ []) (Settled (Some (sent_at 1 6000000)) ∷ []) one_booked
 
-pub settled_6 : step w5 (Settle 1) ≡ (w6, replies.Ended (Some (answered_at 1 6000000)))
+pub settled_6 : step w5 (Settle 1) ≡ (w6, replies.Ended (Some (ended_at 1 6000000)))
 unfolding step
 settled_6 = refl
 
@@ -161,7 +161,7 @@ second_settled = Settled (Some (sent_at 2 10000000))
 abbrev pub w13 : World
 w13 = world (first_alone (Some 1) 2) both_done (asked_by 0 ∷ asked_by 0 ∷ []) (then_second second_settled) two_booked
 
-pub settled_13 : step w12 (Settle 2) ≡ (w13, replies.Ended (Some (answered_at 2 10000000)))
+pub settled_13 : step w12 (Settle 2) ≡ (w13, replies.Ended (Some (ended_at 2 10000000)))
 unfolding step
 settled_13 = refl
 

@@ -6,11 +6,12 @@ use Rattle.gateway_book.specs.declared.cancel.CancelFault.TheVariants.{NotHere}
 use Rattle.gateway_book.specs.Step.{cancel_answer, cancel_step}
 use Rattle.gateway_book.specs.Book.{Book, state_of, with_cancelled, airtime_answer}
 use Rattle.uplink_gather.specs.Gatherings.{numbered, rewritten}
+use Rattle.rx_windows.specs.declared.candidate.Candidate.{Candidate}
 use Rattle.answer_ticket.specs.declared.outcome.Ending.TheVariants.{GivenUp}
 use Rattle.answer_ticket.specs.declared.outcome.Outcome.{Outcome}
 use Rattle.answer_ticket.specs.declared.tried.Tried.{Tried}
 use Rattle.answer_ticket.specs.declared.tried.Tried.TheVariants.{Booked, Next, Out, Wrong, NoMemory}
-use Rattle.answer_ticket.specs.Job.{Job}
+use Rattle.answer_ticket.specs.Job.{Job, candidate_at}
 use Rattle.answer_ticket.specs.Ticket.{Standing}
 use Rattle.answer_ticket.specs.Tried.{TriedIs, stub_of}
 use Rattle.server_desk.specs.declared.answers.Sent.{Sent}
@@ -87,6 +88,15 @@ pub record IsSettleStep (w : World) (stub : Outcome) : Type 0 where
     replies.Ended (Some stub.result),
   )
 
+-- the candidate to try next, of an answer that is open
+abbrev pub next_candidate : Option Answer → Option Candidate
+next_candidate (Some (Open k job)) = candidate_at job k
+next_candidate answer = None
+
+-- of number n's answer
+abbrev pub next_at : World → ℕ → Option Candidate
+next_at w n = next_candidate (numbered n w.answers)
+
 -- what is booked for number n, also where its answer is not settled yet
 abbrev pub sent_at : World → ℕ → Option Sent
 sent_at w n = option_and_then sent_for (numbered n w.answers)
@@ -106,7 +116,11 @@ pub record BookCallsAreSteps (A : Type 0) : Type 0 where
   -- it is tried on the book of a gateway
   pub try_on : (w : World) (t : Standing) (id at : ℕ) (old new : Book) (tried : Tried A) → IsTicketIn w t
       → IsBookAt id at w.gateways old → TriedIs t old new tried → IsTry w t id at old new tried
-  -- or given up
+  -- of an answer that isn't open, or at a gateway that has no book, a try changes nothing
+  pub try_nothing : (w : World) (n : ℕ) → next_at w n ≡ None → step w (Try n) ≡ (w, replies.Tried None)
+  pub try_nowhere : (w : World) (n : ℕ) (c : Candidate) → next_at w n ≡ Some c → gateway_with c.gateway w.gateways ≡ None
+      → step w (Try n) ≡ (w, replies.Tried None)
+  -- a ticket is given up
   pub give_up : (w : World) (t : Standing) → IsTicketIn w t → IsStubIn w (stub_of t.job GivenUp)
   -- what is left of it is settled
   pub settle : (w : World) (stub : Outcome) → IsStubIn w stub → IsSettleStep w stub

@@ -3,18 +3,14 @@ use Rattle.std.specs.Option.{option_map}
 use Rattle.gateway_book.specs.declared.cancel.CancelFault.{CancelFault}
 use Rattle.gateway_book.specs.Book.{Book}
 use Rattle.uplink_gather.specs.declared.limits.Limits.{Limits}
-use Rattle.uplink_gather.specs.Gatherings.{numbered}
-use Rattle.rx_windows.specs.declared.candidate.Candidate.{Candidate}
 use Rattle.answer_ticket.specs.declared.outcome.Outcome.{Outcome}
-use Rattle.answer_ticket.specs.Job.{candidate_at}
 use Rattle.answer_ticket.specs.Ticket.{Standing}
 use Rattle.server_desk.specs.declared.setting.GatewaySetting.{GatewaySetting}
 use Rattle.server_desk.specs.declared.answers.Sent.{Sent}
 use Rattle.server_desk.specs.Settings.{SettingLists, AreSettings}
-use Rattle.server_desk.specs.Answers.{Answer, Open}
 use Rattle.server_desk.specs.World.{World, opening, rules_of}
 use Rattle.server_core.specs.Steps.{Step, Settle, Try, Cancel, Tick, step, run}
-use Rattle.server_core.specs.BookCalls.{IsBookAt, IsTicketIn, IsStubIn, IsCancel, sent_at}
+use Rattle.server_core.specs.BookCalls.{IsBookAt, IsTicketIn, IsStubIn, IsCancel, next_at, sent_at}
 
 -- What is out stays that of the world through the steps of others: so calls in any order, each of which is a step where its
 -- ticket, stub or book is the world's, are the steps of one run.
@@ -37,14 +33,9 @@ spends n (Try m) = m == n
 spends n (Settle m) = m == n
 spends n s = false
 
--- the candidate to try next, of an answer that is open
-abbrev pub next_candidate : Option Answer → Option Candidate
-next_candidate (Some (Open k job)) = candidate_at job k
-next_candidate answer = None
-
 -- the gateway whose book the step asks for, if it does
 abbrev pub gateway_asked : World → Step → Option ℕ
-gateway_asked w (Try n) = option_map (λ c. c.gateway) (next_candidate (numbered n w.answers))
+gateway_asked w (Try n) = option_map (λ c. c.gateway) (next_at w n)
 gateway_asked w (Cancel n) = option_map (λ s. s.gateway) (sent_at w n)
 gateway_asked w (Tick id now) = Some id
 gateway_asked w s = None
