@@ -2,6 +2,10 @@
 #![tactic(auto)]
 
 #[cfg(test)]
+mod asked_tests;
+#[cfg(test)]
+mod busy;
+#[cfg(test)]
 mod day_tests;
 #[cfg(test)]
 mod finish_tests;

@@ -1,15 +1,19 @@
 // A station's call takes no step but its own: what it leaves of a busy station is seen when the station is finished.
 ghost use Rattle.std.specs.Prelude.{◌≡◌};
 
-use crate::fixtures::{TestStation, closed, hear_again, hear_copy, station_of};
+use crate::busy::{Device, Held, Seen, busy, look_at};
+use crate::fixtures::{TestStation, hear_again, station_of};
 use answer_ticket::{Receipt, Stub};
-use server_core::{Heard1, TakeFault};
-use server_workers::{Blank, Closing, Handled, Ledger, NoGate, PARTS, Till};
+use gateway_book::Totals;
+use resv_list::Reservation;
+use server_core::{DataRate, DeskFault, DeskHeard, TakeFault};
+use server_desk::Sent;
+use server_workers::{Blank, Ledger, PARTS, Till};
 use std::alloc::Global;
 use std::marker::Brand;
 use std::sync::Wait;
 use std::test::Fail;
-use worked_inputs::{COPY, WorkedHasher, booked, uplink};
+use worked_inputs::{COPY, booked, next_refused};
 
 /// A call of a station.
 #[derive(Clone, Copy)]
@@ -19,50 +23,11 @@ enum Call {
     Pass,
     Take,
     GiveUp,
+    RefusedTry,
     Try,
     Cancel,
     Tick,
     Totals,
-}
-
-/// What is seen of a station that is finished: which numbers two more passes close, how many payloads wait then for the
-/// fifth device, of each gateway what is booked, cancelled, kept and the floor, for which of the first four numbers
-/// something was sent, and whether the third may still be taken.
-type Seen = (
-    [Option<u64>; 2],
-    usize,
-    [[u64; 4]; 2],
-    [bool; 4],
-    Option<TakeFault>,
-);
-
-/// A station of two gateways: the numbers 1 and 2 were answered, one on each; 3 is closed and not taken; 4 is open. One
-/// payload waits for the fifth device, and both floors were raised. With the receipt of number 1.
-fn busy<B: Ledger, R: Wait>(
-    rt: &R,
-    alloc: Global,
-    station: &TestStation<B>,
-    till: &mut Till<B>,
-) -> Result<Receipt<Global>, Fail> {
-    hear_copy(rt, alloc, station, 1, COPY)?;
-    hear_copy(rt, alloc, station, 2, Heard1 { gateway: 2, ..COPY })?;
-    let third = Heard1 {
-        at: 20_000_000,
-        ..COPY
-    };
-    hear_copy(rt, alloc, station, 3, third)?;
-    closed(rt, alloc, station, 3)?;
-    let first = station.answer(rt, &NoGate, 1, till, &mut 0);
-    station.answer(rt, &NoGate, 2, till, &mut 0);
-    let bytes = uplink(alloc, true, 4, 0)?;
-    station.hear(rt, bytes.as_slice(), COPY, 1_000_000)?;
-    station.queue(rt, 5, 9, &[1])?;
-    station.tick(rt, 1, 3);
-    station.tick(rt, 2, 5);
-    match first {
-        Handled::Settled(_, Some(receipt)) => Ok(receipt),
-        _ => Err(Fail::from("number 1 is booked")),
-    }
 }
 
 /// Settles a stub.
@@ -81,7 +46,7 @@ fn settle<B: Ledger, R: Wait>(
     }
 }
 
-/// Takes number 3, and gives it up or tries it, and settles it, or doesn't, as the call wants it.
+/// Takes number 3, whose RX1 is refused; as the call wants it, it is given up and settled, or tried once or twice, or neither.
 fn take<B: Ledger, R: Wait>(
     rt: &R,
     station: &TestStation<B>,
@@ -91,8 +56,14 @@ fn take<B: Ledger, R: Wait>(
     let ticket = station.take(rt, 3)?;
     match call {
         Call::Try => {
-            let (stub, _) = booked(station.try_once(rt, ticket)).ok_or("it is booked")?;
+            let (ticket, _) = next_refused(station.try_once(rt, ticket)).ok_or("RX1 is refused")?;
+            let (stub, _) = booked(station.try_once(rt, ticket)).ok_or("RX2 is booked")?;
             settle(rt, station, stub, till)
+        }
+        Call::RefusedTry => {
+            let (ticket, _) = next_refused(station.try_once(rt, ticket)).ok_or("RX1 is refused")?;
+            let _ = ticket.give_up().end();
+            Ok(())
         }
         Call::GiveUp => settle(rt, station, ticket.give_up(), till),
         _ => {
@@ -121,7 +92,7 @@ fn call_once<B: Ledger, R: Wait>(
         Call::Pass => {
             station.pass(rt, 2_000_000);
         }
-        Call::Take | Call::GiveUp | Call::Try => take(rt, station, till, call)?,
+        Call::Take | Call::GiveUp | Call::RefusedTry | Call::Try => take(rt, station, till, call)?,
         Call::Cancel => {
             station.cancel(rt, receipt)?;
         }
@@ -133,41 +104,6 @@ fn call_once<B: Ledger, R: Wait>(
         }
     }
     Ok(())
-}
-
-/// What is seen of a closing.
-fn seen(closing: Closing<WorkedHasher>) -> Result<Seen, Fail> {
-    let Closing {
-        booked: _,
-        totals,
-        books: _,
-        mut desk,
-    } = closing;
-    let third = match desk.take(3) {
-        Ok(ticket) => {
-            let _ = ticket.give_up().end();
-            None
-        }
-        Err(fault) => Some(fault),
-    };
-    let passes = [desk.pass(2_000_000), desk.pass(2_000_000)];
-    let waits = desk.queue(5, 9, &[3])?;
-    let counts = |place: usize| totals.get(place).map_or([0; 4], |told| {
-        [
-            told.1.booked,
-            told.1.cancelled,
-            told.1.kept as u64,
-            told.1.floor,
-        ]
-    });
-    let sent = |n: u64| desk.sent(n).is_some();
-    Ok((
-        passes,
-        waits,
-        [counts(0), counts(1)],
-        [sent(1), sent(2), sent(3), sent(4)],
-        third,
-    ))
 }
 
 /// What is seen of a busy station after one call.
@@ -185,31 +121,112 @@ fn after<B: Ledger, R: Wait>(rt: &R, alloc: Global, blank: Blank, call: Call) ->
         .finish(alloc, tills, &[])
         .ok()
         .ok_or("it is finished")?;
-    seen(closing)
+    let first = if matches!(call, Call::Hear) { 1 } else { 0 };
+    look_at(alloc, closing, [first, 0, 0, 0, 0])
+}
+
+/// RX1 on 868.1 MHz at DR5, of 12 bytes.
+fn rx1(number: u64) -> Option<Reservation> {
+    Reservation::new(number, 6_000_000, 868_100_000, DataRate::Dr5, 12)
+}
+
+/// RX2 on 869.525 MHz at DR0, of 12 bytes.
+fn rx2(number: u64) -> Option<Reservation> {
+    Reservation::new(number, 7_000_000, 869_525_000, DataRate::Dr0, 12)
+}
+
+/// The totals of a book that keeps so many reservations and has retired none.
+fn totals(booked: u64, cancelled: u64, kept: usize, floor: u64) -> Totals {
+    Totals {
+        booked,
+        cancelled,
+        retired: 0,
+        kept_airtime: booked.saturating_sub(cancelled),
+        kept,
+        floor,
+    }
+}
+
+/// A device of which so many payloads wait, and how it is answered.
+fn answered(waiting: usize, repeat: bool, counter: u32, len: usize, control: u8) -> Device {
+    Device {
+        waiting,
+        repeat,
+        answer: Ok((counter, len, control)),
+    }
+}
+
+/// What was sent in RX1 on this gateway.
+fn sent(gateway: u16) -> Option<Sent> {
+    Some(Sent {
+        gateway,
+        start: 6_000_000,
+        airtime: 41_216,
+    })
 }
 
 /// What is seen where nothing was called but `totals`.
-const BUSY: Seen = (
-    [Some(4), None],
-    2,
-    [[41_216, 0, 1, 3], [41_216, 0, 1, 5]],
-    [true, true, false, false],
-    None,
-);
+fn untouched() -> Seen {
+    Seen {
+        third: None,
+        fourth: Ok(DeskHeard::Joined { n: 4, copies: 2 }),
+        passes: [Some(4), None, None],
+        devices: [
+            answered(0, true, 1, 22, 0x20),
+            answered(2, true, 1, 15, 0x30),
+            answered(0, true, 1, 22, 0x20),
+            answered(0, true, 0, 22, 0x20),
+            answered(1, false, 0, 14, 0x30),
+        ],
+        sent: [sent(1), sent(2), None, None],
+        answered: [Some(41_216), Some(41_216)],
+        books: [
+            Held {
+                list: [rx1(1), None, None],
+                totals: totals(41_216, 0, 1, 3),
+            },
+            Held {
+                list: [rx1(2), None, None],
+                totals: totals(41_216, 0, 1, 5),
+            },
+        ],
+        booked: 82_432,
+    }
+}
+
+/// The same, but what is seen of one device.
+fn with_device(place: usize, other: Device) -> Seen {
+    let mut seen = untouched();
+    if let Some(device) = seen.devices.get_mut(place) {
+        *device = other;
+    }
+    seen
+}
+
+/// The same, but what is seen of the first gateway's book.
+fn with_book(list: [Option<Reservation>; 3], totals: Totals) -> Seen {
+    let mut seen = untouched();
+    seen.books[0] = Held { list, totals };
+    seen
+}
+
+/// The same, but that the third number was taken, and is still out.
+fn with_third_out() -> Seen {
+    let engaged = Device {
+        waiting: 0,
+        repeat: true,
+        answer: Err(TakeFault::Engaged),
+    };
+    Seen {
+        third: Some(TakeFault::Taken),
+        ..with_device(2, engaged)
+    }
+}
 
 #[test]
 fn a_queued_payload_changes_its_queue_alone(rt: HostRuntime) -> Result<(), Fail> {
     let told = after::<Brand, _>(&rt, rt.alloc(), Blank::new(PARTS as u64), Call::Queue)?;
-    assert_eq!(rt;
-        told,
-        (
-            [Some(4), None],
-            3,
-            [[41_216, 0, 1, 3], [41_216, 0, 1, 5]],
-            [true, true, false, false],
-            None
-        )
-    );
+    assert_eq!(rt; told, with_device(4, answered(2, false, 0, 14, 0x30)));
     Ok(())
 }
 
@@ -218,13 +235,10 @@ fn an_uplink_opens_its_gathering_alone(rt: HostRuntime) -> Result<(), Fail> {
     let told = after::<Brand, _>(&rt, rt.alloc(), Blank::new(PARTS as u64), Call::Hear)?;
     assert_eq!(rt;
         told,
-        (
-            [Some(4), Some(5)],
-            2,
-            [[41_216, 0, 1, 3], [41_216, 0, 1, 5]],
-            [true, true, false, false],
-            None
-        )
+        Seen {
+            passes: [Some(4), Some(5), None],
+            ..untouched()
+        }
     );
     Ok(())
 }
@@ -234,13 +248,11 @@ fn a_pass_closes_what_is_due_alone(rt: HostRuntime) -> Result<(), Fail> {
     let told = after::<Brand, _>(&rt, rt.alloc(), Blank::new(PARTS as u64), Call::Pass)?;
     assert_eq!(rt;
         told,
-        (
-            [None, None],
-            2,
-            [[41_216, 0, 1, 3], [41_216, 0, 1, 5]],
-            [true, true, false, false],
-            None
-        )
+        Seen {
+            fourth: Err(DeskFault::Late),
+            passes: [None; 3],
+            ..untouched()
+        }
     );
     Ok(())
 }
@@ -248,16 +260,14 @@ fn a_pass_closes_what_is_due_alone(rt: HostRuntime) -> Result<(), Fail> {
 #[test]
 fn a_ticket_that_is_given_changes_its_number_alone(rt: HostRuntime) -> Result<(), Fail> {
     let told = after::<Brand, _>(&rt, rt.alloc(), Blank::new(PARTS as u64), Call::Take)?;
-    assert_eq!(rt;
-        told,
-        (
-            [Some(4), None],
-            2,
-            [[41_216, 0, 1, 3], [41_216, 0, 1, 5]],
-            [true, true, false, false],
-            Some(TakeFault::Taken)
-        )
-    );
+    assert_eq!(rt; told, with_third_out());
+    Ok(())
+}
+
+#[test]
+fn a_refused_try_changes_nothing(rt: HostRuntime) -> Result<(), Fail> {
+    let told = after::<Brand, _>(&rt, rt.alloc(), Blank::new(PARTS as u64), Call::RefusedTry)?;
+    assert_eq!(rt; told, with_third_out());
     Ok(())
 }
 
@@ -266,13 +276,10 @@ fn an_answer_that_is_settled_closes_no_gathering(rt: HostRuntime) -> Result<(), 
     let told = after::<Brand, _>(&rt, rt.alloc(), Blank::new(PARTS as u64), Call::GiveUp)?;
     assert_eq!(rt;
         told,
-        (
-            [Some(4), None],
-            2,
-            [[41_216, 0, 1, 3], [41_216, 0, 1, 5]],
-            [true, true, false, false],
-            Some(TakeFault::Taken)
-        )
+        Seen {
+            third: Some(TakeFault::Taken),
+            ..untouched()
+        }
     );
     Ok(())
 }
@@ -280,15 +287,20 @@ fn an_answer_that_is_settled_closes_no_gathering(rt: HostRuntime) -> Result<(), 
 #[test]
 fn a_try_books_its_candidate_alone(rt: HostRuntime) -> Result<(), Fail> {
     let told = after::<Brand, _>(&rt, rt.alloc(), Blank::new(PARTS as u64), Call::Try)?;
+    let third = Sent {
+        gateway: 1,
+        start: 7_000_000,
+        airtime: 991_232,
+    };
     assert_eq!(rt;
         told,
-        (
-            [Some(4), None],
-            2,
-            [[82_432, 0, 2, 3], [41_216, 0, 1, 5]],
-            [true, true, true, false],
-            Some(TakeFault::Taken),
-        )
+        Seen {
+            third: Some(TakeFault::Taken),
+            sent: [sent(1), sent(2), Some(third), None],
+            answered: [Some(1_032_448), Some(41_216)],
+            booked: 1_073_664,
+            ..with_book([rx1(1), rx2(3), None], totals(1_032_448, 0, 2, 3))
+        }
     );
     Ok(())
 }
@@ -296,16 +308,7 @@ fn a_try_books_its_candidate_alone(rt: HostRuntime) -> Result<(), Fail> {
 #[test]
 fn a_cancel_takes_out_its_reservation_alone(rt: HostRuntime) -> Result<(), Fail> {
     let told = after::<Brand, _>(&rt, rt.alloc(), Blank::new(PARTS as u64), Call::Cancel)?;
-    assert_eq!(rt;
-        told,
-        (
-            [Some(4), None],
-            2,
-            [[41_216, 41_216, 0, 3], [41_216, 0, 1, 5]],
-            [true, true, false, false],
-            None
-        )
-    );
+    assert_eq!(rt; told, with_book([None; 3], totals(41_216, 41_216, 0, 3)));
     Ok(())
 }
 
@@ -314,13 +317,7 @@ fn a_tick_raises_its_floor_alone(rt: HostRuntime) -> Result<(), Fail> {
     let told = after::<Brand, _>(&rt, rt.alloc(), Blank::new(PARTS as u64), Call::Tick)?;
     assert_eq!(rt;
         told,
-        (
-            [Some(4), None],
-            2,
-            [[41_216, 0, 1, 7], [41_216, 0, 1, 5]],
-            [true, true, false, false],
-            None
-        )
+        with_book([rx1(1), None, None], totals(41_216, 0, 1, 7))
     );
     Ok(())
 }
@@ -328,6 +325,6 @@ fn a_tick_raises_its_floor_alone(rt: HostRuntime) -> Result<(), Fail> {
 #[test]
 fn totals_change_nothing(rt: HostRuntime) -> Result<(), Fail> {
     let told = after::<Brand, _>(&rt, rt.alloc(), Blank::new(PARTS as u64), Call::Totals)?;
-    assert_eq!(rt; told, BUSY);
+    assert_eq!(rt; told, untouched());
     Ok(())
 }

@@ -1,0 +1,92 @@
+// A worker asks the gate before it asks a gateway's book: whatever a try grows is grown after that.
+ghost use Rattle.std.specs.Prelude.{◌≡◌};
+
+use bumpalo::Bump;
+use server_workers::{Blank, Gate, Ledger, PARTS, Station};
+use std::alloc::Global;
+use std::marker::Brand;
+use std::sync::Wait;
+use std::sync::atomic::{AtomicU64, Ordering};
+use std::test::Fail;
+use worked_inputs::{COPY, WorkedHasher, device, hasher, settings_of, uplink};
+
+/// More than a station of one device takes.
+const AMPLE_BYTES: usize = 1 << 20;
+
+/// Notes how many bytes an arena has left when a worker asks, and when it has left the gateway.
+#[derive(Drop)]
+struct Meter<'a> {
+    arena: &'a Bump<Global>,
+    asked: AtomicU64,
+    done: AtomicU64,
+}
+
+impl Meter<'_> {
+    /// How many bytes were taken between the two.
+    fn taken(&self) -> u64 {
+        let asked = self.asked.load(Ordering::SeqCst);
+        asked.saturating_sub(self.done.load(Ordering::SeqCst))
+    }
+}
+
+impl Gate for Meter<'_> {
+    fn inside(&self, _gateway: u16) -> bool {
+        self.asked
+            .store(self.arena.chunk_capacity() as u64, Ordering::SeqCst);
+        true
+    }
+
+    fn left(&self, _gateway: u16) {
+        self.done
+            .store(self.arena.chunk_capacity() as u64, Ordering::SeqCst);
+    }
+}
+
+/// An uplink is answered by a station that takes its memory from this arena: how many bytes the try took after the gate was
+/// asked.
+fn taken_from<'a, B: Ledger, R: Wait>(
+    rt: &R,
+    alloc: Global,
+    arena: &'a Bump<Global>,
+    blank: Blank,
+) -> Result<u64, Fail>
+    requires name { blank.name ≡ B.name }
+    requires parts { blank.parts ≡ B.parts }
+    requires all { blank.parts ≡ PARTS }
+{
+    let settings = settings_of(alloc, &[device(1)])?;
+    let (station, mut till) = Station::<B, WorkedHasher, &'a Bump<Global>>::new(
+        arena,
+        hasher(),
+        &settings,
+        blank,
+    )?;
+    let bytes = uplink(alloc, true, 1, 0)?;
+    station.hear(rt, bytes.as_slice(), COPY, 0)?;
+    station.pass(rt, 200_001);
+    let meter = Meter {
+        arena,
+        asked: AtomicU64::new(0),
+        done: AtomicU64::new(0),
+    };
+    station.answer(rt, &meter, 1, &mut till, &mut 0);
+    Ok(meter.taken())
+}
+
+/// The same, of an arena of its own.
+fn taken_at_the_gate<B: Ledger, R: Wait>(rt: &R, alloc: Global, blank: Blank) -> Result<u64, Fail>
+    requires name { blank.name ≡ B.name }
+    requires parts { blank.parts ≡ B.parts }
+    requires all { blank.parts ≡ PARTS }
+{
+    let arena = Bump::try_with_capacity(alloc, AMPLE_BYTES)?;
+    taken_from::<B, R>(rt, alloc, &arena, blank)
+}
+
+#[test]
+fn a_worker_asks_the_gate_before_the_book(rt: HostRuntime) -> Result<(), Fail> {
+    let taken = taken_at_the_gate::<Brand, _>(&rt, rt.alloc(), Blank::new(PARTS as u64))?;
+    // A frame of 12 bytes, and the book's place for the reservation.
+    assert!(rt; taken > 12);
+    Ok(())
+}
