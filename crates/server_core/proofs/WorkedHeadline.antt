@@ -2,7 +2,7 @@
 use Rattle.server_core.proofs.Words.{ap, arith, inl, inr, subst, sym, ◌∙◌, Contains, refl, true, ◌+◌, ◌≡◌, ◌≤◌}
 use Rattle.server_core.proofs.Words.{Gathering, HeardCopy, numbered, some_inj}
 use Rattle.server_core.proofs.Words.{DeviceSetting, addr_of}
-use Rattle.radio_airtime.specs.declared.data_rate.DataRate.TheVariants.{Dr3}
+use Rattle.radio_airtime.specs.declared.data_rate.DataRate.TheVariants.{Dr3, Dr5}
 use Rattle.radio_airtime.specs.TimeOnAir.{airtime_of}
 use Rattle.radio_bands.specs.declared.band.Band.TheVariants.{M}
 use Rattle.resv_list.specs.Reservations.{begun}
@@ -51,6 +51,12 @@ module _ (headline : KeepsHeadline settings after) where
   its_window : TakesRx1 first_device (kept_copy 2 9000000 50) second_held.member
   its_window = elim (rw (its_copy, its_device) at own.window)
       [ inl e ↦ e | inr e ↦ absurd (omega (arith, e.start, second_held.asked.start)) ]
+
+  its_channel : second_held.member.freq_hz ≡ 868100000
+  its_channel = its_window.freq_hz
+
+  its_rate : second_held.member.rate ≡ Dr5
+  its_rate = its_window.rate
 
   third_own : IsOfItsUplink settings w18.reg.gathered.list gateway_3 third_held.member
   third_own = headline.own 1 1 gateway_3 third_held.member refl third_held.there
