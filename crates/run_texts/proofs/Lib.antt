@@ -1,2 +1,7 @@
 pub mod SettingsIn
 pub mod RunWhole
+pub mod NumberLemmas
+pub mod BookingLemmas
+pub mod TurnLemmas
+pub mod DoneLemmas
+pub mod ClosingLemmas

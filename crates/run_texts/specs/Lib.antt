@@ -1,3 +1,7 @@
 pub mod RunSettings
-pub mod RunOutput
+pub mod Bookings
+pub mod PassEnds
 pub mod PassAnswers
+pub mod FinishFaults
+pub mod WorkersRun
+pub mod RunOutput

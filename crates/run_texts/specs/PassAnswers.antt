@@ -1,19 +1,20 @@
-use Rattle.std.specs.Prelude.{ℕ, ◌≡◌, ◌≤◌, ◌++◌, ◌⊎◌, Bool, List, [], ◌∷◌, map, None, Some, Contains}
+use Rattle.std.specs.Prelude.{ℕ, ◌≡◌, ◌≤◌, ◌==◌, Bool, List, [], ◌∷◌, map, find, Option, None, Some}
 use Rattle.std.specs.Global.{Global}
-use Rattle.std.specs.Option.{option_to_list}
-use Rattle.answer_ticket.specs.declared.outcome.Ending.{Ending}
+use Rattle.std.specs.Option.{option_map_or}
+use Rattle.std.specs.List.{flat_map}
 use Rattle.answer_ticket.specs.declared.outcome.Ending.TheVariants.{Answered, Unanswered, GivenUp}
-use Rattle.answer_ticket.specs.declared.outcome.Outcome.{Outcome}
 use Rattle.answer_ticket.specs.declared.tried.Receipt.{Receipt}
 use Rattle.gateway_book.specs.declared.refusal.Refusal.TheVariants as refusals
 use Rattle.rx_windows.specs.declared.candidate.Candidate.{Candidate}
 use Rattle.server_core.specs.declared.entry.Line.{Line}
 use Rattle.server_core.specs.declared.entry.Line.TheVariants as lines
+use Rattle.server_core.specs.Entries.{not_taken}
 use Rattle.server_desk.specs.declared.faults.TakeFault.{TakeFault}
-use Rattle.server_desk.specs.declared.faults.TakeFault.TheVariants.{Silent}
-use Rattle.server_station.specs.declared.handled.Handled.{Handled}
-use Rattle.server_station.specs.declared.handled.Handled.TheVariants.{NotTaken, Settled, Stray}
 use Rattle.run_texts.specs.declared.pass_answers.Answer.{Answer}
+use Rattle.run_texts.specs.declared.pass_ends.End.{End}
+use Rattle.run_texts.specs.declared.pass_ends.End.TheVariants as ends
+use Rattle.run_texts.specs.declared.pass_ends.Ends.{Ends}
+use Rattle.run_texts.specs.PassEnds.{AreByNumber, IsReordered, HasFiled, end_of, left_by}
 
 -- What a run with workers answers to the uplinks that one `pass` closed (docs/FORMATS.md, "airbook run").
 
@@ -22,19 +23,11 @@ abbrev pub line_alone : ℕ → Line Global → Answer
 line_alone number line = record { number = number; line = line; frame = None }
 
 -- no ticket was given: none is owed, or one was refused
-abbrev pub refused_line : {A : Type 0} → ℕ → TakeFault → Line A
-refused_line number Silent = lines.Silent number
-refused_line number fault = lines.NotTaken number fault
-
-abbrev pub refused_answer : ℕ × TakeFault → Answer
-refused_answer refused = line_alone refused.0 (refused_line refused.0 refused.1)
-
--- the desk handed the stub back
-abbrev pub stray_answer : ℕ → Answer
-stray_answer number = line_alone number (lines.Stray number)
+abbrev pub refused_answer : ℕ → TakeFault → Answer
+refused_answer number fault = line_alone number (not_taken number fault)
 
 -- what a receipt says was booked
-abbrev pub booked_candidate : {A : Type 0} → Receipt A → Bool → Candidate
+abbrev pub booked_candidate : Receipt Global → Bool → Candidate
 booked_candidate r carries =
     record {
       gateway = r.gateway;
@@ -47,46 +40,54 @@ booked_candidate r carries =
     }
 
 -- the transmission that a receipt names, and its frame
-abbrev pub sent_answer : Receipt Global → Bool → Answer
-sent_answer r carries =
-    record { number = r.number; line = lines.Send r.number (booked_candidate r carries); frame = Some r.frame }
+abbrev pub sent_answer : ℕ → Bool → Receipt Global → Answer
+sent_answer n carries r =
+    record { number = n; line = lines.Send n (booked_candidate r carries); frame = Some r.frame }
 
--- an answer that was booked is told as a receipt of these names it; where none is found, as a stray
-abbrev pub IsBookedAnswer : List (Receipt Global) → ℕ → Bool → Answer → Type 0
-IsBookedAnswer receipts number carries answer =
-    (answer ≡ stray_answer number)
-    ⊎ ((r : Receipt Global) × (Contains receipts r × (answer ≡ sent_answer r carries)))
+-- what was booked for number n is told as the first of these receipts with its number says; where none has it, as a stray
+abbrev pub booked_answer : List (Receipt Global) → ℕ → Bool → Answer
+booked_answer receipts n carries =
+    option_map_or (sent_answer n carries) (find (λ (r : Receipt Global). r.number == n) receipts)
+    (line_alone n (lines.Stray n))
 
 -- how an answer that ended so is told; one that was given up found no memory
-abbrev pub IsAnswerTo : List (Receipt Global) → ℕ → Ending → Answer → Type 0
-IsAnswerTo receipts number (Answered gateway window start airtime carried) answer = IsBookedAnswer receipts number carried answer
-IsAnswerTo receipts number (Unanswered refusal) answer = answer ≡ line_alone number (lines.Unanswered number refusal)
-IsAnswerTo receipts number GivenUp answer = answer ≡ line_alone number (lines.Unanswered number refusals.NoMemory)
+abbrev pub answer_to : List (Receipt Global) → ℕ → End → Answer
+answer_to receipts n (ends.Settled (Answered gateway window start airtime carried)) = booked_answer receipts n carried
+answer_to receipts n (ends.Settled (Unanswered refusal)) = line_alone n (lines.Unanswered n refusal)
+answer_to receipts n (ends.Settled GivenUp) = line_alone n (lines.Unanswered n refusals.NoMemory)
+answer_to receipts n (ends.Refused fault) = refused_answer n fault
+answer_to receipts n ends.Stray = line_alone n (lines.Stray n)
 
--- how one turn of the calling thread is told
-abbrev pub IsAnswerToTurn : ℕ → Handled Global → Answer → Type 0
-IsAnswerToTurn number (NotTaken fault) answer = answer ≡ refused_answer (number, fault)
-IsAnswerToTurn number (Settled outcome receipt) answer = IsAnswerTo (option_to_list receipt) outcome.number outcome.result answer
-IsAnswerToTurn number (Stray outcome receipt) answer = answer ≡ stray_answer number
+-- the answer to number n; one of which nothing is known is a stray
+abbrev pub answer_in : Ends → ℕ → Answer
+answer_in e n = option_map_or (answer_to e.receipts.items n) (end_of e n) (line_alone n (lines.Stray n))
 
--- the answers, and behind them that to one turn
-abbrev pub IsTurnTold : ℕ → Handled Global → List Answer → List Answer → Type 0
-IsTurnTold number turn before after =
-    (answer : Answer) × ((after ≡ before ++ answer ∷ []) × IsAnswerToTurn number turn answer)
+-- one answer for each of these numbers, in their order: by how the workers ended it, and where none of them did, by how the
+-- calling thread, which took up just those, did; and the receipts of all that was booked
+pub record IsPassToldFrom (workers : Ends) (numbers : List ℕ) (answers : List Answer) (booked : List (Receipt Global)) : Type 0 where
+  pub finished : Ends
+  pub all : Ends
+  pub rest : HasFiled (left_by workers numbers) workers finished
+  pub reordered : IsReordered finished all
+  pub sorted : AreByNumber all
+  pub told : answers ≡ map (answer_in all) numbers
+  pub receipts : booked ≡ all.receipts.items
 
--- the numbers of some answers
-abbrev pub numbers_of : List Answer → List ℕ
-numbers_of answers = map (λ (a : Answer). a.number) answers
+-- the same, however the workers ended them
+abbrev pub IsPassTold : List ℕ → List Answer → List (Receipt Global) → Type 0
+IsPassTold numbers answers booked = (workers : Ends) × AreByNumber workers × IsPassToldFrom workers numbers answers booked
 
--- the numbers of some outcomes
-abbrev pub settled_numbers : List Outcome → List ℕ
-settled_numbers outcomes = map (λ (o : Outcome). o.number) outcomes
+-- the lines of an answer: its own, and that of its frame
+abbrev pub framed : ℕ → Option (List ℕ) → List (Line Global)
+framed n None = []
+framed n (Some bytes) = lines.Frame n bytes ∷ []
 
--- the number that one turn is told of: the outcome's, or the one that was taken up
-abbrev pub number_of : ℕ → Handled Global → ℕ
-number_of number (NotTaken fault) = number
-number_of number (Settled outcome receipt) = outcome.number
-number_of number (Stray outcome receipt) = number
+abbrev pub lines_of : Answer → List (Line Global)
+lines_of answer = answer.line ∷ framed answer.number answer.frame
+
+-- the lines of some answers, one after another
+abbrev pub all_lines : List Answer → List (Line Global)
+all_lines answers = flat_map lines_of answers
 
 -- so many workers as a station may have
 abbrev pub IsStaffed : ℕ → Type 0

@@ -3,11 +3,13 @@ use Rattle.std.specs.Io.KnownBytes.{Appends, Consumes}
 use Rattle.std.specs.Str.Lines.{lines}
 use Rattle.text_lines.specs.Line.{text_of}
 use Rattle.text_lines.specs.Writing.{WritesFront}
+use Rattle.std.specs.Global.{Global}
+use Rattle.gateway_book.specs.Book.{Book}
+use Rattle.gateway_book.specs.declared.totals.Totals.{Totals}
+use Rattle.server_core.specs.declared.entry.Entry.{Entry}
 use Rattle.server_core.specs.declared.event.Event.{Event}
 use Rattle.server_core.specs.Settings.{SettingLists}
-use Rattle.server_core.specs.Entries.{entries, gateways_after, kept_gateway}
-use Rattle.book_audit.specs.declared.cause.FinishCause.{FinishCause}
-use Rattle.book_audit.specs.declared.cause.FinishCause.TheVariants as causes
+use Rattle.server_core.specs.Entries.{entries, gateways_after, kept_gateway, gateway_of}
 use Rattle.settings_text.specs.declared.settings_fault.ReadFault.{ReadFault}
 use Rattle.text_words.specs.declared.fault.TextFault.{TextFault}
 use Rattle.text_words.specs.declared.fault.TextFault.TheVariants.{Write, Settings, NoMemory}
@@ -15,6 +17,7 @@ use Rattle.text_words.specs.Words.{has_refusal}
 use Rattle.run_lines.specs.ReplayText.{replay_lines}
 use Rattle.run_lines.specs.RunInput.{settings_part, event_part}
 use Rattle.run_lines.specs.RunEvents.{events_of}
+use Rattle.run_texts.specs.WorkersRun.{IsPlayed}
 use Rattle.run_texts.specs.RunSettings.{settings_in, IsNamed, IsRefusedBy}
 
 -- The output of `airbook run`, and what its text promises of a reader and a writer that tell their bytes.
@@ -63,15 +66,6 @@ abbrev pub NamesWorkers : Result Bool TextFault → Type 0
 NamesWorkers (Err (Settings name)) = name.now ≡ codes "Workers"
 NamesWorkers result = ⊥
 
--- why a station could not be closed, as a text call answers it: by its own name, but for want of memory
-abbrev pub IsFinishFault : FinishCause → TextFault → Type 0
-IsFinishFault causes.TillMissing (Settings name) = name.now ≡ codes "TillMissing"
-IsFinishFault (causes.Apart gateway booked answered) (Settings name) = name.now ≡ codes "Apart"
-IsFinishFault (causes.Doubled number gateway other) (Settings name) = name.now ≡ codes "Doubled"
-IsFinishFault (causes.Lost number) (Settings name) = name.now ≡ codes "Lost"
-IsFinishFault causes.NoMemory NoMemory = ⊤
-IsFinishFault cause other = ⊥
-
 -- the name says how the books don't go with the answers
 abbrev pub IsFinishName : List ℕ → Type 0
 IsFinishName name =
@@ -105,7 +99,26 @@ NamesFaultOfWorkers (Some bytes) (Ok _) = SaysSettings (settings_in (settings_pa
 NamesFaultOfWorkers (Some bytes) (Err (Settings name)) = IsNamedFor (settings_in (settings_part bytes)) (Settings name)
 NamesFaultOfWorkers left result = ⊤
 
--- the writer took some lines, and `refused` says whether one of them begins with `no` or `bad`
-abbrev pub TellsRefusals : Option (List ℕ) → Option (List ℕ) → Bool → Type 0
-TellsRefusals before after refused =
-    (written : List (List ℕ)) × (Appends before after (text_of written) × (refused ≡ has_refusal written))
+-- the writer took the lines of a run with workers for these events, at a server with these settings: those that answer its
+-- events, and the report of just the books that it was closed with; `refused` says whether one of them begins with `no` or `bad`
+pub record IsWorkersRun (settings : SettingLists) (events : List (Event Global)) (before after : Option (List ℕ))
+    (refused : Bool) : Type 0 where
+  pub entries : List (Entry Global)
+  pub totals : List (ℕ × Totals)
+  pub books : List Book
+  pub played : IsPlayed settings.gateways events entries totals books
+  pub written : Appends before after (text_of (replay_lines entries (map gateway_of books)))
+  pub told : refused ≡ has_refusal (replay_lines entries (map gateway_of books))
+
+-- all these bytes were read, and say settings; the rest of them is event lines
+pub record IsRunByWorkers (bytes : List ℕ) (left_after before after : Option (List ℕ)) (refused : Bool) : Type 0 where
+  pub settings : SettingLists
+  pub given : settings_in (settings_part bytes) ≡ Ok settings
+  pub consumed : Consumes (Some bytes) left_after bytes
+  pub run : IsWorkersRun settings (events_of settings.devices (lines (event_part bytes))) before after refused
+
+-- the same where the reader tells what it has left; where it doesn't, of some settings and events
+abbrev pub RunsByWorkers : Option (List ℕ) → Option (List ℕ) → Option (List ℕ) → Option (List ℕ) → Bool → Type 0
+RunsByWorkers None left_after before after refused =
+    (settings : SettingLists) × (events : List (Event Global)) × IsWorkersRun settings events before after refused
+RunsByWorkers (Some bytes) left_after before after refused = IsRunByWorkers bytes left_after before after refused

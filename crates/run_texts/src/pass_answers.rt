@@ -1,15 +1,14 @@
 // The answers to the uplinks that one `pass` closed.
-ghost use Rattle.std.specs.Prelude.{◌≡◌, ◌<◌, ◌++◌, [], ◌∷◌, length, slice_get, Some, map, OnOk, IfSome};
-ghost use Rattle.std.specs.Option.{option_map};
-ghost use Rattle.std.specs.List.Sorted.{IsPermutation, IsNonDecreasingBy};
-ghost use Rattle.run_texts.specs.PassAnswers.{line_alone, refused_answer, stray_answer, sent_answer, IsAnswerTo, numbers_of};
-ghost use Rattle.run_texts.specs.PassAnswers.{number_of, settled_numbers, IsTurnTold};
+ghost use Rattle.std.specs.Prelude.{◌≡◌, IfOk};
+ghost use Rattle.std.specs.List.Sorted.{IsNonDecreasingBy};
+ghost use Rattle.run_texts.specs.PassAnswers.{line_alone, refused_answer, sent_answer, booked_answer, answer_to};
 
-use answer_ticket::{Bytes, Ending, Outcome, Receipt};
+use crate::numbered::with_number;
+use crate::pass_ends::End;
+use answer_ticket::{Bytes, Ending, Receipt};
 use gateway_book::Refusal;
 use rx_windows::Candidate;
 use server_core::{Line, NoMemory, TakeFault};
-use server_workers::Handled;
 use std::alloc::Global;
 
 /// The answer to the uplink with this number: a line, and its frame where one is to be sent.
@@ -20,137 +19,50 @@ pub struct Answer {
     pub frame: Option<Bytes<Global>>,
 }
 
-/// Answers, and the receipts of what was booked for them.
-#[derive(Drop)]
-pub struct PassAnswers {
-    pub answers: Vec<Answer>,
-    pub receipts: Vec<Receipt<Global>>,
-}
-
-impl PassAnswers {
-    /// No answers, where these receipts are known, by number.
-    pub fn with(alloc: Global, receipts: Vec<Receipt<Global>>) -> Self
-        ensures none { result.answers.items ≡ [] }
-        ensures receipts { result.receipts ≡ receipts }
-    {
-        PassAnswers {
-            answers: Vec::new(alloc),
-            receipts,
-        }
-    }
-
-    /// Takes in outcomes that were settled.
-    pub fn add_outcomes(&mut self, alloc: Global, outcomes: &[Outcome]) -> Result<(), NoMemory>
-        ensures { OnOk result (numbers_of self.new.answers.items ≡ numbers_of self.old.answers.items
-            ++ settled_numbers outcomes.now) }
-    {
-        for outcome in outcomes {
-            let answer = answer_of(alloc, outcome, self.receipts.as_mut_slice());
-            self.answers.push(answer)?;
-        }
-        Ok(())
-    }
-
-    /// Takes in numbers for which no ticket was given.
-    pub fn add_refused(&mut self, refused: &[(u64, TakeFault)]) -> Result<(), NoMemory>
-        ensures { OnOk result (self.new.answers.items ≡ self.old.answers.items ++ map refused_answer refused.now) }
-    {
-        for (number, fault) in refused {
-            self.answers.push(not_taken(*number, *fault))?;
-        }
-        Ok(())
-    }
-
-    /// Takes in numbers whose stubs were handed back.
-    pub fn add_strays(&mut self, strays: &[u64]) -> Result<(), NoMemory>
-        ensures { OnOk result (self.new.answers.items ≡ self.old.answers.items ++ map stray_answer strays.now) }
-    {
-        for number in strays {
-            self.answers.push(stray(*number))?;
-        }
-        Ok(())
-    }
-
-    /// Takes in what became of the uplink with this number.
-    pub fn add_turn(
-        &mut self,
-        alloc: Global,
-        number: u64,
-        turn: Handled<Global>,
-    ) -> Result<(), NoMemory>
-        ensures number { OnOk result (numbers_of self.new.answers.items ≡ numbers_of self.old.answers.items
-            ++ number_of number turn ∷ []) }
-        ensures told { OnOk result (IsTurnTold number turn self.old.answers.items self.new.answers.items) }
-    {
-        let (answer, receipt) = match turn {
-            Handled::NotTaken(fault) => (not_taken(number, fault), None),
-            Handled::Stray(_, receipt) => (stray(number), receipt),
-            Handled::Settled(outcome, mut receipt) => {
-                let answer = answer_of(alloc, &outcome, receipt.as_mut_slice());
-                (answer, receipt)
-            }
-        };
-        if let Some(receipt) = receipt {
-            self.receipts.push(receipt)?;
-        }
-        self.answers.push(answer)?;
-        Ok(())
-    }
-
-    /// The answers by number, and the receipts.
-    pub fn by_number(self) -> (Vec<Answer>, Vec<Receipt<Global>>)
-        ensures same { IsPermutation self.answers.items result.0.items }
-        ensures rising { IsNonDecreasingBy (λ a. a.number) result.0.items }
-        ensures receipts { result.1 ≡ self.receipts }
-    {
-        let PassAnswers {
-            mut answers,
-            receipts,
-        } = self;
-        answers.sort_unstable_by_key(|answer| answer.number);
-        (answers, receipts)
-    }
-}
-
-/// The answer for an outcome; the frame is taken out of its receipt. A booked one whose receipt isn't here is named a stray.
-fn answer_of(alloc: Global, outcome: &Outcome, receipts: &mut [Receipt<Global>]) -> Answer
-    ensures number { result.number ≡ outcome.now.number }
-    ensures line { IsAnswerTo receipts.old outcome.now.number outcome.now.result result }
+/// The answer to an uplink that ended so, where these receipts are by number.
+pub(crate) fn answer_to(
+    alloc: Global,
+    number: u64,
+    end: End,
+    receipts: &[Receipt<Global>],
+) -> Result<Answer, NoMemory>
+    requires { IsNonDecreasingBy (λ r. r.number) receipts.now }
+    ensures { IfOk result (λ answer. answer ≡ answer_to receipts.now number end) }
 {
-    let number = outcome.number;
-    match outcome.result {
-        Ending::Answered { carried, .. } => match place_of(receipts, number) {
-            Some(at) => sent(alloc, &mut receipts[at], carried),
-            None => stray(number),
-        },
-        Ending::Unanswered(refusal) => line_alone(number, Line::Unanswered { number, refusal }),
-        Ending::GivenUp => line_alone(
-            number,
-            Line::Unanswered {
-                number,
-                refusal: Refusal::NoMemory,
-            },
-        ),
+    match end {
+        End::Settled(Ending::Answered { carried, .. }) => booked(alloc, number, carried, receipts),
+        End::Settled(Ending::Unanswered(refusal)) => Ok(unanswered(number, refusal)),
+        End::Settled(Ending::GivenUp) => Ok(unanswered(number, Refusal::NoMemory)),
+        End::Refused(fault) => Ok(not_taken(number, fault)),
+        End::Stray => Ok(line_alone(number, Line::Stray { number })),
     }
 }
 
-/// The place of the receipt with this number, of receipts by number.
-fn place_of(receipts: &[Receipt<Global>], number: u64) -> Option<usize>
-    ensures within { IfSome result (λ at. at < length receipts.now) }
-    ensures numbered { IfSome result (λ at. option_map (λ r. r.number) (slice_get receipts.now at) ≡ Some number) }
+/// The answer to an uplink for which was booked what its receipt names; one without a receipt is named a stray.
+fn booked(
+    alloc: Global,
+    number: u64,
+    carried: bool,
+    receipts: &[Receipt<Global>],
+) -> Result<Answer, NoMemory>
+    requires { IsNonDecreasingBy (λ r. r.number) receipts.now }
+    ensures { IfOk result (λ answer. answer ≡ booked_answer receipts.now number carried) }
 {
-    let at = receipts.partition_point(|receipt| receipt.number < number);
-    match receipts.get(at) {
-        Some(receipt) if receipt.number == number => Some(at),
-        _ => None,
+    match with_number(receipts, number) {
+        Some(receipt) => sent(alloc, number, carried, receipt),
+        None => Ok(line_alone(number, Line::Stray { number })),
     }
 }
 
-/// The answer that a receipt names; its frame is taken out.
-fn sent(alloc: Global, receipt: &mut Receipt<Global>, carries: bool) -> Answer
-    ensures { result ≡ sent_answer receipt.old carries }
+/// The answer that a receipt names, with its frame.
+fn sent(
+    alloc: Global,
+    number: u64,
+    carries: bool,
+    receipt: &Receipt<Global>,
+) -> Result<Answer, NoMemory>
+    ensures { IfOk result (λ answer. answer ≡ sent_answer number carries receipt.now) }
 {
-    let number = receipt.number;
     let candidate = Candidate {
         gateway: receipt.gateway,
         window: receipt.window,
@@ -160,30 +72,31 @@ fn sent(alloc: Global, receipt: &mut Receipt<Global>, carries: bool) -> Answer
         len: receipt.reservation.len,
         carries,
     };
-    let none = Bytes::new(Vec::new(alloc));
-    Answer {
+    let mut frame = Vec::new(alloc);
+    frame.extend_from_slice(receipt.frame.as_slice())?;
+    Ok(Answer {
         number,
         line: Line::Send { number, candidate },
-        frame: Some(std::mem::replace(&mut receipt.frame, none)),
-    }
+        frame: Some(Bytes::new(frame)),
+    })
+}
+
+/// The answer where every candidate was refused.
+fn unanswered(number: u64, refusal: Refusal) -> Answer
+    ensures { result ≡ line_alone number (Line.Unanswered number refusal) }
+{
+    line_alone(number, Line::Unanswered { number, refusal })
 }
 
 /// The answer where no ticket was given.
 fn not_taken(number: u64, fault: TakeFault) -> Answer
-    ensures { result ≡ refused_answer (number, fault) }
+    ensures { result ≡ refused_answer number fault }
 {
     let line = match fault {
         TakeFault::Silent => Line::Silent { number },
         fault => Line::NotTaken { number, fault },
     };
     line_alone(number, line)
-}
-
-/// The answer where a stub was handed back.
-fn stray(number: u64) -> Answer
-    ensures { result ≡ stray_answer number }
-{
-    line_alone(number, Line::Stray { number })
 }
 
 /// An answer without a frame.

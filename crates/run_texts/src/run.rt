@@ -3,7 +3,10 @@ ghost use Rattle.std.specs.Prelude.{◌≡◌, ◌≢◌, ◌<◌, ◌≤◌, Er
 ghost use Rattle.text_words.specs.Fault.{CountsReads, CountsWrites};
 ghost use Rattle.run_lines.specs.RunInput.{KeepsInputLimit};
 ghost use Rattle.run_texts.specs.RunOutput.{Runs, RunsInPart, NamesFault, NamesFaultOfWorkers, NamesWorkers, IsPlayFault};
-ghost use Rattle.run_texts.specs.RunOutput.{TellsRefusals};
+ghost use Rattle.run_texts.specs.RunOutput.{IsWorkersRun, RunsByWorkers};
+ghost use Rattle.run_texts.specs.WorkersRun.{IsPlayed};
+ghost use Rattle.run_lines.specs.RunEvents.{events_of};
+ghost use Rattle.std.specs.Str.Lines.{lines};
 ghost use Rattle.run_texts.specs.PassAnswers.{IsStaffed};
 
 use crate::run_alone::tell_alone;
@@ -55,7 +58,8 @@ where
         (W.taken writer.new) refused) }
     ensures front { workers ≡ 0 → result ≡ Err TextFault.Write
         → RunsInPart Global (R.left reader.old) (R.left reader.new) (W.taken writer.old) (W.taken writer.new) }
-    ensures told { 0 < workers → IfOk result (λ refused. TellsRefusals (W.taken writer.old) (W.taken writer.new) refused) }
+    ensures played { 0 < workers → IfOk result (λ refused. RunsByWorkers (R.left reader.old) (R.left reader.new)
+        (W.taken writer.old) (W.taken writer.new) refused) }
     ensures settings { workers ≡ 0 → NamesFault (R.left reader.old) result }
     ensures named { 0 < workers → workers ≤ 16 → NamesFaultOfWorkers (R.left reader.old) result }
     ensures workers { 16 < workers → NamesWorkers result }
@@ -101,7 +105,8 @@ fn tell_with_workers<
 where
     S::Hasher: Send + Sync,
     requires { IsStaffed workers }
-    ensures told { IfOk result (λ refused. TellsRefusals (W.taken writer.old) (W.taken writer.new) refused) }
+    ensures played { IfOk result (λ refused. IsWorkersRun settings.now (events_of settings.now.devices (lines text.now))
+        (W.taken writer.old) (W.taken writer.new) refused) }
     ensures untouched { IfErr result (λ fault. fault ≢ TextFault.Write → writer.new ≡ writer.old) }
     ensures fault { IfErr result (λ fault. fault ≢ TextFault.Write → IsPlayFault fault) }
     ensures write { CountsWrites (W.failed_calls writer.old) (W.failed_calls writer.new) result }
@@ -128,7 +133,9 @@ fn play_text<T: Threads + Wait + Sync, S: BuildHasher + Clone + Drop + Send + Sy
 where
     S::Hasher: Send + Sync,
     requires { IsStaffed workers }
-    ensures { IfErr result IsPlayFault }
+    ensures played { IfOk result (λ played. IsPlayed settings.now.gateways (events_of settings.now.devices (lines text.now))
+        played.entries.items played.totals.items played.books.items) }
+    ensures fault { IfErr result IsPlayFault }
 {
     let events = match events_of(alloc, settings.devices(), text) {
         Err(_) => return Err(TextFault::NoMemory),

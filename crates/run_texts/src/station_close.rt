@@ -1,6 +1,9 @@
 // The end of a run on a station: the books are compared with what was answered.
-ghost use Rattle.std.specs.Prelude.{IfErr};
-ghost use Rattle.run_texts.specs.RunOutput.{IsFinishFault, IsPlayFault};
+ghost use Rattle.std.specs.Prelude.{◌≡◌, ◌≢◌, IfOk, IfErr};
+ghost use Rattle.run_texts.specs.Bookings.{open_receipts};
+ghost use Rattle.run_texts.specs.WorkersRun.{IsClosing, IsClosingFault};
+ghost use Rattle.run_texts.specs.FinishFaults.{IsFinishFault};
+ghost use Rattle.run_texts.specs.RunOutput.{IsPlayFault};
 
 use crate::station_run::{Played, Shift};
 use server_workers::{Closing, FinishCause, Ledger};
@@ -14,7 +17,12 @@ where
 {
     /// Compares the books with what was answered, and with the receipts of what was not cancelled.
     pub(crate) fn close(self, alloc: Global) -> Result<Played, TextFault>
-        ensures { IfErr result IsPlayFault }
+        ensures entries { IfOk result (λ played. played.entries ≡ self.entries) }
+        ensures books { IfOk result (λ played. IsClosing self.station (open_receipts self.receipts.bookings.items)
+            played.totals.items played.books.items) }
+        ensures cause { IfErr result (λ fault. fault ≢ TextFault.NoMemory
+            → IsClosingFault self.station (open_receipts self.receipts.bookings.items) fault) }
+        ensures fault { IfErr result IsPlayFault }
     {
         let Shift {
             station,
@@ -31,7 +39,11 @@ where
         };
         tills.push_reserved(till);
         match station.finish(alloc, tills, receipts.as_slice()) {
-            Ok(Closing { books, .. }) => Ok(Played { entries, books }),
+            Ok(Closing { totals, books, .. }) => Ok(Played {
+                entries,
+                totals,
+                books,
+            }),
             Err(fault) => Err(named(fault.cause)),
         }
     }

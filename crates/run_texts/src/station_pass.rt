@@ -1,13 +1,19 @@
 // The uplinks that one `pass` of a run on a station closes: workers answer them, and the calling thread the rest.
-ghost use Rattle.std.specs.Prelude.{◌≡◌, ◌≤◌, ◌↔◌, ◌++◌, IfOk, IsErrAnd};
-ghost use Rattle.server_workers.specs.Serving.{IsOutside};
-ghost use Rattle.run_texts.specs.PassAnswers.{numbers_of};
+ghost use Rattle.std.specs.Prelude.{◌≡◌, ◌+◌, ◌≤◌, ◌↔◌, Ok, IfOk, IfErr, OnOk, IsErrAnd};
+ghost use Rattle.std.specs.List.Sorted.{IsNonDecreasing};
+ghost use Rattle.server_workers.specs.Serving.{IsOutside, IsSortedByNumber};
+ghost use Rattle.server_workers.specs.Works.{outcomes_airtime};
+ghost use Rattle.run_texts.specs.Bookings.{HasMore};
+ghost use Rattle.run_texts.specs.PassEnds.{AreNone, AreByNumber, AreServed, HasFiled};
+ghost use Rattle.run_texts.specs.PassAnswers.{IsPassTold, IsPassToldFrom};
+ghost use Rattle.run_texts.specs.WorkersRun.{kept, WereClosed, HasPassed, HasTold};
 
-use crate::pass_answers::{Answer, PassAnswers};
+use crate::pass_answers::Answer;
+use crate::pass_ends::Ends;
 use crate::station_run::Shift;
-use answer_ticket::{Outcome, Receipt};
-use server_core::{Line, NoMemory, TakeFault};
-use server_workers::{Ledger, NoGate, ServeCause, Served, Station, Till, serve};
+use answer_ticket::Receipt;
+use server_core::{Line, NoMemory};
+use server_workers::{Ledger, NoGate, PARTS, ServeCause, Served, Station, Till, serve};
 use std::alloc::Global;
 use std::hash::BuildHasher;
 use std::sync::Wait;
@@ -24,9 +30,13 @@ where
         alloc: Global,
         place: usize,
         now: u64,
-    ) -> Result<Self, NoMemory> {
+    ) -> Result<Self, NoMemory>
+        ensures station { IfOk result (λ shift. shift.station ≡ self.station) }
+        ensures done { IfOk result (λ shift. HasPassed place now (kept self.receipts.bookings.items self.entries.items)
+            (kept shift.receipts.bookings.items shift.entries.items)) }
+    {
         let numbers = self.closed(rt, alloc, now)?;
-        if numbers.is_empty() {
+        if numbers.as_slice().is_empty() {
             return Ok(self);
         }
         let Shift {
@@ -36,7 +46,7 @@ where
             entries,
             workers,
         } = self;
-        let Worked { till, ran, answers } = worked_by(
+        let Answered { till, ran, told } = answer_with_workers(
             rt,
             alloc,
             &station,
@@ -46,7 +56,7 @@ where
         );
         let is_outside = matches!(ran, Err(ServeCause::Workers));
         prove!(!is_outside); // As many are asked for as a station may have.
-        let (answers, booked) = answers?.by_number();
+        let told = told?;
         let mut shift = Shift {
             station,
             till,
@@ -54,13 +64,27 @@ where
             entries,
             workers,
         };
-        shift.tell_all(place, answers)?;
-        shift.keep(booked)?;
+        shift.take_in(alloc, place, told)?;
         Ok(shift)
     }
 
-    /// The numbers of the gatherings that are due, which are closed then.
-    fn closed<R: Wait>(&self, rt: &R, alloc: Global, now: u64) -> Result<Vec<u64>, NoMemory> {
+    /// Takes in what is told of the uplinks that one `pass` closed.
+    fn take_in(&mut self, alloc: Global, place: usize, told: Told) -> Result<(), NoMemory>
+        ensures station { self.new.station ≡ self.old.station }
+        ensures told { OnOk result (HasTold place told.answers.items self.old.entries.items self.new.entries.items) }
+        ensures kept { OnOk result (HasMore told.booked.items self.old.receipts.bookings.items self.new.receipts.bookings.items) }
+    {
+        let Told { answers, booked } = told;
+        self.tell_all(place, answers)?;
+        self.receipts.add_all(alloc, booked)?;
+        Ok(())
+    }
+
+    /// The numbers of the gatherings that are due, which are closed then, in rising order.
+    fn closed<R: Wait>(&self, rt: &R, alloc: Global, now: u64) -> Result<Vec<u64>, NoMemory>
+        ensures closed { IfOk result (λ numbers. WereClosed now numbers.items) }
+        ensures rising { IfOk result (λ numbers. IsNonDecreasing numbers.items) }
+    {
         let mut numbers = Vec::new(alloc);
         for _ in rt.forever() {
             let Some(number) = self.station.pass(rt, now) else {
@@ -68,11 +92,16 @@ where
             };
             numbers.push(number)?;
         }
+        numbers.sort_unstable();
         Ok(numbers)
     }
 
     /// Tells the answers of a `pass`.
-    fn tell_all(&mut self, place: usize, answers: Vec<Answer>) -> Result<(), NoMemory> {
+    fn tell_all(&mut self, place: usize, answers: Vec<Answer>) -> Result<(), NoMemory>
+        ensures station { self.new.station ≡ self.old.station }
+        ensures receipts { self.new.receipts ≡ self.old.receipts }
+        ensures told { OnOk result (HasTold place answers.items self.old.entries.items self.new.entries.items) }
+    {
         for answer in answers {
             let Answer {
                 number,
@@ -86,29 +115,36 @@ where
         }
         Ok(())
     }
-
-    /// Keeps the receipts of what was booked.
-    fn keep(&mut self, booked: Vec<Receipt<Global>>) -> Result<(), NoMemory> {
-        for receipt in booked {
-            self.receipts.add(receipt)?;
-        }
-        Ok(())
-    }
 }
 
-/// What workers made of the uplinks that one `pass` closed.
+/// What became of the uplinks that one `pass` closed.
 #[derive(Drop)]
-pub(crate) struct Worked<B: Ledger> {
+pub struct Answered<B: Ledger> {
     /// The till that was given, with all its parts.
-    till: Till<B>,
+    pub till: Till<B>,
     /// How many workers were started, or why none was.
-    ran: Result<u8, ServeCause>,
-    /// The answers, with those of the calling thread.
-    answers: Result<PassAnswers, NoMemory>,
+    pub ran: Result<u8, ServeCause>,
+    /// What is told of them.
+    pub told: Result<Told, NoMemory>,
 }
 
-/// Answers the uplinks with these numbers by so many workers. What they skipped, and all where none could work, the calling
-/// thread answers.
+/// What is told of the uplinks that one `pass` closed, and the receipts of what was booked for them.
+#[derive(Drop)]
+pub struct Told {
+    pub answers: Vec<Answer>,
+    pub booked: Vec<Receipt<Global>>,
+}
+
+/// What workers made of some uplinks.
+#[derive(Drop)]
+struct Shared<B: Ledger> {
+    till: Till<B>,
+    ran: Result<u8, ServeCause>,
+    ends: Ends,
+}
+
+/// Answers the uplinks with these numbers by so many workers. What they did not end, and all where none could work, the
+/// calling thread takes up once more.
 pub fn answer_with_workers<
     B: Ledger + Send + Sync,
     S: BuildHasher + Send + Sync,
@@ -120,120 +156,120 @@ pub fn answer_with_workers<
     numbers: &[u64],
     till: Till<B>,
     workers: u8,
-) -> (Till<B>, Result<PassAnswers, NoMemory>)
+) -> Answered<B>
 where
     S::Hasher: Send + Sync,
-    requires { till.parts ≡ 65536 }
-    ensures { result.0.parts ≡ till.parts }
+    requires { till.parts ≡ PARTS }
+    ensures parts { result.till.parts ≡ till.parts }
+    ensures ran { IfOk result.ran (λ ran. (1 ≤ ran) × (ran ≤ workers)) }
+    ensures outside { IsErrAnd result.ran (λ cause. cause ≡ ServeCause.Workers) ↔ IsOutside workers }
+    ensures told { IfOk result.told (λ told. IsPassTold numbers.now told.answers.items told.booked.items) }
 {
-    let worked = worked_by(rt, alloc, station, numbers, till, workers);
-    (worked.till, worked.answers)
+    let Shared {
+        mut till,
+        ran,
+        ends,
+    } = shared_out(rt, alloc, station, numbers, till, workers);
+    let told = told_of(rt, alloc, station, numbers, &mut till, ends);
+    Answered { till, ran, told }
 }
 
-/// The same, and how many workers were started.
-fn worked_by<B: Ledger + Send + Sync, S: BuildHasher + Send + Sync, R: Threads + Wait + Sync>(
+/// What so many workers make of the uplinks with these numbers.
+fn shared_out<B: Ledger + Send + Sync, S: BuildHasher + Send + Sync, R: Threads + Wait + Sync>(
     rt: &R,
     alloc: Global,
     station: &Station<B, S>,
     numbers: &[u64],
     till: Till<B>,
     workers: u8,
-) -> Worked<B>
+) -> Shared<B>
 where
     S::Hasher: Send + Sync,
-    requires { till.parts ≡ 65536 }
-    ensures parts { result.till.parts ≡ till.parts }
+    requires { till.parts ≡ PARTS }
+    ensures till { result.till ≡ record till { amount = till.amount + outcomes_airtime result.ends.outcomes.items } }
+    ensures sorted { AreByNumber result.ends }
     ensures ran { IfOk result.ran (λ ran. (1 ≤ ran) × (ran ≤ workers)) }
     ensures outside { IsErrAnd result.ran (λ cause. cause ≡ ServeCause.Workers) ↔ IsOutside workers }
+    ensures nobody { IfErr result.ran (λ cause. AreNone result.ends) }
 {
     match serve(rt, alloc, station, numbers, till, workers, &NoGate) {
-        Ok(served) => {
-            let ran = served.ran;
-            let (till, answers) = after_workers(rt, alloc, station, served);
-            Worked {
-                till,
-                ran: Ok(ran),
-                answers,
-            }
-        }
-        Err(fault) => {
-            let mut till = fault.till;
-            let answers = PassAnswers::with(alloc, Vec::new(alloc));
-            let answers = answer_each(rt, alloc, station, numbers, &mut till, answers);
-            Worked {
-                till,
-                ran: Err(fault.cause),
-                answers,
-            }
-        }
+        Ok(served) => joined_in(served),
+        Err(fault) => Shared {
+            till: fault.till,
+            ran: Err(fault.cause),
+            ends: Ends::none(alloc),
+        },
     }
 }
 
-/// The answers of workers, and those of the calling thread to what they skipped.
-fn after_workers<B: Ledger, S: BuildHasher, R: Wait>(
-    rt: &R,
-    alloc: Global,
-    station: &Station<B, S>,
-    served: Served<B>,
-) -> (Till<B>, Result<PassAnswers, NoMemory>)
-    ensures { result.0.parts ≡ served.till.parts }
+/// What workers did together. What they skipped has not ended.
+fn joined_in<B: Ledger>(served: Served<B>) -> Shared<B>
+    requires { IsSortedByNumber served }
+    ensures till { result.till ≡ served.till }
+    ensures ran { result.ran ≡ Ok served.ran }
+    ensures ends { AreServed served result.ends }
+    ensures sorted { AreByNumber result.ends }
 {
     let Served {
-        mut till,
+        till,
         receipts,
         outcomes,
-        skipped,
+        skipped: _,
         refused,
         strays,
         overrun: _,
-        ran: _,
+        ran,
     } = served;
-    let answers = PassAnswers::with(alloc, receipts);
-    let answers = match gathered(
-        alloc,
-        answers,
-        outcomes.as_slice(),
-        refused.as_slice(),
-        strays.as_slice(),
-    ) {
-        Ok(answers) => answers,
-        Err(wanting) => return (till, Err(wanting)),
-    };
-    let answers = answer_each(rt, alloc, station, skipped.as_slice(), &mut till, answers);
-    (till, answers)
+    Shared {
+        till,
+        ran: Ok(ran),
+        ends: Ends {
+            receipts,
+            outcomes,
+            refused,
+            strays,
+        },
+    }
 }
 
-/// The answers with those of the workers.
-fn gathered(
-    alloc: Global,
-    answers: PassAnswers,
-    outcomes: &[Outcome],
-    refused: &[(u64, TakeFault)],
-    strays: &[u64],
-) -> Result<PassAnswers, NoMemory> {
-    let mut answers = answers;
-    answers.add_outcomes(alloc, outcomes)?;
-    answers.add_refused(refused)?;
-    answers.add_strays(strays)?;
-    Ok(answers)
-}
-
-/// The answers with those of the calling thread to the uplinks with these numbers, one for each.
-fn answer_each<B: Ledger, S: BuildHasher, R: Wait>(
+/// What is told of the uplinks with these numbers, of which workers ended some so.
+fn told_of<B: Ledger, S: BuildHasher, R: Wait>(
     rt: &R,
     alloc: Global,
     station: &Station<B, S>,
     numbers: &[u64],
     till: &mut Till<B>,
-    answers: PassAnswers,
-) -> Result<PassAnswers, NoMemory>
+    ends: Ends,
+) -> Result<Told, NoMemory>
+    requires { AreByNumber ends }
     ensures parts { till.new.parts ≡ till.old.parts }
-    ensures each { IfOk result (λ after. numbers_of after.answers.items ≡ numbers_of answers.answers.items ++ numbers.now) }
+    ensures told { IfOk result (λ told. IsPassToldFrom ends numbers.now told.answers.items told.booked.items) }
 {
-    let mut answers = answers;
+    let mut ends = ends;
+    let left = ends.left_of(alloc, numbers)?;
+    finish(rt, station, left.as_slice(), till, &mut ends)?;
+    ends.sort();
+    let answers = ends.answers(alloc, numbers)?;
+    Ok(Told {
+        answers,
+        booked: ends.receipts,
+    })
+}
+
+/// Takes up the uplinks with these numbers on the calling thread, each once, and files what becomes of them.
+fn finish<B: Ledger, S: BuildHasher, R: Wait>(
+    rt: &R,
+    station: &Station<B, S>,
+    numbers: &[u64],
+    till: &mut Till<B>,
+    ends: &mut Ends,
+) -> Result<(), NoMemory>
+    ensures parts { till.new.parts ≡ till.old.parts }
+    ensures filed { OnOk result (HasFiled numbers.now ends.old ends.new) }
+{
     for number in numbers {
         let turn = station.answer(rt, &NoGate, *number, till, &mut 0);
-        answers.add_turn(alloc, *number, turn)?;
+        ends.file(*number, turn)?;
     }
-    Ok(answers)
+    Ok(())
 }

@@ -1,10 +1,15 @@
 // A run on a station with workers: what the events ask for, one after another.
-ghost use Rattle.std.specs.Prelude.{◌≡◌, IfOk, IfErr};
-ghost use Rattle.run_texts.specs.RunOutput.{IsPlayFault};
+ghost use Rattle.std.specs.Prelude.{◌≡◌, ◌++◌, [], ◌∷◌, IfOk, IfErr, OnOk};
+ghost use Rattle.air_ledger.specs.Tills.{all_parts};
+ghost use Rattle.server_core.specs.Entries.{entry_at};
+ghost use Rattle.server_station.specs.Stations.{AreInOrder};
+ghost use Rattle.run_texts.specs.Bookings.{booked_for, IsCancelTold};
 ghost use Rattle.run_texts.specs.PassAnswers.{IsStaffed};
+ghost use Rattle.run_texts.specs.WorkersRun.{kept, floor_line, AreDone, IsDone, IsPlayed, IsFinished, HasOpened};
+ghost use Rattle.run_texts.specs.RunOutput.{IsPlayFault};
 
 use crate::receipts::Receipts;
-use gateway_book::CancelFault;
+use gateway_book::{CancelFault, Totals};
 use server_core::{
     Book, Entry, Event, Line, NoMemory, Settings, cancelled_line, heard_line, queued_line,
 };
@@ -15,10 +20,12 @@ use std::sync::Wait;
 use std::thread::Threads;
 use text_words::TextFault;
 
-/// What a run left: the lines that answer its events, and the gateways' books, by the gateways' numbers.
+/// What a run left: the lines that answer its events, and what each gateway's book has counted, beside the gateway's number,
+/// and the books in the same order.
 #[derive(Drop)]
 pub(crate) struct Played {
     pub(crate) entries: Vec<Entry<Global>>,
+    pub(crate) totals: Vec<(u16, Totals)>,
     pub(crate) books: Vec<Book<Global>>,
 }
 
@@ -30,7 +37,7 @@ pub(crate) struct Shift<B: Ledger, S: BuildHasher> {
     pub(crate) receipts: Receipts,
     pub(crate) entries: Vec<Entry<Global>>,
     pub(crate) workers: u8,
-    ghost whole: { till.parts ≡ 65536 },
+    ghost whole: { till.parts ≡ all_parts },
     ghost staffed: { IsStaffed workers },
 }
 
@@ -55,7 +62,9 @@ where
     requires parts { blank.parts ≡ B.parts }
     requires all { blank.parts ≡ PARTS }
     requires staffed { IsStaffed workers }
-    ensures { IfErr result IsPlayFault }
+    ensures played { IfOk result (λ played. IsPlayed settings.now.gateways events.now played.entries.items
+        played.totals.items played.books.items) }
+    ensures fault { IfErr result IsPlayFault }
 {
     match Shift::<B, S>::new(alloc, hasher, settings, workers, blank) {
         Ok(shift) => shift.play(rt, alloc, events),
@@ -76,7 +85,9 @@ impl<B: Ledger, S: BuildHasher + Clone + Drop> Shift<B, S> {
         requires parts { blank.parts ≡ B.parts }
         requires all { blank.parts ≡ PARTS }
         requires staffed { IsStaffed workers }
-        ensures { IfOk result (λ shift. shift.workers ≡ workers) }
+        ensures workers { IfOk result (λ shift. shift.workers ≡ workers) }
+        ensures gateways { IfOk result (λ shift. AreInOrder settings.now.gateways shift.station) }
+        ensures none { IfOk result (λ shift. HasOpened (kept shift.receipts.bookings.items shift.entries.items)) }
     {
         let (station, till) = Station::new(alloc, hasher, settings, blank)?;
         Ok(Shift {
@@ -100,7 +111,10 @@ where
         alloc: Global,
         events: &[Event<Global>],
     ) -> Result<Played, TextFault>
-        ensures { IfErr result IsPlayFault }
+        requires { HasOpened (kept self.receipts.bookings.items self.entries.items) }
+        ensures played { IfOk result (λ played. IsFinished self.station events.now played.entries.items played.totals.items
+            played.books.items) }
+        ensures fault { IfErr result IsPlayFault }
     {
         let mut shift = self;
         for (place, event) in events.iter().enumerate() {
@@ -119,7 +133,11 @@ where
         alloc: Global,
         place: usize,
         event: &Event<Global>,
-    ) -> Result<Self, NoMemory> {
+    ) -> Result<Self, NoMemory>
+        ensures station { IfOk result (λ shift. shift.station ≡ self.station) }
+        ensures done { IfOk result (λ shift. IsDone place event.now (kept self.receipts.bookings.items self.entries.items)
+            (kept shift.receipts.bookings.items shift.entries.items)) }
+    {
         let mut shift = self;
         let line = match event {
             Event::Pass { now } => return shift.pass(rt, alloc, place, *now),
@@ -147,28 +165,39 @@ where
     }
 
     /// Tells a line.
-    pub(crate) fn tell(&mut self, place: usize, line: Line<Global>) -> Result<(), NoMemory> {
+    pub(crate) fn tell(&mut self, place: usize, line: Line<Global>) -> Result<(), NoMemory>
+        ensures station { self.new.station ≡ self.old.station }
+        ensures receipts { self.new.receipts ≡ self.old.receipts }
+        ensures told { OnOk result (self.new.entries.items ≡ self.old.entries.items ++ entry_at place line ∷ []) }
+    {
         Ok(self.entries.push(Entry { event: place, line })?)
     }
 
     /// Cancels what was booked for the uplink with this number.
-    fn cancel<R: Wait>(&mut self, rt: &R, number: u64) -> Line<Global> {
-        let Some(booking) = self.receipts.numbered(number) else {
+    fn cancel<R: Wait>(&mut self, rt: &R, number: u64) -> Line<Global>
+        ensures station { self.new.station ≡ self.old.station }
+        ensures entries { self.new.entries ≡ self.old.entries }
+        ensures told { IsCancelTold number (booked_for number self.old.receipts.bookings.items)
+            self.old.receipts.bookings.items self.new.receipts.bookings.items result }
+    {
+        let Some(at) = self.receipts.place_of(number) else {
             return Line::NotCancelled {
                 number,
                 fault: CancelFault::NotHere,
             };
         };
-        let answer = self.station.cancel(rt, &booking.receipt);
+        let answer = self.station.cancel(rt, self.receipts.receipt_at(at));
         if answer.is_ok() {
-            booking.is_cancelled = true;
+            self.receipts.mark(at);
         }
         cancelled_line(number, answer)
     }
 }
 
 /// The line for a gateway's floor, if the station has the gateway.
-fn floor_line(gateway: u16, floor: Option<u64>) -> Line<Global> {
+fn floor_line(gateway: u16, floor: Option<u64>) -> Line<Global>
+    ensures { result ≡ floor_line gateway floor }
+{
     match floor {
         Some(floor) => Line::Floor { gateway, floor },
         None => Line::NotTicked,

@@ -5,9 +5,9 @@ ghost use Rattle.std.specs.Prelude.{◌≡◌, IfOk};
 use airbook_text::{Settings, read_settings};
 use answer_ticket::{Ending, Outcome};
 use run_lines::{events_of, write_lines};
-use run_texts::{Answer, PassAnswers, answer_with_workers};
-use server_core::{Book, Entry, Event, Line, TakeFault};
-use server_workers::{Blank, Ledger, PARTS, Station, Till};
+use run_texts::{Answer, Answered, Ends, Told, answer_with_workers};
+use server_core::{Book, Entry, Event, Line, NoMemory, TakeFault};
+use server_workers::{Blank, Ledger, PARTS, ServeCause, Station, Till};
 use std::alloc::Global;
 use std::hash::{BuildHasherDefault, FoldHasher};
 use std::marker::Brand;
@@ -45,7 +45,7 @@ const RARE: &[u8] =
     b"unanswered 1 NoMemory\nno 2 NoMemory\nsilent 3\nno 4 Stray\nanswered 0 unanswered 1 silent 1\n";
 
 /// Whether a line begins with `no`, and the text.
-type Told = (bool, Vec<u8>);
+type Text = (bool, Vec<u8>);
 
 /// A station that heard these copies and closed their gatherings, and the till with all parts of its ledger.
 fn station_that_heard<B: Ledger, R: Wait>(
@@ -57,7 +57,7 @@ fn station_that_heard<B: Ledger, R: Wait>(
     requires name { blank.name ≡ B.name }
     requires parts { blank.parts ≡ B.parts }
     requires all { blank.parts ≡ PARTS }
-    ensures { IfOk result (λ made. made.1.parts ≡ 65536) }
+    ensures { IfOk result (λ made. made.1.parts ≡ PARTS) }
 {
     let settings = read_settings(alloc, SETTINGS)?;
     let (station, till) = Station::new(alloc, BuildHasherDefault::new(), &settings, blank)?;
@@ -91,8 +91,7 @@ fn hear_all<B: Ledger, R: Wait>(
 }
 
 /// The text of some answers, and of their counts.
-fn told(alloc: Global, answers: PassAnswers) -> Result<Told, Fail> {
-    let (answers, _) = answers.by_number();
+fn text_of(alloc: Global, answers: Vec<Answer>) -> Result<Text, Fail> {
     let mut entries = Vec::new(alloc);
     for answer in answers {
         let Answer {
@@ -112,71 +111,100 @@ fn told(alloc: Global, answers: PassAnswers) -> Result<Told, Fail> {
     Ok((refused, writer.bytes))
 }
 
+/// The text of what is told of a `pass`, and the numbers of what was booked.
+fn pass_text(alloc: Global, told: Result<Told, NoMemory>) -> Result<(Text, Vec<u64>), Fail> {
+    let Told { answers, booked } = told?;
+    let mut numbers = Vec::new(alloc);
+    for receipt in booked {
+        numbers.push(receipt.number)?;
+    }
+    Ok((text_of(alloc, answers)?, numbers))
+}
+
 /// What is told of a device's second uplink while the ticket of its first is out, and what once that is settled.
 fn held<B: Ledger + Send + Sync, R: Threads + Wait + Sync>(
     rt: &R,
     alloc: Global,
     blank: Blank,
-) -> Result<(Told, Told), Fail>
+) -> Result<(Text, (Text, Vec<u64>)), Fail>
     requires name { blank.name ≡ B.name }
     requires parts { blank.parts ≡ B.parts }
     requires all { blank.parts ≡ PARTS }
 {
     let (station, till) = station_that_heard::<B, R>(rt, alloc, TWICE, blank)?;
     let ticket = station.take(rt, 1)?;
-    let (mut till, before) = answer_with_workers(rt, alloc, &station, &[2], till, 1);
+    let before = answer_with_workers(rt, alloc, &station, &[2], till, 1);
+    let mut till = before.till;
     if let Err(stub) = station.settle(rt, ticket.give_up(), &mut till) {
         stub.end();
     }
-    let (_, after) = answer_with_workers(rt, alloc, &station, &[2], till, 1);
-    Ok((told(alloc, before?)?, told(alloc, after?)?))
+    let after = answer_with_workers(rt, alloc, &station, &[2], till, 1);
+    let (text, _) = pass_text(alloc, before.told)?;
+    Ok((text, pass_text(alloc, after.told)?))
 }
 
-/// What is told of three uplinks by so many workers.
+/// How many of so many workers are started for three uplinks, and what is told of these.
 fn answered<B: Ledger + Send + Sync, R: Threads + Wait + Sync>(
     rt: &R,
     alloc: Global,
     workers: u8,
     blank: Blank,
-) -> Result<Told, Fail>
+) -> Result<(Result<u8, ServeCause>, Text), Fail>
     requires name { blank.name ≡ B.name }
     requires parts { blank.parts ≡ B.parts }
     requires all { blank.parts ≡ PARTS }
 {
     let (station, till) = station_that_heard::<B, R>(rt, alloc, AT_ONCE, blank)?;
-    let (_, answers) = answer_with_workers(rt, alloc, &station, &[1, 2, 3], till, workers);
-    told(alloc, answers?)
+    let Answered { till: _, ran, told } =
+        answer_with_workers(rt, alloc, &station, &[1, 2, 3], till, workers);
+    let (text, _) = pass_text(alloc, told)?;
+    Ok((ran, text))
 }
 
 #[test]
 fn what_is_skipped_is_answered_once_more(rt: HostRuntime) -> Result<(), Fail> {
     let (before, after) = held::<Brand, _>(&rt, rt.alloc(), Blank::new(PARTS as u64))?;
+    let (later, booked) = after;
     assert!(rt; before.0);
     assert_eq!(rt; before.1.as_slice(), ENGAGED);
-    assert!(rt; !after.0);
-    assert_eq!(rt; after.1.as_slice(), SENT_LATER);
+    assert!(rt; !later.0);
+    assert_eq!(rt; later.1.as_slice(), SENT_LATER);
+    assert_eq!(rt; booked.as_slice(), [2].as_slice());
     Ok(())
 }
 
 #[test]
 fn calling_thread_answers_where_nobody_works(rt: HostRuntime) -> Result<(), Fail> {
-    let (refused, text) = answered::<Brand, _>(&rt, rt.alloc(), 17, Blank::new(PARTS as u64))?;
+    let blank = Blank::new(PARTS as u64);
+    let (ran, (refused, text)) = answered::<Brand, _>(&rt, rt.alloc(), 17, blank)?;
+    assert_eq!(rt; ran, Err(ServeCause::Workers));
     assert!(rt; !refused);
     assert_eq!(rt; text.as_slice(), ANSWERED_HERE);
     Ok(())
 }
 
 #[test]
+fn as_many_workers_start_as_are_asked_for(rt: HostRuntime) -> Result<(), Fail> {
+    let two = answered::<Brand, _>(&rt, rt.alloc(), 2, Blank::new(PARTS as u64))?;
+    assert_eq!(rt; two.0, Ok(2));
+    let sixteen = answered::<Brand, _>(&rt, rt.alloc(), 16, Blank::new(PARTS as u64))?;
+    assert_eq!(rt; sixteen.0, Ok(16));
+    Ok(())
+}
+
+#[test]
 fn rare_answers_are_told(rt: HostRuntime) -> Result<(), Fail> {
-    let mut answers = PassAnswers::with(rt.alloc(), Vec::new(rt.alloc()));
-    answers.add_strays(&[4])?;
-    answers.add_refused(&[(3, TakeFault::Silent), (2, TakeFault::NoMemory)])?;
-    let given_up = Outcome {
+    let mut ends = Ends::none(rt.alloc());
+    ends.strays.push(4)?;
+    ends.refused.push((3, TakeFault::Silent))?;
+    ends.refused.push((2, TakeFault::NoMemory))?;
+    ends.outcomes.push(Outcome {
         number: 1,
         result: Ending::GivenUp,
-    };
-    answers.add_outcomes(rt.alloc(), &[given_up])?;
-    let (refused, text) = told(rt.alloc(), answers)?;
+    })?;
+    ends.sort();
+    let answers = ends.answers(rt.alloc(), &[1, 2, 3, 4])?;
+    let (refused, text) = text_of(rt.alloc(), answers)?;
     assert!(rt; refused);
     assert_eq!(rt; text.as_slice(), RARE);
     Ok(())

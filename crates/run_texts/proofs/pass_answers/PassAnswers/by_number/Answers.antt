@@ -1,7 +1,0 @@
-use Rattle.std.proofs.Common.{rules}
-use Rattle.std.proofs.lemmas.List.Sorted.{IsNonDecreasingBy-from_sort_by_key}
-use Rattle.run_texts.proofs.pass_answers.PassAnswers.by_number.Goals as goal
-
-pub returns-clause-rising : goal.returns-clause-rising
-returns-clause-rising c =
-    IsNonDecreasingBy-from_sort_by_key (λ a. a.number) _ c.sort_unstable_by_key.ensures.sorted (λ a r q k. search rules)

@@ -1,0 +1,30 @@
+use Rattle.std.proofs.Common.{◌≡◌, map, subst}
+use Rattle.std.specs.Io.KnownBytes.{Appends}
+use Rattle.text_lines.specs.Line.{text_of}
+use Rattle.text_words.specs.Words.{has_refusal}
+use Rattle.server_core.specs.Entries.{gateway_of}
+use Rattle.run_lines.specs.ReplayText.{replay_lines}
+use Rattle.run_texts.proofs.run.tell_with_workers.Goals as goal
+
+pub returns-clause-played : goal.returns-clause-played
+returns-clause-played g c =
+    let wrote = c.in-Ok-write_lines.ensures in
+    let entries = c.in-Ok.played.entries.items in
+    let books = c.in-Ok.played.books.items in
+    let before = g.W.ByteOut.taken c.args.writer.now in
+    let after = g.W.ByteOut.taken c.write_lines.new.writer in
+    record {
+      entries = entries;
+      totals = c.in-Ok.played.totals.items;
+      books = books;
+      played = c.in-Ok.ensures.played;
+      written =
+          subst (λ es. Appends before after (text_of (replay_lines es (map gateway_of books)))) c.as_slice.ensures.value
+          (subst (λ bs. Appends before after (text_of (replay_lines c.as_slice.result.now (map gateway_of bs))))
+          c.as_slice-2.ensures.value wrote.ok);
+      told =
+          subst (λ es. c.in-Ok-write_lines.refused ≡ has_refusal (replay_lines es (map gateway_of books)))
+          c.as_slice.ensures.value
+          (subst (λ bs. c.in-Ok-write_lines.refused ≡ has_refusal (replay_lines c.as_slice.result.now (map gateway_of bs)))
+          c.as_slice-2.ensures.value wrote.told);
+    }

@@ -1,0 +1,20 @@
+use Rattle.std.proofs.Common.{rules, subst, sym, take, get_or, ◌∙◌}
+use Rattle.std.proofs.lemmas.List.{take_more}
+use Rattle.run_texts.specs.PassEnds.{HasFiled}
+use Rattle.run_texts.proofs.TurnLemmas.{filed_more, handled_parts}
+use Rattle.run_texts.proofs.station_pass.finish.Goals as goal
+
+pub loop-number-preserved : goal.loop-number-preserved
+loop-number-preserved g c =
+    let at = c.loop-number.number-index in
+    let n = get_or c.args.numbers.now at 0 in
+    record {
+      parts = handled_parts n c.loop-number.till c.answer-turn.new.till c.answer-turn.result c.answer-turn.ensures.turn
+          ∙ c.loop-number.invariant.parts;
+      filed =
+          subst (λ l. HasFiled l c.args.ends.now c.file.new.self)
+          (sym (take_more c.args.numbers.now at 0 (search rules)))
+          (filed_more (take at c.args.numbers.now) n c.answer-turn.result c.args.ends.now c.loop-number.ends c.file.new.self
+          c.loop-number.invariant.filed (c.loop-number.till, c.answer-turn.new.till, c.answer-turn.ensures.turn)
+          c.in_ok-file.ensures);
+    }

@@ -1,0 +1,57 @@
+use Rattle.std.specs.Prelude.{ℕ, ◌≡◌, ◌==◌, ◌⊎◌, true, false, not, List, [], ◌++◌, map, filter, find, insert, slice_get, slice_set}
+use Rattle.std.specs.Prelude.{Option, Some, None, Result, Ok, Err}
+use Rattle.std.specs.Global.{Global}
+use Rattle.std.specs.List.Sorted.{IsPermutation}
+use Rattle.gateway_book.specs.declared.cancel.CancelFault.{CancelFault}
+use Rattle.gateway_book.specs.declared.cancel.CancelFault.TheVariants.{NotHere}
+use Rattle.answer_ticket.specs.declared.tried.Receipt.{Receipt}
+use Rattle.server_core.specs.declared.entry.Line.{Line}
+use Rattle.server_core.specs.declared.entry.Line.TheVariants as lines
+use Rattle.server_core.specs.Server.{cancelled_line}
+use Rattle.server_station.specs.Stations.{WasAsked}
+use Rattle.run_texts.specs.declared.receipts.Booking.{Booking}
+
+-- What was booked in a run with workers, after this project's profile.
+
+-- what a receipt says was booked, and is not cancelled; its frame is not kept
+abbrev pub booking_of : Receipt Global → Booking
+booking_of r = record { receipt = record r { frame = [] }; is_cancelled = false }
+
+-- one more booking, in its place by number
+abbrev pub HasOneMore : Booking → List Booking → List Booking → Type 0
+HasOneMore b old new = (at : ℕ) × (new ≡ insert old at b)
+
+-- what was booked before, and what these receipts say, in some order
+abbrev pub HasMore : List (Receipt Global) → List Booking → List Booking → Type 0
+HasMore receipts old new = IsPermutation (old ++ map booking_of receipts) new
+
+-- the first booking for number n
+abbrev pub booked_for : ℕ → List Booking → Option Booking
+booked_for n bookings = find (λ (b : Booking). b.receipt.number == n) bookings
+
+-- the booking at this place is cancelled, and all others are as they were
+abbrev pub IsMarkedAt : ℕ → List Booking → List Booking → Type 0
+IsMarkedAt at old new =
+    (b : Booking) × (slice_get old at ≡ Some b) × (new ≡ slice_set old at (record b { is_cancelled = true }))
+
+-- the receipts of what was not cancelled
+abbrev pub open_receipts : List Booking → List (Receipt Global)
+open_receipts bookings =
+    map (λ (b : Booking). b.receipt) (filter (λ (b : Booking). not b.is_cancelled) bookings)
+
+-- what is answered to one who cancels what a receipt names: what some book of its gateway says, or that there is no such gateway
+abbrev pub IsCancelAnswer : Receipt Global → Result ℕ CancelFault → Type 0
+IsCancelAnswer r answer = WasAsked r.number r.reservation.start answer ⊎ (answer ≡ Err NotHere)
+
+-- a booking is cancelled exactly where the answer is no fault
+abbrev pub IsMarked : Booking → Result ℕ CancelFault → List Booking → List Booking → Type 0
+IsMarked b (Ok airtime) old new =
+    (at : ℕ) × (slice_get old at ≡ Some b) × (new ≡ slice_set old at (record b { is_cancelled = true }))
+IsMarked b (Err fault) old new = new ≡ old
+
+-- the line for one who cancels what was booked for number n, and the bookings then; where nothing was booked for it, it is
+-- not here
+abbrev pub IsCancelTold : ℕ → Option Booking → List Booking → List Booking → Line Global → Type 0
+IsCancelTold n None old new line = (line ≡ lines.NotCancelled n NotHere) × (new ≡ old)
+IsCancelTold n (Some b) old new line =
+    (answer : Result ℕ CancelFault) × IsCancelAnswer b.receipt answer × (line ≡ cancelled_line n answer) × IsMarked b answer old new

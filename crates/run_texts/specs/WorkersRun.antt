@@ -1,0 +1,133 @@
+use Rattle.std.specs.Prelude.{ℕ, ◌≡◌, ◌+◌, ◌≤◌, List, [], ◌∷◌, ◌++◌, map, All, Option, None, Some, Result, IfSome}
+use Rattle.std.specs.Global.{Global}
+use Rattle.std.specs.List.Sorted.{IsNonDecreasing}
+use Rattle.gateway_book.specs.declared.totals.Totals.{Totals}
+use Rattle.gateway_book.specs.Book.{Book, totals_of}
+use Rattle.answer_ticket.specs.declared.tried.Receipt.{Receipt}
+use Rattle.server_core.specs.declared.entry.Entry.{Entry}
+use Rattle.server_core.specs.declared.entry.Line.{Line}
+use Rattle.server_core.specs.declared.entry.Line.TheVariants as lines
+use Rattle.server_core.specs.declared.event.Event.{Event}
+use Rattle.server_core.specs.declared.event.Event.TheVariants as events
+use Rattle.server_core.specs.Entries.{entry_at}
+use Rattle.server_core.specs.Server.{queued_line, heard_line}
+use Rattle.server_desk.specs.declared.faults.DeskFault.{DeskFault}
+use Rattle.server_desk.specs.declared.faults.QueueFault.{QueueFault}
+use Rattle.server_desk.specs.declared.heard.DeskHeard.{DeskHeard}
+use Rattle.server_core.specs.Desk.{DeskView, total_of}
+use Rattle.server_desk.specs.declared.setting.GatewaySetting.{GatewaySetting}
+use Rattle.book_audit.specs.Audit.{airtime_at, booked_by, kept_numbers, EachStandsOnce, IsAccountedFor}
+use Rattle.book_audit.specs.declared.cause.FinishCause.{FinishCause}
+use Rattle.server_station.specs.Stations.{AreInOrder, WasQueued, WasHeard, WasPassed}
+use Rattle.server_station.specs.Closings.{shelved, IsCauseAt}
+use Rattle.text_words.specs.declared.fault.TextFault.{TextFault}
+use Rattle.run_texts.specs.declared.pass_answers.Answer.{Answer}
+use Rattle.run_texts.specs.declared.receipts.Booking.{Booking}
+use Rattle.run_texts.specs.Bookings.{HasMore, booked_for, open_receipts, IsCancelTold}
+use Rattle.run_texts.specs.PassAnswers.{all_lines, IsPassTold}
+use Rattle.run_texts.specs.FinishFaults.{IsFinishFault}
+
+-- What a run with workers does for its events, one after another (docs/FORMATS.md, "airbook run"). Behind a lock no more is known
+-- than a value's type, so what a station answers is what some desk or some book says.
+
+-- what was booked, and the lines that were told
+pub record Kept : Type 0 where
+  pub bookings : List Booking
+  pub entries : List (Entry Global)
+
+abbrev pub kept : List Booking → List (Entry Global) → Kept
+kept bookings entries = record { bookings = bookings; entries = entries }
+
+-- the lines of these answers were told for the event at this place
+abbrev pub HasTold : ℕ → List Answer → List (Entry Global) → List (Entry Global) → Type 0
+HasTold place answers old new = new ≡ old ++ map (entry_at place) (all_lines answers)
+
+-- each of these numbers was closed at that time
+abbrev pub WereClosed : ℕ → List ℕ → Type 0
+WereClosed now numbers = All (λ n. WasPassed now (Some n)) numbers
+
+-- these numbers, of which there are some, were answered for the event at this place
+pub record AreAnswered (place : ℕ) (numbers : List ℕ) (old new : Kept) : Type 0 where
+  pub answers : List Answer
+  pub booked : List (Receipt Global)
+  pub pass : IsPassTold numbers answers booked
+  pub told : HasTold place answers old.entries new.entries
+  pub kept : HasMore booked old.bookings new.bookings
+
+-- so were these, of which there may be none
+abbrev pub AreDealtWith : ℕ → List ℕ → Kept → Kept → Type 0
+AreDealtWith place [] old new = new ≡ old
+AreDealtWith place (n ∷ numbers) old new = AreAnswered place (n ∷ numbers) old new
+
+-- all that was closed at that time was answered, by number
+pub record HasPassed (place now : ℕ) (old new : Kept) : Type 0 where
+  pub numbers : List ℕ
+  pub closed : WereClosed now numbers
+  pub rising : IsNonDecreasing numbers
+  pub answered : AreDealtWith place numbers old new
+
+-- one line was told for the event at this place, and nothing was booked or cancelled
+abbrev pub HasOneLine : ℕ → Line Global → Kept → Kept → Type 0
+HasOneLine place line old new = (new.bookings ≡ old.bookings) × (new.entries ≡ old.entries ++ entry_at place line ∷ [])
+
+-- the line of a gateway's floor, which is not below the tick's moment
+abbrev pub floor_line : ℕ → Option ℕ → Line Global
+floor_line gateway None = lines.NotTicked
+floor_line gateway (Some floor) = lines.Floor gateway floor
+
+-- a cancel of number n was answered
+abbrev pub HasCancelled : ℕ → ℕ → Kept → Kept → Type 0
+HasCancelled place n old new =
+    (line : Line Global) × IsCancelTold n (booked_for n old.bookings) old.bookings new.bookings line
+    × (new.entries ≡ old.entries ++ entry_at place line ∷ [])
+
+-- what was done for the event at this place
+abbrev pub IsDone : ℕ → Event Global → Kept → Kept → Type 0
+IsDone place (events.Queue addr port payload) old new =
+    (answer : Result ℕ QueueFault) × WasQueued addr (port, payload) answer × HasOneLine place (queued_line addr answer) old new
+IsDone place (events.Hear bytes heard arrived) old new =
+    (answer : Result DeskHeard DeskFault) × WasHeard bytes heard arrived answer × HasOneLine place (heard_line answer) old new
+IsDone place (events.Pass now) old new = HasPassed place now old new
+IsDone place (events.Tick gateway now) old new =
+    (floor : Option ℕ) × IfSome floor (λ f. now ≤ f) × HasOneLine place (floor_line gateway floor) old new
+IsDone place (events.Cancel n) old new = HasCancelled place n old new
+IsDone place (events.Bad line) old new = HasOneLine place (lines.Bad line) old new
+
+-- the same for some events, the first of them at this place, one after another
+abbrev pub AreDone : ℕ → List (Event Global) → Kept → Kept → Type 0
+AreDone place [] old new = new ≡ old
+AreDone place (e ∷ es) old new = (mid : Kept) × IsDone place e old mid × AreDone (place + 1) es mid new
+
+-- nothing was booked, and nothing told
+abbrev pub HasOpened : Kept → Type 0
+HasOpened k = (k.bookings ≡ []) × (k.entries ≡ [])
+
+-- the books of the gateways with these numbers, at the end, and what they have counted: a desk has answered what they have
+-- booked, no number stands twice in them, and these receipts are accounted for
+pub record IsClosing (ids : List ℕ) (receipts : List (Receipt Global)) (totals : List (ℕ × Totals)) (books : List Book)
+    : Type 0 where
+  pub desk : DeskView
+  pub gateways : map (λ (t : ℕ × Totals). t.0) totals ≡ ids
+  pub counted : map (λ (t : ℕ × Totals). t.1) totals ≡ map totals_of books
+  pub sum : booked_by books ≡ total_of desk
+  pub equal : All (λ (t : ℕ × Totals). t.1.booked ≡ airtime_at desk t.0) totals
+  pub once : EachStandsOnce (kept_numbers books)
+  pub accounted : All (IsAccountedFor (shelved totals books)) receipts
+
+-- the books of these gateways don't go with a desk, or with just these receipts
+abbrev pub IsClosingFault : List ℕ → List (Receipt Global) → TextFault → Type 0
+IsClosingFault ids receipts fault = (cause : FinishCause) × IsCauseAt ids receipts cause × IsFinishFault cause fault
+
+-- these events were done for one after another at a station of these gateways, which was closed then
+pub record IsFinished (ids : List ℕ) (es : List (Event Global)) (entries : List (Entry Global)) (totals : List (ℕ × Totals))
+    (books : List Book) : Type 0 where
+  pub bookings : List Booking
+  pub done : AreDone 0 es (kept [] []) (kept bookings entries)
+  pub closing : IsClosing ids (open_receipts bookings) totals books
+
+-- at a station of gateways with these settings
+pub record IsPlayed (gateways : List GatewaySetting) (es : List (Event Global)) (entries : List (Entry Global))
+    (totals : List (ℕ × Totals)) (books : List Book) : Type 0 where
+  pub ids : List ℕ
+  pub in_order : AreInOrder gateways ids
+  pub finished : IsFinished ids es entries totals books
