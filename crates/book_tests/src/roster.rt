@@ -4,7 +4,7 @@ ghost use Rattle.resv_list.specs.Reservations.{IsFree};
 
 use radio_airtime::DataRate;
 use radio_bands::Band;
-use resv_list::{Reservation, Roster, RosterFault, VecRoster};
+use resv_list::{Dropped, Reservation, Roster, RosterFault, VecRoster};
 use resv_tree::TreeRoster;
 use std::process::Abort;
 use std::test::Fail;
@@ -117,6 +117,41 @@ fn sums_a_thousand_and_half_of_them(rt: HostRuntime) {
     }
 }
 
+/// Drops a thousand members in three goes.
+fn drop_all<R: Roster>(rt: &impl Abort, roster: &mut R) {
+    // (before this start, how many go, their airtime, how many are left)
+    let cases = [
+        (0, 0, 0, 1_000),
+        (400, 400, 16_486_400, 600),
+        (400, 0, 0, 600),
+        (401, 1, 41_216, 599),
+        (5_000, 599, 24_688_384, 0),
+    ];
+    for (before, count, airtime, left) in cases {
+        let dropped = roster.drop_before(before);
+        assert_eq!(rt; dropped, Dropped { count, airtime }, "before {before}");
+        assert_eq!(rt; roster.len(), left, "before {before}");
+        let first = if left == 0 {
+            None
+        } else {
+            Some(reservation_at(rt, before))
+        };
+        assert_eq!(rt; roster.first_from(0), first, "before {before}");
+        assert_eq!(rt; roster.spent(Band::M, 0, before), 0);
+    }
+}
+
+#[test]
+fn drops_what_begins_before_a_moment(rt: HostRuntime) {
+    let mut slow = VecRoster::new(rt.alloc());
+    put_thousand(&rt, &mut slow, false);
+    drop_all(&rt, &mut slow);
+    let mut tree = TreeRoster::new(rt.alloc());
+    put_thousand(&rt, &mut tree, true);
+    drop_all(&rt, &mut tree);
+    assert_eq!(rt; tree.height(), 0);
+}
+
 /// Fills the roster to its greatest number, and asks for one more.
 fn fill<R: Roster>(rt: &impl Abort, roster: &mut R) {
     for start in 0..65_536 {
@@ -161,6 +196,9 @@ fn the_tree_is_as_the_vector(rt: HostRuntime) {
             toggle(&rt, &mut tree, start),
             toggle(&rt, &mut slow, start)
         );
+        if drawn % 64 == 0 {
+            assert_eq!(rt; tree.drop_before(from), slow.drop_before(from));
+        }
         assert_eq!(rt; tree.len(), slow.len());
         assert_eq!(rt; nearest(&tree, from), nearest(&slow, from));
         let band = [Band::K, Band::M, Band::P][(drawn % 3) as usize];

@@ -9,7 +9,8 @@ use Rattle.radio_bands.specs.Band.{hour, limit_of}
 use Rattle.resv_list.specs.declared.reservation.Reservation.{Reservation}
 use Rattle.resv_list.specs.Sorted.{RisesFrom}
 use Rattle.resv_list.proofs.SortedLaws.{RisesFrom-filter}
-use Rattle.resv_list.proofs.Walk.{rest_from, rest_from-Some}
+use Rattle.resv_list.proofs.Walk.{rest_from-Some}
+use Rattle.resv_list.specs.Sorted.{rest_from}
 use Rattle.resv_list.specs.Reservations.{start_of, is_in, begun, IsByStart, member_from}
 use Rattle.gateway_book.specs.Least.{least}
 use Rattle.gateway_book.proofs.SpacedLaws.{least-find}

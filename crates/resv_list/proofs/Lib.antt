@@ -3,3 +3,4 @@ pub mod Walk
 pub mod NearestLemmas
 pub mod CutLemmas
 pub mod BegunLemmas
+pub mod NetLemmas

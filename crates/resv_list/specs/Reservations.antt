@@ -5,7 +5,7 @@ use Rattle.radio_bands.specs.declared.band.Band.{Band}
 use Rattle.radio_bands.specs.Band.{lies_in, hour}
 use Rattle.resv_list.specs.declared.reservation.Reservation.{Reservation}
 use Rattle.resv_list.specs.Fit.{end_at}
-use Rattle.resv_list.specs.Sorted.{RisesFrom, place_by, sort_by, last_below, first_from}
+use Rattle.resv_list.specs.Sorted.{RisesFrom, place_by, sort_by, last_below, first_from, below, rest_from}
 
 -- Words for lists of reservations.
 
@@ -47,6 +47,14 @@ member_before start l = last_below start_of start l
 -- the member with the least start not below `start`, of a list that is by start
 abbrev pub member_from : ℕ → List Reservation → Option Reservation
 member_from start l = first_from start_of start l
+
+-- the members that begin before `start`
+abbrev pub members_before : ℕ → List Reservation → List Reservation
+members_before start l = below start_of start l
+
+-- the members that don't
+abbrev pub members_from : ℕ → List Reservation → List Reservation
+members_from start l = rest_from start_of start l
 
 -- the member that begins at this very moment
 abbrev pub member_at : ℕ → List Reservation → Option Reservation

@@ -39,6 +39,10 @@ module _ {X : Type 0} (key : X → ℕ) where
   abbrev pub below : ℕ → List X → List X
   below limit xs = filter (λ x. nat_lt (key x) limit) xs
 
+  -- the members with keys not below the limit
+  abbrev pub rest_from : ℕ → List X → List X
+  rest_from limit xs = filter (λ x. nat_le limit (key x)) xs
+
   -- the member with the greatest key below the limit, of a sorted list
   abbrev pub last_below : ℕ → List X → Option X
   last_below limit xs = last (below limit xs)

@@ -1,6 +1,7 @@
 ghost use Rattle.std.specs.Prelude.{◌≡◌, ℕ, ◌≤◌, ◌↔◌, List, length, IfErr, OnOk, OnErr, IsErrAnd};
 ghost use Rattle.resv_list.specs.declared.reservation.Reservation.{Reservation as Member};
 ghost use Rattle.resv_list.specs.Reservations.{IsByStart, IsFree, place, member_before, member_from, member_at, without, begun};
+ghost use Rattle.resv_list.specs.Reservations.{members_before, members_from, net};
 
 use crate::Reservation;
 use radio_bands::Band;
@@ -16,6 +17,15 @@ pub enum RosterFault {
     Full,
     #[error("there is no memory for one more reservation")]
     NoMemory,
+}
+
+/// What a roster has dropped.
+#[derive(Clone, Copy, Debug, PartialEq, Eq)]
+pub struct Dropped {
+    /// How many reservations.
+    pub count: usize,
+    /// Their airtime, in microseconds.
+    pub airtime: u64,
 }
 
 /// Reservations in the order of their starts, no two of which are the same. Moments are in
@@ -44,6 +54,12 @@ pub trait Roster {
     fn remove(&mut self, start: u64) -> Option<Reservation>
         ensures removed { result ≡ member_at start (list self.old) }
         ensures left { list self.new ≡ without start (list self.old) };
+
+    /// Takes out all that begin before `start`, and counts them; takes no memory.
+    fn drop_before(&mut self, start: u64) -> Dropped
+        ensures count { result.count ≡ length (members_before start (list self.old)) }
+        ensures airtime { result.airtime ≡ net (members_before start (list self.old)) }
+        ensures left { list self.new ≡ members_from start (list self.old) };
 
     /// Puts one more in its place; on an `Err` it is handed back, and the roster is as it was.
     fn insert(&mut self, reservation: Reservation) -> Result<(), (RosterFault, Reservation)>

@@ -3,8 +3,9 @@ ghost use Rattle.resv_list.specs.declared.reservation.Reservation.{Reservation a
 ghost use Rattle.resv_list.specs.declared.roster.TheConstants.{MAX_MEMBERS};
 ghost use Rattle.resv_list.specs.Sorted.{IsCut, RisesFrom, RisesFrom-prop};
 ghost use Rattle.resv_list.specs.Reservations.{start_of, IsByStart, place, member_before, member_from, member_at, without, begun};
+ghost use Rattle.resv_list.specs.Reservations.{net};
 
-use crate::{MAX_MEMBERS, Reservation, Roster, RosterFault};
+use crate::{Dropped, MAX_MEMBERS, Reservation, Roster, RosterFault};
 use radio_bands::Band;
 use std::alloc::Allocator;
 
@@ -49,6 +50,13 @@ impl<A: Allocator> Roster for VecRoster<A> {
     fn remove(&mut self, start: u64) -> Option<Reservation> {
         let place = place_at(&self.items, start)?;
         Some(self.items.remove(place))
+    }
+
+    fn drop_before(&mut self, start: u64) -> Dropped {
+        let count = place_of(&self.items, start);
+        let airtime = airtime_of(&self.items[..count]);
+        self.items.retain(|member| member.start >= start);
+        Dropped { count, airtime }
     }
 
     fn insert(&mut self, reservation: Reservation) -> Result<(), (RosterFault, Reservation)> {
@@ -118,6 +126,18 @@ fn place_at(members: &[Reservation], start: u64) -> Option<usize>
     } else {
         None
     }
+}
+
+/// The airtime of the members.
+fn airtime_of(members: &[Reservation]) -> u64
+    requires { length members.now ≤ MAX_MEMBERS }
+    ensures { result ≡ net members.now }
+{
+    let mut sum = 0;
+    for member in members {
+        sum += member.airtime();
+    }
+    sum
 }
 
 /// The airtime of the members of the band, of members by start, that begin from `from` on and before

@@ -1,9 +1,10 @@
-use Rattle.std.specs.Prelude.{ℕ, ◌≡◌, ◌+◌, ◌<◌, ◌≤◌, nat_lt, Bool, true, false, not, List, [], ◌∷◌, ◌++◌, filter, find}
+use Rattle.std.specs.Prelude.{ℕ, ◌≡◌, ◌+◌, ◌<◌, ◌≤◌, nat_lt, nat_le, Bool, true, false, not, List, [], ◌∷◌, ◌++◌, filter, find}
 use Rattle.std.specs.Prelude.{Some, cond, ◌==◌}
 use Rattle.std.proofs.Common.{refl, arith, ap}
-use Rattle.std.proofs.lemmas.Bool.{lt-ltb, le-ltb}
+use Rattle.std.proofs.lemmas.Bool.{lt-ltb, le-ltb, lt-leb}
 use Rattle.std.proofs.lemmas.Bool.Decides.{nat_tests}
-use Rattle.resv_list.specs.Sorted.{RisesFrom, place_by}
+use Rattle.resv_list.specs.Sorted.{RisesFrom, place_by, rest_from}
+use Rattle.resv_list.proofs.Walk.{rest_from-rises}
 use Rattle.resv_list.proofs.SortedLaws.{RisesFrom-lower, at_none}
 
 -- A sorted list of some members, one between, and others.
@@ -46,6 +47,27 @@ module _ {X : Type 0} (key : X → ℕ) where
       let m = middle_from (key z + 1) ls x rs r.1 in
       let e : nat_lt (key z) (key y) ≡ true = lt-ltb (key z) (key y) (omega arith) in
       rw (e, place_right (key z + 1) y ls x rs r.1 h) refl
+
+  -- from a key on: all to the right stays where the one between does
+  pub rest_left : (low k : ℕ) (ls : List X) (x : X) (rs : List X) → RisesFrom key low (ls ++ x ∷ rs) → k ≤ key x
+      → rest_from key k (ls ++ x ∷ rs) ≡ rest_from key k ls ++ x ∷ rs
+  rest_left low k [] x rs r h = rest_from-rises key (key x) k (x ∷ rs) h (omega arith, r.1)
+  rest_left low k (y ∷ ls) x rs r h = by (nat_le k (key y)) (rest_left (key y + 1) k ls x rs r.1 h)
+    where
+      by : (t : Bool) → rest_from key k (ls ++ x ∷ rs) ≡ rest_from key k ls ++ x ∷ rs
+          → cond t (y ∷ rest_from key k (ls ++ x ∷ rs)) (rest_from key k (ls ++ x ∷ rs))
+          ≡ cond t (y ∷ rest_from key k ls) (rest_from key k ls) ++ x ∷ rs
+      by true e = ap (λ (q : List X). y ∷ q) e
+      by false e = e
+
+  -- and nothing to the left does where the one between doesn't
+  pub rest_right : (low k : ℕ) (ls : List X) (x : X) (rs : List X) → RisesFrom key low (ls ++ x ∷ rs) → key x < k
+      → rest_from key k (ls ++ x ∷ rs) ≡ rest_from key k rs
+  rest_right low k [] x rs r h = rw (lt-leb k (key x) h) refl
+  rest_right low k (y ∷ ls) x rs r h =
+      let m = middle_from (key y + 1) ls x rs r.1 in
+      let e : nat_le k (key y) ≡ false = lt-leb k (key y) (omega arith) in
+      rw e (rest_right (key y + 1) k ls x rs r.1 h)
 
   -- what stands at a key is on its side
   pub at_left : (low at : ℕ) (ls : List X) (x : X) (rs : List X) → RisesFrom key low (ls ++ x ∷ rs) → at < key x

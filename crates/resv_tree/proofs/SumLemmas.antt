@@ -1,14 +1,18 @@
-use Rattle.std.specs.Prelude.{ℕ, ◌≡◌, ◌+◌, ◌-◌, ◌<◌, ◌≤◌, nat_lt, nat_le, Bool, true, false, ◌&&◌, List, [], ◌∷◌, ◌++◌, cond}
+use Rattle.std.specs.Prelude.{ℕ, ◌≡◌, ◌+◌, ◌-◌, ◌^◌, ◌<◌, ◌≤◌, nat_lt, nat_le, Bool, true, false, ◌&&◌, List, [], ◌∷◌, ◌++◌, cond}
 use Rattle.std.proofs.Common.{refl, arith, ◌∙◌, sym}
 use Rattle.std.proofs.lemmas.Bool.{le-leb, ltb-true, ltb-false}
 use Rattle.radio_bands.specs.declared.band.Band.{Band}
+use Rattle.radio_bands.specs.declared.band.Band.TheVariants.{K, L, M, N, P, Q}
 use Rattle.resv_list.specs.declared.reservation.Reservation.{Reservation}
 use Rattle.resv_list.specs.Sorted.{RisesFrom}
-use Rattle.resv_list.specs.Reservations.{start_of, is_in, airtime_us, airtime_in, share, begun}
+use Rattle.resv_list.specs.Reservations.{start_of, is_in, airtime_us, airtime_in, share, begun, net}
+use Rattle.resv_list.proofs.NetLemmas.{net-nil, net-cons, airtime_in-all}
 use Rattle.resv_list.specs.Begun.{begun-cons, begun-nil}
 use Rattle.resv_list.proofs.BegunLemmas.{share_before, share_after, share_within, begun_late}
-use Rattle.resv_tree.specs.Sums.{total_in}
-use Rattle.resv_tree.specs.Shape.{Shape, Leaf, Fork, entries, kept_sum, IsWhole}
+use Rattle.resv_tree.specs.declared.sums.Sums.{Sums}
+use Rattle.resv_tree.specs.Sums.{sum_in, sum_of_all, total_in}
+use Rattle.resv_tree.specs.Shape.{Shape, Leaf, Fork, entries, kept_sum, count_of, IsWhole}
+use Rattle.resv_tree.proofs.ShapeLemmas.{count_bounds_sum}
 use Rattle.resv_tree.proofs.SplitLemmas.{middle_from}
 
 -- Sums of airtime.
@@ -39,6 +43,60 @@ kept_sum-total (Fork l e r h n s) band w =
       total_in-append band (entries l) (e ∷ entries r),
       total_in-cons band e (entries r),
     )
+
+-- the sums of all sub-bands are the airtime of all
+total_in-net : (l : List Reservation)
+    → total_in K l + total_in L l + total_in M l + total_in N l + total_in P l + total_in Q l ≡ net l
+total_in-net [] =
+    omega (
+      arith,
+      net-nil,
+      total_in-nil K,
+      total_in-nil L,
+      total_in-nil M,
+      total_in-nil N,
+      total_in-nil P,
+      total_in-nil Q,
+    )
+total_in-net (r ∷ rs) =
+    omega (
+      arith,
+      net-cons r rs,
+      airtime_in-all r,
+      total_in-cons K r rs,
+      total_in-cons L r rs,
+      total_in-cons M r rs,
+      total_in-cons N r rs,
+      total_in-cons P r rs,
+      total_in-cons Q r rs,
+      total_in-net rs,
+    )
+
+kept_sums-net : (t : Shape) → IsWhole t
+    → kept_sum t K + kept_sum t L + kept_sum t M + kept_sum t N + kept_sum t P + kept_sum t Q ≡ net (entries t)
+kept_sums-net t w =
+    omega (
+      arith,
+      total_in-net (entries t),
+      kept_sum-total t K w,
+      kept_sum-total t L w,
+      kept_sum-total t M w,
+      kept_sum-total t N w,
+      kept_sum-total t P w,
+      kept_sum-total t Q w,
+    )
+
+-- so it is of sums that are those of a whole tree
+pub sum_of_all-net : (s : Sums) (t : Shape) → IsWhole t → ((band : Band) → sum_in s band ≡ kept_sum t band)
+    → sum_of_all s ≡ net (entries t)
+sum_of_all-net s t w e = omega (arith, kept_sums-net t w, e K, e L, e M, e N, e P, e Q)
+
+-- and each of them is bounded
+pub sum_bounded : (s : Sums) (t : Shape) → IsWhole t → ((band : Band) → sum_in s band ≡ kept_sum t band)
+    → count_of t ≤ 65536 → (band : Band) → sum_in s band < 2 ^ 60
+sum_bounded s t w e h band = omega (arith, e band, count_bounds_sum t band w)
+
+pub ruleset totals = (sum_of_all-net, sum_bounded)
 
 -- what begins before a moment is no more than all
 pub begun_le-total : (band : Band) (to : ℕ) (l : List Reservation) → begun band 0 to l ≤ total_in band l

@@ -1,15 +1,18 @@
-use Rattle.std.specs.Prelude.{ℕ, ◌≡◌, ◌+◌, ◌*◌, ◌<◌, ◌≤◌, ◌∷◌, ◌++◌, List, Some}
+use Rattle.std.specs.Prelude.{ℕ, ◌≡◌, ◌+◌, ◌-◌, ◌*◌, ◌<◌, ◌≤◌, ◌∷◌, ◌++◌, List, Some, length}
 use Rattle.std.specs.Option.{option_or}
 use Rattle.std.proofs.Common.{subst, sym, ◌∙◌, ap, arith}
 use Rattle.radio_bands.specs.declared.band.Band.{Band}
 use Rattle.resv_list.specs.Reservations.{begun, airtime_in, start_of, place, member_at, without, IsFree, IsByStart}
+use Rattle.resv_list.specs.Reservations.{members_before, members_from, net}
+use Rattle.resv_list.proofs.NetLemmas.{net-parted, length-parted}
 use Rattle.resv_list.specs.declared.reservation.Reservation.{Reservation}
-use Rattle.resv_list.specs.Sorted.{place_by, last_below, first_from}
+use Rattle.resv_list.specs.Sorted.{place_by, last_below, first_from, rest_from}
 use Rattle.resv_list.proofs.SortedLaws.{RisesFrom-place_by, RisesFrom-filter}
 use Rattle.resv_tree.specs.Entries.{Entry, key_of, IsByKey}
 use Rattle.resv_tree.specs.Shape.{Shape, entries, kept_sum, count_of, IsWhole}
 use Rattle.resv_tree.specs.Parts.{IsMadeOf}
 use Rattle.resv_tree.proofs.SplitLemmas.{rises_left, rises_right, place_left, place_right, at_left, at_right, at_middle}
+use Rattle.resv_tree.proofs.SplitLemmas.{rest_left, rest_right}
 use Rattle.resv_tree.proofs.NearLemmas.{last_left, last_right, first_left, first_right}
 use Rattle.resv_tree.proofs.SumLemmas.{begun_left, begun_right, kept_sum-total, begun_le-total}
 use Rattle.resv_tree.proofs.ShapeLemmas.{count_bounds_sum}
@@ -71,6 +74,14 @@ module _ {t l r : Shape} {e : Entry} where
       → first_from key_of k (entries t) ≡ first_from key_of k (entries r)
   from_right k m b h = ap (first_from key_of k) m.entries ∙ first_right key_of 0 k _ _ _ (subst IsByKey m.entries b) h
 
+  pub kept_left : (k : ℕ) → IsMadeOf t l e r → IsByKey (entries t) → k ≤ key_of e
+      → rest_from key_of k (entries t) ≡ rest_from key_of k (entries l) ++ e ∷ entries r
+  kept_left k m b h = ap (rest_from key_of k) m.entries ∙ rest_left key_of 0 k _ _ _ (subst IsByKey m.entries b) h
+
+  pub kept_right : (k : ℕ) → IsMadeOf t l e r → IsByKey (entries t) → key_of e < k
+      → rest_from key_of k (entries t) ≡ rest_from key_of k (entries r)
+  kept_right k m b h = ap (rest_from key_of k) m.entries ∙ rest_right key_of 0 k _ _ _ (subst IsByKey m.entries b) h
+
   pub spent_left : (band : Band) (to : ℕ) → IsMadeOf t l e r → IsByKey (entries t) → to ≤ key_of e
       → begun band 0 to (entries t) ≡ begun band 0 to (entries l)
   spent_left band to m b h = ap (begun band 0 to) m.entries ∙ begun_left band 0 to _ _ _ (subst IsByKey m.entries b) h
@@ -104,5 +115,25 @@ pub ruleset looking_before = (sides, before_left, before_right)
 pub ruleset looking_from = (sides, from_left, from_right)
 
 pub ruleset spending = (sides, spent_left, spent_right, spent_short, count_bounds_sum)
+
+pub rest_by_start : (at : ℕ) (l m : List Reservation) → m ≡ members_from at l → IsByStart l → IsByStart m
+rest_by_start at l m e b = subst IsByStart (sym e) (RisesFrom-filter start_of _ 0 l b)
+
+-- what is left has fewer members and less airtime, by those that are dropped
+pub dropped_count : (at : ℕ) (l m : List Reservation) → m ≡ members_from at l → length l - length m ≡ length (members_before at l)
+dropped_count at l m e = omega (arith, length-parted at l, ap length e)
+
+pub dropped_airtime : (at : ℕ) (l m : List Reservation) → m ≡ members_from at l → net l - net m ≡ net (members_before at l)
+dropped_airtime at l m e = omega (arith, net-parted at l, ap net e)
+
+pub rest_shorter : (at : ℕ) (l m : List Reservation) → m ≡ members_from at l → length m ≤ length l
+rest_shorter at l m e = omega (arith, length-parted at l, ap length e)
+
+pub rest_lighter : (at : ℕ) (l m : List Reservation) → m ≡ members_from at l → net m ≤ net l
+rest_lighter at l m e = omega (arith, net-parted at l, ap net e)
+
+pub ruleset dropping = (sides, kept_left, kept_right)
+
+pub ruleset dropped = (counts, rest_by_start, dropped_count, dropped_airtime, rest_shorter, rest_lighter)
 
 pub ruleset staying = (counts, placed_by_start, without_by_start)

@@ -16,6 +16,10 @@ sum_in s N = s.n
 sum_in s P = s.p
 sum_in s Q = s.q
 
+-- the sum of all sub-bands
+abbrev pub sum_of_all : Sums → ℕ
+sum_of_all s = s.k + s.l + s.m + s.n + s.p + s.q
+
 -- the airtime of the members of the sub-band
 unfoldable pub total_in : Band → List Reservation → ℕ
 total_in band [] = 0

@@ -1,6 +1,6 @@
 ghost use Rattle.std.specs.Prelude.{◌≡◌, ◌+◌, ◌≤◌, ◌<◌, ◌∷◌, [], ◌++◌};
 ghost use Rattle.resv_list.specs.Reservations.{member_at, without};
-ghost use Rattle.resv_list.specs.Sorted.{place_by};
+ghost use Rattle.resv_list.specs.Sorted.{place_by, rest_from};
 ghost use Rattle.resv_tree.specs.Entries.{key_of, IsByKey};
 ghost use Rattle.resv_tree.specs.Shape.{shape, shape_of, entry_of, entries, IsWhole, count_of};
 
@@ -57,6 +57,28 @@ pub(crate) fn remove<A: Allocator + Clone>(link: Link<A>, key: u64) -> (Link<A>,
         return (Some(join(left, top, right)), removed);
     }
     (concat(left, right), Some(entry))
+}
+
+/// The tree of the entries whose keys are not below `key`; takes no memory. On one walk down it leaves behind each node
+/// with a lower key, and all to its left.
+#[tactic(auto, using(crate::proofs::TreeLemmas::dropping))]
+pub(crate) fn drop_before<A: Allocator + Clone>(link: Link<A>, key: u64) -> Link<A>
+    requires whole { IsWhole (shape_of link) }
+    requires by_key { IsByKey (entries (shape_of link)) }
+    requires room { count_of (shape_of link) ≤ MAX_MEMBERS }
+    ensures entries { entries (shape_of result) ≡ rest_from key_of key (entries (shape_of link)) }
+    ensures count { count_of (shape_of result) ≤ count_of (shape_of link) }
+    ensures whole { IsWhole (shape_of result) }
+{
+    let Some(top) = link else {
+        return None;
+    };
+    let (left, top, right) = open(top);
+    if top.entry().start < key {
+        return drop_before(right, key);
+    }
+    let left = drop_before(left, key);
+    Some(join(left, top, right))
 }
 
 /// The tree of two sides: the last node of the left one goes between them.

@@ -1,7 +1,8 @@
 ghost use Rattle.std.specs.Prelude.{◌≡◌, ◌+◌, ◌≤◌, ◌<◌};
 ghost use Rattle.radio_bands.specs.declared.band.Band.{Band as SubBand};
 ghost use Rattle.resv_tree.specs.Sums.{sum_in as sum_of};
-ghost use Rattle.resv_tree.specs.Shape.{shape, shape_of, entry_of, IsWhole, height_of, count_of, kept_sum, IsLevel};
+ghost use Rattle.resv_list.specs.Reservations.{net};
+ghost use Rattle.resv_tree.specs.Shape.{shape, shape_of, entries, entry_of, IsWhole, height_of, count_of, kept_sum, IsLevel};
 ghost use Rattle.resv_tree.specs.Parts.{IsMadeOf};
 
 use crate::sums::Sums;
@@ -93,6 +94,16 @@ pub(crate) fn sum_in<A: Allocator + Clone>(link: &Link<A>, band: Band) -> u64
     ensures { result ≡ kept_sum (shape_of link.now) band }
 {
     sums(link).in_band(band)
+}
+
+/// The airtime of the tree's members, in microseconds.
+#[tactic(auto, using(crate::proofs::SumLemmas::totals))]
+pub(crate) fn airtime<A: Allocator + Clone>(link: &Link<A>) -> u64
+    requires whole { IsWhole (shape_of link.now) }
+    requires room { count_of (shape_of link.now) ≤ MAX_MEMBERS }
+    ensures { result ≡ net (entries (shape_of link.now)) }
+{
+    sums(link).total()
 }
 
 /// The parts of a tree, left in it.

@@ -17,7 +17,7 @@ pub(crate) struct Sums {
 }
 
 impl Sums {
-    ghost use Rattle.resv_tree.specs.Sums.{sum_in};
+    ghost use Rattle.resv_tree.specs.Sums.{sum_in, sum_of_all};
 
     /// The sums of no member.
     pub(crate) const NONE: Sums = Sums {
@@ -41,6 +41,14 @@ impl Sums {
             Band::P => self.p,
             Band::Q => self.q,
         }
+    }
+
+    /// The airtime in all sub-bands.
+    pub(crate) fn total(&self) -> u64
+        requires { (band : SubBand) → sum_in self.now band < 2 ^ 60 }
+        ensures { result ≡ sum_of_all self.now }
+    {
+        self.k + self.l + self.m + self.n + self.p + self.q
     }
 
     /// The sums of two sides and the member between them.

@@ -5,9 +5,9 @@ ghost use Rattle.resv_list.specs.Reservations.{start_of, IsByStart};
 ghost use Rattle.resv_tree.specs.Shape.{shape_of, entries, IsWhole, IsWhole-prop, count_of};
 
 use crate::node::{Link, Node, count, height};
-use crate::{change, look};
+use crate::{change, look, node};
 use radio_bands::Band;
-use resv_list::{MAX_MEMBERS, Reservation, Roster, RosterFault};
+use resv_list::{Dropped, MAX_MEMBERS, Reservation, Roster, RosterFault};
 use std::alloc::Allocator;
 
 /// A roster in a balanced tree: each call takes a walk from the root down, `insert` also the memory of one node. It is
@@ -66,6 +66,16 @@ impl<A: Allocator + Clone> Roster for TreeRoster<A> {
         let (root, removed) = change::remove(self.root.take(), start);
         self.root = root;
         removed
+    }
+
+    #[tactic(auto, using(crate::proofs::TreeLemmas::dropped))]
+    fn drop_before(&mut self, start: u64) -> Dropped {
+        let (members, airtime) = (count(&self.root), node::airtime(&self.root));
+        self.root = change::drop_before(self.root.take(), start);
+        Dropped {
+            count: members - count(&self.root),
+            airtime: airtime - node::airtime(&self.root),
+        }
     }
 
     #[tactic(auto, using(crate::proofs::TreeLemmas::staying))]

@@ -1,5 +1,6 @@
 use Rattle.std.proofs.Common.{◌≡◌, ◌+◌, ◌∷◌, ℕ, Option, length, sym, ap, ◌∙◌, arith}
-use Rattle.resv_list.proofs.Walk.{rest_from, rest_from-rises, rest_from-None}
+use Rattle.resv_list.proofs.Walk.{rest_from-rises, rest_from-None}
+use Rattle.resv_list.specs.Sorted.{rest_from}
 use Rattle.resv_list.specs.Reservations.{start_of, spent}
 use Rattle.gateway_book.proofs.DutySearch.{is_next}
 use Rattle.gateway_book.proofs.BusiestLaws.{busiest_from, busiest_from-all}

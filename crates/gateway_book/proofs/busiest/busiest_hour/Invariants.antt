@@ -1,5 +1,5 @@
 use Rattle.std.proofs.Common.{◌≡◌, length, None}
-use Rattle.resv_list.proofs.Walk.{rest_from}
+use Rattle.resv_list.specs.Sorted.{rest_from}
 use Rattle.resv_list.specs.Reservations.{start_of, spent}
 use Rattle.gateway_book.proofs.BusiestLaws.{busiest_from}
 use Rattle.gateway_book.proofs.busiest.busiest_hour.Given as goal

@@ -1,7 +1,8 @@
 use Rattle.std.proofs.Common.{◌≡◌, ◌<◌, ◌+◌, ◌&&◌, ◌∷◌, length, find, sym, ap, ◌∙◌, arith}
 use Rattle.std.specs.Option.{option_map}
 use Rattle.radio_bands.specs.Band.{hour}
-use Rattle.resv_list.proofs.Walk.{rest_from, rest_from-None}
+use Rattle.resv_list.proofs.Walk.{rest_from-None}
+use Rattle.resv_list.specs.Sorted.{rest_from}
 use Rattle.resv_list.specs.Reservations.{start_of, is_in}
 use Rattle.gateway_book.specs.Duty.{would_pass, opens_full, hour_from}
 use Rattle.gateway_book.proofs.DutySearch.{find_rest, too_early, is_next, none_further, found_here, found_later, given, not_given}

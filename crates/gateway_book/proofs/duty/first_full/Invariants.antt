@@ -1,6 +1,6 @@
 use Rattle.std.proofs.Common.{◌≡◌, ◌≤◌, ◌+◌, find, length}
 use Rattle.radio_bands.specs.Band.{hour}
-use Rattle.resv_list.proofs.Walk.{rest_from}
+use Rattle.resv_list.specs.Sorted.{rest_from}
 use Rattle.resv_list.specs.Reservations.{start_of}
 use Rattle.gateway_book.specs.Duty.{opens_full}
 use Rattle.gateway_book.proofs.duty.first_full.Given as goal

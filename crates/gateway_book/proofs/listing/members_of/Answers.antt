@@ -1,5 +1,6 @@
 use Rattle.std.proofs.Common.{◌≡◌, ◌+◌, ◌∷◌, length, sym, ap, ◌∙◌, arith, append-nil, append_assoc}
-use Rattle.resv_list.proofs.Walk.{rest_from, rest_from-rises, rest_from-None, rest_from-Some}
+use Rattle.resv_list.proofs.Walk.{rest_from-rises, rest_from-None, rest_from-Some}
+use Rattle.resv_list.specs.Sorted.{rest_from}
 use Rattle.resv_list.specs.Reservations.{start_of}
 use Rattle.gateway_book.proofs.listing.members_of.Goals as goal
 

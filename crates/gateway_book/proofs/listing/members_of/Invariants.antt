@@ -1,5 +1,5 @@
 use Rattle.std.proofs.Common.{◌≡◌, ◌++◌, length}
-use Rattle.resv_list.proofs.Walk.{rest_from}
+use Rattle.resv_list.specs.Sorted.{rest_from}
 use Rattle.resv_list.specs.Reservations.{start_of}
 use Rattle.gateway_book.proofs.listing.members_of.Given as goal
 
