@@ -75,9 +75,22 @@ const TO_THE_END: [Step; 2] = [
     Step::InM(2, 2_305_843_009_213_652_736, Ok(2_305_843_009_213_693_952)),
 ];
 
-const ONE_KEPT: [Step; 2] = [
+const ONE_KEPT: [Step; 4] = [
     Step::InM(1, 0, Ok(41_216)),
     Step::InM(2, 1_000_000, Err(Refusal::Full)),
+    Step::Tick(3_600_000_001),
+    Step::InM(3, 3_600_000_001, Ok(3_600_041_217)),
+];
+
+const OUT_OF_SIGHT: [Step; 8] = [
+    Step::InK(0, Ok(991_232)),
+    Step::InK(1_000_000, Ok(1_991_232)),
+    Step::InK(2_000_000, Ok(2_991_232)),
+    Step::Tick(3_600_000_000),
+    Step::InK(3_600_000_000, Ok(3_600_991_232)),
+    Step::Tick(3_600_000_001),
+    Step::Busiest(Band::K, Some((1_000_000, 2_973_696))),
+    Step::Cancel(0, 0, Err(CancelFault::Begun)),
 ];
 
 /// Twelve bytes on 868.1 MHz at DR5, in sub-band M: 41,216 microseconds on air.
@@ -140,24 +153,33 @@ fn told<R: Roster>(book: &GatewayBook<R>) -> (u16, u32, Totals) {
     (book.id(), book.cap(), book.totals())
 }
 
-/// A book's steps, by name, with its cap, and all that was booked and cancelled after them.
-type Worked<'a> = (&'a str, u32, &'a [Step], u64, u64);
+/// A book's steps, by name, with its cap, and all that was booked, cancelled and retired after them.
+type Worked<'a> = (&'a str, u32, &'a [Step], u64, u64, u64);
 
 /// The steps of books, each told by what it shows.
-fn worked<'a>() -> [Worked<'a>; 6] {
+fn worked<'a>() -> [Worked<'a>; 7] {
     [
-        ("the hour after", 65_536, &HOUR_AFTER, 3_964_928, 0),
-        ("an hour between", 65_536, &HOUR_BETWEEN, 3_964_928, 0),
-        ("the hour before", 65_536, &HOUR_BEFORE, 2_973_696, 0),
+        ("the hour after", 65_536, &HOUR_AFTER, 3_964_928, 0, 0),
+        ("an hour between", 65_536, &HOUR_BETWEEN, 3_964_928, 0, 0),
+        ("the hour before", 65_536, &HOUR_BEFORE, 2_973_696, 0, 0),
         (
             "what has not begun is cancelled",
             65_536,
             &CANCELLED,
             82_432,
             41_216,
+            0,
         ),
-        ("the end of time", 65_536, &TO_THE_END, 41_216, 0),
-        ("no more than may be kept", 1, &ONE_KEPT, 41_216, 0),
+        ("the end of time", 65_536, &TO_THE_END, 41_216, 0, 0),
+        ("no more than may be kept", 1, &ONE_KEPT, 82_432, 0, 41_216),
+        (
+            "what no hour reaches is retired",
+            65_536,
+            &OUT_OF_SIGHT,
+            3_964_928,
+            0,
+            991_232,
+        ),
     ]
 }
 
@@ -165,13 +187,13 @@ fn worked<'a>() -> [Worked<'a>; 6] {
 fn run_worked<R: Roster + Drop>(rt: &impl Abort, roster: R, worked: Worked<'_>)
     requires { R.list roster ≡ [] }
 {
-    let (name, cap, steps, all, cancelled) = worked;
+    let (name, cap, steps, all, cancelled, retired) = worked;
     let mut book = opened(rt, roster, 1, cap);
     assert_eq!(rt; first_wrong(&mut book, steps), None, "step of: {name}");
     let (_, _, totals) = told(&book);
     assert_eq!(rt;
-        (totals.booked, totals.cancelled),
-        (all, cancelled),
+        (totals.booked, totals.cancelled, totals.retired),
+        (all, cancelled, retired),
         "{name}"
     );
 }
@@ -182,6 +204,38 @@ fn worked_books(rt: HostRuntime) {
         run_worked(&rt, VecRoster::new(rt.alloc()), steps);
         run_worked(&rt, TreeRoster::new(rt.alloc()), steps);
     }
+}
+
+/// Books a thousand transmissions an hour and a microsecond apart, where one may be kept.
+fn retires_a_thousand<R: Roster + Drop>(rt: &impl Abort, roster: R)
+    requires { R.list roster ≡ [] }
+{
+    let mut book = opened(rt, roster, 1, 1);
+    for number in 0..1_000 {
+        let start = number * 3_600_000_001;
+        book.tick(start);
+        let wanted = Ok(start + 41_216);
+        assert_eq!(rt; end_of(&mut book, ask_in_m(number, start)), wanted);
+    }
+    let wanted = Totals {
+        booked: 41_216_000,
+        cancelled: 0,
+        retired: 41_174_784,
+        kept_airtime: 41_216,
+        kept: 1,
+        floor: 3_596_400_000_999,
+    };
+    assert_eq!(rt; book.totals(), wanted);
+    assert_eq!(rt;
+        book.busiest(Band::M),
+        Some((3_596_400_000_999, 41_216))
+    );
+}
+
+#[test]
+fn a_cap_of_one_takes_a_thousand_hours(rt: HostRuntime) {
+    retires_a_thousand(&rt, VecRoster::new(rt.alloc()));
+    retires_a_thousand(&rt, TreeRoster::new(rt.alloc()));
 }
 
 #[test]

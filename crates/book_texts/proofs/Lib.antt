@@ -3,3 +3,4 @@ pub mod AnsweringLemmas
 pub mod ReportLemmas
 pub mod LawLemmas
 pub mod Worked
+pub mod TurnLemmas

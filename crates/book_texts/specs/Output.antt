@@ -3,7 +3,7 @@ pub use Rattle.text_lines.specs.Turns.{is_starved}
 use Rattle.text_lines.specs.Turns.{Turns, reached as reached_by, answers as answers_by}
 use Rattle.resv_list.specs.Reservations.{net}
 use Rattle.gateway_book.specs.Answer.{Rules}
-use Rattle.gateway_book.specs.Kept.{kept}
+use Rattle.gateway_book.specs.Kept.{kept, retired_of}
 use Rattle.gateway_book.specs.Step.{State}
 use Rattle.gateway_book.specs.declared.totals.Totals.{Totals}
 use Rattle.book_texts.specs.Said.{said}
@@ -17,13 +17,14 @@ use Rattle.book_texts.specs.Answering.{answer_to, state_after_line}
 abbrev pub opened : State
 opened = record { floor = 0; list = []; booked = 0; cancelled = 0 }
 
--- what a book has counted there: it keeps all that is booked and not cancelled
+-- what a book has counted there: of what is booked and not cancelled it keeps what its floor has left in sight, and has
+-- retired the rest
 abbrev pub counted_at : State → Totals
 counted_at s =
     record {
       booked = s.booked;
       cancelled = s.cancelled;
-      retired = 0;
+      retired = net (retired_of s.list s.floor);
       kept_airtime = net (kept s.list s.floor);
       kept = length (kept s.list s.floor);
       floor = s.floor;

@@ -3,7 +3,9 @@ use Rattle.std.proofs.Common.{ap, ◌∙◌}
 use Rattle.std.proofs.lemmas.List.Folds.{list_any-append}
 use Rattle.text_lines.specs.Turns.{TurnsByKept, EndsWithoutRefusal}
 use Rattle.resv_list.specs.declared.reservation.Reservation.{Reservation}
-use Rattle.gateway_book.specs.Book.{Book, state_of}
+use Rattle.gateway_book.specs.Book.{Book}
+use Rattle.gateway_book.specs.Step.{State}
+use Rattle.gateway_book.specs.Remembers.{StandsFor}
 use Rattle.gateway_book.specs.Kept.{kept}
 use Rattle.text_words.specs.Busiest.{all_busiest_lines, busiest-refuses_nothing}
 use Rattle.text_words.specs.Words.{is_refusal}
@@ -22,24 +24,24 @@ abbrev pub reply_lines : Option Reply → List (List ℕ)
 reply_lines None = []
 reply_lines (Some reply) = reply_line reply ∷ []
 
--- a command was carried out, and this is the answer
+-- a command was carried out, and this is the answer, by each state that the book stands for
 pub record IsCarriedOut (old new : Book) (command : Command) (reply : Reply) : Type 0 where
   pub starved : Bool
-  pub answered : reply ≡ reply_to old.rules starved (state_of old) command
-  pub reached : state_of new ≡ state_after old.rules starved (state_of old) command
+  pub answered : (s : State) → StandsFor old s → reply ≡ reply_to old.rules starved s command
+  pub reached : (s : State) → StandsFor old s → StandsFor new (state_after old.rules starved s command)
   pub rules : new.rules ≡ old.rules
 
 -- a line was carried out, and this is the answer, if it has one
 pub record IsReplied (old new : Book) (number : ℕ) (line : List ℕ) (reply : Option Reply) : Type 0 where
   pub starved : Bool
-  pub answered : answer_to old.rules starved number (state_of old) (said line) ≡ reply_lines reply
-  pub reached : state_of new ≡ state_after_line old.rules starved (state_of old) (said line)
+  pub answered : (s : State) → StandsFor old s → answer_to old.rules starved number s (said line) ≡ reply_lines reply
+  pub reached : (s : State) → StandsFor old s → StandsFor new (state_after_line old.rules starved s (said line))
   pub rules : new.rules ≡ old.rules
 
--- what stands in a book
+-- what stands in a book, which has forgotten what no answer depends on
 pub record StandsIn (book : Book) (at : Standing) : Type 0 where
   pub rules : book.rules ≡ at.rules
-  pub state : state_of book ≡ at.state
+  pub stands : StandsFor book at.state
 
 -- what is kept of a line does what the line does
 pub book_turns_by_kept : TurnsByKept book_turns

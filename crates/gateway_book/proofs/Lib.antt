@@ -14,3 +14,8 @@ pub mod DutySearch
 pub mod BusiestLaws
 pub mod AdmittedLaws
 pub mod SoundLaws
+pub mod SightLaws
+pub mod ForgettingLaws
+pub mod PairLaws
+pub mod ForgottenSteps
+pub mod StandingLaws

@@ -1,18 +1,24 @@
-use Rattle.std.specs.Prelude.{ℕ, ◌≡◌, ◌+◌, ◌<◌, ◌≤◌, List, [], length, Some, None, find, not}
+use Rattle.std.specs.Prelude.{ℕ, ◌≡◌, ◌+◌, ◌-◌, ◌<◌, ◌≤◌, max, Bool, List, [], length, Some, None, find, filter}
+use Rattle.std.specs.Prelude.{not}
 use Rattle.std.proofs.Common.{refl, sym, ap, subst, ◌∙◌, arith}
 use Rattle.resv_list.specs.declared.reservation.Reservation.{Reservation}
 use Rattle.resv_list.proofs.SortedLaws.{length-place_by}
-use Rattle.resv_list.specs.Reservations.{start_of, IsByStart, place, airtime_us, net, without}
-use Rattle.gateway_book.specs.Kept.{kept}
-use Rattle.gateway_book.proofs.KeptLaws.{kept-own, net-place}
+use Rattle.resv_list.specs.Reservations.{start_of, IsByStart, place, airtime_us, net, without, members_before, members_from}
+use Rattle.resv_list.proofs.NetLemmas.{net-parted}
+use Rattle.radio_bands.specs.Band.{hour}
+use Rattle.gateway_book.specs.Kept.{is_kept, kept, retired_of}
+use Rattle.gateway_book.specs.Lawful.{IsLawful}
+use Rattle.gateway_book.proofs.KeptLaws.{kept-filtered, kept-place, kept-filter, kept-twice, kept-nil, kept-from, retired-before}
+use Rattle.gateway_book.proofs.KeptLaws.{net-place}
 use Rattle.gateway_book.specs.declared.ask.Ask.{Ask}
 use Rattle.gateway_book.specs.Answer.{IsAsked, total_limit, refusal_of}
 use Rattle.gateway_book.proofs.AnswerLaws.{accepted, book_step-accepted}
-use Rattle.gateway_book.specs.Step.{is_named, without_named, book_step}
+use Rattle.gateway_book.specs.Step.{is_named, without_named, book_step, tick_step}
 use Rattle.gateway_book.proofs.CancelLaws.{fewer, net_named}
 use Rattle.gateway_book.specs.Orderly.{IsOrderly, MayJoin}
 use Rattle.gateway_book.proofs.OrderlyLaws.{orderly_nil, orderly_placed, orderly_filter, may_join}
-use Rattle.gateway_book.specs.Book.{Book, IsSound, terms_of, with_booked, with_cancelled, state_of}
+use Rattle.gateway_book.specs.Book.{Book, IsSound, terms_of, with_booked, with_cancelled, at_floor, ticked, state_of}
+use Rattle.gateway_book.specs.Remembers.{Remembers}
 
 -- What a book keeps when it is opened and when it books.
 
@@ -25,8 +31,7 @@ sound_empty id cap h g =
       capped = g;
       counted = omega arith;
       lawful = orderly_nil.lawful;
-      kept_whole = kept-own [] 0 tt;
-      none_retired = refl;
+      kept_whole = kept-nil 0;
       balanced = refl;
       bounded = omega arith;
     }
@@ -49,8 +54,7 @@ sound_booked b r s o c =
       capped = s.capped;
       counted = omega (arith, length-place_by start_of r b.list, c.spare);
       lawful = joined.lawful;
-      kept_whole = kept-own (place r b.list) b.floor joined.by_start;
-      none_retired = s.none_retired;
+      kept_whole = kept-place r b.list b.floor o joined.by_start c.ahead ∙ ap (place r) s.kept_whole;
       balanced = omega (arith, net-place r b.list, s.balanced);
       bounded = c.total;
     }
@@ -67,17 +71,30 @@ may_book b ask r s a e =
       total = rw (a.rate, a.len) h.total;
     }
 
+-- what is kept and what is retired are all there was
+pub net_parted : (l : List Reservation) (floor : ℕ) → IsByStart l → net (kept l floor) + net (retired_of l floor) ≡ net l
+net_parted l floor o =
+    let k : net (kept l floor) ≡ net (members_from (floor - hour) l) = ap net (kept-from l floor o) in
+    let q : net (retired_of l floor) ≡ net (members_before (floor - hour) l) = ap net (retired-before l floor) in
+    omega (arith, k, q, net-parted (floor - hour) l)
+
+shorter : (l : List Reservation) (floor : ℕ) → IsByStart l → length (kept l floor) ≤ length l
+shorter l floor o =
+    let k : length (kept l floor) ≡ length (filter (is_kept floor) l) = ap length (kept-filtered l floor o) in
+    omega (arith, k, fewer (is_kept floor) l)
+
 -- what a book keeps when its floor rises
-pub sound_ticked : (b : Book) (floor : ℕ) → IsSound b → IsByStart b.list → IsSound (record b { floor = floor })
+pub sound_ticked : (b : Book) (floor : ℕ) → IsSound b → IsByStart b.list → IsSound (at_floor b floor)
 sound_ticked b floor s o =
+    let left : IsOrderly (filter (is_kept floor) b.list) = orderly_filter (is_kept floor) b.list (orderly_book b s o) in
+    let P : List Reservation → Type 0 = λ l. IsLawful l in
     record {
       opened = s.opened;
       capped = s.capped;
-      counted = s.counted;
-      lawful = s.lawful;
-      kept_whole = kept-own b.list floor o;
-      none_retired = s.none_retired;
-      balanced = s.balanced;
+      counted = omega (arith, s.counted, shorter b.list floor o);
+      lawful = subst P (sym (kept-filtered b.list floor o)) left.lawful;
+      kept_whole = kept-twice b.list floor o;
+      balanced = omega (arith, s.balanced, net_parted b.list floor o);
       bounded = s.bounded;
     }
 
@@ -86,15 +103,14 @@ pub sound_cancelled : (b : Book) (number start : ℕ) (r : Reservation) → IsSo
     → find (is_named number start) b.list ≡ Some r → without start b.list ≡ without_named b.list number start
     → IsSound (with_cancelled b number start (airtime_us r))
 sound_cancelled b number start r s o f w =
-    let rest : List Reservation = without_named b.list number start in
-    let left : IsOrderly rest = orderly_filter (λ m. not (is_named number start m)) b.list (orderly_book b s o) in
+    let stays : Reservation → Bool = λ m. not (is_named number start m) in
+    let left : IsOrderly (without_named b.list number start) = orderly_filter stays b.list (orderly_book b s o) in
     record {
       opened = s.opened;
       capped = s.capped;
-      counted = omega (arith, fewer (λ m. not (is_named number start m)) b.list, s.counted);
+      counted = omega (arith, fewer stays b.list, s.counted);
       lawful = left.lawful;
-      kept_whole = kept-own rest b.floor left.by_start;
-      none_retired = s.none_retired;
+      kept_whole = kept-filter stays b.list b.floor o ∙ ap (filter stays) s.kept_whole;
       balanced = omega (arith, net_named b.list number start r o f w, s.balanced);
       bounded = s.bounded;
     }
@@ -131,3 +147,37 @@ sound_after_cancel b number start r l airtime s o f w p e =
     let P : List Reservation → Type 0 = λ m. IsSound (record b { list = m; cancelled = b.cancelled + airtime }) in
     let Q : ℕ → Type 0 = λ n. IsSound (record b { list = without_named b.list number start; cancelled = b.cancelled + n }) in
     subst P (sym (p ∙ w)) (subst Q (sym e) (sound_cancelled b number start r s o f w))
+
+-- the book whose roster has dropped what begins more than an hour before the floor
+pub at_floor_dropped : (b : Book) (floor at airtime : ℕ) (l : List Reservation) → IsByStart b.list → at ≡ floor - hour
+    → l ≡ members_from at b.list → airtime ≡ net (members_before at b.list)
+    → record b { floor = floor; list = l; retired = b.retired + airtime } ≡ at_floor b floor
+at_floor_dropped b floor at airtime l o e p q =
+    let kept_is : l ≡ kept b.list floor =
+    p ∙ ap (λ (n : ℕ). members_from n b.list) e ∙ sym (kept-from b.list floor o) in
+    let gone : airtime ≡ net (retired_of b.list floor) =
+    q ∙ ap (λ (n : ℕ). net (members_before n b.list)) e ∙ sym (ap net (retired-before b.list floor)) in
+    rw (kept_is, gone) refl
+
+pub sound_dropped : (b : Book) (floor at airtime : ℕ) (l : List Reservation) → IsSound b → IsByStart b.list → at ≡ floor - hour
+    → l ≡ members_from at b.list → airtime ≡ net (members_before at b.list)
+    → IsSound (record b { floor = floor; list = l; retired = b.retired + airtime })
+sound_dropped b floor at airtime l s o e p q =
+    subst IsSound (sym (at_floor_dropped b floor at airtime l o e p q)) (sound_ticked b floor s o)
+
+-- what is dropped was booked
+pub dropped_fits : (b : Book) (at airtime : ℕ) → IsSound b → airtime ≡ net (members_before at b.list)
+    → b.retired + airtime ≤ total_limit
+dropped_fits b at airtime s q = omega (arith, q, net-parted at b.list, s.balanced, s.bounded)
+
+pub ticked_dropped : (inside now : Book) (moment floor at airtime : ℕ) (l : List Reservation) → inside ≡ now
+    → IsByStart inside.list → floor ≡ max inside.floor moment → at ≡ floor - hour → l ≡ members_from at inside.list
+    → airtime ≡ net (members_before at inside.list)
+    → record inside { floor = floor; list = l; retired = inside.retired + airtime } ≡ ticked now moment
+ticked_dropped inside now moment floor at airtime l v o m e p q =
+    at_floor_dropped inside floor at airtime l o e p q ∙ ap (at_floor inside) m ∙ ap (λ (b : Book). ticked b moment) v
+
+pub ticked_remembers : (b c : Book) (moment : ℕ) → c ≡ ticked b moment → Remembers c (tick_step (state_of b) moment)
+ticked_remembers b c moment e =
+    let P : Book → Type 0 = λ d. Remembers d (tick_step (state_of b) moment) in
+    subst P (sym e) (record { floor = refl; list = refl; booked = refl; cancelled = refl })

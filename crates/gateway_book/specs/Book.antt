@@ -1,9 +1,9 @@
-use Rattle.std.specs.Prelude.{ℕ, ◌≡◌, ◌<◌, ◌≤◌, ◌+◌, List, length, Result, Ok, Err}
+use Rattle.std.specs.Prelude.{ℕ, ◌≡◌, ◌<◌, ◌≤◌, ◌+◌, max, List, length, Result, Ok, Err}
 use Rattle.resv_list.specs.declared.reservation.Reservation.{Reservation}
 use Rattle.resv_list.specs.Reservations.{net, place, airtime_us}
 use Rattle.gateway_book.specs.declared.totals.Totals.{Totals}
 use Rattle.gateway_book.specs.Lawful.{IsLawful}
-use Rattle.gateway_book.specs.Kept.{kept}
+use Rattle.gateway_book.specs.Kept.{kept, retired_of}
 use Rattle.gateway_book.specs.Answer.{Rules, Terms, total_limit}
 use Rattle.gateway_book.specs.Step.{State, terms_at, without_named}
 use Rattle.gateway_book.specs.declared.cancel.CancelFault.{CancelFault}
@@ -35,6 +35,14 @@ abbrev pub with_cancelled : Book → ℕ → ℕ → ℕ → Book
 with_cancelled b number start airtime =
     record b { list = without_named b.list number start; cancelled = b.cancelled + airtime }
 
+-- the book once its floor has risen: what is no longer kept is retired
+abbrev pub at_floor : Book → ℕ → Book
+at_floor b floor =
+    record b { floor = floor; list = kept b.list floor; retired = b.retired + net (retired_of b.list floor) }
+
+abbrev pub ticked : Book → ℕ → Book
+ticked b now = at_floor b (max b.floor now)
+
 -- what a caller of `cancel` is told: the airtime of what was taken out, or why nothing was
 abbrev pub airtime_answer : Result Reservation CancelFault → Result ℕ CancelFault
 airtime_answer (Ok r) = Ok (airtime_us r)
@@ -59,6 +67,5 @@ pub record IsSound (b : Book) : Type 0 where
   pub counted : length b.list ≤ b.rules.cap
   pub lawful : IsLawful b.list
   pub kept_whole : kept b.list b.floor ≡ b.list
-  pub none_retired : b.retired ≡ 0
   pub balanced : b.booked ≡ b.cancelled + b.retired + net b.list
   pub bounded : b.booked ≤ total_limit

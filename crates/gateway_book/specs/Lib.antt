@@ -11,6 +11,7 @@ pub mod Step
 pub mod Orderly
 pub mod Book
 pub mod Remembers
+pub mod Forgetting
 pub use Rattle.radio_airtime.specs.DataRate
 pub use Rattle.radio_airtime.specs.TimeOnAir
 pub use Rattle.radio_airtime.specs.Bounds

@@ -1,9 +1,10 @@
 ghost use Rattle.std.specs.Prelude.{◌≡◌, ℕ, ◌+◌, ◌≤◌, ◌↔◌, [], ◌∷◌, IsOk, IfOk, OnOk, OnErr, MatchOption, IsOkUnless, IsOkAnd};
-ghost use Rattle.std.specs.Prelude.{nat_lt, max};
+ghost use Rattle.std.specs.Prelude.{nat_lt};
 ghost use Rattle.std.specs.Option.{option_map, option_and_then};
 ghost use Rattle.gateway_book.specs.Answer.{IsAsked, first_some, no_band, too_long, past_end, refusal_of, overlap, overfull};
 ghost use Rattle.gateway_book.specs.Lawful.{IsLawful};
-ghost use Rattle.gateway_book.specs.Book.{terms_of, state_of, with_booked, with_cancelled, airtime_answer, totals_of};
+ghost use Rattle.gateway_book.specs.Book.{terms_of, state_of, with_booked, with_cancelled, ticked, airtime_answer, totals_of};
+ghost use Rattle.gateway_book.specs.Remembers.{Remembers};
 ghost use Rattle.radio_bands.specs.Band.{band_of};
 ghost use Rattle.resv_list.specs.Reservations.{start_of, end_of, airtime_us};
 ghost use Rattle.gateway_book.specs.Busiest.{IsBusiestAnswer, busiest_of};
@@ -12,7 +13,7 @@ ghost use Rattle.gateway_book.specs.Step.{book_step, cancel_answer, cancel_step,
 
 use crate::busiest::busiest_hour;
 use crate::cancel::named;
-use crate::duty::full_hour;
+use crate::duty::{HOUR, full_hour};
 use crate::listing::members_of;
 use crate::{Ask, CancelFault, Refusal, Totals};
 use radio_bands::Band;
@@ -221,12 +222,15 @@ impl<R: Roster> GatewayBook<R> {
     }
 
     /// Raises the floor to `now`, in microseconds of the gateway's clock; it never falls. Nothing that
-    /// begins before the floor is booked, and nothing that begins no later is cancelled.
+    /// begins before the floor is booked, and nothing that begins no later is cancelled. What began more than
+    /// an hour before the floor is retired: no later answer depends on it (`law_forgetting`). Takes no memory.
     pub fn tick(&mut self, now: u64)
-        ensures floor { self.new ≡ record self.old { floor = max self.old.floor now } }
-        ensures step { state_of self.new ≡ tick_step (state_of self.old) now }
+        ensures ticked { self.new ≡ ticked self.old now }
+        ensures step { Remembers self.new (tick_step (state_of self.old) now) }
     {
         self.floor = self.floor.max(now);
+        let dropped = self.roster.drop_before(self.floor.saturating_sub(HOUR));
+        self.retired += dropped.airtime;
     }
 
     /// What the book has counted.

@@ -1,5 +1,6 @@
 ghost use Rattle.gateway_book.specs.Laws.{SpacedIsApart, FirstHasLeastStart, LeastIsLeast, FewHoursSuffice, DutyRowIsExact};
 ghost use Rattle.gateway_book.specs.Laws.{BusiestIsExact};
+ghost use Rattle.gateway_book.specs.Forgetting.{ForgettingIsUnseen};
 
 /// Members at different places of a list by start are disjoint exactly where each begins no earlier
 /// than the one before it ends.
@@ -35,4 +36,12 @@ pub fn law_duty_row_is_exact()
 /// there is one such answer.
 pub fn law_busiest_is_exact()
     ensures { BusiestIsExact }
+{}
+
+/// What a floor has put out of sight, a transmission that began more than an hour before it, is seen in no answer: for
+/// every list of transmissions that begin at different moments, by start or not, lawful or not, a book that keeps the
+/// rest alone answers every ask, every cancel and every tick as one that keeps all, with the same refusals, hours and sums,
+/// and so every list of these; what each keeps afterwards is the same; and a lawful list stays lawful.
+pub fn law_forgetting()
+    ensures { ForgettingIsUnseen }
 {}

@@ -17,7 +17,7 @@ pub use cancel::CancelFault;
 pub use duty::HOUR;
 pub use laws::{
     law_busiest_is_exact, law_duty_row_is_exact, law_few_hours_suffice, law_first_has_least_start,
-    law_least_is_least, law_spaced_is_apart,
+    law_forgetting, law_least_is_least, law_spaced_is_apart,
 };
 pub use refusal::Refusal;
 pub use text_lines::{ByteIn, ByteOut, CallFailed, MemoryIn, MemoryOut, StdIn, StdOut};

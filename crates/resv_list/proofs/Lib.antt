@@ -4,3 +4,5 @@ pub mod NearestLemmas
 pub mod CutLemmas
 pub mod BegunLemmas
 pub mod NetLemmas
+pub mod FilterLemmas
+pub mod SortLemmas

@@ -1,8 +1,8 @@
 -- A gateway's book, by the gateway's id: time passes for it, or what was sent for an answer is cancelled.
 use Rattle.server_core.proofs.Words.{ap, sym, ◌∙◌, get_or_from_slice_get, slice_get_within, AllZip, option_map, Bool, Err}
 use Rattle.server_core.proofs.Words.{List, None, Ok, Option, Result, Some, [], false, get_or, if◌then◌else◌, length, map}
-use Rattle.server_core.proofs.Words.{max, refl, slice_get, slice_set, suc, true, zero, ℕ, ◌<◌, ◌==◌, ◌||◌, ◌∷◌, ◌≡◌, Book}
-use Rattle.server_core.proofs.Words.{CancelFault}
+use Rattle.server_core.proofs.Words.{refl, slice_get, slice_set, suc, true, zero, ℕ, ◌<◌, ◌==◌, ◌||◌, ◌∷◌, ◌≡◌, Book}
+use Rattle.server_core.proofs.Words.{ticked, CancelFault}
 use Rattle.server_core.proofs.Words.{NotHere, numbered, Answer, Booked, Open, Out, Settled, Waiting, is_given, known_of}
 use Rattle.server_core.proofs.Words.{numbered-map, from_map, map_set, some_inj, next_place, kept_by, Gateway, World, gateway_with}
 use Rattle.server_core.proofs.Words.{known, found_there, Sent, gateway_of, lines_for, AreBooksOf, IsAt, IsBookOf}
@@ -139,21 +139,21 @@ module _ {A : Type 0} (place : ℕ) (old mid new : Seen A) (gateway now : ℕ) (
       told ready
 
   pub ticked_done : (i : ℕ) (book after : Book) (floor : ℕ) → Some i ≡ place_of gateway mid.books
-      → book ≡ get_or mid.books i book → after ≡ record book { floor = max book.floor now } → floor ≡ after.floor
+      → book ≡ get_or mid.books i book → after ≡ ticked book now → floor ≡ after.floor
       → new ≡ with_lines place (says.Floor gateway floor ∷ []) (record mid { books = slice_set mid.books i after })
       → IsDone place (Tick gateway now) old new
-  ticked_done i book after floor f was ticked is told =
+  ticked_done i book after floor f was risen is told =
       let b = book_found gateway mid.books i book f was in
       let made_so : (w : World) → IsAt w mid
       → IsStepAt w (Tick gateway now) gateway i w.answers after (replies.Ticked (Some after.floor)) =
       λ w at. (book_calls_are_steps A).tick w gateway i now book after
-      (gateway_found gateway mid.books w.gateways at.books i book f b) ticked in
+      (gateway_found gateway mid.books w.gateways at.books i book f b) risen in
       done place (Tick gateway now) (made.Tick gateway now) (says.Floor gateway floor) old mid
       (record mid { books = slice_set mid.books i after }) new refl noted
       (record {
         steps = refl;
         outcomes = refl;
-        ready = λ r. assumption (map_set (λ (x : Book). x.id) mid.books i book after b.there (cc (ticked)) ∙ r.books, r);
+        ready = λ r. assumption (map_set (λ (x : Book). x.id) mid.books i book after b.there (cc (risen)) ∙ r.books, r);
         at = λ w at. record {
           desk = at.desk ∙ sym (desk_calls_are_steps.tick w gateway now);
           books = books_stepped w (Tick gateway now) gateway i w.answers after _ mid.books at.books (made_so w at);

@@ -1,8 +1,8 @@
 -- The calls of a ticket and of a gateway's book are the steps of the world.
 use Rattle.server_core.proofs.Words.{ap, arith, sym, ◌∙◌, IsSome, IsSomeAnd, IsTrue, option_and_then, option_map, Bool, Err, IfOk}
-use Rattle.server_core.proofs.Words.{List, None, Ok, OnErr, Option, Result, Some, [], false, if◌then◌else◌, map, max, refl}
+use Rattle.server_core.proofs.Words.{List, None, Ok, OnErr, Option, Result, Some, [], false, if◌then◌else◌, map, refl}
 use Rattle.server_core.proofs.Words.{slice_get, slice_set, suc, true, zero, ℕ, ◌+◌, ◌==◌, ◌∷◌, ◌≡◌, Reservation, Book}
-use Rattle.server_core.proofs.Words.{with_booked, with_cancelled, book_step, cancel_step, tick_step, orderly_booked}
+use Rattle.server_core.proofs.Words.{ticked, with_booked, with_cancelled, book_step, cancel_step, tick_step, orderly_booked}
 use Rattle.server_core.proofs.Words.{orderly_cancelled, remembers_answer, remembers_booked, remembers_cancel, remembers_cancelled}
 use Rattle.server_core.proofs.Words.{remembers_ticked, IsAsked, refusal_of, CancelFault, NotHere, Refusal, numbered, rewritten}
 use Rattle.server_core.proofs.Words.{Candidate, Job, ask_for, next_of, refusal_by, answered_as, Standing}
@@ -79,16 +79,16 @@ module _ (w : World) (id at : ℕ) (old : Book) (b : IsBookAt id at w.gateways o
       }
 
   -- time passes for it
-  pub tick_at_book : (now : ℕ) (new : Book) → new ≡ record old { floor = max old.floor now }
+  pub tick_at_book : (now : ℕ) (new : Book) → new ≡ ticked old now
       → IsStepAt w (Tick id now) id at w.answers new (replies.Ticked (Some new.floor))
   unfolding step
-  tick_at_book now new ticked =
+  tick_at_book now new is =
       let k = b.keeps in
       let v : Gateway = record (b.gateway) { state = tick_step b.gateway.state now } in
       let keeps : IsBookOf new v =
-      rw ticked (assumption (k, remembers_ticked old b.gateway.state k.orderly k.remembers now)) in
+      rw is (assumption (k, remembers_ticked old b.gateway.state k.orderly k.remembers now)) in
       stepped (Tick id now) w.answers new (replies.Ticked (Some new.floor)) v refl keeps
-      (rw (b.found, ticked, k.remembers.floor) refl)
+      (rw (b.found, is, k.remembers.floor) refl)
 
 pub tick_no_book : (w : World) (id now : ℕ) → gateway_with id w.gateways ≡ None → step w (Tick id now) ≡ (w, replies.Ticked None)
 unfolding step
@@ -290,6 +290,6 @@ book_calls_are_steps A =
       cancel = cancel_at_book;
       cancel_nothing = λ w n e. cancel_is w n None e;
       cancel_nowhere = cancel_no_book;
-      tick = λ w id at now old new b ticked. tick_at_book w id at old b now new ticked;
+      tick = λ w id at now old new b is. tick_at_book w id at old b now new is;
       tick_nowhere = tick_no_book;
     }

@@ -1,7 +1,7 @@
 -- Events, one after another, from a server that has heard nothing.
 use Rattle.server_core.proofs.Words.{ap, append-nil, append_assoc, arith, sym, ◌∙◌, drop_of_length-le, drop-cons, List, [], drop}
 use Rattle.server_core.proofs.Words.{get_or, length, map, refl, suc, ℕ, ◌++◌, ◌+◌, ◌<◌, ◌∷◌, ◌≡◌, ◌≤◌, map-map, Book, orderly_nil}
-use Rattle.server_core.proofs.Words.{remembers_own, desk_of, Gateway, World, opened_gateway, opening, AreSettings, SettingLists}
+use Rattle.server_core.proofs.Words.{kept-nil, remembers_own, desk_of, Gateway, World, opened_gateway, opening, AreSettings, SettingLists}
 use Rattle.server_core.proofs.Words.{GatewaySetting, entries, gateway_of, gateways_after, kept_gateway, reached, schedule}
 use Rattle.server_core.proofs.Words.{step_of, usual_limits, AreBooksOf, Does, IsAt, IsOpened, IsBetweenCalls, Seen, with_lines}
 use Rattle.server_core.proofs.Words.{Step}
@@ -18,7 +18,7 @@ opened_books [] [] e = tt
 opened_books [] (g ∷ gs) e = absurd (cc (e))
 opened_books (b ∷ bs) [] e = absurd (cc (e))
 opened_books (b ∷ bs) (g ∷ gs) e = (
-  record { id = cc (e); rules = cc (e); orderly = orderly_nil; remembers = remembers_own b _ (cc (e)) tt },
+  record { id = cc (e); rules = cc (e); orderly = orderly_nil; remembers = remembers_own b _ (cc (e)) (kept-nil 0) },
   opened_books bs gs (cc (e)),
 )
 

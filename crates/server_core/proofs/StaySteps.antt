@@ -3,7 +3,7 @@ use Rattle.server_core.proofs.Words.{ap, sym, true≢false, ◌∙◌, AllPairs,
 use Rattle.server_core.proofs.Words.{Option, Result, Some, [], false}
 use Rattle.server_core.proofs.Words.{if◌then◌else◌, map, option_and_then, option_map, refl}
 use Rattle.server_core.proofs.Words.{slice_get, slice_set, suc, true, zero, ℕ}
-use Rattle.server_core.proofs.Words.{◌==◌, ◌∷◌, ◌≡◌, ◌≢◌, inl, inr, remembers_own, Refusal, orderly_nil, AllPairs-head}
+use Rattle.server_core.proofs.Words.{◌==◌, ◌∷◌, ◌≡◌, ◌≢◌, inl, inr, kept-nil, remembers_own, Refusal, orderly_nil, AllPairs-head}
 use Rattle.server_core.proofs.Words.{AllPairs-tail, numbered, rewritten, Candidate, Job, Ending, Outcome, Answer, Waiting}
 use Rattle.server_core.proofs.Words.{Open, is_given, known_of, Decision, Join, Refuse, all_get, next_place, numbered-append}
 use Rattle.server_core.proofs.Words.{numbered_after, some_inj, Gateway, World, gateway_with, ids, known, opened_gateway}
@@ -163,7 +163,7 @@ others_leave_alone =
       opened = λ settings are limits at g e. record {
         gateway = opened_gateway g;
         found = first_opened settings.gateways at g are.ids_differ e;
-        keeps = record { id = refl; rules = refl; orderly = orderly_nil; remembers = remembers_own (unused_book g) _ refl tt };
+        keeps = record { id = refl; rules = refl; orderly = orderly_nil; remembers = remembers_own (unused_book g) _ refl (kept-nil 0) };
       };
       ticket = λ w s t is o. answer_stays w t.job.number (Open t.at t.job) is refl s o;
       stub = stub_stays;

@@ -13,7 +13,7 @@ pub use Rattle.std.specs.Prelude.{is_some, length, map, max, nat_le, nat_lt, not
 pub use Rattle.std.specs.Prelude.{⊤, ◌&&◌, ◌++◌, ◌+◌, ◌-◌, ◌<◌, ◌==◌, ◌||◌, ◌∷◌, ◌≡◌, ◌≢◌, ◌≤◌, ◌⊎◌}
 pub use Rattle.resv_list.specs.Reservations.{IsByStart, airtime_us, member_from, place, start_of, without}
 pub use Rattle.resv_list.specs.{Sorted.RisesFrom, Sorted.place_by, declared.reservation.Reservation.Reservation}
-pub use Rattle.gateway_book.specs.Book.{Book, with_booked, with_cancelled}
+pub use Rattle.gateway_book.specs.Book.{Book, ticked, with_booked, with_cancelled}
 pub use Rattle.gateway_book.proofs.OrderlyLaws.{may_join, orderly_filter, orderly_nil, orderly_placed}
 pub use Rattle.gateway_book.specs.Step.{State, after_cancel, book_step, cancel_answer, cancel_step, found_or, is_fit-IsFit}
 pub use Rattle.gateway_book.specs.Step.{is_named, tick_step, without_named}
@@ -21,7 +21,8 @@ pub use Rattle.gateway_book.proofs.RememberedLaws.{orderly_booked, orderly_cance
 pub use Rattle.gateway_book.proofs.RememberedLaws.{remembers_cancel, remembers_cancelled, remembers_own, remembers_ticked}
 pub use Rattle.gateway_book.specs.Answer.{IsAsked, refusal_of}
 pub use Rattle.gateway_book.proofs.{AnswerLaws.accepted, AnswerLaws.book_step-accepted}
-pub use Rattle.gateway_book.proofs.{CancelLaws.named_found, CancelLaws.named_none, CancelLaws.net_named, KeptLaws.net-place}
+pub use Rattle.gateway_book.proofs.{CancelLaws.named_found, CancelLaws.named_none, CancelLaws.net_named, KeptLaws.kept-nil}
+pub use Rattle.gateway_book.proofs.{KeptLaws.net-place}
 pub use Rattle.gateway_book.specs.{Orderly.IsOrderly, declared.ask.Ask.Ask, declared.cancel.CancelFault.CancelFault}
 pub use Rattle.gateway_book.specs.{declared.cancel.CancelFault.TheVariants.Begun, declared.cancel.CancelFault.TheVariants.NotHere}
 pub use Rattle.gateway_book.specs.{declared.refusal.Refusal.Refusal, declared.totals.Totals.Totals, Lawful.IsLawful}

@@ -1,7 +1,7 @@
 -- What the laws of the calls of a ticket and of a book say of the worked run: each clause tells a fact.
 use Rattle.server_core.proofs.Words.{ap, arith, None, Some, [], Ok, Err, refl, ◌≡◌, ◌∷◌, List, slice_set}
 use Rattle.server_core.proofs.Words.{some_inj, desk_of, Done, DeskView, Settle, step, Reservation}
-use Rattle.server_core.proofs.Words.{Try, Cancel, Tick, opening, Standing, Outcome, GatewaySetting, NotHere, with_booked}
+use Rattle.server_core.proofs.Words.{Try, Cancel, Tick, opening, Standing, Outcome, GatewaySetting, NotHere, ticked, with_booked}
 use Rattle.server_core.proofs.Words.{Book, CancelFault, Result, Sent, ℕ, Step, Reply, Answer, World, told, with_cancelled, orderly_nil}
 use Rattle.radio_airtime.specs.TimeOnAir.{airtime_of}
 use Rattle.radio_bands.specs.Band.{band_of}
@@ -216,7 +216,7 @@ module _ {A : Type 0} (calls : BookCallsAreSteps A) (alone : OthersLeaveAlone) w
 
   -- once the second gateway's floor is past RX2, the third uplink isn't answered
   abbrev late : Book
-  late = record with_second { floor = 12000000 }
+  late = ticked with_second 12000000
 
   late_step : IsStepAt w17 (Tick 2 12000000) 2 1 w17.answers late (replies.Ticked (Some 12000000))
   late_step = calls.tick w17 2 1 12000000 with_second late second_kept refl

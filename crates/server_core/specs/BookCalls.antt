@@ -1,10 +1,10 @@
-use Rattle.std.specs.Prelude.{ℕ, ◌≡◌, List, slice_set, max, Option, Some, None, IsTrue, Result, Ok, Err, IfOk, OnErr}
+use Rattle.std.specs.Prelude.{ℕ, ◌≡◌, List, slice_set, Option, Some, None, IsTrue, Result, Ok, Err, IfOk, OnErr}
 use Rattle.std.specs.Option.{option_and_then}
 use Rattle.gateway_book.specs.declared.refusal.Refusal.{Refusal}
 use Rattle.gateway_book.specs.declared.cancel.CancelFault.{CancelFault}
 use Rattle.gateway_book.specs.declared.cancel.CancelFault.TheVariants.{NotHere}
 use Rattle.gateway_book.specs.Step.{cancel_answer, cancel_step}
-use Rattle.gateway_book.specs.Book.{Book, state_of, with_cancelled, airtime_answer}
+use Rattle.gateway_book.specs.Book.{Book, state_of, with_cancelled, ticked, airtime_answer}
 use Rattle.uplink_gather.specs.Gatherings.{numbered, rewritten}
 use Rattle.rx_windows.specs.declared.candidate.Candidate.{Candidate}
 use Rattle.answer_ticket.specs.declared.outcome.Ending.TheVariants.{GivenUp}
@@ -133,7 +133,7 @@ pub record BookCallsAreSteps (A : Type 0) : Type 0 where
       → step w (Cancel n) ≡ (w, replies.Cancelled (Err NotHere))
   -- time passes for a gateway's book
   pub tick : (w : World) (id at now : ℕ) (old new : Book) → IsBookAt id at w.gateways old
-      → new ≡ record old { floor = max old.floor now }
+      → new ≡ ticked old now
       → IsStepAt w (Tick id now) id at w.answers new (replies.Ticked (Some new.floor))
   pub tick_nowhere : (w : World) (id now : ℕ) → gateway_with id w.gateways ≡ None
       → step w (Tick id now) ≡ (w, replies.Ticked None)

@@ -19,6 +19,6 @@ pub returns : goal.returns
 returns g c = both_ok c.told-2.result (ticked_done c.args.place (seen c.args.self.now) (seen c.did.new.self)
     (seen c.told-2.new.self) c.args.gateway c.args.now c.in_ok-did.ensures c.requires
     c.in-Some.at c.index_mut-book.result.now c.tick.new.self c.totals-floor.result.floor
-    (rw c.deref.ensures.value at c.in-Some.ensures) c.index_mut-book.ensures.value c.tick.ensures.floor
+    (rw c.deref.ensures.value at c.in-Some.ensures) c.index_mut-book.ensures.value c.tick.ensures.ticked
     (ap (λ (t : Totals). t.floor) c.totals-floor.ensures.totals))
     c.told-2.ensures
