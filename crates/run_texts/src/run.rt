@@ -58,12 +58,11 @@ where
         (W.taken writer.new) refused) }
     ensures front { workers ≡ 0 → result ≡ Err TextFault.Write
         → RunsInPart Global (R.left reader.old) (R.left reader.new) (W.taken writer.old) (W.taken writer.new) }
-    ensures played { 0 < workers → IfOk result (λ refused. RunsByWorkers (R.left reader.old) (R.left reader.new)
-        (W.taken writer.old) (W.taken writer.new) refused) }
+    ensures played { 0 < workers → IfOk result (RunsByWorkers (R.left reader.old) (R.left reader.new) (W.taken writer.old)
+        (W.taken writer.new)) }
     ensures settings { workers ≡ 0 → NamesFault (R.left reader.old) result }
     ensures named { 0 < workers → workers ≤ 16 → NamesFaultOfWorkers (R.left reader.old) result }
-    ensures workers { 16 < workers → NamesWorkers result }
-    ensures unread { 16 < workers → reader.new ≡ reader.old }
+    ensures workers { 16 < workers → NamesWorkers result × (reader.new ≡ reader.old) }
     ensures untouched { IfErr result (λ fault. fault ≢ TextFault.Write → writer.new ≡ writer.old) }
     ensures limit { workers ≤ 16 → KeepsInputLimit (R.left reader.old) result }
     ensures read { CountsReads (R.failed_calls reader.old) (R.failed_calls reader.new) result }
