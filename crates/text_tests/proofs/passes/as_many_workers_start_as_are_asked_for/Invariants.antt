@@ -2,6 +2,3 @@ use Rattle.text_tests.proofs.passes.as_many_workers_start_as_are_asked_for.Given
 
 abbrev pub ghosts-answered : goal.ghosts-answered
 ghosts-answered g a = record { name = a.blank.name; parts = a.blank.parts }
-
-abbrev pub ghosts-answered-2 : goal.ghosts-answered-2
-ghosts-answered-2 g a = record { name = a.blank-2.name; parts = a.blank-2.parts }
