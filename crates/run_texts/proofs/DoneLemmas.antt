@@ -1,5 +1,6 @@
 -- What is done for events, one after another.
-use Rattle.std.proofs.Common.{◌≡◌, ℕ, ◌+◌, ◌<◌, ◌++◌, List, [], ◌∷◌, length, take, get_or, refl, sym, ap, ◌∙◌, arith, subst, Result, Ok, Err, IfOk, Vec, Bool, false, ◌==◌, ◌≤◌}
+use Rattle.std.proofs.Common.{◌≡◌, ℕ, ◌+◌, ◌<◌, ◌++◌, List, [], ◌∷◌, length, take, get_or, refl, sym}
+use Rattle.std.proofs.Common.{ap, ◌∙◌, arith, subst, Result, Ok, Err, IfOk, Vec, Bool, false, ◌==◌, ◌≤◌}
 use Rattle.std.proofs.lemmas.List.{take_more, take_all, length-take-le}
 use Rattle.std.specs.Global.{Global}
 use Rattle.server_core.specs.declared.entry.Entry.{Entry}

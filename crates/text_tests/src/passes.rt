@@ -155,8 +155,14 @@ fn answered<B: Ledger + Send + Sync, R: Threads + Wait + Sync>(
     requires all { blank.parts ≡ PARTS }
 {
     let (station, till) = station_that_heard::<B, R>(rt, alloc, AT_ONCE, blank)?;
-    let Answered { till: _, ran, told } =
-        answer_with_workers(rt, alloc, &station, &[1, 2, 3], till, workers);
+    let Answered { till: _, ran, told } = answer_with_workers(
+        rt,
+        alloc,
+        &station,
+        &[1, 2, 3],
+        till,
+        workers,
+    );
     let (text, _) = pass_text(alloc, told)?;
     Ok((ran, text))
 }
