@@ -1,5 +1,5 @@
 // Workers share out the numbers of a station.
-ghost use Rattle.std.specs.Prelude.{◌≡◌, ◌≢◌, ◌+◌, ◌-◌, ◌*◌, ◌<◌, ◌≤◌, ◌↔◌, All, IsErrAnd, IfOk, IfErr, length, map, ⊤, vec_len};
+ghost use Rattle.std.specs.Prelude.{◌≡◌, ◌≢◌, ◌+◌, ◌-◌, ◌*◌, ◌<◌, ◌≤◌, ◌↔◌, All, IsErrAnd, IfOk, IfErr, OnOk, OnErr, length, map, ⊤, vec_len};
 ghost use Rattle.std.specs.Prelude.{vec_capacity};
 ghost use Rattle.air_ledger.specs.Tills.{all_parts};
 ghost use Rattle.server_workers.specs.Works.{outcomes_airtime};
@@ -91,7 +91,7 @@ fn serve_by<
     alloc: A,
     station: &Station<B, S, A>,
     numbers: &[u64],
-    mut till: Till<B>,
+    till: Till<B>,
     workers: u8,
     gate: &G,
 ) -> Result<Served<B, A>, ServeFault<B>>
@@ -106,7 +106,42 @@ where
     ensures back { IfErr result (λ fault. fault.till ≡ till) }
     ensures inside { IfErr result (λ fault. fault.cause ≢ ServeCause.Workers) }
 {
-    let Ok(outfit) = fitted_out::<K, R, B, A>(rt, alloc, numbers, workers) else {
+    let outfit = fitted_out::<K, R, B, A>(rt, alloc, numbers, workers);
+    serve_with(rt, station, outfit, till, gate)
+}
+
+/// The same, with what the crew needs, or want of memory for it.
+fn serve_with<
+    K: Room + Send + Sync,
+    R: Threads + Wait + Sync,
+    B: Ledger + Send + Sync,
+    S: BuildHasher + Send + Sync,
+    A: Allocator + Copy + Send + Sync,
+    G: Gate + Sync,
+>(
+    rt: &R,
+    station: &Station<B, S, A>,
+    outfit: Result<Outfit<K, B, A>, AllocError>,
+    mut till: Till<B>,
+    gate: &G,
+) -> Result<Served<B, A>, ServeFault<B>>
+where
+    S::Hasher: Send + Sync,
+    requires lists { IfOk outfit (λ o. All (λ own. AreEmptyFor K.room own) o.lists.items) }
+    requires few { IfOk outfit (λ o. vec_len o.lists ≤ 16) }
+    requires nobody { IfOk outfit (λ o. vec_len o.crew ≡ 0) }
+    requires places { IfOk outfit (λ o. vec_len o.lists ≤ vec_capacity o.crew) }
+    requires all { IfOk outfit (λ o. AreEmptyFor (vec_len o.lists * K.room) o.all) }
+    requires parts { 16 < till.parts }
+    ensures till { IfOk result (λ served. served.till
+        ≡ record till { amount = till.amount + outcomes_airtime served.outcomes.items }) }
+    ensures sorted { IfOk result (λ served. IsSortedByNumber served) }
+    ensures ran { IfOk outfit (λ o. IfOk result (λ served. (1 ≤ served.ran) × (served.ran ≤ vec_len o.lists))) }
+    ensures back { IfErr result (λ fault. fault.till ≡ till) }
+    ensures had { OnOk outfit (IfErr result (λ fault. fault.cause ≡ ServeCause.NoThread)) }
+    ensures memory { OnErr outfit (IsErrAnd result (λ fault. fault.cause ≡ ServeCause.NoMemory)) }
+{
+    let Ok(outfit) = outfit else {
         return Err(fault(ServeCause::NoMemory, till));
     };
     let parts = till.parts();
