@@ -226,10 +226,7 @@ fn retires_a_thousand<R: Roster + Drop>(rt: &impl Abort, roster: R)
         floor: 3_596_400_000_999,
     };
     assert_eq!(rt; book.totals(), wanted);
-    assert_eq!(rt;
-        book.busiest(Band::M),
-        Some((3_596_400_000_999, 41_216))
-    );
+    assert_eq!(rt; book.busiest(Band::M), Some((3_596_400_000_999, 41_216)));
 }
 
 #[test]

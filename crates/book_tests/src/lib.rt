@@ -7,3 +7,5 @@ mod book;
 mod radio;
 #[cfg(test)]
 mod roster;
+#[cfg(test)]
+mod unforgetting;
