@@ -16,7 +16,8 @@ abbrev number_of : Booking → ℕ
 number_of b = b.receipt.number
 
 -- where the lesser numbers end, one more leaves them by number
-pub one_more_rises : (bookings : List Booking) (b : Booking) (at : ℕ) → IsNonDecreasingBy number_of bookings → at ≤ length bookings
+pub one_more_rises : (bookings : List Booking) (b : Booking) (at : ℕ) → IsNonDecreasingBy number_of bookings
+    → at ≤ length bookings
     → AllWithin (λ c. nat_lt c.receipt.number b.receipt.number ≡ true) bookings 0 at
     → AllWithin (λ c. nat_lt c.receipt.number b.receipt.number ≡ false) bookings at (length bookings)
     → IsNonDecreasingBy number_of (insert bookings at b)
@@ -31,11 +32,13 @@ one_more_rises bookings b at rising within low high =
       more a e = grind (arith, nat_tests, e)
 
 -- one more receipt of several
-pub one_more_booked : (receipts : List (Receipt Global)) (r : Receipt Global) (old mid new : List Booking) → HasMore receipts old mid
+pub one_more_booked : (receipts : List (Receipt Global)) (r : Receipt Global) (old mid new : List Booking)
+    → HasMore receipts old mid
     → HasOneMore (booking_of r) mid new → HasMore (receipts ++ r ∷ []) old new
 one_more_booked receipts r old mid new have one =
     let b : Booking = booking_of r in
-    let step : IsPermutation (b ∷ mid) new = subst (λ l. IsPermutation (b ∷ mid) l) (sym one.1) (IsPermutation-insert mid one.0 b) in
+    let step : IsPermutation (b ∷ mid) new = subst (λ l. IsPermutation (b ∷ mid) l) (sym one.1)
+    (IsPermutation-insert mid one.0 b) in
     let both : IsPermutation ((old ++ map booking_of receipts) ++ b ∷ []) new =
     IsPermutation-push_more (old ++ map booking_of receipts) mid new b have step in
     subst (λ l. IsPermutation l new)

@@ -30,7 +30,8 @@ module _ {X : Type 0} (key : X → ℕ) (n : ℕ) where
   found_nowhere (y ∷ xs) h =
       rw (h 0 y (omega arith)) (found_nowhere xs (λ k d l. rw add-one at (h (k + 1) d (omega (arith, l)))))
 
-  other_by : (a b : ℕ) (t : Bool) → nat_lt a b ≡ t → (t ≡ true → (a == b) ≡ false) → (t ≡ false → (a == b) ≡ false) → (a == b) ≡ false
+  other_by : (a b : ℕ) (t : Bool) → nat_lt a b ≡ t → (t ≡ true → (a == b) ≡ false) → (t ≡ false → (a == b) ≡ false)
+      → (a == b) ≡ false
   other_by a b true e f g = f refl
   other_by a b false e f g = g refl
 

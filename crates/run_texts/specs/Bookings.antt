@@ -55,4 +55,5 @@ IsMarked b (Err fault) old new = new ≡ old
 abbrev pub IsCancelTold : ℕ → Option Booking → List Booking → List Booking → Line Global → Type 0
 IsCancelTold n None old new line = (line ≡ lines.NotCancelled n NotHere) × (new ≡ old)
 IsCancelTold n (Some b) old new line =
-    (answer : Result ℕ CancelFault) × IsCancelAnswer b.receipt answer × (line ≡ cancelled_line n answer) × IsMarked b answer old new
+    (answer : Result ℕ CancelFault) × IsCancelAnswer b.receipt answer × (line ≡ cancelled_line n answer)
+    × IsMarked b answer old new

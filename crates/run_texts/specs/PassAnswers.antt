@@ -64,7 +64,8 @@ answer_in e n = option_map_or (answer_to e.receipts.items n) (end_of e n) (line_
 
 -- one answer for each of these numbers, in their order: by how the workers ended it, and where none of them did, by how the
 -- calling thread, which took up just those, did; and the receipts of all that was booked
-pub record IsPassToldFrom (workers : Ends) (numbers : List ℕ) (answers : List Answer) (booked : List (Receipt Global)) : Type 0 where
+pub record IsPassToldFrom (workers : Ends) (numbers : List ℕ) (answers : List Answer) (booked : List (Receipt Global))
+    : Type 0 where
   pub finished : Ends
   pub all : Ends
   pub rest : HasFiled (left_by workers numbers) workers finished

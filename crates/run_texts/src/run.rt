@@ -14,7 +14,7 @@ use crate::run_settings::settings_in;
 use crate::station_run::{Played, play};
 use run_lines::{events_of, parts_of, read_all, write_lines};
 use server_core::Settings;
-use server_workers::{Blank, PARTS};
+use server_workers::{Blank, MAX_WORKERS, PARTS};
 use std::alloc::Global;
 use std::hash::BuildHasher;
 use std::marker::Brand;
@@ -22,9 +22,6 @@ use std::sync::Wait;
 use std::thread::Threads;
 use text_lines::{ByteIn, ByteOut};
 use text_words::TextFault;
-
-/// The most workers that a run may have.
-const MAX_WORKERS: u8 = 16;
 
 /// Runs a server: reads settings up to the first line that is exactly `---`, and then events, does what they ask for, and
 /// writes an answer to each event that has one, and at the end a report. It answers whether a line of the output begins

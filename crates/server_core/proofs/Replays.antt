@@ -1,7 +1,8 @@
 -- Events, one after another, from a server that has heard nothing.
 use Rattle.server_core.proofs.Words.{ap, append-nil, append_assoc, arith, sym, ◌∙◌, drop_of_length-le, drop-cons, List, [], drop}
 use Rattle.server_core.proofs.Words.{get_or, length, map, refl, suc, ℕ, ◌++◌, ◌+◌, ◌<◌, ◌∷◌, ◌≡◌, ◌≤◌, map-map, Book, orderly_nil}
-use Rattle.server_core.proofs.Words.{kept-nil, remembers_own, desk_of, Gateway, World, opened_gateway, opening, AreSettings, SettingLists}
+use Rattle.server_core.proofs.Words.{kept-nil, remembers_own, desk_of, Gateway, World, opened_gateway}
+use Rattle.server_core.proofs.Words.{opening, AreSettings, SettingLists}
 use Rattle.server_core.proofs.Words.{GatewaySetting, entries, gateway_of, gateways_after, kept_gateway, reached, schedule}
 use Rattle.server_core.proofs.Words.{step_of, usual_limits, AreBooksOf, Does, IsAt, IsOpened, IsBetweenCalls, Seen, with_lines}
 use Rattle.server_core.proofs.Words.{Step}

@@ -163,7 +163,12 @@ others_leave_alone =
       opened = λ settings are limits at g e. record {
         gateway = opened_gateway g;
         found = first_opened settings.gateways at g are.ids_differ e;
-        keeps = record { id = refl; rules = refl; orderly = orderly_nil; remembers = remembers_own (unused_book g) _ refl (kept-nil 0) };
+        keeps = record {
+          id = refl;
+          rules = refl;
+          orderly = orderly_nil;
+          remembers = remembers_own (unused_book g) _ refl (kept-nil 0);
+        };
       };
       ticket = λ w s t is o. answer_stays w t.job.number (Open t.at t.job) is refl s o;
       stub = stub_stays;

@@ -2,7 +2,8 @@
 use Rattle.server_core.proofs.Words.{ap, arith, None, Some, [], Ok, Err, refl, ◌≡◌, ◌∷◌, List, slice_set}
 use Rattle.server_core.proofs.Words.{some_inj, desk_of, Done, DeskView, Settle, step, Reservation}
 use Rattle.server_core.proofs.Words.{Try, Cancel, Tick, opening, Standing, Outcome, GatewaySetting, NotHere, ticked, with_booked}
-use Rattle.server_core.proofs.Words.{Book, CancelFault, Result, Sent, ℕ, Step, Reply, Answer, World, told, with_cancelled, orderly_nil}
+use Rattle.server_core.proofs.Words.{Book, CancelFault, Result, Sent, ℕ, Step, Reply, Answer, World}
+use Rattle.server_core.proofs.Words.{told, with_cancelled, orderly_nil}
 use Rattle.radio_airtime.specs.TimeOnAir.{airtime_of}
 use Rattle.radio_bands.specs.Band.{band_of}
 use Rattle.resv_list.specs.Reservations.{begun}

@@ -1,5 +1,6 @@
 -- The worked run as a whole: its steps, what they are answered, and the world after them.
-use Rattle.server_core.proofs.Words.{List, [], ◌∷◌, ◌≡◌, Some, None, Ok, false, refl, Step, Reply, Hear, Pass, Take, Settle, Try, Run, run}
+use Rattle.server_core.proofs.Words.{List, [], ◌∷◌, ◌≡◌, Some, None, Ok, false, refl, Step, Reply, Hear, Pass, Take, Settle}
+use Rattle.server_core.proofs.Words.{Try, Run, run}
 use Rattle.server_core.proofs.Words.{run_from}
 use Rattle.gateway_book.specs.declared.refusal.Refusal.TheVariants.{Taken}
 use Rattle.server_desk.specs.declared.heard.DeskHeard.TheVariants.{Opened, Joined}

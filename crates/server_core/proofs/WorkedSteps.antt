@@ -1,7 +1,8 @@
--- The steps of a worked run, and what they make of the world: three uplinks, one after another, two of the first device and one of
--- the second. Both gateways hear the first two. The first is answered on the first gateway; there the answer to the second, in the
--- same window, is refused, and it goes to the second gateway. This one alone hears the third; there RX1 is refused, since it sends
--- to the first device then, and RX2 is taken. From there on, two of the three are cancelled. Each step computes.
+-- The steps of a worked run, and what they make of the world: three uplinks, one after another, two of the first device and
+-- one of the second. Both gateways hear the first two. The first is answered on the first gateway; there the answer to the
+-- second, in the same window, is refused, and it goes to the second gateway. This one alone hears the third; there RX1 is
+-- refused, since it sends to the first device then, and RX2 is taken. From there on, two of the three are cancelled. Each
+-- step computes.
 use Rattle.server_core.proofs.Words.{true, false, Bool, List, [], ◌∷◌, ◌++◌, Asked, ℕ, ◌≡◌, Some, None, Ok, refl}
 use Rattle.server_core.proofs.Words.{Gathering, Job, Answer, Waiting, Open, Booked, Settled, Gateway, World, Hear}
 use Rattle.server_core.proofs.Words.{Pass, Take, Settle, Try, Cancel, opening, step, decide, due_of, take_answer}
@@ -37,7 +38,8 @@ abbrev pub none_booked : List Gateway
 none_booked = gateway_at 1 unused ∷ gateway_at 2 unused ∷ []
 
 abbrev pub w1 : World
-w1 = world (first_alone (Some 0) 0) (gathering first 1000 (kept_copy 1 5000000 55 ∷ []) false ∷ []) (asked_by 0 ∷ []) (Waiting ∷ [])
+w1 = world (first_alone (Some 0) 0) (gathering first 1000 (kept_copy 1 5000000 55 ∷ []) false ∷ [])
+    (asked_by 0 ∷ []) (Waiting ∷ [])
     none_booked
 
 pub heard_1 : step (opening settings limits) (Hear first (copy_at 1 5000000 55) 1000)
@@ -149,7 +151,8 @@ abbrev pub two_booked : List Gateway
 two_booked = gateway_1 ∷ gateway_2 ∷ []
 
 abbrev pub w12 : World
-w12 = world (first_alone (Some 1) 2) both_done (asked_by 0 ∷ asked_by 0 ∷ []) (then_second (Booked (sent_at 2 10000000) Rx1 false)) two_booked
+w12 = world (first_alone (Some 1) 2) both_done (asked_by 0 ∷ asked_by 0 ∷ [])
+    (then_second (Booked (sent_at 2 10000000) Rx1 false)) two_booked
 
 pub tried_12 : step w11 (Try 2) ≡ (w12, replies.Tried (Some None))
 unfolding step candidates_of airtime_of band_of overlap full_hour kept begun

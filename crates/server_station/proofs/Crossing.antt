@@ -16,15 +16,20 @@ use Rattle.server_station.proofs.office.Office.TheSendSync as office
 use Rattle.server_station.specs.contracts.place.Place as Place
 use Rattle.server_station.specs.contracts.station.Station as Station
 
-module _ (A : RattleType) (g : Allocator.Ghosts A.Denot) (c : Clone.Ghosts A.Denot) (sent : IsSend A) (frees : Frees g g.dealloc_token) where
+module _ (A : RattleType) (g : Allocator.Ghosts A.Denot) (c : Clone.Ghosts A.Denot)
+    (sent : IsSend A) (frees : Frees g g.dealloc_token) where
   -- its number, and its book behind the lock
   place_sync : IsSync (Place.the_row A c g)
   place_sync =
       let roster = roster_send A g sent frees c in
       view_sync _ _ _ _ _
-      (declared_sync (Place.TheInside.the_type A c g) (search sendable depth 9, (search (sendable, crosses, book.the_send) depth 9, tt)))
+      (declared_sync (Place.TheInside.the_type A c g) (
+        search sendable depth 9,
+        (search (sendable, crosses, book.the_send) depth 9, tt),
+      ))
 
-  module _ (B S H : RattleType) (l : Ledger.Ghosts B.Denot) (b : BuildHasher.Ghosts S.Denot H.Denot) (h : Hasher.Ghosts H.Denot) where
+  module _ (B S H : RattleType) (l : Ledger.Ghosts B.Denot) (b : BuildHasher.Ghosts S.Denot H.Denot)
+      (h : Hasher.Ghosts H.Denot) where
     -- its desk with the tally behind one lock, and its places
     pub station_sync : IsSync A → IsSend S → IsSync (Station.the_row B S A H l b h g c)
     station_sync shared hasher =

@@ -19,7 +19,10 @@ module _ (ν : Sym) (ℓ ℓ₁ ℓ₂ ℓ₃ ℓ₄ : Lifetime) (κ κ₁ κ₂
           as_row_send (row_field (ShrRef ℓ₁ κ₁ R)) (shr_send ℓ₁ κ₁ R r),
           (
             as_row_send (row_field (ShrRef ℓ₂ κ₂ T)) (shr_send ℓ₂ κ₂ T t),
-            (as_row_send (row_field (ShrRef ℓ₃ κ₃ N)) (shr_send ℓ₃ κ₃ N n), (as_row_send (row_field (ShrRef ℓ₄ κ₄ G)) (shr_send ℓ₄ κ₄ G g), tt)),
+            (
+              as_row_send (row_field (ShrRef ℓ₃ κ₃ N)) (shr_send ℓ₃ κ₃ N n),
+              (as_row_send (row_field (ShrRef ℓ₄ κ₄ G)) (shr_send ℓ₄ κ₄ G g), tt),
+            ),
           ),
         ),
       )

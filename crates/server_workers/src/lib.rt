@@ -6,6 +6,7 @@ mod lists;
 mod member;
 mod served;
 mod serving;
+mod summing;
 mod worked;
 mod working;
 
@@ -14,6 +15,6 @@ pub use server_station::{
     Blank, Closing, FinishCause, FinishFault, Gate, Handled, Ledger, MAX_TURNS, NoGate, NoMemory,
     Office, PARTS, Station, Tally, Till, TotalsFault,
 };
-pub use serving::serve;
+pub use serving::{MAX_WORKERS, serve};
 pub use worked::Worked;
 pub use working::work;

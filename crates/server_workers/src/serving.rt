@@ -1,6 +1,6 @@
 // Workers share out the numbers of a station.
-ghost use Rattle.std.specs.Prelude.{◌≡◌, ◌≢◌, ◌+◌, ◌-◌, ◌*◌, ◌<◌, ◌≤◌, ◌↔◌, All, IsErrAnd, IfOk, IfErr, OnOk, OnErr, length, map, ⊤, vec_len};
-ghost use Rattle.std.specs.Prelude.{vec_capacity};
+ghost use Rattle.std.specs.Prelude.{◌≡◌, ◌≢◌, ◌+◌, ◌-◌, ◌*◌, ◌<◌, ◌≤◌, ◌↔◌, All, IsErrAnd, IfOk, IfErr, OnOk, OnErr, length, ⊤};
+ghost use Rattle.std.specs.Prelude.{vec_len, vec_capacity};
 ghost use Rattle.air_ledger.specs.Tills.{all_parts};
 ghost use Rattle.server_workers.specs.Works.{outcomes_airtime};
 ghost use Rattle.server_workers.specs.EmptyLists.{AreEmptyFor};
@@ -9,6 +9,7 @@ ghost use Rattle.server_workers.specs.Serving.{IsOutside, HasRoomFor, IsGathered
 use crate::lists::Lists;
 use crate::member::{Member, Numbers, Room};
 use crate::served::{ServeCause, ServeFault, Served};
+use crate::summing::summed_up;
 use crate::{Gate, Ledger, PARTS, Station, Till, Worked};
 use crossbeam_channel::{Receiver, bounded};
 use std::alloc::{AllocError, Allocator};
@@ -18,7 +19,7 @@ use std::sync::Wait;
 use std::thread::{Threads, scope, scope_env};
 
 /// The greatest number of workers.
-const MAX_WORKERS: u8 = 16;
+pub const MAX_WORKERS: u8 = 16;
 
 /// What a crew starts with.
 #[derive(Drop)]
@@ -72,7 +73,7 @@ where
 }
 
 /// A fault that hands the till back.
-fn fault<B: Ledger>(cause: ServeCause, till: Till<B>) -> ServeFault<B>
+pub(crate) fn fault<B: Ledger>(cause: ServeCause, till: Till<B>) -> ServeFault<B>
     ensures { result ≡ record { cause = cause; till = till } }
 {
     ServeFault { cause, till }
@@ -257,55 +258,4 @@ where
             }
         },
     )
-}
-
-/// What a crew did, or the fault of one of which nobody was started.
-fn summed_up<K: Room, B: Ledger, A: Allocator>(
-    till: Till<B>,
-    all: Lists<A>,
-    crew: Vec<Member<K, B, A>, A>,
-) -> Result<Served<B, A>, ServeFault<B>>
-    requires room { AreEmptyFor (vec_len crew * K.room) all }
-    requires parts { till.parts + vec_len crew ≤ all_parts }
-    requires few { vec_len crew ≤ 16 }
-    ensures till { IfOk result (λ served. served.till ≡ record
-        { parts = till.parts + vec_len crew; amount = till.amount + outcomes_airtime served.outcomes.items }) }
-    ensures sorted { IfOk result (λ served. IsSortedByNumber served) }
-    ensures ran { IfOk result (λ served. (1 ≤ served.ran) × (served.ran ≤ vec_len crew)) }
-    ensures back { IfErr result (λ fault. fault.till ≡ record { parts = till.parts + vec_len crew; amount = till.amount }) }
-    ensures nobody { IfErr result (λ fault. fault.cause ≡ ServeCause.NoThread) }
-    ensures all { IfOk result (IsSummedUp (map (λ m. m.worked) crew.items)) }
-    ensures begun { IfOk result (λ served. served.ran ≡ begun_count (map (λ m. m.has_begun) crew.items)) }
-{
-    let mut served = Served::new(till, all);
-    gather(&mut served, crew);
-    if served.ran == 0 {
-        return Err(fault(ServeCause::NoThread, served.till));
-    }
-    served.sort();
-    Ok(served)
-}
-
-/// Adds what a crew did, and counts those who have begun.
-fn gather<K: Room, B: Ledger, A: Allocator>(
-    served: &mut Served<B, A>,
-    crew: Vec<Member<K, B, A>, A>,
-)
-    requires room { HasRoomFor (vec_len crew * K.room) served.old }
-    requires parts { served.old.till.parts + vec_len crew ≤ all_parts }
-    requires few { served.old.ran + vec_len crew ≤ 16 }
-    ensures all { IsGatheredFrom served.old (map (λ m. m.worked) crew.items) served.new }
-    ensures parts { served.new.till.parts ≡ served.old.till.parts + vec_len crew }
-    ensures amount { served.new.till.amount + outcomes_airtime served.old.outcomes.items
-        ≡ served.old.till.amount + outcomes_airtime served.new.outcomes.items }
-    ensures ran { served.new.ran ≡ served.old.ran + begun_count (map (λ m. m.has_begun) crew.items) }
-    ensures most { served.new.ran ≤ served.old.ran + vec_len crew }
-    ensures nobody { served.new.ran ≡ 0 → served.new.outcomes.items ≡ served.old.outcomes.items }
-{
-    let mut crew = crew;
-    while let Some(member) = crew.pop() {
-        let (has_begun, worked) = member.parted();
-        served.take_in(worked);
-        served.ran += u8::from(has_begun);
-    }
 }

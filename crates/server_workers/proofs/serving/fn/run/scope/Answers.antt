@@ -1,4 +1,5 @@
--- A worker's thread may be sent what it is passed: its worker, and the runtime, the station, the numbers and the gate that all share.
+-- A worker's thread may be sent what it is passed: its worker, and the runtime, the station, the numbers and the gate that all
+-- share.
 use Rattle.std.specs.Prelude.{[]}
 use mir.Syntax.{named, of_param}
 use denote.Exit.{unseen}

@@ -2,7 +2,7 @@ use Rattle.std.proofs.Common.{◌≡◌, ◌+◌, ◌-◌, ◌*◌, ◌^◌, ◌
 use Rattle.server_workers.specs.Works.{outcomes_airtime}
 use Rattle.server_workers.specs.Serving.{HasRoomFor, begun_count}
 use Rattle.server_workers.proofs.CrewLemmas.{IsOwed}
-use Rattle.server_workers.proofs.serving.gather.Given as goal
+use Rattle.server_workers.proofs.summing.gather.Given as goal
 
 abbrev pub invariant-loop-member : goal.invariant-loop-member
 invariant-loop-member g l =

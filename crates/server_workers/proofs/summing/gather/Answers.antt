@@ -6,7 +6,7 @@ use Rattle.server_workers.specs.Serving.{begun_count}
 use Rattle.std.proofs.lemmas.List.{map-append}
 use Rattle.server_workers.proofs.CrewLemmas.{one_fits, others_fit, owed_on, owed_none, one_at_most, none_on, begun_last}
 use Rattle.server_workers.proofs.WorkLemmas.{outcomes_airtime-append}
-use Rattle.server_workers.proofs.serving.gather.Goals as goal
+use Rattle.server_workers.proofs.summing.gather.Goals as goal
 
 pub take_in-requires-clause-receipts : goal.take_in-requires-clause-receipts
 take_in-requires-clause-receipts g c =

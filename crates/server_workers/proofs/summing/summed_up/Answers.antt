@@ -1,5 +1,5 @@
 use Rattle.server_workers.proofs.CrewLemmas.{all_summed_up}
-use Rattle.server_workers.proofs.serving.summed_up.Goals as goal
+use Rattle.server_workers.proofs.summing.summed_up.Goals as goal
 
 pub returns-clause-all : goal.returns-clause-all
 returns-clause-all g c =
