@@ -1,5 +1,5 @@
 use Rattle.std.specs.Prelude.{ℕ, ◌≡◌, ◌+◌, ◌-◌, ◌^◌, ◌<◌, ◌≤◌, nat_lt, nat_le, Bool, true, false, ◌&&◌, List, [], ◌∷◌, ◌++◌, cond}
-use Rattle.std.proofs.Common.{refl, arith, ◌∙◌, sym}
+use Rattle.std.proofs.Common.{refl, arith, ap, ◌∙◌, sym}
 use Rattle.std.proofs.lemmas.Bool.{le-leb, ltb-true, ltb-false}
 use Rattle.radio_bands.specs.declared.band.Band.{Band}
 use Rattle.radio_bands.specs.declared.band.Band.TheVariants.{K, L, M, N, P, Q}
@@ -40,6 +40,21 @@ kept_sum-total (Fork l e r h n s) band w =
       w.2.sums band,
       kept_sum-total l band w.0,
       kept_sum-total r band w.1,
+      total_in-append band (entries l) (e ∷ entries r),
+      total_in-cons band e (entries r),
+    )
+
+-- so its sum is that of its sides and of the one between
+pub kept_sum-parts : (t l r : Shape) (e : Reservation) (band : Band) → entries t ≡ entries l ++ e ∷ entries r → IsWhole t
+    → IsWhole l → IsWhole r → kept_sum t band ≡ kept_sum l band + airtime_in band e + kept_sum r band
+kept_sum-parts t l r e band is w v u =
+    let parts : total_in band (entries t) ≡ total_in band (entries l ++ e ∷ entries r) = ap (total_in band) is in
+    omega (
+      arith,
+      parts,
+      kept_sum-total t band w,
+      kept_sum-total l band v,
+      kept_sum-total r band u,
       total_in-append band (entries l) (e ∷ entries r),
       total_in-cons band e (entries r),
     )

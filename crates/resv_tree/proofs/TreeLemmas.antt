@@ -2,7 +2,7 @@ use Rattle.std.specs.Prelude.{ℕ, ◌≡◌, ◌+◌, ◌-◌, ◌*◌, ◌<◌
 use Rattle.std.specs.Option.{option_or}
 use Rattle.std.proofs.Common.{subst, sym, ◌∙◌, ap, arith}
 use Rattle.radio_bands.specs.declared.band.Band.{Band}
-use Rattle.resv_list.specs.Reservations.{begun, airtime_in, start_of, place, member_at, without, IsFree, IsByStart}
+use Rattle.resv_list.specs.Reservations.{begun, start_of, place, member_at, without, IsFree, IsByStart}
 use Rattle.resv_list.specs.Reservations.{members_before, members_from, net}
 use Rattle.resv_list.proofs.NetLemmas.{net-parted, length-parted}
 use Rattle.resv_list.specs.declared.reservation.Reservation.{Reservation}
@@ -14,7 +14,7 @@ use Rattle.resv_tree.specs.Parts.{IsMadeOf}
 use Rattle.resv_tree.proofs.SplitLemmas.{rises_left, rises_right, place_left, place_right, at_left, at_right, at_middle}
 use Rattle.resv_tree.proofs.SplitLemmas.{rest_left, rest_right}
 use Rattle.resv_tree.proofs.NearLemmas.{last_left, last_right, first_left, first_right}
-use Rattle.resv_tree.proofs.SumLemmas.{begun_left, begun_right, kept_sum-total, begun_le-total}
+use Rattle.resv_tree.proofs.SumLemmas.{begun_left, begun_right, kept_sum-total, kept_sum-parts, begun_le-total}
 use Rattle.resv_tree.proofs.ShapeLemmas.{count_bounds_sum}
 use Rattle.resv_tree.proofs.HeightLemmas.{counts}
 
@@ -86,11 +86,14 @@ module _ {t l r : Shape} {e : Entry} where
       → begun band 0 to (entries t) ≡ begun band 0 to (entries l)
   spent_left band to m b h = ap (begun band 0 to) m.entries ∙ begun_left band 0 to _ _ _ (subst IsByKey m.entries b) h
 
-  pub spent_right : (band : Band) (to : ℕ) → IsMadeOf t l e r → IsByKey (entries t) → key_of e < to
-      → begun band 0 to (entries t) ≡ kept_sum l band + airtime_in band e + begun band 0 to (entries r)
-  spent_right band to m b h =
+  pub sum_of_right : (band : Band) → IsMadeOf t l e r → IsWhole t → kept_sum r band ≤ kept_sum t band
+  sum_of_right band m w = omega (arith, kept_sum-parts t l r e band m.entries w m.left m.right)
+
+  pub spent_right : (band : Band) (to : ℕ) → IsMadeOf t l e r → IsWhole t → IsByKey (entries t) → key_of e < to
+      → begun band 0 to (entries t) ≡ kept_sum t band - kept_sum r band + begun band 0 to (entries r)
+  spent_right band to m w b h =
       let all = ap (begun band 0 to) m.entries ∙ begun_right band 0 to _ _ _ (subst IsByKey m.entries b) h in
-      omega (arith, all, kept_sum-total _ band m.left)
+      omega (arith, all, kept_sum-total _ band m.left, kept_sum-parts t l r e band m.entries w m.left m.right)
 
 -- what begins before a moment is bounded by the count
 pub spent_short : (t : Shape) (band : Band) (to : ℕ) → IsWhole t → begun band 0 to (entries t) ≤ 10000000 * count_of t
@@ -114,7 +117,7 @@ pub ruleset looking_before = (sides, before_left, before_right)
 
 pub ruleset looking_from = (sides, from_left, from_right)
 
-pub ruleset spending = (sides, spent_left, spent_right, spent_short, count_bounds_sum)
+pub ruleset spending = (sides, spent_left, spent_right, sum_of_right, spent_short, count_bounds_sum)
 
 pub rest_by_start : (at : ℕ) (l m : List Reservation) → m ≡ members_from at l → IsByStart l → IsByStart m
 rest_by_start at l m e b = subst IsByStart (sym e) (RisesFrom-filter start_of _ 0 l b)

@@ -39,8 +39,8 @@ pub(crate) fn from<A: Allocator + Clone>(link: &Link<A>, key: u64) -> Option<Ent
     from(left, key).or(Some(entry))
 }
 
-/// The airtime of the members of the sub-band that begin before `to`, in microseconds: on the way down a whole side
-/// counts by the sum that its node keeps.
+/// The airtime of the members of the sub-band that begin before `to`, in microseconds. On the way down, where the one
+/// between begins before it, all but the right side counts by what the two nodes keep, so that no other is looked at.
 #[tactic(auto, using(crate::proofs::TreeLemmas::spending))]
 pub(crate) fn spent_before<A: Allocator + Clone>(link: &Link<A>, band: Band, to: u64) -> u64
     requires whole { IsWhole (shape_of link.now) }
@@ -53,5 +53,5 @@ pub(crate) fn spent_before<A: Allocator + Clone>(link: &Link<A>, band: Band, to:
     if entry.start >= to {
         return spent_before(left, band, to);
     }
-    sum_in(left, band) + entry.airtime_in(band) + spent_before(right, band, to)
+    sum_in(link, band) - sum_in(right, band) + spent_before(right, band, to)
 }
