@@ -5,24 +5,42 @@
 set -eu
 top=$(cd "$(dirname "$0")/.." && pwd)
 python3 - "${PROGRAM:-$top/crates/airbook/out/airbook}" <<'P'
-import os, subprocess, sys, tempfile
+import os, subprocess, sys, tempfile, time
 
 program = sys.argv[1]
 STEP = 6_000_000            # 600 in each hour, six seconds apart
 FEW, MANY, TICKS = 1_024, 65_536, 200_000
 
 
+def start(given):
+    return subprocess.Popen([program, "book", "--cap", "65536"], stdin=given, stdout=subprocess.DEVNULL)
+
+
 def run(lines):
-    """Processor seconds and peak memory in KiB over these lines."""
+    """Processor seconds over these lines."""
     with tempfile.TemporaryFile() as given:
         given.writelines(line.encode() for line in lines)
         given.seek(0)
-        child = subprocess.Popen([program, "book", "--cap", "65536"], stdin=given, stdout=subprocess.DEVNULL)
+        child = start(given)
         _, status, used = os.wait4(child.pid, 0)
         child.returncode = os.waitstatus_to_exitcode(status)
         if child.returncode != 0:
             raise SystemExit(f"{program} book ended with {child.returncode}")
-        return used.ru_utime + used.ru_stime, used.ru_maxrss
+        return used.ru_utime + used.ru_stime
+
+
+def memory(lines):
+    """The program's own peak memory in KiB once these lines are read, while the input is still open."""
+    child = start(subprocess.PIPE)
+    for line in lines:
+        child.stdin.write(line.encode())
+    child.stdin.flush()
+    time.sleep(0.5)
+    with open(f"/proc/{child.pid}/status") as status:
+        found = next(int(line.split()[1]) for line in status if line.startswith("VmHWM"))
+    child.stdin.close()
+    child.wait()
+    return found
 
 
 def book(number):
@@ -44,10 +62,10 @@ def kept(count, ticks):
 
 def tick(count):
     """What one tick costs in microseconds beside this many members, by the least of three runs."""
-    return min(run(kept(count, TICKS))[0] - run(kept(count, 0))[0] for _ in range(3)) / TICKS * 1e6
+    return min(run(kept(count, TICKS)) - run(kept(count, 0)) for _ in range(3)) / TICKS * 1e6
 
 
-few, many = run(years(100_000))[1], run(years(1_000_000))[1]
+few, many = memory(years(100_000)), memory(years(1_000_000))
 print(f"peak memory: 100,000 bookings {few} KiB, 1,000,000 bookings {many} KiB ({many / few:.2f})")
 few, many = tick(FEW), tick(MANY)
 print(f"a tick that retires nothing: {few:.2f} us beside {FEW:,} kept, {many:.2f} us beside {MANY:,} ({many / few:.2f})")

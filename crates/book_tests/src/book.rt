@@ -82,12 +82,13 @@ const ONE_KEPT: [Step; 4] = [
     Step::InM(3, 3_600_000_001, Ok(3_600_041_217)),
 ];
 
-const OUT_OF_SIGHT: [Step; 8] = [
+const OUT_OF_SIGHT: [Step; 9] = [
     Step::InK(0, Ok(991_232)),
     Step::InK(1_000_000, Ok(1_991_232)),
     Step::InK(2_000_000, Ok(2_991_232)),
     Step::Tick(3_600_000_000),
     Step::InK(3_600_000_000, Ok(3_600_991_232)),
+    Step::Busiest(Band::K, Some((0, 2_973_696))),
     Step::Tick(3_600_000_001),
     Step::Busiest(Band::K, Some((1_000_000, 2_973_696))),
     Step::Cancel(0, 0, Err(CancelFault::Begun)),

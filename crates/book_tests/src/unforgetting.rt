@@ -17,6 +17,8 @@ const CAP: u32 = 24;
 struct Plain {
     asks: Vec<Ask, Global>,
     floor: u64,
+    booked: u64,
+    cancelled: u64,
 }
 
 fn end_of(ask: &Ask) -> u64 {
@@ -84,13 +86,23 @@ impl Plain {
         Some(Refusal::DutyFull { band, from, spent })
     }
 
-    /// How many of all are kept: those that began at most an hour before the floor.
+    /// Whether it began at most an hour before the floor, so that it is kept.
+    fn keeps(&self, ask: &Ask) -> bool {
+        ask.start.saturating_add(HOUR) >= self.floor
+    }
+
     fn kept(&self) -> usize {
-        let floor = self.floor;
-        self.asks
-            .iter()
-            .filter(|ask| ask.start.saturating_add(HOUR) >= floor)
-            .count()
+        self.asks.iter().filter(|ask| self.keeps(ask)).count()
+    }
+
+    fn kept_airtime(&self) -> u64 {
+        let mut sum: u64 = 0;
+        for ask in &self.asks {
+            if self.keeps(ask) {
+                sum = sum.saturating_add(airtime(ask.rate, ask.len));
+            }
+        }
+        sum
     }
 
     fn refusal(&self, ask: &Ask) -> Option<Refusal> {
@@ -113,6 +125,7 @@ impl Plain {
         let refusal = self.refusal(&ask);
         if refusal.is_none() {
             self.asks.push(ask)?;
+            self.booked = self.booked.saturating_add(airtime(ask.rate, ask.len));
         }
         Ok(refusal)
     }
@@ -129,7 +142,9 @@ impl Plain {
             return Err(CancelFault::NotHere);
         };
         let ask = self.asks.remove(place);
-        Ok(airtime(ask.rate, ask.len))
+        let taken = airtime(ask.rate, ask.len);
+        self.cancelled = self.cancelled.saturating_add(taken);
+        Ok(taken)
     }
 }
 
@@ -140,7 +155,37 @@ fn drawn_after(number: u64) -> u64 {
         .wrapping_add(1_442_695_040_888_963_407)
 }
 
-/// Random commands to a book and to the list: both answer alike, and keep as many.
+/// What both are told next: a tick, a cancel, or an ask by its start.
+enum Told {
+    Tick(u64),
+    Cancel(u64, u64),
+    Book(u64),
+}
+
+/// One of these by chance: within four hours round the floor, or beside a member, which is cancelled as often.
+fn drawn_command(plain: &Plain, drawn: u64) -> Told {
+    let ahead = (drawn >> 40) % 1_440 * 10_000_000;
+    let start = plain.floor.saturating_add(ahead).saturating_sub(HOUR / 8);
+    let member = plain.asks.get((drawn >> 24) as usize % 32).copied();
+    match ((drawn >> 33) % 8, member) {
+        (0, _) => Told::Tick(start.saturating_sub(HOUR + HOUR / 2)),
+        (1 | 2, Some(ask)) => Told::Cancel(ask.number, ask.start),
+        (3, Some(ask)) => Told::Cancel(ask.number.saturating_add(1), ask.start),
+        (4, Some(ask)) => Told::Book(ask.start.saturating_add(drawn % 4 * 495_616)),
+        _ => Told::Book(start),
+    }
+}
+
+/// What the book has counted is what the list comes to.
+fn counts_alike<R: Roster>(rt: &impl Abort, book: &GatewayBook<R>, plain: &Plain) {
+    let totals = book.totals();
+    assert_eq!(rt; totals.kept, plain.kept());
+    assert_eq!(rt; totals.kept_airtime, plain.kept_airtime());
+    assert_eq!(rt; totals.cancelled, plain.cancelled);
+    assert_eq!(rt; totals.booked, plain.booked);
+}
+
+/// Random commands to a book and to the list: both answer alike, and keep as much.
 fn answers_alike<R: Roster + Drop>(rt: &impl Abort, roster: R, plain: &mut Plain)
     requires { R.list roster ≡ [] }
 {
@@ -148,29 +193,22 @@ fn answers_alike<R: Roster + Drop>(rt: &impl Abort, roster: R, plain: &mut Plain
     let mut drawn = 1;
     for number in 0..600 {
         drawn = drawn_after(drawn);
-        // Within four hours of the floor, in steps of ten seconds.
-        let ahead = (drawn >> 40) % 1_440 * 10_000_000;
-        let start = book.totals().floor.saturating_add(ahead);
-        if (drawn >> 33) % 8 == 0 {
-            let now = start.saturating_sub(HOUR + HOUR / 2);
-            book.tick(now);
-            plain.floor = plain.floor.max(now);
-        } else if (drawn >> 33) % 8 == 1 {
-            let (number, start) = plain
-                .asks
-                .first()
-                .map_or((0, start), |a| (a.number, a.start));
-            assert_eq!(rt;
-                book.cancel(number, start),
-                plain.cancel(number, start),
-                "{number}"
-            );
-        } else {
-            let ask = drawn_ask(number, start);
-            let wanted = plain.book(ask).expect(rt, "there is memory");
-            assert_eq!(rt; book.book(ask).err(), wanted, "{number}");
+        match drawn_command(plain, drawn) {
+            Told::Tick(now) => {
+                book.tick(now);
+                plain.floor = plain.floor.max(now);
+            }
+            Told::Cancel(named, start) => {
+                let wanted = plain.cancel(named, start);
+                assert_eq!(rt; book.cancel(named, start), wanted, "{number}");
+            }
+            Told::Book(start) => {
+                let ask = drawn_ask(number, start);
+                let wanted = plain.book(ask).expect(rt, "there is memory");
+                assert_eq!(rt; book.book(ask).err(), wanted, "{number}");
+            }
         }
-        assert_eq!(rt; book.totals().kept, plain.kept(), "{number}");
+        counts_alike(rt, &book, plain);
     }
     // Some was retired, so the two lists were not the same.
     assert!(rt; plain.kept() < plain.asks.len());
@@ -181,11 +219,15 @@ fn what_is_retired_is_not_seen(rt: HostRuntime) {
     let mut plain = Plain {
         asks: Vec::new(rt.alloc()),
         floor: 0,
+        booked: 0,
+        cancelled: 0,
     };
     answers_alike(&rt, VecRoster::new(rt.alloc()), &mut plain);
     let mut again = Plain {
         asks: Vec::new(rt.alloc()),
         floor: 0,
+        booked: 0,
+        cancelled: 0,
     };
     answers_alike(&rt, TreeRoster::new(rt.alloc()), &mut again);
 }

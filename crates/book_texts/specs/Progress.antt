@@ -38,7 +38,7 @@ pub record IsReplied (old new : Book) (number : ℕ) (line : List ℕ) (reply : 
   pub reached : (s : State) → StandsFor old s → StandsFor new (state_after_line old.rules starved s (said line))
   pub rules : new.rules ≡ old.rules
 
--- what stands in a book, which has forgotten what no answer depends on
+-- what stands in a book, which has forgotten what no answer to a command depends on
 pub record StandsIn (book : Book) (at : Standing) : Type 0 where
   pub rules : book.rules ≡ at.rules
   pub stands : StandsFor book at.state

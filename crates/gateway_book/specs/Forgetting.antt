@@ -51,7 +51,7 @@ abbrev pub HaveOwnStarts : List Reservation → Type 0
 HaveOwnStarts l =
     (i j : ℕ) (r s : Reservation) → slice_get l i ≡ Some r → slice_get l j ≡ Some s → i ≢ j → r.start ≢ s.start
 
--- what is forgotten is seen in no reply to a command and to no list of commands; what is kept after a command is the
+-- what is forgotten is seen in no reply to a command, and in none to a list of commands; what is kept after a command is the
 -- same; and a lawful list stays lawful
 pub record IsUnseen (rules : Rules) (s : State) : Type 0 where
   pub reply : (c : Command) → reply_to rules (forgetful s) c ≡ reply_to rules s c

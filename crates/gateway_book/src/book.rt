@@ -42,7 +42,8 @@ pub enum OpenFault {
 /// keeps that every member is fit, that members at different places are disjoint, that in each sub-band
 /// the airtime that begins in an hour, wherever the hour opens, is within the band's limit (this
 /// project's profile of ETSI EN 300 220-2, duty cycle over one hour, with its sub-bands), and that the
-/// booked airtime is the sum of what was cancelled, what was retired and what is kept. Moments are in
+/// booked airtime is the sum of what was cancelled, what was retired and what is kept. It keeps just what began
+/// no more than an hour before its floor. Moments are in
 /// microseconds of the gateway's clock.
 #[derive(Drop)]
 pub struct GatewayBook<R: Roster> {
@@ -223,7 +224,8 @@ impl<R: Roster> GatewayBook<R> {
 
     /// Raises the floor to `now`, in microseconds of the gateway's clock; it never falls. Nothing that
     /// begins before the floor is booked, and nothing that begins no later is cancelled. What began more than
-    /// an hour before the floor is retired: no later answer depends on it (`law_forgetting`). Takes no memory.
+    /// an hour before the floor is retired: no later answer to an ask, a cancel or a tick depends on it (`law_forgetting`).
+    /// Takes no memory.
     pub fn tick(&mut self, now: u64)
         ensures ticked { self.new ≡ ticked self.old now }
         ensures step { Remembers self.new (tick_step (state_of self.old) now) }

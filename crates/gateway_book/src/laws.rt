@@ -38,7 +38,7 @@ pub fn law_busiest_is_exact()
     ensures { BusiestIsExact }
 {}
 
-/// What a floor has put out of sight, a transmission that began more than an hour before it, is seen in no answer: for
+/// What a floor has put out of sight, a transmission that began more than an hour before it, is seen in no such answer: for
 /// every list of transmissions that begin at different moments, by start or not, lawful or not, a book that keeps the
 /// rest alone answers every ask, every cancel and every tick as one that keeps all, with the same refusals, hours and sums,
 /// and so every list of these; what each keeps afterwards is the same; and a lawful list stays lawful.

@@ -10,7 +10,8 @@ use radio_bands::Band;
 use resv_list::{Dropped, MAX_MEMBERS, Reservation, Roster, RosterFault};
 use std::alloc::Allocator;
 
-/// A roster in a balanced tree: each call takes a walk from the root down, `insert` also the memory of one node. It is
+/// A roster in a balanced tree: each call takes a walk from the root down, `insert` also the memory of one node, and
+/// `drop_before` gives back that of each member that it drops. It is
 /// dropped side by side, as deep as the tree is high: 33 levels at most, so no number of members exhausts the stack.
 #[derive(Drop)]
 pub struct TreeRoster<A: Allocator + Clone> {
