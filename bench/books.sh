@@ -14,17 +14,14 @@ if command -v rustc > "$work/log"; then
     rustc -O -o "$work/map" "$work/map.rs"
     map=$work/map
 fi
-python3 - "${PROGRAM:-$top/crates/airbook/out/airbook}" "${OTHER:-}" "$map" <<'P'
-import os, subprocess, sys, tempfile, time
+PYTHONDONTWRITEBYTECODE=1 PYTHONPATH=$top/bench python3 - "${PROGRAM:-$top/crates/airbook/out/airbook}" "${OTHER:-}" "$map" <<'P'
+import sys
+
+from measured import STEP, book, memory, seconds
 
 program, other, map_program = sys.argv[1:]
-HOUR, STEP = 3_600_000_000, 6_000_000          # 600 in each hour, six seconds apart
 RUNS, PAIRS, LINES = 5, 100_000, 100_000
 FEW, MANY, STRIDE = 1_024, 65_535, 7_919       # one less than a book takes, so that each of the pairs finds room
-
-
-def book(number, start):
-    return f"book {number} {start} 868300000 6 12\n"
 
 
 def kept(count, stride=1):
@@ -38,38 +35,8 @@ def pairs(count):
     return "".join(book(count + i, start) + f"cancel {count + i} {start}\n" for i, start in enumerate(places))
 
 
-def start(path, given):
-    return subprocess.Popen([path, "book", "--cap", "65536"], stdin=given, stdout=subprocess.DEVNULL)
-
-
 def run(path, text):
-    """The least processor seconds of some runs."""
-    best = None
-    with tempfile.TemporaryFile() as given:
-        given.write(text.encode())
-        for _ in range(RUNS):
-            given.seek(0)
-            child = start(path, given)
-            _, status, used = os.wait4(child.pid, 0)
-            child.returncode = os.waitstatus_to_exitcode(status)
-            if child.returncode not in (0, 1):
-                raise SystemExit(f"{path} book failed")
-            seconds = used.ru_utime + used.ru_stime
-            best = seconds if best is None else min(best, seconds)
-    return best
-
-
-def memory(path, text):
-    """The most memory in KiB while all of the text is read and the input is still open."""
-    child = start(path, subprocess.PIPE)
-    child.stdin.write(text.encode())
-    child.stdin.flush()
-    time.sleep(0.5)
-    with open(f"/proc/{child.pid}/status") as status:
-        found = next(int(line.split()[1]) for line in status if line.startswith("VmHWM"))
-    child.stdin.close()
-    child.wait()
-    return found
+    return seconds(path, [text], RUNS)
 
 
 def pair(path, count):
@@ -86,7 +53,7 @@ def told(name, path):
 
 many = told("the program", program)
 rising = run(program, kept(65_536)) - run(program, "")
-each = (memory(program, kept(65_536)) - memory(program, "")) * 1024 / 65_536
+each = (memory(program, [kept(65_536)]) - memory(program, [])) * 1024 / 65_536
 print(f"65,536 rising bookings: {rising * 1000:.0f} ms, {each:.0f} bytes a member")
 if map_program:
     plain = told("a plain ordered map", map_program)

@@ -1,0 +1,46 @@
+"""What the scripts here measure of `airbook book`, or of a program that reads the same lines."""
+import os
+import subprocess
+import tempfile
+import time
+
+STEP = 6_000_000            # 600 in each hour, six seconds apart, in microseconds
+
+
+def book(number, start):
+    return f"book {number} {start} 868300000 6 12\n"
+
+
+def started(program, given):
+    return subprocess.Popen([program, "book", "--cap", "65536"], stdin=given, stdout=subprocess.DEVNULL)
+
+
+def seconds(program, lines, runs=1):
+    """The least processor seconds of so many runs over these lines."""
+    best = None
+    with tempfile.TemporaryFile() as given:
+        given.writelines(line.encode() for line in lines)
+        for _ in range(runs):
+            given.seek(0)
+            child = started(program, given)
+            _, status, used = os.wait4(child.pid, 0)
+            child.returncode = os.waitstatus_to_exitcode(status)
+            if child.returncode not in (0, 1):
+                raise SystemExit(f"{program} book failed")
+            taken = used.ru_utime + used.ru_stime
+            best = taken if best is None else min(best, taken)
+    return best
+
+
+def memory(program, lines):
+    """The program's own peak memory in KiB once these lines are read, while the input is still open."""
+    child = started(program, subprocess.PIPE)
+    for line in lines:
+        child.stdin.write(line.encode())
+    child.stdin.flush()
+    time.sleep(0.5)
+    with open(f"/proc/{child.pid}/status") as status:
+        found = next(int(line.split()[1]) for line in status if line.startswith("VmHWM"))
+    child.stdin.close()
+    child.wait()
+    return found
