@@ -19,8 +19,7 @@ module _ (A : RattleType) (g : Allocator.Ghosts A.Denot) (sent : IsSend A) (free
 
   node : IsSend (Node.the_row A g)
   node = as_row_send (Node.the_field A g)
-      (knot.send-Node A g link (search sendable depth 20) (search sendable depth 20)
-      (search sendable depth 20) (search sendable depth 20))
+      (knot.send-Node A g link (search sendable depth 20) (search sendable depth 20))
 
   -- its root, and its allocator
   pub roster_send : (c : Clone.Ghosts A.Denot) → IsSend (TreeRoster.the_row A c g)

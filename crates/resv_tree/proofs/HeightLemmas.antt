@@ -7,15 +7,15 @@ use Rattle.resv_tree.specs.Shape.{Shape, Leaf, Fork, entries, height_of, count_o
 
 pub count_of-length : (t : Shape) → IsWhole t → count_of t ≡ length (entries t)
 count_of-length Leaf w = refl
-count_of-length (Fork l e r h n s) w =
+count_of-length (Fork l e r k) w =
     omega (arith, w.2.count, count_of-length l w.0, count_of-length r w.1, length-append (entries l) (e ∷ entries r))
 
 -- a tree of some height has at most so many members
 pub count_lt_pow : (t : Shape) → IsWhole t → count_of t + 1 ≤ 2 ^ height_of t
 count_lt_pow Leaf w = omega arith
-count_lt_pow (Fork l e r h n s) w =
-    let up : 2 ^ h ≡ 2 ^ max (height_of l) (height_of r) + 2 ^ max (height_of l) (height_of r) =
-    subst (λ k. 2 ^ k ≡ 2 ^ max (height_of l) (height_of r) + 2 ^ max (height_of l) (height_of r))
+count_lt_pow (Fork l e r k) w =
+    let up : 2 ^ k.height ≡ 2 ^ max (height_of l) (height_of r) + 2 ^ max (height_of l) (height_of r) =
+    subst (λ m. 2 ^ m ≡ 2 ^ max (height_of l) (height_of r) + 2 ^ max (height_of l) (height_of r))
     (sym (w.2.height ∙ omega arith)) (two-pow-succ (max (height_of l) (height_of r))) in
     let left : 2 ^ height_of l ≤ 2 ^ max (height_of l) (height_of r) = pow-le-pow_right (omega arith) (omega arith) in
     let right : 2 ^ height_of r ≤ 2 ^ max (height_of l) (height_of r) = pow-le-pow_right (omega arith) (omega arith) in
@@ -35,11 +35,11 @@ doubled (suc k) left right a b h g p q =
 -- and at least so many
 pub pow_le_count : (t : Shape) → IsWhole t → 2 ^ (height_of t / 2) ≤ count_of t + 1
 pow_le_count Leaf w = omega arith
-pow_le_count (Fork l e r h n s) w =
+pow_le_count (Fork l e r k) w =
     let level = w.2.level in
     let d = doubled (max (height_of l) (height_of r)) (height_of l) (height_of r) (count_of l + 1) (count_of r + 1)
     (omega (arith, level.0, level.1)) (omega (arith, level.0, level.1)) (pow_le_count l w.0) (pow_le_count r w.1) in
-    let top : 2 ^ (h / 2) ≡ 2 ^ ((max (height_of l) (height_of r) + 1) / 2) = ap (λ k. 2 ^ (k / 2)) w.2.height in
+    let top : 2 ^ (k.height / 2) ≡ 2 ^ ((max (height_of l) (height_of r) + 1) / 2) = ap (λ m. 2 ^ (m / 2)) w.2.height in
     omega (arith, d, top, w.2.count)
 
 pub ruleset counts = (count_of-length, count_lt_pow, pow_le_count)

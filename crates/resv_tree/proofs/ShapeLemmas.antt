@@ -1,10 +1,11 @@
-use Rattle.std.specs.Prelude.{ℕ, ◌≡◌, ◌*◌, ◌≤◌, Option, Some, None, Box}
+use Rattle.std.specs.Prelude.{◌≡◌, ◌*◌, ◌≤◌, Option, Some, None, Box}
 use Rattle.std.proofs.Common.{refl, arith, ap, ◌∙◌, subst}
 use Rattle.radio_bands.specs.declared.band.Band.{Band}
 use Rattle.resv_tree.specs.declared.node.Node.{Node, Node', None', Some', out-Node, roll-Node}
-use Rattle.resv_tree.specs.declared.sums.Sums.{Sums}
+use Rattle.resv_tree.specs.declared.kept.Kept.{Kept}
 use Rattle.resv_tree.specs.Entries.{Entry}
-use Rattle.resv_tree.specs.Shape.{Shape, Leaf, Fork, shape, shape_of, entry_of, entries, height_of, count_of, kept_sum, IsWhole}
+use Rattle.resv_tree.specs.Shape.{Shape, Leaf, Fork, shape, shape_of, entry_of, kept_of, entries, height_of, count_of, kept_sum}
+use Rattle.resv_tree.specs.Shape.{IsWhole, IsKept, TellsOf, IsBeside}
 use Rattle.resv_tree.specs.Parts.{IsMadeOf}
 
 -- Whole trees, and nodes as the program sees them.
@@ -12,18 +13,18 @@ use Rattle.resv_tree.specs.Parts.{IsMadeOf}
 -- a tree has at least as many entries as levels
 pub count_bounds_height : (t : Shape) → IsWhole t → height_of t ≤ count_of t
 count_bounds_height Leaf w = omega arith
-count_bounds_height (Fork l e r h n s) w =
+count_bounds_height (Fork l e r k) w =
     omega (arith, count_bounds_height l w.0, count_bounds_height r w.1, w.2.height, w.2.count)
 
 -- a sum is bounded by the count
 pub count_bounds_sum : (t : Shape) (band : Band) → IsWhole t → kept_sum t band ≤ 10000000 * count_of t
 count_bounds_sum Leaf band w = omega arith
-count_bounds_sum (Fork l e r h n s) band w = w.2.short band
+count_bounds_sum (Fork l e r k) band w = w.2.short band
 
 -- a whole tree is made of its sides and its entry
-made_of-Fork : (t l r : Shape) (e : Entry) (h n : ℕ) (s : Sums) → t ≡ Fork l e r h n s → IsWhole t → IsMadeOf t l e r
-made_of-Fork t l r e h n s is w =
-    let f : IsWhole (Fork l e r h n s) = subst IsWhole is w in
+made_of-Fork : (t l r : Shape) (e : Entry) (k : Kept) → t ≡ Fork l e r k → IsWhole t → IsMadeOf t l e r
+made_of-Fork t l r e k is w =
+    let f : IsWhole (Fork l e r k) = subst IsWhole is w in
     record {
       entries = ap entries is;
       count = ap count_of is ∙ f.2.count;
@@ -33,46 +34,76 @@ made_of-Fork t l r e h n s is w =
       right = f.1;
     }
 
+-- what is told of a side, beside the other one
+pub beside_left : {l r : Shape} {e : Entry} {k other : Kept} → IsKept l e r k → TellsOf other l → IsBeside k r e other
+beside_left kept tells = record {
+  count = omega (arith, kept.count, tells.count);
+  sums = λ band. omega (arith, kept.sums band, tells.sums band);
+}
+
+pub beside_right : {l r : Shape} {e : Entry} {k other : Kept} → IsKept l e r k → TellsOf other r → IsBeside k l e other
+beside_right kept tells = record {
+  count = omega (arith, kept.count, tells.count);
+  sums = λ band. omega (arith, kept.sums band, tells.sums band);
+}
+
+pub ruleset beside = (beside_left, beside_right)
+
 module _ {A : Type 0} where
   -- the tree of a node that is taken apart
   pub shape-out : (n : Node A)
       → shape n ≡ Fork (shape_of (out-Node A n).left) (out-Node A n).entry (shape_of (out-Node A n).right)
-      (out-Node A n).height (out-Node A n).count (out-Node A n).sums
+      (kept_of n)
   unfolding out-Node denote.Hole.Carrier.out
-  shape-out (Node' None' e None' h n s) = refl
-  shape-out (Node' None' e (Some' q r) h n s) = refl
-  shape-out (Node' (Some' p l) e None' h n s) = refl
-  shape-out (Node' (Some' p l) e (Some' q r) h n s) = refl
+  shape-out (Node' None' e None' k) = refl
+  shape-out (Node' None' e (Some' q r) k) = refl
+  shape-out (Node' (Some' p l) e None' k) = refl
+  shape-out (Node' (Some' p l) e (Some' q r) k) = refl
 
   -- the tree of a node that is made
-  pub shape-roll : (l r : Option (Box (Node A) A)) (e : Entry) (h n : ℕ) (s : Sums)
-      → shape (roll-Node A record { left = l; entry = e; right = r; height = h; count = n; sums = s })
-      ≡ Fork (shape_of l) e (shape_of r) h n s
+  pub shape-roll : (l r : Option (Box (Node A) A)) (e : Entry) (k : Kept)
+      → shape (roll-Node A record { left = l; entry = e; right = r; kept = k })
+      ≡ Fork (shape_of l) e (shape_of r) k
   unfolding roll-Node denote.Hole.Carrier.roll
-  shape-roll None None e h n s = refl
-  shape-roll None (Some q) e h n s = refl
-  shape-roll (Some p) None e h n s = refl
-  shape-roll (Some p) (Some q) e h n s = refl
+  shape-roll None None e k = refl
+  shape-roll None (Some q) e k = refl
+  shape-roll (Some p) None e k = refl
+  shape-roll (Some p) (Some q) e k = refl
 
   -- its entry
-  pub entry_of-roll : (l r : Option (Box (Node A) A)) (e : Entry) (h n : ℕ) (s : Sums)
-      → entry_of (roll-Node A record { left = l; entry = e; right = r; height = h; count = n; sums = s }) ≡ e
+  pub entry_of-roll : (l r : Option (Box (Node A) A)) (e : Entry) (k : Kept)
+      → entry_of (roll-Node A record { left = l; entry = e; right = r; kept = k }) ≡ e
   unfolding roll-Node denote.Hole.Carrier.roll out-Node denote.Hole.Carrier.out
-  entry_of-roll None None e h n s = refl
-  entry_of-roll None (Some q) e h n s = refl
-  entry_of-roll (Some p) None e h n s = refl
-  entry_of-roll (Some p) (Some q) e h n s = refl
+  entry_of-roll None None e k = refl
+  entry_of-roll None (Some q) e k = refl
+  entry_of-roll (Some p) None e k = refl
+  entry_of-roll (Some p) (Some q) e k = refl
+
+  -- what it keeps
+  pub kept_of-roll : (l r : Option (Box (Node A) A)) (e : Entry) (k : Kept)
+      → kept_of (roll-Node A record { left = l; entry = e; right = r; kept = k }) ≡ k
+  unfolding roll-Node denote.Hole.Carrier.roll out-Node denote.Hole.Carrier.out
+  kept_of-roll None None e k = refl
+  kept_of-roll None (Some q) e k = refl
+  kept_of-roll (Some p) None e k = refl
+  kept_of-roll (Some p) (Some q) e k = refl
 
   -- and what stands to its right
-  pub right_of-roll : (l r : Option (Box (Node A) A)) (e : Entry) (h n : ℕ) (s : Sums)
-      → (out-Node A (roll-Node A record { left = l; entry = e; right = r; height = h; count = n; sums = s })).right ≡ r
+  pub right_of-roll : (l r : Option (Box (Node A) A)) (e : Entry) (k : Kept)
+      → (out-Node A (roll-Node A record { left = l; entry = e; right = r; kept = k })).right ≡ r
   unfolding roll-Node denote.Hole.Carrier.roll out-Node denote.Hole.Carrier.out
-  right_of-roll None None e h n s = refl
-  right_of-roll None (Some q) e h n s = refl
-  right_of-roll (Some p) None e h n s = refl
-  right_of-roll (Some p) (Some q) e h n s = refl
+  right_of-roll None None e k = refl
+  right_of-roll None (Some q) e k = refl
+  right_of-roll (Some p) None e k = refl
+  right_of-roll (Some p) (Some q) e k = refl
 
   -- a whole tree is made of what its top node holds
   pub made_of-out : (n : Node A) (l r : Option (Box (Node A) A)) (e : Entry) → l ≡ (out-Node A n).left
       → e ≡ (out-Node A n).entry → r ≡ (out-Node A n).right → IsWhole (shape n) → IsMadeOf (shape n) (shape_of l) e (shape_of r)
-  made_of-out n l r e left entry right w = rw (left, entry, right) (made_of-Fork _ _ _ _ _ _ _ (shape-out n) w)
+  made_of-out n l r e left entry right w = rw (left, entry, right) (made_of-Fork _ _ _ _ _ (shape-out n) w)
+
+  -- and keeps what follows from them
+  pub kept-out : (n : Node A) (l r : Option (Box (Node A) A)) (e : Entry) (k : Kept) → l ≡ (out-Node A n).left
+      → e ≡ (out-Node A n).entry → r ≡ (out-Node A n).right → k ≡ kept_of n → IsWhole (shape n)
+      → IsKept (shape_of l) e (shape_of r) k
+  kept-out n l r e k left entry right kept w = rw (left, entry, right, kept) (subst IsWhole (shape-out n) w).2

@@ -1,6 +1,7 @@
 use Rattle.std.specs.Prelude.{ℕ, ◌≡◌, ◌+◌, ◌-◌, ◌^◌, ◌<◌, ◌≤◌, nat_lt, nat_le, Bool, true, false, ◌&&◌, List, [], ◌∷◌, ◌++◌, cond}
 use Rattle.std.proofs.Common.{refl, arith, ap, ◌∙◌, sym}
 use Rattle.std.proofs.lemmas.Bool.{le-leb, ltb-true, ltb-false}
+use Rattle.radio_airtime.specs.Bounds.{airtime_of-short}
 use Rattle.radio_bands.specs.declared.band.Band.{Band}
 use Rattle.radio_bands.specs.declared.band.Band.TheVariants.{K, L, M, N, P, Q}
 use Rattle.resv_list.specs.declared.reservation.Reservation.{Reservation}
@@ -34,7 +35,7 @@ total_in-append band (x ∷ ls) rs =
 -- the sum that a whole tree keeps is that of its members
 pub kept_sum-total : (t : Shape) (band : Band) → IsWhole t → kept_sum t band ≡ total_in band (entries t)
 kept_sum-total Leaf band w = sym (total_in-nil band)
-kept_sum-total (Fork l e r h n s) band w =
+kept_sum-total (Fork l e r k) band w =
     omega (
       arith,
       w.2.sums band,
@@ -112,6 +113,14 @@ pub sum_bounded : (s : Sums) (t : Shape) → IsWhole t → ((band : Band) → su
 sum_bounded s t w e h band = omega (arith, e band, count_bounds_sum t band w)
 
 pub ruleset totals = (sum_of_all-net, sum_bounded)
+
+-- no transmission is longer than ten seconds
+pub airtime_in-short : (band : Band) (r : Reservation) → airtime_in band r < 10000000
+airtime_in-short band r = by (is_in band r)
+  where
+    by : (t : Bool) → cond t (airtime_us r) 0 < 10000000
+    by true = airtime_of-short r.rate r.len r.fit.sized
+    by false = omega arith
 
 -- what begins before a moment is no more than all
 pub begun_le-total : (band : Band) (to : ℕ) (l : List Reservation) → begun band 0 to l ≤ total_in band l

@@ -3,22 +3,21 @@ use Rattle.std.specs.Coded.{Unit-prop, le_prop, Coded-set, coded_ℕ}
 use Rattle.radio_bands.specs.declared.band.Band.{Band}
 use Rattle.resv_list.specs.Reservations.{airtime_in}
 use Rattle.resv_tree.specs.declared.node.Node.{Node, Node', Held-Node-left, None', Some', out-Node}
-use Rattle.resv_tree.specs.declared.sums.Sums.{Sums}
+use Rattle.resv_tree.specs.declared.kept.Kept.{Kept}
 use Rattle.resv_tree.specs.Entries.{Entry}
 use Rattle.resv_tree.specs.Sums.{sum_in}
 
 -- Trees without their boxes, and what holds of them.
 
--- nothing, or what stands to the left, an entry, and what stands to the right, with the height, the count and the
--- sums that the node keeps
+-- nothing, or what stands to the left, an entry, and what stands to the right, with what the node keeps
 pub data Shape : Type 0 where
   Leaf : Shape
-  Fork : Shape → Entry → Shape → ℕ → ℕ → Sums → Shape
+  Fork : Shape → Entry → Shape → Kept → Shape
 
 -- the tree of which a node is the top
 abbrev mutual
   pub shape : {A : _} → Node A → Shape
-  shape (Node' l e r h n s) = Fork (shape_behind l) e (shape_behind r) h n s
+  shape (Node' l e r k) = Fork (shape_behind l) e (shape_behind r) k
 
   pub shape_behind : {A : _} → Held-Node-left A → Shape
   shape_behind None' = Leaf
@@ -36,44 +35,61 @@ entry_of n = (out-Node _ n).entry
 -- the entries from left to right
 abbrev pub entries : Shape → List Entry
 entries Leaf = []
-entries (Fork l e r h n s) = entries l ++ e ∷ entries r
+entries (Fork l e r k) = entries l ++ e ∷ entries r
 
 -- the height that is kept; of nothing 0
 abbrev pub height_of : Shape → ℕ
 height_of Leaf = 0
-height_of (Fork l e r h n s) = h
+height_of (Fork l e r k) = k.height
 
 -- the count that is kept; of nothing 0
 abbrev pub count_of : Shape → ℕ
 count_of Leaf = 0
-count_of (Fork l e r h n s) = n
+count_of (Fork l e r k) = k.count
 
 -- the sum that is kept for a sub-band; of nothing 0
 abbrev pub kept_sum : Shape → Band → ℕ
 kept_sum Leaf band = 0
-kept_sum (Fork l e r h n s) band = sum_in s band
+kept_sum (Fork l e r k) band = sum_in k.sums band
+
+-- what a node keeps
+abbrev pub kept_of : {A : Type 0} → Node A → Kept
+kept_of n = (out-Node _ n).kept
 
 -- neither is more than one level higher than the other
 abbrev pub IsLevel : Shape → Shape → Type 0
 IsLevel l r = (height_of l ≤ height_of r + 1) × (height_of r ≤ height_of l + 1)
 
--- the sides are level, and the node's height, count and sums follow from those of its sides; each sum has room for
--- ten seconds a member, which is longer than any transmission
-pub record IsKept (l : Shape) (e : Entry) (r : Shape) (h n : ℕ) (s : Sums) : Type 0 where
+-- the sides are level, and what the node keeps follows from what they keep; each sum has room for ten seconds a member, which is
+-- longer than any transmission
+pub record IsKept (l : Shape) (e : Entry) (r : Shape) (k : Kept) : Type 0 where
   pub level : IsLevel l r
-  pub height : h ≡ max (height_of l) (height_of r) + 1
-  pub count : n ≡ count_of l + count_of r + 1
-  pub sums : (band : Band) → sum_in s band ≡ kept_sum l band + airtime_in band e + kept_sum r band
-  pub short : (band : Band) → sum_in s band ≤ 10000000 * n
+  pub height : k.height ≡ max (height_of l) (height_of r) + 1
+  pub left_height : k.left_height ≡ height_of l
+  pub right_height : k.right_height ≡ height_of r
+  pub count : k.count ≡ count_of l + count_of r + 1
+  pub sums : (band : Band) → sum_in k.sums band ≡ kept_sum l band + airtime_in band e + kept_sum r band
+  pub short : (band : Band) → sum_in k.sums band ≤ 10000000 * k.count
+
+-- what is told of a tree is what its top keeps, or of nothing
+pub record TellsOf (k : Kept) (t : Shape) : Type 0 where
+  pub height : k.height ≡ height_of t
+  pub count : k.count ≡ count_of t
+  pub sums : (band : Band) → sum_in k.sums band ≡ kept_sum t band
+
+-- what is kept of a tree that has this side, this entry, and a further side of which `other` tells
+pub record IsBeside (k : Kept) (side : Shape) (e : Entry) (other : Kept) : Type 0 where
+  pub count : k.count ≡ count_of side + other.count + 1
+  pub sums : (band : Band) → sum_in k.sums band ≡ kept_sum side band + airtime_in band e + sum_in other.sums band
 
 -- so it is at each node
 abbrev pub IsWhole : Shape → Type 0
 IsWhole Leaf = ⊤
-IsWhole (Fork l e r h n s) = IsWhole l × IsWhole r × IsKept l e r h n s
+IsWhole (Fork l e r k) = IsWhole l × IsWhole r × IsKept l e r k
 
-pub IsKept-prop : (l : Shape) (e : Entry) (r : Shape) (h n : ℕ) (s : Sums) → IsProp (IsKept l e r h n s)
-IsKept-prop l e r h n s = hlevel (le_prop, Coded-set coded_ℕ)
+pub IsKept-prop : (l : Shape) (e : Entry) (r : Shape) (k : Kept) → IsProp (IsKept l e r k)
+IsKept-prop l e r k = hlevel (le_prop, Coded-set coded_ℕ)
 
 pub IsWhole-prop : (t : Shape) → IsProp (IsWhole t)
 IsWhole-prop Leaf = Unit-prop
-IsWhole-prop (Fork l e r h n s) = hlevel (IsWhole-prop l, IsWhole-prop r, IsKept-prop l e r h n s)
+IsWhole-prop (Fork l e r k) = hlevel (IsWhole-prop l, IsWhole-prop r, IsKept-prop l e r k)

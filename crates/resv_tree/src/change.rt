@@ -4,8 +4,8 @@ ghost use Rattle.resv_list.specs.Sorted.{place_by, rest_from};
 ghost use Rattle.resv_tree.specs.Entries.{key_of, IsByKey};
 ghost use Rattle.resv_tree.specs.Shape.{shape, shape_of, entry_of, entries, IsWhole, count_of};
 
-use crate::join::join;
-use crate::node::{Entry, Link, Node, fork, open};
+use crate::join::{join, join_left, join_right};
+use crate::node::{Entry, Link, Node, fork, kept, open};
 use resv_list::MAX_MEMBERS;
 use std::alloc::Allocator;
 
@@ -24,11 +24,13 @@ pub(crate) fn insert<A: Allocator + Clone>(link: Link<A>, node: Box<Node<A>, A>)
     };
     let (left, top, right) = open(top);
     if top.entry().start < node.entry().start {
+        let old = kept(&right);
         let right = insert(right, node);
-        join(left, top, Some(right))
+        join_right(left, top, &old, Some(right))
     } else {
+        let old = kept(&left);
         let left = insert(left, node);
-        join(Some(left), top, right)
+        join_left(Some(left), top, &old, right)
     }
 }
 
@@ -49,12 +51,14 @@ pub(crate) fn remove<A: Allocator + Clone>(link: Link<A>, key: u64) -> (Link<A>,
     let (left, top, right) = open(top);
     let entry = top.entry();
     if key < entry.start {
+        let old = kept(&left);
         let (left, removed) = remove(left, key);
-        return (Some(join(left, top, right)), removed);
+        return (Some(join_left(left, top, &old, right)), removed);
     }
     if entry.start < key {
+        let old = kept(&right);
         let (right, removed) = remove(right, key);
-        return (Some(join(left, top, right)), removed);
+        return (Some(join_right(left, top, &old, right)), removed);
     }
     (concat(left, right), Some(entry))
 }
@@ -77,8 +81,9 @@ pub(crate) fn drop_before<A: Allocator + Clone>(link: Link<A>, key: u64) -> Link
     if top.entry().start < key {
         return drop_before(right, key);
     }
+    let old = kept(&left);
     let left = drop_before(left, key);
-    Some(join(left, top, right))
+    Some(join_left(left, top, &old, right))
 }
 
 /// The tree of two sides: the last node of the left one goes between them.
@@ -106,9 +111,10 @@ fn pop<A: Allocator + Clone>(top: Box<Node<A>, A>) -> (Link<A>, Box<Node<A>, A>)
     ensures whole { IsWhole (shape_of result.0) }
 {
     let (left, top, right) = open(top);
+    let old = kept(&right);
     let Some(right) = right else {
         return (left, top);
     };
     let (rest, last) = pop(right);
-    (Some(join(left, top, rest)), last)
+    (Some(join_right(left, top, &old, rest)), last)
 }

@@ -1,8 +1,9 @@
-ghost use Rattle.std.specs.Prelude.{◌≡◌, ◌+◌, ◌≤◌, ◌<◌};
-ghost use Rattle.resv_tree.specs.Shape.{shape, shape_of, entry_of, IsWhole, height_of, count_of};
+ghost use Rattle.std.specs.Prelude.{◌≡◌, ◌+◌, ◌≤◌, ◌<◌, ◌&&◌, nat_le};
+ghost use Rattle.resv_tree.specs.Shape.{shape, shape_of, entry_of, kept_of, IsWhole, IsBeside, height_of, count_of};
 ghost use Rattle.resv_tree.specs.Parts.{IsMadeOf, IsJoined};
 
-use crate::node::{Link, Node, fork, height, open};
+use crate::kept::Kept;
+use crate::node::{Link, Node, fork, height, open, with_left, with_right};
 use resv_list::MAX_MEMBERS;
 use std::alloc::Allocator;
 
@@ -30,6 +31,54 @@ pub(crate) fn join<A: Allocator + Clone>(
         return balance(Some(joined), top, outer);
     }
     fork(left, middle, right)
+}
+
+/// The tree of a node whose sides were taken out of it, with another left side than the one of which `old` tells. Where
+/// the sides are level it looks at nothing to the right.
+pub(crate) fn join_left<A: Allocator + Clone>(
+    left: Link<A>,
+    top: Box<Node<A>, A>,
+    old: &Kept,
+    right: Link<A>,
+) -> Box<Node<A>, A>
+    requires left { IsWhole (shape_of left) }
+    requires right { IsWhole (shape_of right) }
+    requires height { (kept_of top.value).right_height ≡ height_of (shape_of right) }
+    requires beside { IsBeside (kept_of top.value) (shape_of right) (entry_of top.value) old.now }
+    requires room { count_of (shape_of left) + count_of (shape_of right) < MAX_MEMBERS }
+    ensures { IsJoined (shape result.value) (shape_of left) (entry_of top.value) (shape_of right) }
+{
+    if are_level(height(&left), top.kept().right_height) {
+        return with_left(left, top, old, right);
+    }
+    join(left, top, right)
+}
+
+/// The same with another right side; where the sides are level it looks at nothing to the left.
+pub(crate) fn join_right<A: Allocator + Clone>(
+    left: Link<A>,
+    top: Box<Node<A>, A>,
+    old: &Kept,
+    right: Link<A>,
+) -> Box<Node<A>, A>
+    requires left { IsWhole (shape_of left) }
+    requires right { IsWhole (shape_of right) }
+    requires height { (kept_of top.value).left_height ≡ height_of (shape_of left) }
+    requires beside { IsBeside (kept_of top.value) (shape_of left) (entry_of top.value) old.now }
+    requires room { count_of (shape_of left) + count_of (shape_of right) < MAX_MEMBERS }
+    ensures { IsJoined (shape result.value) (shape_of left) (entry_of top.value) (shape_of right) }
+{
+    if are_level(top.kept().left_height, height(&right)) {
+        return with_right(left, top, old, right);
+    }
+    join(left, top, right)
+}
+
+/// Whether neither height is more than one above the other.
+fn are_level(left: u32, right: u32) -> bool
+    ensures { result ≡ nat_le left (right + 1) && nat_le right (left + 1) }
+{
+    left.abs_diff(right) <= 1
 }
 
 /// The tree of two sides, of which one may be two levels higher, and a node between them.

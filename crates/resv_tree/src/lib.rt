@@ -5,6 +5,7 @@
 
 mod change;
 mod join;
+mod kept;
 mod look;
 mod node;
 mod sums;

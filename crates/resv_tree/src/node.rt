@@ -2,9 +2,11 @@ ghost use Rattle.std.specs.Prelude.{◌≡◌, ◌+◌, ◌≤◌, ◌<◌};
 ghost use Rattle.radio_bands.specs.declared.band.Band.{Band as SubBand};
 ghost use Rattle.resv_tree.specs.Sums.{sum_in as sum_of};
 ghost use Rattle.resv_list.specs.Reservations.{net};
-ghost use Rattle.resv_tree.specs.Shape.{shape, shape_of, entries, entry_of, IsWhole, height_of, count_of, kept_sum, IsLevel};
+ghost use Rattle.resv_tree.specs.Shape.{shape, shape_of, entries, entry_of, kept_of, height_of, count_of, kept_sum};
+ghost use Rattle.resv_tree.specs.Shape.{IsWhole, IsLevel, IsKept, IsBeside, TellsOf};
 ghost use Rattle.resv_tree.specs.Parts.{IsMadeOf};
 
+use crate::kept::Kept;
 use crate::sums::Sums;
 use radio_bands::Band;
 use resv_list::{MAX_MEMBERS, Reservation};
@@ -16,16 +18,14 @@ pub(crate) type Entry = Reservation;
 /// A tree, or a side of one: nothing, or its node at the top.
 pub(crate) type Link<A> = Option<Box<Node<A>, A>>;
 
-/// A member with what stands before it and behind it. The last three fields are those of the tree of which it is the
-/// top. Only `fork` makes a node that stands in a tree, so it alone computes them.
+/// A member with what stands before it and behind it, and what it keeps of the tree of which it is the top. Only `fork`,
+/// `with_left` and `with_right` make a node that stands in a tree, so they alone compute that.
 #[derive(Drop)]
 pub(crate) struct Node<A: Allocator + Clone> {
     left: Link<A>,
     entry: Entry,
     right: Link<A>,
-    height: u32,
-    count: usize,
-    sums: Sums,
+    kept: Kept,
 }
 
 /// The parts of a node behind a reference.
@@ -44,9 +44,7 @@ impl<A: Allocator + Clone> Node<A> {
             left: None,
             entry,
             right: None,
-            height: 0,
-            count: 0,
-            sums: Sums::NONE,
+            kept: Kept::NONE,
         }
     }
 
@@ -55,6 +53,23 @@ impl<A: Allocator + Clone> Node<A> {
         ensures { result ≡ entry_of self.now }
     {
         self.entry
+    }
+
+    /// What it keeps, by value.
+    pub(crate) fn kept(&self) -> Kept
+        ensures { result ≡ kept_of self.now }
+    {
+        self.kept
+    }
+}
+
+/// What the top of the tree keeps.
+pub(crate) fn kept<A: Allocator + Clone>(link: &Link<A>) -> Kept
+    ensures { TellsOf result (shape_of link.now) }
+{
+    match link {
+        None => Kept::NONE,
+        Some(node) => node.kept,
     }
 }
 
@@ -65,7 +80,7 @@ pub(crate) fn height<A: Allocator + Clone>(link: &Link<A>) -> u32
 {
     match link {
         None => 0,
-        Some(node) => node.height,
+        Some(node) => node.kept.height,
     }
 }
 
@@ -75,7 +90,7 @@ pub(crate) fn count<A: Allocator + Clone>(link: &Link<A>) -> usize
 {
     match link {
         None => 0,
-        Some(node) => node.count,
+        Some(node) => node.kept.count as usize,
     }
 }
 
@@ -85,7 +100,7 @@ pub(crate) fn sums<A: Allocator + Clone>(link: &Link<A>) -> Sums
 {
     match link {
         None => Sums::NONE,
-        Some(node) => node.sums,
+        Some(node) => node.kept.sums,
     }
 }
 
@@ -123,7 +138,8 @@ pub(crate) fn open<A: Allocator + Clone>(
     mut top: Box<Node<A>, A>,
 ) -> (Link<A>, Box<Node<A>, A>, Link<A>)
     requires { IsWhole (shape top.value) }
-    ensures { IsMadeOf (shape top.value) (shape_of result.0) (entry_of result.1.value) (shape_of result.2) }
+    ensures made { IsMadeOf (shape top.value) (shape_of result.0) (entry_of result.1.value) (shape_of result.2) }
+    ensures kept { IsKept (shape_of result.0) (entry_of result.1.value) (shape_of result.2) (kept_of result.1.value) }
 {
     let left = top.left.take();
     let right = top.right.take();
@@ -144,16 +160,86 @@ pub(crate) fn fork<A: Allocator + Clone>(
     ensures whole { IsWhole (shape result.value) }
 {
     let entry = top.entry;
-    let height = height(&left).max(height(&right)) + 1;
-    let count = count(&left) + count(&right) + 1;
-    let sums = Sums::around(&sums(&left), &entry, &sums(&right));
+    let (before, behind) = (kept(&left), kept(&right));
+    let kept = Kept {
+        height: before.height.max(behind.height) + 1,
+        left_height: before.height,
+        right_height: behind.height,
+        count: before.count + behind.count + 1,
+        sums: Sums::around(&before.sums, &entry, &behind.sums),
+    };
     *top = Node {
         left,
         entry,
         right,
-        height,
-        count,
-        sums,
+        kept,
+    };
+    top
+}
+
+/// The tree of a node whose sides were taken out of it, with another left side than the one of which `old` tells; it
+/// looks at nothing to the right, and takes no memory.
+pub(crate) fn with_left<A: Allocator + Clone>(
+    left: Link<A>,
+    mut top: Box<Node<A>, A>,
+    old: &Kept,
+    right: Link<A>,
+) -> Box<Node<A>, A>
+    requires left { IsWhole (shape_of left) }
+    requires right { IsWhole (shape_of right) }
+    requires level { IsLevel (shape_of left) (shape_of right) }
+    requires height { (kept_of top.value).right_height ≡ height_of (shape_of right) }
+    requires beside { IsBeside (kept_of top.value) (shape_of right) (entry_of top.value) old.now }
+    requires room { count_of (shape_of left) + count_of (shape_of right) < MAX_MEMBERS }
+    ensures made { IsMadeOf (shape result.value) (shape_of left) (entry_of top.value) (shape_of right) }
+    ensures whole { IsWhole (shape result.value) }
+{
+    let (entry, all, new) = (top.entry, top.kept, kept(&left));
+    let kept = Kept {
+        height: new.height.max(all.right_height) + 1,
+        left_height: new.height,
+        right_height: all.right_height,
+        count: all.count - old.count + new.count,
+        sums: all.sums.exchanged(&old.sums, &new.sums),
+    };
+    *top = Node {
+        left,
+        entry,
+        right,
+        kept,
+    };
+    top
+}
+
+/// The same with another right side; it looks at nothing to the left.
+pub(crate) fn with_right<A: Allocator + Clone>(
+    left: Link<A>,
+    mut top: Box<Node<A>, A>,
+    old: &Kept,
+    right: Link<A>,
+) -> Box<Node<A>, A>
+    requires left { IsWhole (shape_of left) }
+    requires right { IsWhole (shape_of right) }
+    requires level { IsLevel (shape_of left) (shape_of right) }
+    requires height { (kept_of top.value).left_height ≡ height_of (shape_of left) }
+    requires beside { IsBeside (kept_of top.value) (shape_of left) (entry_of top.value) old.now }
+    requires room { count_of (shape_of left) + count_of (shape_of right) < MAX_MEMBERS }
+    ensures made { IsMadeOf (shape result.value) (shape_of left) (entry_of top.value) (shape_of right) }
+    ensures whole { IsWhole (shape result.value) }
+{
+    let (entry, all, new) = (top.entry, top.kept, kept(&right));
+    let kept = Kept {
+        height: all.left_height.max(new.height) + 1,
+        left_height: all.left_height,
+        right_height: new.height,
+        count: all.count - old.count + new.count,
+        sums: all.sums.exchanged(&old.sums, &new.sums),
+    };
+    *top = Node {
+        left,
+        entry,
+        right,
+        kept,
     };
     top
 }

@@ -1,4 +1,4 @@
-ghost use Rattle.std.specs.Prelude.{◌≡◌, ◌+◌, ◌<◌, ◌^◌};
+ghost use Rattle.std.specs.Prelude.{◌≡◌, ◌+◌, ◌-◌, ◌≤◌, ◌<◌, ◌^◌};
 ghost use Rattle.radio_bands.specs.declared.band.Band.{Band as SubBand};
 ghost use Rattle.resv_list.specs.Reservations.{airtime_in};
 
@@ -75,5 +75,29 @@ impl Sums {
         ensures short { airtime_in band entry.now < 10000000 }
     {
         self.in_band(band) + entry.airtime_in(band) + right.in_band(band)
+    }
+    /// These sums, of which `old` is a part, with `new` in place of that part.
+    pub(crate) fn exchanged(&self, old: &Sums, new: &Sums) -> Sums
+        requires covers { (band : SubBand) → sum_in old.now band ≤ sum_in self.now band }
+        requires fits { (band : SubBand) → sum_in self.now band + sum_in new.now band < 2 ^ 63 + sum_in old.now band }
+        ensures { (band : SubBand) → sum_in result band ≡ sum_in self.now band - sum_in old.now band + sum_in new.now band }
+    {
+        Sums {
+            k: self.exchanged_in(old, new, Band::K),
+            l: self.exchanged_in(old, new, Band::L),
+            m: self.exchanged_in(old, new, Band::M),
+            n: self.exchanged_in(old, new, Band::N),
+            p: self.exchanged_in(old, new, Band::P),
+            q: self.exchanged_in(old, new, Band::Q),
+        }
+    }
+
+    /// The same in one sub-band.
+    fn exchanged_in(&self, old: &Sums, new: &Sums, band: Band) -> u64
+        requires covers { sum_in old.now band ≤ sum_in self.now band }
+        requires fits { sum_in self.now band + sum_in new.now band < 2 ^ 63 + sum_in old.now band }
+        ensures { result ≡ sum_in self.now band - sum_in old.now band + sum_in new.now band }
+    {
+        self.in_band(band) - old.in_band(band) + new.in_band(band)
     }
 }

@@ -1,38 +1,49 @@
 use Rattle.std.proofs.Common.{arith, subst, sym}
 use Rattle.resv_tree.specs.Shape.{shape_of, IsWhole}
-use Rattle.resv_tree.proofs.ShapeLemmas.{count_bounds_sum, shape-roll}
+use Rattle.resv_tree.proofs.ShapeLemmas.{count_bounds_sum, count_bounds_height, shape-roll}
 use Rattle.resv_tree.proofs.node.fork.Goals as goal
 
-pub around-sums-requires : goal.around-sums-requires
-around-sums-requires g c =
+pub around-requires : goal.around-requires
+around-requires g c =
     let left = count_bounds_sum (shape_of c.args.left) in
     let right = count_bounds_sum (shape_of c.args.right) in
+    let before = c.kept-before.ensures in
+    let behind = c.kept-behind.ensures in
     record {
-      fits = λ band.
-          omega (arith, c.sums.ensures band, c.sums-2.ensures band, left band c.requires.left, right band c.requires.right);
+      fits = λ band. omega (arith, before.sums band, behind.sums band, left band c.requires.left, right band c.requires.right);
     }
+
+pub overflow_add-kept : goal.overflow_add-kept
+overflow_add-kept g c =
+    let left = count_bounds_height (shape_of c.args.left) c.requires.left in
+    let right = count_bounds_height (shape_of c.args.right) c.requires.right in
+    omega (arith, left, right, c.kept-before.ensures.height, c.kept-behind.ensures.height, c.max.ensures)
 
 pub returns-clause-whole : goal.returns-clause-whole
 returns-clause-whole g c =
     let left = count_bounds_sum (shape_of c.args.left) in
     let right = count_bounds_sum (shape_of c.args.right) in
-    let around = c.around-sums.ensures in
-    subst IsWhole (sym (shape-roll c.args.left c.args.right _ _ _ _)) (
+    let around = c.around.ensures in
+    let before = c.kept-before.ensures in
+    let behind = c.kept-behind.ensures in
+    subst IsWhole (sym (shape-roll c.args.left c.args.right _ _)) (
       c.requires.left,
       c.requires.right,
       record {
         level = c.requires.level;
-        height = omega (arith, c.height.ensures.value, c.height-2.ensures.value, c.max-height.ensures);
-        count = omega (arith, c.count.ensures, c.count-2.ensures);
-        sums = λ band. omega (arith, around.value band, c.sums.ensures band, c.sums-2.ensures band);
+        height = omega (arith, before.height, behind.height, c.max.ensures);
+        left_height = before.height;
+        right_height = behind.height;
+        count = omega (arith, before.count, behind.count);
+        sums = λ band. omega (arith, around.value band, before.sums band, behind.sums band);
         short = λ band. omega (
           arith,
-          c.count.ensures,
-          c.count-2.ensures,
+          before.count,
+          behind.count,
           around.value band,
           around.short band,
-          c.sums.ensures band,
-          c.sums-2.ensures band,
+          before.sums band,
+          behind.sums band,
           left band c.requires.left,
           right band c.requires.right,
         );

@@ -1,0 +1,74 @@
+use Rattle.std.proofs.Common.{arith, subst, sym, ap, ◌∙◌}
+use Rattle.resv_list.specs.Reservations.{airtime_in}
+use Rattle.resv_tree.specs.Sums.{sum_in}
+use Rattle.resv_tree.specs.Shape.{shape_of, entry_of, kept_of, IsWhole}
+use Rattle.resv_tree.proofs.SumLemmas.{airtime_in-short}
+use Rattle.resv_tree.proofs.ShapeLemmas.{count_bounds_sum, count_bounds_height, shape-roll}
+use Rattle.resv_tree.proofs.node.with_right.Goals as goal
+
+pub exchanged-requires : goal.exchanged-requires
+exchanged-requires g c =
+    let left = count_bounds_sum (shape_of c.args.left) in
+    let right = count_bounds_sum (shape_of c.args.right) in
+    let beside = c.requires.beside.sums in
+    record {
+      covers = λ band. omega (arith, ap (λ n. sum_in (kept_of n).sums band) c.deref-2.ensures, beside band);
+      fits = λ band. omega (
+        arith,
+        ap (λ n. sum_in (kept_of n).sums band) c.deref-2.ensures,
+        beside band,
+        airtime_in-short band (entry_of c.args.top.value),
+        c.kept-new.ensures.sums band,
+        left band c.requires.left,
+        right band c.requires.right,
+        c.requires.room,
+      );
+    }
+
+pub overflow_add-kept : goal.overflow_add-kept
+overflow_add-kept g c =
+    let left = count_bounds_height (shape_of c.args.left) c.requires.left in
+    let right = count_bounds_height (shape_of c.args.right) c.requires.right in
+    let kept = ap (λ n. (kept_of n).left_height) c.deref-2.ensures in
+    omega (arith, left, right, kept, c.requires.height, c.kept-new.ensures.height, c.requires.room, c.max.ensures)
+
+pub returns-clause-whole : goal.returns-clause-whole
+returns-clause-whole g c =
+    let left = count_bounds_sum (shape_of c.args.left) in
+    let right = count_bounds_sum (shape_of c.args.right) in
+    let beside = c.requires.beside in
+    let new = c.kept-new.ensures in
+    let all = ap kept_of c.deref-2.ensures in
+    let entry = ap entry_of c.deref.ensures in
+    subst IsWhole (sym (shape-roll c.args.left c.args.right _ _)) (
+      c.requires.left,
+      c.requires.right,
+      record {
+        level = c.requires.level;
+        height = omega (arith, c.max.ensures, ap (λ n. (kept_of n).left_height) c.deref-2.ensures ∙ c.requires.height, c.kept-new.ensures.height);
+        left_height = ap (λ n. (kept_of n).left_height) c.deref-2.ensures ∙ c.requires.height;
+        right_height = c.kept-new.ensures.height;
+        count = omega (arith, ap (λ k. k.count) all, beside.count, new.count);
+        sums = λ band. omega (
+          arith,
+          ap (λ k. sum_in k.sums band) all,
+          ap (airtime_in band) entry,
+          c.exchanged.ensures band,
+          beside.sums band,
+          new.sums band,
+        );
+        short = λ band. omega (
+          arith,
+          ap (λ k. k.count) all,
+          ap (λ k. sum_in k.sums band) all,
+          airtime_in-short band (entry_of c.args.top.value),
+          c.exchanged.ensures band,
+          beside.count,
+          beside.sums band,
+          new.count,
+          new.sums band,
+          left band c.requires.left,
+          right band c.requires.right,
+        );
+      },
+    )
