@@ -3,6 +3,7 @@ pub mod Walk
 pub mod NearestLemmas
 pub mod CutLemmas
 pub mod BegunLemmas
+pub mod HourLemmas
 pub mod NetLemmas
 pub mod FilterLemmas
 pub mod SortLemmas

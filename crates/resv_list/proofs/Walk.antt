@@ -1,7 +1,8 @@
-use Rattle.std.specs.Prelude.{ℕ, ◌≡◌, ◌+◌, ◌<◌, ◌≤◌, nat_le, Bool, true, false, List, [], ◌∷◌, Some, None, cond, refl}
-use Rattle.std.proofs.Common.{arith, ap}
-use Rattle.std.proofs.lemmas.Bool.{leb-true, le-leb, lt-leb}
+use Rattle.std.specs.Prelude.{ℕ, ◌≡◌, ◌+◌, ◌<◌, ◌≤◌, nat_le, Bool, true, false, List, [], ◌∷◌, Some, None, find, cond, refl}
+use Rattle.std.proofs.Common.{arith, ap, sym, ◌∙◌, subst}
+use Rattle.std.proofs.lemmas.Bool.{leb-true, leb-false, le-leb, lt-leb}
 use Rattle.resv_list.specs.Sorted.{RisesFrom, first_from, rest_from}
+use Rattle.resv_list.proofs.SortedLaws.{RisesFrom-filter}
 
 -- A walk over a sorted list, from one member to the next.
 
@@ -47,3 +48,58 @@ module _ {X : Type 0} (key : X → ℕ) where
   rest_from-Some low limit x [] r e = absurd (cc)
   rest_from-Some low limit x (y ∷ ys) r e = found_by low limit x y ys (nat_le limit (key y)) refl e r
       (λ f. let g = rest_from-Some (key y + 1) limit x ys r.1 f in (g.0, omega (arith, g.1)))
+
+-- A search on a walk: for the first member that passes a test.
+
+module _ {X : Type 0} (key : X → ℕ) (test : X → Bool) where
+  -- what lies below a limit, and fails, may be left out of a search
+  find_rest_by : (limit : ℕ) (x : X) (xs : List X) (t u : Bool) → nat_le limit (key x) ≡ t → test x ≡ u
+      → (key x < limit → test x ≡ false) → find test (rest_from key limit xs) ≡ find test xs
+      → find test (cond t (x ∷ rest_from key limit xs) (rest_from key limit xs)) ≡ cond u (Some x) (find test xs)
+  find_rest_by limit x xs true u e f h rest = rw (f, rest) refl
+  find_rest_by limit x xs false true e f h rest = absurd (cc (h (leb-false limit (key x) e)))
+  find_rest_by limit x xs false false e f h rest = rest
+
+  pub find_rest : (limit : ℕ) (xs : List X) → ((x : X) → key x < limit → test x ≡ false)
+      → find test (rest_from key limit xs) ≡ find test xs
+  find_rest limit [] h = refl
+  find_rest limit (x ∷ xs) h = find_rest_by limit x xs (nat_le limit (key x)) (test x) refl refl (h x) (find_rest limit xs h)
+
+  -- nothing is found among members that lie from a limit on, where those fail
+  pub find_above_none : (limit low : ℕ) (xs : List X) → limit ≤ low → RisesFrom key low xs
+      → ((x : X) → limit ≤ key x → test x ≡ false) → find test xs ≡ None
+  find_above_none limit low [] l r h = refl
+  find_above_none limit low (x ∷ xs) l r h =
+      rw (h x (omega (arith, r.0))) (find_above_none limit (key x + 1) xs (omega (arith, r.0)) r.1 h)
+
+  found_passes_by : (x y : X) (xs : List X) (t : Bool) → test y ≡ t → cond t (Some y) (find test xs) ≡ Some x
+      → (find test xs ≡ Some x → test x ≡ true) → test x ≡ true
+  found_passes_by x y xs true e f rest = let same : y ≡ x = cc in sym (ap test same) ∙ e
+  found_passes_by x y xs false e f rest = rest f
+
+  -- what is found passes
+  pub found_passes : (x : X) (xs : List X) → find test xs ≡ Some x → test x ≡ true
+  found_passes x [] e = absurd (cc)
+  found_passes x (y ∷ ys) e = found_passes_by x y ys (test y) refl e (found_passes x ys)
+
+  pub found_first : (x : X) (xs : List X) → test x ≡ true → find test (x ∷ xs) ≡ Some x
+  found_first x xs e = rw e refl
+
+  pub found_not : (x : X) (xs : List X) → test x ≡ false → find test (x ∷ xs) ≡ find test xs
+  found_not x xs e = rw e refl
+
+-- what a walk finds next
+pub record IsNext {X : Type 0} (key : X → ℕ) (xs : List X) (from : ℕ) (x : X) : Type 0 where
+  pub rest : rest_from key from xs ≡ x ∷ rest_from key (key x + 1) xs
+  pub rises : RisesFrom key (key x + 1) (rest_from key (key x + 1) xs)
+  pub later : from ≤ key x
+
+pub is_next : {X : Type 0} (key : X → ℕ) (xs : List X) (from : ℕ) (x : X) → RisesFrom key 0 xs
+    → first_from key from xs ≡ Some x → IsNext key xs from x
+is_next {X} key xs from x s e =
+    let next = rest_from-Some key 0 from x xs s e in
+    let P : List X → Type 0 = λ ys. RisesFrom key 0 ys in
+    let rises : RisesFrom key 0 (x ∷ rest_from key (key x + 1) xs) =
+    subst P next.0 (RisesFrom-filter key (λ y. nat_le from (key y)) 0 xs s) in
+    let passes : nat_le from (key x) ≡ true = found_passes key (λ y. nat_le from (key y)) x xs e in
+    record { rest = next.0; rises = rises.1; later = leb-true from (key x) passes }

@@ -4,6 +4,7 @@ pub mod Free
 pub mod SameFields
 pub mod Reservations
 pub mod Begun
+pub mod Hours
 pub mod Nearest
 pub use Rattle.radio_airtime.specs.DataRate
 pub use Rattle.radio_airtime.specs.TimeOnAir

@@ -8,5 +8,5 @@ mod vec_roster;
 
 pub use laws::law_nearest_are_found;
 pub use reservation::{LAST_END, Reservation};
-pub use roster::{Dropped, MAX_MEMBERS, Roster, RosterFault};
+pub use roster::{Dropped, HOUR, MAX_MEMBERS, Roster, RosterFault};
 pub use vec_roster::VecRoster;

@@ -2,6 +2,7 @@ ghost use Rattle.std.specs.Prelude.{◌≡◌, ℕ, ◌≤◌, ◌↔◌, List, 
 ghost use Rattle.resv_list.specs.declared.reservation.Reservation.{Reservation as Member};
 ghost use Rattle.resv_list.specs.Reservations.{IsByStart, IsFree, place, member_before, member_from, member_at, without, begun};
 ghost use Rattle.resv_list.specs.Reservations.{members_before, members_from, net};
+ghost use Rattle.resv_list.specs.Hours.{first_over, most_spent};
 
 use crate::Reservation;
 use radio_bands::Band;
@@ -9,6 +10,9 @@ use thiserror::Error;
 
 /// The greatest number of reservations in a roster.
 pub const MAX_MEMBERS: usize = 65_536;
+
+/// An hour, in microseconds.
+pub const HOUR: u64 = 3_600_000_000;
 
 /// Why a roster took no reservation.
 #[derive(Clone, Copy, Debug, PartialEq, Eq, Hash, Error)]
@@ -49,6 +53,43 @@ pub trait Roster {
     /// a transmission counts whole where it begins.
     fn spent(&self, band: Band, from: u64, to: u64) -> u64
         ensures { result ≡ begun band from to (list self.now) };
+
+    /// The first of the sub-band, of those that begin from `from` on and before `to`, whose own hour has more airtime than
+    /// `most`, in microseconds: the hour that opens at its start, with what begins in it of the sub-band. This body walks over
+    /// all members of the stretch until it finds one.
+    fn first_over(&self, band: Band, from: u64, to: u64, most: u64) -> Option<Reservation>
+        ensures { result ≡ first_over band from to most (list self.now) }
+    {
+        let mut at = from;
+        while let Some(member) = self.first_from(at) {
+            if member.start >= to {
+                return None;
+            }
+            if band.holds(member.freq_hz, member.rate)
+                && self.spent(band, member.start, member.start + HOUR) > most
+            {
+                return Some(member);
+            }
+            at = member.start + 1;
+        }
+        None
+    }
+
+    /// The airtime of the fullest hour that one of the sub-band opens at its start, in microseconds; 0 where there is none.
+    /// This body walks over all members.
+    fn most(&self, band: Band) -> u64
+        ensures { result ≡ most_spent (list self.now) band }
+    {
+        let mut most: u64 = 0;
+        let mut at = 0;
+        while let Some(member) = self.first_from(at) {
+            if band.holds(member.freq_hz, member.rate) {
+                most = most.max(self.spent(band, member.start, member.start + HOUR));
+            }
+            at = member.start + 1;
+        }
+        most
+    }
 
     /// Takes out the one that begins at `start`, if there is one.
     fn remove(&mut self, start: u64) -> Option<Reservation>
