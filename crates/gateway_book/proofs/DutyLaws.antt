@@ -9,7 +9,8 @@ use Rattle.resv_list.specs.declared.reservation.Reservation.{Reservation}
 use Rattle.resv_list.specs.Reservations.{start_of, airtime_us, is_in, share, begun, spent, place}
 use Rattle.resv_list.specs.Begun.{begun-cons, begun-nil}
 use Rattle.gateway_book.proofs.LeastLaws.{least_is_least}
-use Rattle.gateway_book.specs.Duty.{is_within_hour, would_pass, is_overfull, starts_in, full_hour}
+use Rattle.resv_list.specs.Hours.{starts_in}
+use Rattle.gateway_book.specs.Duty.{is_within_hour, would_pass, is_overfull, full_hour}
 use Rattle.gateway_book.specs.Laws.{IsOpening, IsDutyAnswer}
 
 -- Of all hours, only finitely many want a look: those that open at a start.

@@ -11,6 +11,7 @@ pub mod SpacedLaws
 pub mod OverlapLaws
 pub mod DutyRow
 pub mod DutySearch
+pub mod OwnHours
 pub mod BusiestLaws
 pub mod AdmittedLaws
 pub mod SoundLaws

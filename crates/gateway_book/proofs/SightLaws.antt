@@ -15,7 +15,8 @@ use Rattle.resv_list.proofs.SortLemmas.{HaveOwnKeys, own_filtered, value-sorted}
 use Rattle.gateway_book.specs.Disjoint.{overlaps}
 use Rattle.gateway_book.specs.Least.{least, at_most, first_start}
 use Rattle.gateway_book.specs.Kept.{is_kept, kept}
-use Rattle.gateway_book.specs.Duty.{is_within_hour, would_pass, is_overfull, starts_in, full_hour}
+use Rattle.resv_list.specs.Hours.{starts_in}
+use Rattle.gateway_book.specs.Duty.{is_within_hour, would_pass, is_overfull, full_hour}
 use Rattle.gateway_book.specs.Answer.{overlap}
 
 -- What is out of sight from a moment on: what is asked of a list by that moment is asked of its kept part.

@@ -1,4 +1,4 @@
-use Rattle.std.specs.Prelude.{ℕ, ◌≡◌, ◌+◌, nat_le, not, if◌then◌else◌, Bool, true, false, List, length, find, Option, Some, None}
+use Rattle.std.specs.Prelude.{ℕ, ◌≡◌, ◌+◌, nat_le, if◌then◌else◌, Bool, true, false, List, find, Option, Some, None}
 use Rattle.std.specs.Prelude.{Result, Ok, Err}
 use Rattle.std.proofs.Common.{refl, sym, ap, subst, ◌∙◌, arith}
 use Rattle.resv_list.specs.declared.reservation.Reservation.{Reservation}
@@ -11,7 +11,7 @@ use Rattle.gateway_book.specs.Kept.{kept, retired_of}
 use Rattle.gateway_book.specs.Step.{State, book_step, cancel_answer, after_cancel, cancel_step, tick_step, is_named, found_or}
 use Rattle.gateway_book.specs.Step.{terms_at, without_named}
 use Rattle.gateway_book.specs.Book.{Book, terms_of, state_of, with_booked, ticked}
-use Rattle.gateway_book.specs.Remembers.{Remembers, StandsFor}
+use Rattle.gateway_book.specs.Remembers.{StandsFor}
 use Rattle.gateway_book.proofs.AnswerLaws.{book_step-accepted}
 use Rattle.gateway_book.proofs.CancelLaws.{named_found, named_none, net_named}
 use Rattle.gateway_book.proofs.KeptLaws.{net-place}

@@ -1,8 +1,9 @@
-use Rattle.std.specs.Prelude.{ℕ, ◌+◌, nat_lt, nat_le, Bool, ◌&&◌, List, ◌∷◌, Option, map, filter}
+use Rattle.std.specs.Prelude.{ℕ, ◌+◌, nat_lt, nat_le, Bool, ◌&&◌, List, ◌∷◌, Option, filter}
 use Rattle.radio_bands.specs.declared.band.Band.{Band}
 use Rattle.radio_bands.specs.Band.{hour, limit_of}
 use Rattle.resv_list.specs.declared.reservation.Reservation.{Reservation}
-use Rattle.resv_list.specs.Reservations.{start_of, is_in, spent}
+use Rattle.resv_list.specs.Reservations.{is_in, spent}
+use Rattle.resv_list.specs.Hours.{starts_in}
 use Rattle.gateway_book.specs.declared.duty.FullHour.{FullHour}
 use Rattle.gateway_book.specs.Least.{least}
 
@@ -20,10 +21,6 @@ would_pass l band airtime t = nat_lt (limit_of band) (spent l band t + airtime)
 -- whether the hour that opens at t holds the start, and would pass the limit with what begins there
 abbrev pub is_overfull : List Reservation → Band → ℕ → ℕ → ℕ → Bool
 is_overfull l band start airtime t = is_within_hour start t && would_pass l band airtime t
-
--- the starts of the members of the band
-abbrev pub starts_in : List Reservation → Band → List ℕ
-starts_in l band = map start_of (filter (is_in band) l)
 
 -- the least opening of such an hour, among the start and the starts of the members of the band
 unfoldable pub full_hour : List Reservation → Band → ℕ → ℕ → Option ℕ

@@ -7,7 +7,8 @@ use Rattle.gateway_book.specs.Least.{first_start, least}
 use Rattle.gateway_book.specs.Spaced.{SpacedFrom}
 use Rattle.radio_bands.specs.declared.band.Band.{Band}
 use Rattle.radio_bands.specs.Band.{hour, limit_of}
-use Rattle.gateway_book.specs.Duty.{starts_in, full_hour}
+use Rattle.resv_list.specs.Hours.{starts_in}
+use Rattle.gateway_book.specs.Duty.{full_hour}
 use Rattle.gateway_book.specs.Busiest.{IsBusiestAnswer, busiest_of}
 
 -- The laws of a book: what its definitions mean, for every list and every natural moment.

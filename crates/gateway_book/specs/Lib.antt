@@ -19,5 +19,6 @@ pub use Rattle.radio_bands.specs.Band
 pub use Rattle.resv_list.specs.Fit
 pub use Rattle.resv_list.specs.Sorted
 pub use Rattle.resv_list.specs.Begun
+pub use Rattle.resv_list.specs.Hours
 pub use Rattle.resv_list.specs.SameFields
 pub use Rattle.resv_list.specs.Reservations

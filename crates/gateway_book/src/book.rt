@@ -13,11 +13,11 @@ ghost use Rattle.gateway_book.specs.Step.{book_step, cancel_answer, cancel_step,
 
 use crate::busiest::busiest_hour;
 use crate::cancel::named;
-use crate::duty::{HOUR, full_hour};
+use crate::duty::full_hour;
 use crate::listing::members_of;
 use crate::{Ask, CancelFault, Refusal, Totals};
 use radio_bands::Band;
-use resv_list::{Reservation, Roster};
+use resv_list::{HOUR, Reservation, Roster};
 use std::alloc::{AllocError, Allocator};
 use std::marker::Model;
 use thiserror::Error;

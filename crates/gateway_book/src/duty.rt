@@ -1,17 +1,14 @@
-ghost use Rattle.std.specs.Prelude.{◌≡◌, ◌≤◌, ◌<◌, ◌&&◌, Some, None, if◌then◌else◌, find};
+ghost use Rattle.std.specs.Prelude.{◌≡◌, ◌≤◌, ◌<◌, Some, None, if◌then◌else◌, find};
 ghost use Rattle.std.specs.Option.{option_map};
 ghost use Rattle.resv_list.specs.Fit.{last_end};
-ghost use Rattle.resv_list.specs.Reservations.{is_in, net};
+ghost use Rattle.resv_list.specs.Reservations.{net};
 ghost use Rattle.gateway_book.specs.Answer.{total_limit};
 ghost use Rattle.gateway_book.specs.Duty.{would_pass, full_hour, opens_full, hour_from};
 
 use radio_bands::{Band, limit_us};
-use resv_list::{Reservation, Roster};
+use resv_list::{HOUR, Roster};
 
-/// An hour, in microseconds.
-pub const HOUR: u64 = 3_600_000_000;
-
-/// An hour that would be overfull.
+/// An hour, and how full it is.
 #[derive(Clone, Copy, Debug)]
 pub(crate) struct FullHour {
     /// Where it opens, in microseconds.
@@ -44,44 +41,17 @@ pub(crate) fn full_hour<R: Roster>(
     }
 }
 
-/// The first hour which would be overfull and which a member opens, from the last hour before `start` on.
+/// The first hour which holds `start`, would be overfull and is a member's own. Where the ask alone would pass the limit,
+/// each hour that a member opens would be overfull: none of them is empty.
 fn first_full<R: Roster>(roster: &R, band: Band, start: u64, airtime: u64) -> Option<FullHour>
-    requires early { start ≤ last_end }
-    requires short { airtime < 10000000 }
-    requires bounded { net (R.list roster.now) ≤ total_limit }
+    requires { start ≤ last_end }
     ensures { result ≡ option_map (λ r. hour_from (R.list roster.now) band r.start)
         (find (opens_full (R.list roster.now) band start airtime) (R.list roster.now)) }
 {
-    let mut from = (start + 1).saturating_sub(HOUR);
-    while let Some(member) = roster.first_from(from) {
-        if member.start > start {
-            return None;
-        }
-        if let Some(hour) = opened_by(roster, band, airtime, &member) {
-            return Some(hour);
-        }
-        from = member.start + 1;
-    }
-    None
-}
-
-/// The hour that the member opens, if it is one of the band and the hour would pass the limit.
-fn opened_by<R: Roster>(
-    roster: &R,
-    band: Band,
-    airtime: u64,
-    member: &Reservation,
-) -> Option<FullHour>
-    requires short { airtime < 10000000 }
-    requires bounded { net (R.list roster.now) ≤ total_limit }
-    ensures { result ≡ (if is_in band member.now && would_pass (R.list roster.now) band airtime member.now.start
-        then Some (hour_from (R.list roster.now) band member.now.start) else None) }
-{
-    if band.holds(member.freq_hz, member.rate) {
-        overfull(roster, band, airtime, member.start)
-    } else {
-        None
-    }
+    let first = (start + 1).saturating_sub(HOUR);
+    let room = limit_us(band).saturating_sub(airtime);
+    let member = roster.first_over(band, first, start + 1, room)?;
+    Some(hour_from(roster, band, member.start))
 }
 
 /// The hour that opens at `from`, if it would pass the band's limit with so much more airtime.
@@ -92,10 +62,19 @@ fn overfull<R: Roster>(roster: &R, band: Band, airtime: u64, from: u64) -> Optio
     ensures { result ≡ (if would_pass (R.list roster.now) band airtime from then Some (hour_from (R.list roster.now) band from)
         else None) }
 {
-    let spent = roster.spent(band, from, from + HOUR);
-    if spent + airtime > limit_us(band) {
-        Some(FullHour { from, spent })
+    let hour = hour_from(roster, band, from);
+    if hour.spent + airtime > limit_us(band) {
+        Some(hour)
     } else {
         None
     }
+}
+
+/// The hour that opens at `from`.
+fn hour_from<R: Roster>(roster: &R, band: Band, from: u64) -> FullHour
+    requires { from ≤ last_end }
+    ensures { result ≡ hour_from (R.list roster.now) band from }
+{
+    let spent = roster.spent(band, from, from + HOUR);
+    FullHour { from, spent }
 }

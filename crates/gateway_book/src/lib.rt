@@ -14,11 +14,11 @@ mod totals;
 pub use ask::Ask;
 pub use book::{GatewayBook, MAX_CAP, NoMemory, OpenFault, TOTAL_LIMIT};
 pub use cancel::CancelFault;
-pub use duty::HOUR;
 pub use laws::{
     law_busiest_is_exact, law_duty_row_is_exact, law_few_hours_suffice, law_first_has_least_start,
     law_forgetting, law_least_is_least, law_spaced_is_apart,
 };
 pub use refusal::Refusal;
+pub use resv_list::HOUR;
 pub use text_lines::{ByteIn, ByteOut, CallFailed, MemoryIn, MemoryOut, StdIn, StdOut};
 pub use totals::Totals;

@@ -1,5 +1,5 @@
-use Rattle.std.specs.Prelude.{◌≡◌, Bool, true, false, ◌&&◌, List, [], ◌∷◌, Some, filter, find, cond}
-use Rattle.std.proofs.Common.{refl, sym, ap, ◌∙◌}
+use Rattle.std.specs.Prelude.{◌≡◌, Bool, true, false, ◌&&◌, List, [], ◌∷◌, Some, None, filter, find, cond, Contains}
+use Rattle.std.proofs.Common.{refl, sym, ap, ◌∙◌, arith, zero, suc}
 
 -- Lists that pass two tests, one after the other.
 
@@ -54,3 +54,21 @@ module _ {X : Type 0} where
   pub filter-stays : (p q : X → Bool) → ((x : X) → q x ≡ true → p x ≡ true) → (xs : List X)
       → filter p (filter q xs) ≡ filter q xs
   filter-stays p q h xs = filter-swap p q xs ∙ filter-stronger q p h xs
+
+  alike_by : (p q : X → Bool) (x : X) (xs : List X) (t : Bool) → q x ≡ t → p x ≡ q x → find p xs ≡ find q xs
+      → find p (x ∷ xs) ≡ cond t (Some x) (find q xs)
+  alike_by p q x xs true e h rest = rw (h, e) refl
+  alike_by p q x xs false e h rest = rw (h, e) rest
+
+  -- two tests that agree on the members find the same
+  pub find-alike : (p q : X → Bool) (xs : List X) → ((x : X) → Contains xs x → p x ≡ q x) → find p xs ≡ find q xs
+  find-alike p q [] h = refl
+  find-alike p q (x ∷ xs) h =
+      alike_by p q x xs (q x) refl (h x (zero, omega arith, refl))
+      (find-alike p q xs (λ y c. h y (suc c.0, omega (arith, c.1), c.2)))
+
+  -- and one that no member passes finds nothing
+  pub find-none : (p : X → Bool) (xs : List X) → ((x : X) → Contains xs x → p x ≡ false) → find p xs ≡ None
+  find-none p [] h = refl
+  find-none p (x ∷ xs) h =
+      rw (h x (zero, omega arith, refl)) (find-none p xs (λ y c. h y (suc c.0, omega (arith, c.1), c.2)))

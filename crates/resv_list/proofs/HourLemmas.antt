@@ -76,7 +76,7 @@ over_later l band from to most at m n f h g =
     (is_over-within l band from to most m (omega (arith, f, n.later)) h ∙ le-ltb most (cond (is_in band m) (spent l band m.start) 0) g)
 
 -- the greatest, with one more member in front
-greatest-cons : (f : ℕ → ℕ) (band : Band) (r : Reservation) (rs : List Reservation) (p : Bool) → is_in band r ≡ p
+pub greatest-cons : (f : ℕ → ℕ) (band : Band) (r : Reservation) (rs : List Reservation) (p : Bool) → is_in band r ≡ p
     → greatest (map f (starts_in (r ∷ rs) band)) ≡ max (cond p (f r.start) 0) (greatest (map f (starts_in rs band)))
 greatest-cons f band r rs true e = rw e refl
 greatest-cons f band r rs false e = rw e (omega arith)

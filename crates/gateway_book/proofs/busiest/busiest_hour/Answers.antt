@@ -1,40 +1,28 @@
-use Rattle.std.proofs.Common.{◌≡◌, ◌+◌, ◌∷◌, ℕ, Option, length, sym, ap, ◌∙◌, arith}
-use Rattle.resv_list.proofs.Walk.{rest_from-rises, rest_from-None}
-use Rattle.resv_list.specs.Sorted.{rest_from}
-use Rattle.resv_list.specs.Reservations.{start_of, spent}
-use Rattle.gateway_book.proofs.DutySearch.{is_next}
-use Rattle.gateway_book.proofs.BusiestLaws.{busiest_from, busiest_from-all}
+use Rattle.std.proofs.Common.{ℕ, ◌-◌, Some, None, sym, ap, ◌∙◌, arith}
+use Rattle.resv_list.specs.Fit.{last_end}
+use Rattle.resv_list.specs.Hours.{first_over}
+use Rattle.gateway_book.proofs.OwnHours.{busiest_of-none, busiest_of-asked}
 use Rattle.gateway_book.proofs.busiest.busiest_hour.Goals as goal
 
-pub loop-member-init : goal.loop-member-init
-loop-member-init g c =
-    let l = g.R.Roster.list c.args.roster.now in
-    ap (busiest_from (spent l c.args.band) c.args.band _) (rest_from-rises start_of 0 0 l (omega arith)
-    (g.met.R.Roster.by_start c.args.roster.now))
+pub returns-then-most-eq0 : goal.returns-then-most-eq0
+returns-then-most-eq0 g c =
+    busiest_of-none (g.R.Roster.list c.args.roster.now) c.args.band (g.met.R.Roster.by_start c.args.roster.now)
+    (sym c.most-most.ensures ∙ c.if-most-eq0.true)
 
-pub loop-member-smaller : goal.loop-member-smaller
-loop-member-smaller g c =
+pub returns-in_err-member : goal.returns-in_err-member
+returns-in_err-member g c =
     let l = g.R.Roster.list c.args.roster.now in
-    let m = c.in-Some.member in
-    let next = is_next l c.loop-member.from m (g.met.R.Roster.by_start c.args.roster.now)
-    (sym c.first_from.ensures ∙ c.in-Some.is) in
-    let shorter : length (rest_from start_of c.loop-member.from l) ≡ length (m ∷ rest_from start_of (m.start + 1) l) =
-    ap length next.rest in
-    omega (arith, shorter)
-
-pub loop-member-preserved : goal.loop-member-preserved
-loop-member-preserved g c =
-    let l = g.R.Roster.list c.args.roster.now in
-    let m = c.in-Some.member in
-    let next = is_next l c.loop-member.from m (g.met.R.Roster.by_start c.args.roster.now)
-    (sym c.first_from.ensures ∙ c.in-Some.is) in
-    let step = sym (ap (busiest_from (spent l c.args.band) c.args.band c.loop-member.best) next.rest) ∙ c.loop-member.invariant in
-    ap (λ (o : Option (ℕ × ℕ)). busiest_from (spent l c.args.band) c.args.band o (rest_from start_of (m.start + 1) l))
-    c.with_hour_of-best.ensures ∙ step
+    c.from_residual.ensures
+    ∙ busiest_of-asked l c.args.band None (g.met.R.Roster.by_start c.args.roster.now)
+    (omega (arith, c.most-most.ensures, c.if-most-eq0.false))
+    (sym c.in_err-member.was ∙ c.first_over.ensures
+    ∙ ap (λ (n : ℕ). first_over c.args.band 0 last_end (n - 1) l) c.most-most.ensures)
 
 pub returns : goal.returns
 returns g c =
     let l = g.R.Roster.list c.args.roster.now in
-    let none = rest_from-None start_of c.loop-member.from l (sym c.first_from.ensures ∙ c.in_default.is) in
-    sym (ap (busiest_from (spent l c.args.band) c.args.band c.loop-member.best) none) ∙ c.loop-member.invariant
-    ∙ busiest_from-all l c.args.band (g.met.R.Roster.by_start c.args.roster.now)
+    ap (λ (n : ℕ). Some (c.in_ok-member.member.start, n)) c.most-most.ensures
+    ∙ busiest_of-asked l c.args.band (Some c.in_ok-member.member) (g.met.R.Roster.by_start c.args.roster.now)
+    (omega (arith, c.most-most.ensures, c.if-most-eq0.false))
+    (sym c.in_ok-member.was ∙ c.first_over.ensures
+    ∙ ap (λ (n : ℕ). first_over c.args.band 0 last_end (n - 1) l) c.most-most.ensures)
