@@ -17,7 +17,7 @@ fn reservation_at(rt: &impl Abort, start: u64) -> Reservation
 }
 
 /// The same in one of three sub-bands, each with its own rate, by the start.
-fn mixed_at(rt: &impl Abort, start: u64) -> Reservation {
+pub(crate) fn mixed_at(rt: &impl Abort, start: u64) -> Reservation {
     let (freq_hz, rate) = match start % 3 {
         0 => (863_500_000, DataRate::Dr0),
         1 => (868_100_000, DataRate::Dr5),
@@ -37,7 +37,7 @@ fn is_free<R: Roster>(roster: &R, start: u64) -> bool
 }
 
 /// Puts one more into any roster.
-fn put<R: Roster>(
+pub(crate) fn put<R: Roster>(
     rt: &impl Abort,
     roster: &mut R,
     reservation: Reservation,
@@ -178,7 +178,7 @@ fn toggle<R: Roster>(rt: &impl Abort, roster: &mut R, start: u64) -> Option<Rese
 }
 
 /// The next of some numbers that look random (Knuth's MMIX).
-fn drawn_after(number: u64) -> u64 {
+pub(crate) fn drawn_after(number: u64) -> u64 {
     number
         .wrapping_mul(6_364_136_223_846_793_005)
         .wrapping_add(1_442_695_040_888_963_407)

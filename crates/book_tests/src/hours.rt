@@ -1,0 +1,169 @@
+// The hours that members open: worked rows on each roster, and each against a plain list of the same members.
+
+use crate::roster::{drawn_after, mixed_at, put};
+use radio_bands::Band;
+use resv_list::{HOUR, Reservation, Roster, VecRoster};
+use resv_tree::TreeRoster;
+use std::alloc::{AllocError, Global};
+use std::process::Abort;
+use std::test::Fail;
+
+/// The start of what is found first over so much.
+fn found<R: Roster>(roster: &R, band: Band, from: u64, to: u64, most: u64) -> Option<u64> {
+    Some(roster.first_over(band, from, to, most)?.start)
+}
+
+/// What a band's fullest hour has in each of three sub-bands.
+fn fullest<R: Roster>(roster: &R) -> [u64; 3] {
+    [
+        roster.most(Band::K),
+        roster.most(Band::M),
+        roster.most(Band::P),
+    ]
+}
+
+/// Three of sub-band K, 991,232 us each, of which the last begins an hour after the first, and one of sub-band M with 41,216.
+const STARTS: [u64; 4] = [3_600_000_000, 1, 0, 3_599_999_997];
+
+/// What is asked for, and the start of what is found: sub-band, from, to, most.
+const ROWS: [(Band, u64, u64, u64, Option<u64>); 16] = [
+    (Band::K, 0, u64::MAX, 0, Some(0)),
+    (Band::K, 0, u64::MAX, 1_982_463, Some(0)),
+    (Band::K, 0, u64::MAX, 1_982_464, None),
+    (Band::K, 1, u64::MAX, 0, Some(3_599_999_997)),
+    (
+        Band::K,
+        3_599_999_997,
+        u64::MAX,
+        991_232,
+        Some(3_599_999_997),
+    ),
+    (Band::K, 3_599_999_998, u64::MAX, 991_232, None),
+    (
+        Band::K,
+        3_599_999_998,
+        u64::MAX,
+        991_231,
+        Some(3_600_000_000),
+    ),
+    (Band::K, 1, 3_599_999_997, 0, None),
+    (Band::K, 1, 3_599_999_998, 0, Some(3_599_999_997)),
+    (Band::K, 0, 0, 0, None),
+    (Band::K, 3_600_000_000, 1, 0, None),
+    (Band::K, 3_600_000_001, u64::MAX, 0, None),
+    (Band::M, 0, u64::MAX, 0, Some(1)),
+    (Band::M, 0, u64::MAX, 41_216, None),
+    (Band::M, 2, u64::MAX, 0, None),
+    (Band::P, 0, u64::MAX, 0, None),
+];
+
+/// Asks for hours of no member, of four, and of three.
+fn answers_rows<R: Roster>(rt: &impl Abort, roster: &mut R) {
+    assert_eq!(rt; found(roster, Band::K, 0, u64::MAX, 0), None);
+    assert_eq!(rt; fullest(roster), [0, 0, 0]);
+    for start in STARTS {
+        assert_eq!(rt; put(rt, roster, mixed_at(rt, start)), Ok(()));
+    }
+    for (band, from, to, most, wanted) in ROWS {
+        let start = found(roster, band, from, to, most);
+        assert_eq!(rt; start, wanted, "{band:?} from {from} to {to} over {most}");
+    }
+    assert_eq!(rt; fullest(roster), [1_982_464, 41_216, 0]);
+    assert!(rt; roster.remove(3_599_999_997).is_some());
+    assert_eq!(rt; fullest(roster), [991_232, 41_216, 0]);
+}
+
+#[test]
+fn finds_the_hours_that_members_open(rt: HostRuntime) {
+    answers_rows(&rt, &mut VecRoster::new(rt.alloc()));
+    answers_rows(&rt, &mut TreeRoster::new(rt.alloc()));
+}
+
+/// The airtime of those of the sub-band that begin in the hour that opens at `from`.
+fn spent_in(members: &[Reservation], band: Band, from: u64) -> u64 {
+    let mut sum: u64 = 0;
+    for member in members {
+        if member.band() == band && member.start >= from && member.start - from < HOUR {
+            sum = sum.saturating_add(member.airtime());
+        }
+    }
+    sum
+}
+
+/// The one with the least start of those of the sub-band in the stretch whose hour has more.
+fn first_over_in(
+    members: &[Reservation],
+    band: Band,
+    from: u64,
+    to: u64,
+    most: u64,
+) -> Option<Reservation> {
+    let mut first: Option<Reservation> = None;
+    for member in members {
+        let is_asked_for = member.band() == band && from <= member.start && member.start < to;
+        if is_asked_for && spent_in(members, band, member.start) > most {
+            let is_first = first.map_or(true, |other| member.start < other.start);
+            first = if is_first { Some(*member) } else { first };
+        }
+    }
+    first
+}
+
+/// The most that the hour of one of the sub-band has.
+fn most_in(members: &[Reservation], band: Band) -> u64 {
+    let mut most: u64 = 0;
+    for member in members {
+        if member.band() == band {
+            most = most.max(spent_in(members, band, member.start));
+        }
+    }
+    most
+}
+
+/// Takes out what begins at `start`, or puts one in where nothing does, in both.
+fn toggle<R: Roster>(
+    rt: &impl Abort,
+    roster: &mut R,
+    members: &mut Vec<Reservation, Global>,
+    start: u64,
+) -> Result<(), AllocError> {
+    match members.iter().position(|member| member.start == start) {
+        Some(place) => {
+            assert_eq!(rt; roster.remove(start), Some(members.remove(place)));
+        }
+        None => {
+            assert_eq!(rt; put(rt, roster, mixed_at(rt, start)), Ok(()));
+            members.push(mixed_at(rt, start))?;
+        }
+    }
+    Ok(())
+}
+
+/// Random changes to a roster and to the list, and the same questions to both; the starts lie within two hours.
+fn answers_alike<R: Roster>(
+    rt: &impl Abort,
+    roster: &mut R,
+    mut members: Vec<Reservation, Global>,
+) -> Result<(), AllocError> {
+    let mut drawn = 1;
+    for turn in 0..600 {
+        drawn = drawn_after(drawn);
+        let (start, from) = ((drawn >> 57) * 60_000_001, (drawn >> 50) % 128 * 60_000_001);
+        toggle(rt, roster, &mut members, start)?;
+        let band = [Band::K, Band::M, Band::P][(drawn % 3) as usize];
+        let most = most_in(members.as_slice(), band);
+        assert_eq!(rt; roster.most(band), most, "in turn {turn}");
+        let less = most.saturating_sub((drawn >> 33) % 4 * 500_000);
+        let wanted = first_over_in(members.as_slice(), band, from, start, less);
+        let over = roster.first_over(band, from, start, less);
+        assert_eq!(rt; over, wanted, "in turn {turn}");
+    }
+    Ok(())
+}
+
+#[test]
+fn hours_are_those_of_a_plain_list(rt: HostRuntime) -> Result<(), Fail> {
+    answers_alike(&rt, &mut VecRoster::new(rt.alloc()), Vec::new(rt.alloc()))?;
+    answers_alike(&rt, &mut TreeRoster::new(rt.alloc()), Vec::new(rt.alloc()))?;
+    Ok(())
+}
