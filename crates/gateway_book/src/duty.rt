@@ -32,7 +32,8 @@ pub(crate) fn full_hour<R: Roster>(
     ensures { result ≡ option_map (hour_from (R.list roster.now) band) (full_hour (R.list roster.now) band start airtime) }
 {
     let first = (start + 1).saturating_sub(HOUR);
-    if roster.spent(band, first, start + HOUR) + airtime <= limit_us(band) {
+    let limit = limit_us(band);
+    if airtime <= limit && roster.is_within(band, first, start + HOUR, limit - airtime) {
         return None;
     }
     match first_full(roster, band, start, airtime) {

@@ -1,4 +1,4 @@
-ghost use Rattle.std.specs.Prelude.{◌≡◌, ℕ, ◌≤◌, ◌↔◌, List, length, IfErr, OnOk, OnErr, IsErrAnd};
+ghost use Rattle.std.specs.Prelude.{◌≡◌, ℕ, ◌≤◌, nat_le, ◌↔◌, List, length, IfErr, OnOk, OnErr, IsErrAnd};
 ghost use Rattle.resv_list.specs.declared.reservation.Reservation.{Reservation as Member};
 ghost use Rattle.resv_list.specs.Reservations.{IsByStart, IsFree, place, member_before, member_from, member_at, without, begun};
 ghost use Rattle.resv_list.specs.Reservations.{members_before, members_from, net};
@@ -53,6 +53,14 @@ pub trait Roster {
     /// a transmission counts whole where it begins.
     fn spent(&self, band: Band, from: u64, to: u64) -> u64
         ensures { result ≡ begun band from to (list self.now) };
+
+    /// Whether the airtime of those of the sub-band that begin from `from` on and before `to` is at most `most`, in
+    /// microseconds. This body asks for the sum; a roster may tell with less.
+    fn is_within(&self, band: Band, from: u64, to: u64, most: u64) -> bool
+        ensures { result ≡ nat_le (begun band from to (list self.now)) most }
+    {
+        self.spent(band, from, to) <= most
+    }
 
     /// The first of the sub-band, of those that begin from `from` on and before `to`, whose own hour has more airtime than
     /// `most`, in microseconds: the hour that opens at its start, with what begins in it of the sub-band. This body walks over

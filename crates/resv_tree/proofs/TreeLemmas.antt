@@ -95,6 +95,10 @@ module _ {t l r : Shape} {e : Entry} where
       let all = ap (begun band 0 to) m.entries ∙ begun_right band 0 to _ _ _ (subst IsByKey m.entries b) h in
       omega (arith, all, kept_sum-total _ band m.left, kept_sum-parts t l r e band m.entries w m.left m.right)
 
+-- what begins before a moment is a part of all
+pub spent_in_all : (t : Shape) (band : Band) (to : ℕ) → IsWhole t → begun band 0 to (entries t) ≤ kept_sum t band
+spent_in_all t band to w = omega (arith, kept_sum-total t band w, begun_le-total band to (entries t))
+
 -- what begins before a moment is bounded by the count
 pub spent_short : (t : Shape) (band : Band) (to : ℕ) → IsWhole t → begun band 0 to (entries t) ≤ 10000000 * count_of t
 spent_short t band to w =
@@ -117,7 +121,7 @@ pub ruleset looking_before = (sides, before_left, before_right)
 
 pub ruleset looking_from = (sides, from_left, from_right)
 
-pub ruleset spending = (sides, spent_left, spent_right, sum_of_right, spent_short, count_bounds_sum)
+pub ruleset spending = (sides, spent_left, spent_right, sum_of_right, spent_short, spent_in_all, count_bounds_sum)
 
 pub rest_by_start : (at : ℕ) (l m : List Reservation) → m ≡ members_from at l → IsByStart l → IsByStart m
 rest_by_start at l m e b = subst IsByStart (sym e) (RisesFrom-filter start_of _ 0 l b)

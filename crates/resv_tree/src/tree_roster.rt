@@ -10,6 +10,9 @@ use radio_bands::Band;
 use resv_list::{Dropped, MAX_MEMBERS, Reservation, Roster, RosterFault};
 use std::alloc::Allocator;
 
+/// Which part of a bound the ends of a stretch may count for together before `is_within` looks closer.
+const SPARE: u64 = 8;
+
 /// A roster in a balanced tree: each call takes a walk from the root down, `insert` also the memory of one node, and
 /// `drop_before` gives back that of each member that it drops. It is
 /// dropped side by side, as deep as the tree is high: 33 levels at most, so no number of members exhausts the stack.
@@ -60,6 +63,17 @@ impl<A: Allocator + Clone> Roster for TreeRoster<A> {
     fn spent(&self, band: Band, from: u64, to: u64) -> u64 {
         let before_to = look::spent_before(&self.root, band, to);
         before_to.saturating_sub(look::spent_before(&self.root, band, from))
+    }
+
+    /// Two walks that end above the leaves tell it where there is room to spare; else two walks to the leaves.
+    #[tactic(auto, using(crate::proofs::SumLemmas::begun_difference))]
+    fn is_within(&self, band: Band, from: u64, to: u64, most: u64) -> bool {
+        let less = most / SPARE;
+        let before_to = look::spent_about(&self.root, band, to, less) + less;
+        if before_to.saturating_sub(look::spent_about(&self.root, band, from, less)) <= most {
+            return true;
+        }
+        self.spent(band, from, to) <= most
     }
 
     #[tactic(auto, using(crate::proofs::TreeLemmas::staying))]

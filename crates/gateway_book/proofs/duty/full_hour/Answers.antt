@@ -1,27 +1,16 @@
-use Rattle.std.proofs.Common.{◌+◌, sym, ap, refl, arith}
+use Rattle.std.proofs.Common.{sym, ap, refl, arith, ◌∙◌}
+use Rattle.std.proofs.lemmas.Bool.{leb-true}
 use Rattle.std.specs.Option.{option_map}
-use Rattle.radio_bands.specs.Band.{hour}
-use Rattle.gateway_book.proofs.DutyRow.{begun_net}
 use Rattle.gateway_book.specs.Duty.{hour_from}
 use Rattle.gateway_book.proofs.DutySearch.{full_hour-spare, full_hour-mapped}
 use Rattle.gateway_book.proofs.duty.full_hour.Goals as goal
 
-pub overflow_add-spent : goal.overflow_add-spent
-overflow_add-spent g c =
-    omega (
-      arith,
-      c.spent.ensures,
-      begun_net c.args.band c.saturating_sub-first.result (c.args.start + hour)
-          (g.R.Roster.list c.args.roster.now),
-      c.requires.bounded,
-      c.requires.short,
-    )
-
-pub returns-then-spent-airtime : goal.returns-then-spent-airtime
-returns-then-spent-airtime g c =
+pub returns-then-is_within : goal.returns-then-is_within
+returns-then-is_within g c =
     let l = g.R.Roster.list c.args.roster.now in
+    let within = leb-true _ _ (sym c.is_within.ensures ∙ c.if-is_within.true) in
     sym (ap (option_map (hour_from l c.args.band)) (full_hour-spare l c.args.band c.args.start c.args.airtime
-    (rw (← c.saturating_sub-first.ensures, ← c.spent.ensures) (omega (arith, c.if-spent-airtime.true, c.limit_us.ensures)))))
+    (rw (← c.saturating_sub-first.ensures) (omega (arith, within, c.if-airtime-limit.true, c.limit_us-limit.ensures)))))
 
 pub returns-in-Some : goal.returns-in-Some
 returns-in-Some g c =
