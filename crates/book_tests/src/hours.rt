@@ -69,6 +69,10 @@ fn answers_rows<R: Roster>(rt: &impl Abort, roster: &mut R) {
         assert_eq!(rt; start, wanted, "{band:?} from {from} to {to} over {most}");
     }
     assert_eq!(rt; fullest(roster), [1_982_464, 41_216, 0]);
+    assert!(rt; roster.is_within(Band::K, 0, HOUR, 1_982_464));
+    assert!(rt; !roster.is_within(Band::K, 0, HOUR, 1_982_463));
+    assert!(rt; !roster.is_within(Band::K, 0, HOUR + 1, 1_982_464));
+    assert!(rt; roster.is_within(Band::K, 1, HOUR + 1, 1_982_464));
     assert!(rt; roster.remove(3_599_999_997).is_some());
     assert_eq!(rt; fullest(roster), [991_232, 41_216, 0]);
 }
@@ -157,6 +161,10 @@ fn answers_alike<R: Roster>(
         let wanted = first_over_in(members.as_slice(), band, from, start, less);
         let over = roster.first_over(band, from, start, less);
         assert_eq!(rt; over, wanted, "in turn {turn}");
+        let spent = roster.spent(band, from, start);
+        assert!(rt; roster.is_within(band, from, start, spent), "in turn {turn}");
+        let has_less = spent > 0 && roster.is_within(band, from, start, spent - 1);
+        assert!(rt; !has_less, "in turn {turn}");
     }
     Ok(())
 }
