@@ -20,3 +20,4 @@ pub mod ForgettingLaws
 pub mod PairLaws
 pub mod ForgottenSteps
 pub mod StandingLaws
+pub mod WorkedRefusals
