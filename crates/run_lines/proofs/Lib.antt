@@ -5,3 +5,5 @@ pub mod ReplayLemmas
 pub mod EventLemmas
 pub mod InputLemmas
 pub mod Worked
+pub mod WholeLineLemmas
+pub mod WholeRunLemmas

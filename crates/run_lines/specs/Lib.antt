@@ -4,3 +4,4 @@ pub mod ReplayText
 pub mod RunWords
 pub mod RunEvents
 pub mod RunInput
+pub mod WholeLines

@@ -4,12 +4,14 @@
 mod entry_line;
 mod entry_name;
 mod gateway_report;
+mod laws;
 mod replay_text;
 mod run_events;
 mod run_input;
 mod run_words;
 mod tally;
 
+pub use laws::law_lines_are_whole;
 pub use replay_text::write_lines;
 pub use run_events::events_of;
 pub use run_input::{parts_of, read_all};
