@@ -219,6 +219,7 @@ fn joined_in<B: Ledger>(served: Served<B>) -> Shared<B>
         strays,
         overrun: _,
         ran,
+        ..
     } = served;
     Shared {
         till,

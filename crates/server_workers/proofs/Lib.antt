@@ -1,3 +1,4 @@
 pub mod CrewLemmas
 pub mod WorkLemmas
+pub mod TurnLemmas
 pub mod Crossing

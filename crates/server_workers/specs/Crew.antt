@@ -1,4 +1,4 @@
-use Rattle.std.specs.Prelude.{ℕ, ◌≡◌, ◌≤◌, Bool, false, [], vec_capacity}
+use Rattle.std.specs.Prelude.{ℕ, ◌≡◌, ◌≤◌, Bool, true, false, is_some, [], vec_capacity}
 use Rattle.server_workers.specs.declared.worked.Worked.{Worked}
 
 -- A crew of workers.
@@ -14,3 +14,7 @@ pub record IsWithin {B A : Type 0} (room : ℕ) (worked : Worked B A) : Type 0 w
 -- a worker that hasn't begun has settled nothing
 abbrev pub HasSettledNone : {B A : Type 0} → Bool → Worked B A → Type 0
 HasSettledNone has_begun worked = has_begun ≡ false → worked.outcomes.items ≡ []
+
+-- a worker that has begun went on until it had a reason to stop
+abbrev pub HasDoneItsPart : {B A : Type 0} → Bool → Worked B A → Type 0
+HasDoneItsPart has_begun worked = has_begun ≡ true → is_some worked.stopped ≡ true

@@ -1,8 +1,10 @@
 pub mod Works
 pub mod EmptyLists
 pub mod Working
+pub mod Turns
 pub mod Crew
 pub mod Serving
+pub mod Counts
 pub use Rattle.book_audit.specs.Audit
 pub use Rattle.server_station.specs.Stations
 pub use Rattle.server_station.specs.Handling

@@ -2,11 +2,14 @@
 //! of `server_station`.
 #![tactic(auto)]
 
+mod counts;
+mod gathering;
 mod lists;
 mod member;
 mod served;
 mod serving;
 mod summing;
+mod turns;
 mod worked;
 mod working;
 

@@ -1,11 +1,11 @@
 // A worker among others.
-ghost use Rattle.std.specs.Prelude.{◌≡◌, [], ℕ};
-ghost use Rattle.server_workers.specs.Crew.{IsWithin, HasSettledNone};
+ghost use Rattle.std.specs.Prelude.{◌≡◌, [], ℕ, length};
+ghost use Rattle.server_workers.specs.Crew.{IsWithin, HasSettledNone, HasDoneItsPart};
 
 use crate::working::work_on;
 use crate::{Gate, Ledger, Station, Worked};
-use crossbeam_channel::Receiver;
-use std::alloc::Allocator;
+use crossbeam_channel::{Receiver, bounded};
+use std::alloc::{AllocError, Allocator};
 use std::hash::BuildHasher;
 use std::marker::{Brand, PhantomData};
 use std::sync::Wait;
@@ -19,8 +19,8 @@ impl Room for Brand {
     ghost room = { 0 };
 }
 
-/// A worker of a crew. Its type keeps that its lists have no more room than the numbers need, and that it has settled
-/// nothing where it hasn't begun.
+/// A worker of a crew. Its type keeps that its lists have no more room than the numbers need, that it has settled nothing
+/// where it hasn't begun, and that one that has begun went on until it had a reason to stop.
 #[derive(Drop)]
 pub(crate) struct Member<K: Room, B: Ledger, A: Allocator> {
     has_begun: bool,
@@ -28,22 +28,36 @@ pub(crate) struct Member<K: Room, B: Ledger, A: Allocator> {
     crew: PhantomData<K>,
     ghost within: { IsWithin K.room worked },
     ghost before: { HasSettledNone has_begun worked },
+    ghost after: { HasDoneItsPart has_begun worked },
 }
 
-/// The numbers that a crew works at, in a channel that is closed.
+/// The numbers that a crew works at, in a channel that is closed. Its type keeps that as many were sent as there are.
 #[derive(Drop)]
 pub(crate) struct Numbers<K: Room, A: Allocator> {
     channel: Receiver<u64, A>,
+    sent: usize,
     crew: PhantomData<K>,
+    ghost all: { sent ≡ K.room },
 }
 
-impl<K: Room, A: Allocator> Numbers<K, A> {
-    /// The numbers of a channel.
-    pub(crate) fn new(channel: Receiver<u64, A>) -> Self {
-        Numbers {
-            channel,
-            crew: PhantomData,
+impl<K: Room, A: Allocator + Copy> Numbers<K, A> {
+    /// These numbers in a channel that is closed.
+    pub(crate) fn new<R: Wait>(rt: &R, alloc: A, numbers: &[u64]) -> Result<Self, AllocError>
+        requires { length numbers.now ≡ K.room }
+    {
+        let (sender, channel) = bounded(alloc, numbers.len().max(1))?;
+        let mut sent = 0;
+        for number in numbers {
+            if sender.send(rt, *number).is_err() {
+                return Err(AllocError);
+            }
+            sent += 1;
         }
+        Ok(Numbers {
+            channel,
+            sent,
+            crew: PhantomData,
+        })
     }
 }
 

@@ -3,6 +3,7 @@ ghost use Rattle.std.specs.Prelude.{◌≡◌, ◌≢◌, ◌+◌, ◌-◌, ◌*
 ghost use Rattle.std.specs.Prelude.{vec_len, vec_capacity};
 ghost use Rattle.air_ledger.specs.Tills.{all_parts};
 ghost use Rattle.server_workers.specs.Works.{outcomes_airtime};
+ghost use Rattle.server_workers.specs.Counts.{WereAsked};
 ghost use Rattle.server_workers.specs.EmptyLists.{AreEmptyFor};
 ghost use Rattle.server_workers.specs.Serving.{IsOutside, HasRoomFor, IsGatheredFrom, IsSummedUp, IsSortedByNumber, begun_count};
 
@@ -11,7 +12,6 @@ use crate::member::{Member, Numbers, Room};
 use crate::served::{ServeCause, ServeFault, Served};
 use crate::summing::summed_up;
 use crate::{Gate, Ledger, PARTS, Station, Till, Worked};
-use crossbeam_channel::{Receiver, bounded};
 use std::alloc::{AllocError, Allocator};
 use std::hash::BuildHasher;
 use std::marker::Brand;
@@ -60,6 +60,7 @@ where
         ≡ record till { amount = till.amount + outcomes_airtime served.outcomes.items }) }
     ensures sorted { IfOk result (λ served. IsSortedByNumber served) }
     ensures ran { IfOk result (λ served. (1 ≤ served.ran) × (served.ran ≤ workers)) }
+    ensures asked { IfOk result (λ served. WereAsked workers served.counts) }
     ensures back { IfErr result (λ fault. fault.till ≡ till) }
     ensures outside { IsErrAnd result (λ fault. fault.cause ≡ ServeCause.Workers) ↔ IsOutside workers }
 {
@@ -104,6 +105,7 @@ where
         ≡ record till { amount = till.amount + outcomes_airtime served.outcomes.items }) }
     ensures sorted { IfOk result (λ served. IsSortedByNumber served) }
     ensures ran { IfOk result (λ served. (1 ≤ served.ran) × (served.ran ≤ workers)) }
+    ensures asked { IfOk result (λ served. WereAsked workers served.counts) }
     ensures back { IfErr result (λ fault. fault.till ≡ till) }
     ensures inside { IfErr result (λ fault. fault.cause ≢ ServeCause.Workers) }
 {
@@ -138,6 +140,7 @@ where
         ≡ record till { amount = till.amount + outcomes_airtime served.outcomes.items }) }
     ensures sorted { IfOk result (λ served. IsSortedByNumber served) }
     ensures ran { IfOk outfit (λ o. IfOk result (λ served. (1 ≤ served.ran) × (served.ran ≤ vec_len o.lists))) }
+    ensures asked { IfOk outfit (λ o. IfOk result (λ served. WereAsked (vec_len o.lists) served.counts)) }
     ensures back { IfErr result (λ fault. fault.till ≡ till) }
     ensures had { OnOk outfit (IfErr result (λ fault. fault.cause ≡ ServeCause.NoThread)) }
     ensures memory { OnErr outfit (IsErrAnd result (λ fault. fault.cause ≡ ServeCause.NoMemory)) }
@@ -159,7 +162,8 @@ fn fitted_out<K: Room, R: Wait, B: Ledger, A: Allocator + Copy>(
     numbers: &[u64],
     workers: u8,
 ) -> Result<Outfit<K, B, A>, AllocError>
-    requires { workers ≤ 16 }
+    requires few { workers ≤ 16 }
+    requires all { length numbers.now ≡ K.room }
     ensures lists { IfOk result (λ outfit. All (λ own. AreEmptyFor (length numbers.now) own) outfit.lists.items) }
     ensures count { IfOk result (λ outfit. vec_len outfit.lists ≡ workers) }
     ensures nobody { IfOk result (λ outfit. vec_len outfit.crew ≡ 0) }
@@ -169,26 +173,11 @@ fn fitted_out<K: Room, R: Wait, B: Ledger, A: Allocator + Copy>(
     // A product that is too great is no room that a list could have.
     let room = usize::from(workers).saturating_mul(numbers.len());
     Ok(Outfit {
-        numbers: Numbers::new(closed_channel(rt, alloc, numbers)?),
+        numbers: Numbers::new(rt, alloc, numbers)?,
         lists: lists_for(alloc, workers, numbers.len())?,
         crew: Vec::with_capacity(alloc, usize::from(workers))?,
         all: Lists::new(alloc, room)?,
     })
-}
-
-/// These numbers in a channel that is closed.
-fn closed_channel<R: Wait, A: Allocator + Copy>(
-    rt: &R,
-    alloc: A,
-    numbers: &[u64],
-) -> Result<Receiver<u64, A>, AllocError> {
-    let (sender, receiver) = bounded(alloc, numbers.len().max(1))?;
-    for number in numbers {
-        if sender.send(rt, *number).is_err() {
-            return Err(AllocError);
-        }
-    }
-    Ok(receiver)
 }
 
 /// Lists for each worker, with room for so many items.

@@ -2,9 +2,11 @@
 ghost use Rattle.std.specs.Prelude.{◌≡◌, ◌+◌, ◌*◌, ◌≤◌, IfOk, IfErr, map, vec_len};
 ghost use Rattle.air_ledger.specs.Tills.{all_parts};
 ghost use Rattle.server_workers.specs.Works.{outcomes_airtime};
+ghost use Rattle.server_workers.specs.Counts.{WereAsked};
 ghost use Rattle.server_workers.specs.EmptyLists.{AreEmptyFor};
 ghost use Rattle.server_workers.specs.Serving.{HasRoomFor, IsGatheredFrom, IsSummedUp, IsSortedByNumber, begun_count};
 
+use crate::counts::Counts;
 use crate::lists::Lists;
 use crate::member::{Member, Room};
 use crate::served::{ServeCause, ServeFault, Served};
@@ -28,14 +30,17 @@ pub(crate) fn summed_up<K: Room, B: Ledger, A: Allocator>(
     ensures back { IfErr result (λ fault. fault.till ≡ record { parts = till.parts + vec_len crew; amount = till.amount }) }
     ensures nobody { IfErr result (λ fault. fault.cause ≡ ServeCause.NoThread) }
     ensures all { IfOk result (IsSummedUp (map (λ m. m.worked) crew.items)) }
+    ensures asked { IfOk result (λ served. WereAsked (vec_len crew) served.counts) }
     ensures begun { IfOk result (λ served. served.ran ≡ begun_count (map (λ m. m.has_begun) crew.items)) }
 {
+    let hired = crew.len();
     let mut served = Served::new(till, all);
     gather(&mut served, crew);
     if served.ran == 0 {
         return Err(fault(ServeCause::NoThread, served.till));
     }
     served.sort();
+    served.counts = Some(Counts::of(hired, &served));
     Ok(served)
 }
 

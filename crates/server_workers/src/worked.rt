@@ -1,12 +1,22 @@
 // What a worker has done so far.
-ghost use Rattle.std.specs.Prelude.{◌≡◌, [], IfOk, IfErr};
+ghost use Rattle.std.specs.Prelude.{◌≡◌, [], None, IfOk, IfErr};
 ghost use Rattle.server_workers.specs.Works.{outcomes_airtime, IsEmptyFor};
 
 use crate::lists::Lists;
+use crate::turns::Drained;
 use crate::{Ledger, Till};
 use answer_ticket::{Outcome, Receipt};
 use server_core::TakeFault;
 use std::alloc::{Allocator, Global};
+
+/// Why a worker stopped.
+#[derive(Clone, Copy)]
+pub(crate) enum Stopped {
+    /// One more number may not fit into its lists.
+    Full,
+    /// The channel of numbers is closed and empty.
+    AtEnd(Drained),
+}
 
 /// What a worker has done so far. Its type keeps that the till has one part, and as amount the airtime of the outcomes,
 /// in microseconds.
@@ -26,6 +36,8 @@ pub struct Worked<B: Ledger, A: Allocator = Global> {
     pub strays: Vec<u64, A>,
     /// How many tries went on although the gate didn't let them in; it stays at its greatest value.
     pub overrun: u64,
+    /// Why it stopped, if it did.
+    pub(crate) stopped: Option<Stopped>,
     ghost one_part: { till.parts ≡ 1 },
     ghost counted: { till.amount ≡ outcomes_airtime outcomes.items },
 }
@@ -42,6 +54,7 @@ impl<B: Ledger, A: Allocator + Copy> Worked<B, A> {
         ensures refused { IfOk result (λ worked. IsEmptyFor room worked.refused) }
         ensures strays { IfOk result (λ worked. IsEmptyFor room worked.strays) }
         ensures overrun { IfOk result (λ worked. worked.overrun ≡ 0) }
+        ensures stopped { IfOk result (λ worked. worked.stopped ≡ None) }
         ensures back { IfErr result (λ back. back ≡ till) }
     {
         match Lists::new(alloc, room as usize) {
@@ -63,6 +76,7 @@ impl<B: Ledger, A: Allocator> Worked<B, A> {
         ensures refused { result.refused ≡ lists.refused }
         ensures strays { result.strays ≡ lists.strays }
         ensures overrun { result.overrun ≡ 0 }
+        ensures stopped { result.stopped ≡ None }
     {
         let Lists {
             receipts,
@@ -79,6 +93,7 @@ impl<B: Ledger, A: Allocator> Worked<B, A> {
             refused,
             strays,
             overrun: 0,
+            stopped: None,
         }
     }
 }

@@ -1,14 +1,14 @@
 // A worker takes, tries and settles one number after another.
 ghost use Rattle.std.specs.Prelude.{◌≡◌, ◌+◌, ◌↔◌, ◌++◌, List, IsTrue, vec_capacity};
 ghost use Rattle.answer_ticket.specs.declared.outcome.Outcome.{Outcome as Ends};
-ghost use Rattle.server_workers.specs.Works.{IsOpen, HasMore, outcomes_airtime};
-ghost use Rattle.server_workers.specs.Working.{HasFiled, HasRoom, IsMore, items_of, receipts_of, outcomes_of};
-ghost use Rattle.server_workers.specs.Working.{skipped_of, refused_of, strays_of};
+ghost use Rattle.server_workers.specs.Works.{IsOpen, outcomes_airtime};
+ghost use Rattle.server_workers.specs.Working.{HasFiled, HasRoom, IsMore};
+ghost use Rattle.server_workers.specs.Turns.{HasWorked, HasStopped};
 
-use crate::{Gate, Handled, Ledger, Station, Worked};
-use answer_ticket::{Outcome, Receipt};
+use crate::turns::{Given, next_of};
+use crate::worked::Stopped;
+use crate::{Gate, Ledger, Station, Worked};
 use crossbeam_channel::Receiver;
-use server_core::TakeFault;
 use std::alloc::Allocator;
 use std::hash::BuildHasher;
 use std::sync::Wait;
@@ -26,6 +26,8 @@ pub fn work<R: Wait, B: Ledger, S: BuildHasher, A: Allocator + Copy, G: Gate>(
     ensures more { IsMore worked result }
     ensures till { (more : List Ends) × (result.outcomes.items ≡ worked.outcomes.items ++ more)
         × (result.till ≡ record worked.till { amount = worked.till.amount + outcomes_airtime more }) }
+    ensures turns { HasWorked worked result }
+    ensures stopped { HasStopped result }
 {
     let mut worked = worked;
     work_on(rt, station, numbers, gate, &mut worked);
@@ -33,6 +35,7 @@ pub fn work<R: Wait, B: Ledger, S: BuildHasher, A: Allocator + Copy, G: Gate>(
 }
 
 /// The same, in place.
+#[tactic(auto, using(crate::proofs::TurnLemmas::worked_none))]
 pub(crate) fn work_on<R: Wait, B: Ledger, S: BuildHasher, A: Allocator + Copy, G: Gate>(
     rt: &R,
     station: &Station<B, S, A>,
@@ -40,16 +43,22 @@ pub(crate) fn work_on<R: Wait, B: Ledger, S: BuildHasher, A: Allocator + Copy, G
     gate: &G,
     worked: &mut Worked<B, A>,
 )
-    ensures { IsMore worked.old worked.new }
+    ensures more { IsMore worked.old worked.new }
+    ensures turns { HasWorked worked.old worked.new }
+    ensures stopped { HasStopped worked.new }
 {
     for _ in rt.forever() {
         if !worked.has_room() {
+            worked.stopped = Some(Stopped::Full);
             return;
         }
-        let Ok(number) = numbers.recv(rt) else {
-            return;
-        };
-        worked.answer(rt, station, gate, number);
+        match next_of(rt, numbers) {
+            Ok(given) => worked.answer(rt, station, gate, given),
+            Err(drained) => {
+                worked.stopped = Some(Stopped::AtEnd(drained));
+                return;
+            }
+        }
     }
 }
 
@@ -73,69 +82,20 @@ impl<B: Ledger, A: Allocator + Copy> Worked<B, A> {
         rt: &R,
         station: &Station<B, S, A>,
         gate: &G,
-        number: u64,
+        given: Given,
     )
         requires { HasRoom self.old }
         ensures more { IsMore self.old self.new }
-        ensures filed { HasFiled number self.old self.new }
+        ensures filed { HasFiled given.number self.old self.new }
     {
-        let turn = station.answer(rt, gate, number, &mut self.till, &mut self.overrun);
-        file(
-            number,
-            turn,
+        let turn = given.answered(rt, station, gate, &mut self.till, &mut self.overrun);
+        turn.file(
             &mut self.receipts,
             &mut self.outcomes,
             &mut self.skipped,
             &mut self.refused,
             &mut self.strays,
         );
-    }
-}
-
-/// Files what became of a number in the one list for it.
-fn file<A: Allocator>(
-    number: u64,
-    turn: Handled<A>,
-    receipts: &mut Vec<Receipt<A>, A>,
-    outcomes: &mut Vec<Outcome, A>,
-    skipped: &mut Vec<u64, A>,
-    refused: &mut Vec<(u64, TakeFault), A>,
-    strays: &mut Vec<u64, A>,
-)
-    requires receipts { IsOpen receipts.old }
-    requires outcomes { IsOpen outcomes.old }
-    requires skipped { IsOpen skipped.old }
-    requires refused { IsOpen refused.old }
-    requires strays { IsOpen strays.old }
-    ensures receipts { HasMore (receipts_of turn) receipts.old receipts.new }
-    ensures outcomes { HasMore (outcomes_of turn) outcomes.old outcomes.new }
-    ensures skipped { HasMore (skipped_of number turn) skipped.old skipped.new }
-    ensures refused { HasMore (refused_of number turn) refused.old refused.new }
-    ensures strays { HasMore (strays_of number turn) strays.old strays.new }
-{
-    match turn {
-        Handled::NotTaken(TakeFault::Engaged | TakeFault::NoMemory) => {
-            skipped.push_reserved(number);
-        }
-        Handled::NotTaken(fault) => refused.push_reserved((number, fault)),
-        Handled::Settled(outcome, receipt) => {
-            outcomes.push_reserved(outcome);
-            keep(receipts, receipt);
-        }
-        Handled::Stray(_, receipt) => {
-            strays.push_reserved(number);
-            keep(receipts, receipt);
-        }
-    }
-}
-
-/// Keeps what was booked.
-fn keep<A: Allocator>(receipts: &mut Vec<Receipt<A>, A>, receipt: Option<Receipt<A>>)
-    requires { IsOpen receipts.old }
-    ensures { HasMore (items_of receipt) receipts.old receipts.new }
-{
-    if let Some(receipt) = receipt {
-        receipts.push_reserved(receipt);
     }
 }
 

@@ -1,5 +1,6 @@
 -- With the parts that the crew had, the till has the parts that it had before.
 use Rattle.std.proofs.Common.{◌≡◌, ◌+◌, ◌≤◌, ap, arith, subst, IfOk, vec_len}
+use Rattle.server_workers.specs.Counts.{WereAsked}
 use Rattle.server_workers.specs.Works.{outcomes_airtime}
 use Rattle.server_workers.proofs.CrewLemmas.{summed_ok, summed_err}
 use Rattle.server_workers.proofs.serving.serve_with.Goals as goal
@@ -28,3 +29,8 @@ pub returns-clause-ran : goal.returns-clause-ran
 returns-clause-ran g c =
     rw c.in-Ok.is (subst (λ n. IfOk c.summed_up.result (λ s. (1 ≤ s.ran) × (s.ran ≤ n))) c.hired-crew.ensures.count
     c.summed_up.ensures.ran)
+
+pub returns-clause-asked : goal.returns-clause-asked
+returns-clause-asked g c =
+    rw c.in-Ok.is (subst (λ n. IfOk c.summed_up.result (λ s. WereAsked n s.counts)) c.hired-crew.ensures.count
+    c.summed_up.ensures.asked)

@@ -4,5 +4,16 @@ use Rattle.server_workers.proofs.summing.summed_up.Goals as goal
 pub returns-clause-all : goal.returns-clause-all
 returns-clause-all g c =
     let new = c.new-served.ensures in
+    let same = c.sort.ensures.same in
     all_summed_up c.args.all _ _ _ _ _ c.requires.room new.receipts new.outcomes new.skipped new.refused new.strays new.overrun
-    c.gather.ensures.all c.sort.ensures.same
+    c.gather.ensures.all
+    (record {
+      till = same.till;
+      receipts = same.receipts;
+      outcomes = same.outcomes;
+      skipped = same.skipped;
+      refused = same.refused;
+      strays = same.strays;
+      overrun = same.overrun;
+      ran = same.ran;
+    })

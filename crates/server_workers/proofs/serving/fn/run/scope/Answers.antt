@@ -32,7 +32,8 @@ spawn-started-requires-send-F g c κs within =
     let frees : Frees g.A.Allocator g.A.Allocator.dealloc_token = may.1.1.1.1.1.1.1.1.1.1.1.1 in
     let member : IsSend (Member.the_row K B A g.K.Room g.B.Ledger g.A.Allocator) =
     sent_member.the_send K B A g.K.Room g.B.Ledger g.A.Allocator send_A frees in
-    let numbers : IsSync (Numbers.the_row K A g.A.Allocator) = shared_numbers.the_sync K A g.A.Allocator send_A sync_A frees in
+    let numbers : IsSync (Numbers.the_row K A g.K.Room g.A.Allocator) =
+    shared_numbers.the_sync K A g.K.Room g.A.Allocator send_A sync_A frees in
     let station : IsSync (Station.the_row B S A H g.B.Ledger g.S.BuildHasher g.S.Hasher.Hasher g.A.Allocator g.A.Clone) =
     station_sync A g.A.Allocator g.A.Clone send_A frees B S H g.B.Ledger g.S.BuildHasher g.S.Hasher.Hasher sync_A send_S in
     let passed =

@@ -1,0 +1,82 @@
+-- What a worker files, number by number.
+use Rattle.std.proofs.Common.{◌≡◌, ℕ, ◌++◌, List, [], ◌∷◌, refl, sym}
+use Rattle.std.proofs.Common.{ap, ◌∙◌, append_assoc, append-nil, subst, arith, Vec}
+use Rattle.std.specs.List.{flat_map}
+use Rattle.std.proofs.lemmas.Grind.{flat_map-append}
+use Rattle.air_ledger.specs.Tills.{Holding}
+use Rattle.server_station.specs.Handling.{IsHandled}
+use Rattle.server_station.specs.declared.handled.Handled.{Handled}
+use Rattle.server_workers.specs.declared.worked.Worked.{Worked}
+use Rattle.server_workers.specs.Works.{IsLonger}
+use Rattle.server_workers.specs.Working.{IsMore, HasFiled, receipts_of, outcomes_of, skipped_of, refused_of, strays_of}
+use Rattle.server_workers.specs.Turns.{Turns, AreHandled, AreFiled, HasWorked}
+
+-- nothing was taken up yet
+pub worked_none : {B A : Type 0} (w : Worked B A) → HasWorked w w
+worked_none w = (
+  [],
+  record {
+    told = refl;
+    receipts = sym (append-nil w.receipts.items);
+    outcomes = sym (append-nil w.outcomes.items);
+    skipped = sym (append-nil w.skipped.items);
+    refused = sym (append-nil w.refused.items);
+    strays = sym (append-nil w.strays.items);
+  },
+)
+
+-- a list that has got more, one turn after others
+more : {T X : Type 0} (f : T → List X) (turns : List T) (t : T) (old mid new : List X) → mid ≡ old ++ flat_map f turns
+    → new ≡ mid ++ f t → new ≡ old ++ flat_map f (turns ++ t ∷ [])
+more f turns t old mid new a b =
+    b ∙ ap (λ l. l ++ f t) a ∙ append_assoc old (flat_map f turns) (f t)
+    ∙ ap (λ l. old ++ (flat_map f turns ++ l)) (sym (append-nil (f t)))
+    ∙ ap (λ l. old ++ l) (sym (flat_map-append f turns (t ∷ [])))
+
+-- the till goes on to one number more
+handed_on : {A : Type 0} (turns : Turns A) (n : ℕ) (turn : Handled A) (old mid new : Holding) → AreHandled turns old mid
+    → IsHandled n mid new turn → AreHandled (turns ++ (n, turn) ∷ []) old new
+handed_on {A} [] n turn old mid new e h = (new, subst (λ till. IsHandled n till new turn) e h, refl)
+handed_on (t ∷ turns) n turn old mid new so_far h =
+    (so_far.0, so_far.1, handed_on turns n turn so_far.0 mid new so_far.2 h)
+
+-- one more number was taken up
+pub worked_on : {B A : Type 0} (n : ℕ) (old mid new : Worked B A) → HasWorked old mid → HasFiled n mid new → HasWorked old new
+worked_on {B} {A} n old mid new so_far filed =
+    let turns : Turns A = so_far.0 in
+    let all : AreFiled turns old mid = so_far.1 in
+    let turn : Handled A = filed.0 in
+    let t : ℕ × Handled A = (n, turn) in
+    let one = filed.1 in (
+      turns ++ t ∷ [],
+      record {
+        told = handed_on turns n turn old.till mid.till new.till all.told one.told;
+        receipts = more (λ (s : ℕ × Handled A). receipts_of s.1) turns t _ _ _ all.receipts one.receipts;
+        outcomes = more (λ (s : ℕ × Handled A). outcomes_of s.1) turns t _ _ _ all.outcomes one.outcomes;
+        skipped = more (λ (s : ℕ × Handled A). skipped_of s.0 s.1) turns t _ _ _ all.skipped one.skipped;
+        refused = more (λ (s : ℕ × Handled A). refused_of s.0 s.1) turns t _ _ _ all.refused one.refused;
+        strays = more (λ (s : ℕ × Handled A). strays_of s.0 s.1) turns t _ _ _ all.strays one.strays;
+      },
+    )
+
+longer_on : {X Z : Type 0} (old mid new : Vec X Z) → IsLonger old mid → IsLonger mid new → IsLonger old new
+longer_on old mid new a b =
+    record {
+      begins = (
+        a.begins.0 ++ b.begins.0,
+        b.begins.1 ∙ ap (λ l. l ++ b.begins.0) a.begins.1 ∙ append_assoc old.items a.begins.0 b.begins.0,
+      );
+      fits = b.fits ∙ a.fits;
+    }
+
+-- what a worker has done only grows
+pub more_on : {B A : Type 0} (old mid new : Worked B A) → IsMore old mid → IsMore mid new → IsMore old new
+more_on old mid new a b =
+    record {
+      receipts = longer_on old.receipts mid.receipts new.receipts a.receipts b.receipts;
+      outcomes = longer_on old.outcomes mid.outcomes new.outcomes a.outcomes b.outcomes;
+      skipped = longer_on old.skipped mid.skipped new.skipped a.skipped b.skipped;
+      refused = longer_on old.refused mid.refused new.refused a.refused b.refused;
+      strays = longer_on old.strays mid.strays new.strays a.strays b.strays;
+      overrun = let first = a.overrun in let then = b.overrun in omega (arith, first, then);
+    }

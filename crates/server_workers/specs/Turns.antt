@@ -1,0 +1,42 @@
+use Rattle.std.specs.Prelude.{ℕ, ◌≡◌, List, [], ◌∷◌, ◌++◌, IsSomeAnd, ⊤}
+use Rattle.std.specs.List.{flat_map}
+use Rattle.air_ledger.specs.Tills.{Holding}
+use Rattle.server_station.specs.Handling.{IsHandled}
+use Rattle.server_station.specs.declared.handled.Handled.{Handled}
+use Rattle.server_workers.specs.declared.worked.Stopped.{Stopped}
+use Rattle.server_workers.specs.declared.worked.Stopped.TheVariants.{Full, AtEnd}
+use Rattle.server_workers.specs.declared.worked.Worked.{Worked}
+use Rattle.server_workers.specs.Working.{HasRoom, receipts_of, outcomes_of, skipped_of, refused_of, strays_of}
+
+-- What a worker does from when it begins until it stops.
+
+-- numbers that were taken up, one after another, and what became of each
+abbrev pub Turns : Type 0 → Type 0
+Turns A = List (ℕ × Handled A)
+
+-- the till went from hand to hand: each number's answer counted with it what the last one had left
+abbrev pub AreHandled : {A : Type 0} → Turns A → Holding → Holding → Type 0
+AreHandled [] old new = new ≡ old
+AreHandled (t ∷ turns) old new = (mid : Holding) × IsHandled t.0 old mid t.1 × AreHandled turns mid new
+
+-- what became of these numbers stands at the ends of the lists, in their order, and nothing else was added
+pub record AreFiled {B A : Type 0} (turns : Turns A) (old new : Worked B A) : Type 0 where
+  pub told : AreHandled turns old.till new.till
+  pub receipts : new.receipts.items ≡ old.receipts.items ++ flat_map (λ (t : ℕ × Handled A). receipts_of t.1) turns
+  pub outcomes : new.outcomes.items ≡ old.outcomes.items ++ flat_map (λ (t : ℕ × Handled A). outcomes_of t.1) turns
+  pub skipped : new.skipped.items ≡ old.skipped.items ++ flat_map (λ (t : ℕ × Handled A). skipped_of t.0 t.1) turns
+  pub refused : new.refused.items ≡ old.refused.items ++ flat_map (λ (t : ℕ × Handled A). refused_of t.0 t.1) turns
+  pub strays : new.strays.items ≡ old.strays.items ++ flat_map (λ (t : ℕ × Handled A). strays_of t.0 t.1) turns
+
+-- a worker took up some numbers, and filed what became of each
+abbrev pub HasWorked : {B A : Type 0} → Worked B A → Worked B A → Type 0
+HasWorked {B} {A} old new = (turns : Turns A) × AreFiled turns old new
+
+-- a worker may stop where one more number may not fit, and where the channel told that it is closed and empty
+abbrev pub IsReason : {B A : Type 0} → Worked B A → Stopped → Type 0
+IsReason worked Full = HasRoom worked → ⊥
+IsReason worked (AtEnd drained) = ⊤
+
+-- it stopped for such a reason
+abbrev pub HasStopped : {B A : Type 0} → Worked B A → Type 0
+HasStopped worked = IsSomeAnd worked.stopped (IsReason worked)
