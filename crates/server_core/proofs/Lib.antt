@@ -9,7 +9,6 @@ pub mod Runs
 pub mod Headlines
 pub mod WorkedInputs
 pub mod WorkedSteps
-pub mod WorkedRun
 pub mod WorkedPromise
 pub mod WorkedHeadline
 pub mod WorkedDeskCalls

@@ -25,8 +25,8 @@ use Rattle.server_core.specs.Staying.{unused_book, OthersLeaveAlone}
 use Rattle.server_core.specs.Steps as replies
 use Rattle.server_core.proofs.WorkedInputs.{settings, limits, gateway_at, unused, sent_at, ended_at, rx1}
 use Rattle.server_core.proofs.WorkedSteps.{job_1, job_2, job_3, gateway_1, w3, w4, w5, w6, w11, w15, w16, w17, w18}
-use Rattle.server_core.proofs.WorkedSteps.{w19, taken_4, tried_5, settled_6, tried_12, taken_16, tried_17, cancelled_19}
-use Rattle.server_core.proofs.WorkedRun.{steps, whole_run}
+use Rattle.server_core.proofs.WorkedSteps.{w19, cancelled_19, made}
+use Rattle.server_core.proofs.WorkedSteps.{steps, whole_run}
 use Rattle.server_core.proofs.WorkedPromise.{are, safe_run, first_held, second_held}
 
 -- The worked books.
@@ -91,7 +91,7 @@ with_second = with_booked (unused_book second_gateway) second_held.member
 
 module _ {A : Type 0} (calls : BookCallsAreSteps A) (alone : OthersLeaveAlone) where
   stands : IsTicketIn w4 first_ticket
-  stands = rw taken_4 at (calls.taken w3 1 job_1 (rw taken_4 refl))
+  stands = rw (made 4) at (calls.taken w3 1 job_1 (rw (made 4) refl))
 
   still_stands : IsTicketIn (step w4 (Try 2)).0 first_ticket
   still_stands = alone.ticket w4 (Try 2) first_ticket stands refl
@@ -153,10 +153,10 @@ module _ {A : Type 0} (calls : BookCallsAreSteps A) (alone : OthersLeaveAlone) w
   says_booked = ap (λ a. a.1) booked.made.after
 
   its_stub : IsStubIn w5 first_stub
-  its_stub = rw tried_5 at booked.stands
+  its_stub = rw (made 5) at booked.stands
 
   stub_settled : desk_of w6 ≡ desk_settle (desk_of w5) 1 (ended_at 1 6000000)
-  stub_settled = rw settled_6 at (calls.settle w5 first_stub its_stub).desk
+  stub_settled = rw (made 6) at (calls.settle w5 first_stub its_stub).desk
 
   says_settled : (step w5 (Settle 1)).1 ≡ replies.Ended (Some (ended_at 1 6000000))
   says_settled = ap (λ a. a.1) (calls.settle w5 first_stub its_stub).after
@@ -195,11 +195,11 @@ module _ {A : Type 0} (calls : BookCallsAreSteps A) (alone : OthersLeaveAlone) w
 
   -- it is the world's: no step before the third ticket is tried asks for it
   second_kept : IsBookAt 2 1 w16.gateways with_second
-  second_kept = rw tried_12 at (book_left w11 (Try 2) 2 1 _ with_second _ second_booked.made)
+  second_kept = rw (made 12) at (book_left w11 (Try 2) 2 1 _ with_second _ second_booked.made)
 
   -- it refuses the third uplink's RX1
   third_stands : IsTicketIn w16 third_ticket
-  third_stands = rw taken_16 at (calls.taken w15 3 job_3 (rw taken_16 refl))
+  third_stands = rw (made 16) at (calls.taken w15 3 job_3 (rw (made 16) refl))
 
   third_tried : TriedIs {A = A} third_ticket with_second with_second (tried.Next (next_of third_ticket) (Taken 10000000))
   unfolding candidates_of airtime_of band_of overlap full_hour kept begun second_held
@@ -213,7 +213,7 @@ module _ {A : Type 0} (calls : BookCallsAreSteps A) (alone : OthersLeaveAlone) w
   says_refused = ap (λ a. a.1) refused.made.after
 
   goes_on : IsTicketIn w17 (next_of third_ticket)
-  goes_on = rw tried_17 at refused.stands
+  goes_on = rw (made 17) at refused.stands
 
   -- once the second gateway's floor is past RX2, the third uplink isn't answered
   abbrev late : Book

@@ -14,8 +14,8 @@ use Rattle.answer_ticket.specs.declared.outcome.Ending.TheVariants.{GivenUp}
 use Rattle.server_desk.specs.declared.heard.DeskHeard.TheVariants.{Opened}
 use Rattle.server_core.specs.Steps as replies
 use Rattle.server_core.proofs.WorkedInputs.{copy_at, ended_at, device_at, first_device, second_device}
-use Rattle.server_core.proofs.WorkedSteps.{second, w3, w5, w6, w7, w14, w15, w16, w17, w18, w19, job_3, heard_7, passed_15}
-use Rattle.server_core.proofs.WorkedSteps.{taken_16, settled_6, tried_17, cancelled_19, gateway_1, gateway_3}
+use Rattle.server_core.proofs.WorkedSteps.{second, w3, w5, w6, w7, w14, w15, w16, w17, w18, w19, job_3, made}
+use Rattle.server_core.proofs.WorkedSteps.{cancelled_19, gateway_1, gateway_3}
 
 abbrev waiting : Payload
 waiting = (9, 1 ∷ [])
@@ -49,36 +49,36 @@ module _ (calls : DeskCallsAreSteps) where
   says_queued = rw queued_19 at (calls.queued w18 0x26011bdb waiting)
 
   hears : desk_of w7 ≡ desk_hear (desk_of w6) second (copy_at 1 5000000 55) 300000
-  hears = rw heard_7 at (calls.hear w6 second (copy_at 1 5000000 55) 300000)
+  hears = rw (made 7) at (calls.hear w6 second (copy_at 1 5000000 55) 300000)
 
   says_heard : replies.Heard (Ok (Opened 2 false))
       ≡ replies.Heard (answer_to (decide (desk_of w6).ids (desk_of w6).reg second (copy_at 1 5000000 55) 300000) (desk_of w6).reg)
-  says_heard = rw heard_7 at (calls.heard w6 second (copy_at 1 5000000 55) 300000)
+  says_heard = rw (made 7) at (calls.heard w6 second (copy_at 1 5000000 55) 300000)
 
   passes : desk_of w15 ≡ desk_pass (desk_of w14) 800001
-  passes = rw passed_15 at (calls.pass w14 800001)
+  passes = rw (made 15) at (calls.pass w14 800001)
 
   says_passed : replies.Passed (Some 3) ≡ replies.Passed (pass_answer (desk_of w14).reg 800001)
-  says_passed = rw passed_15 at (calls.passed w14 800001)
+  says_passed = rw (made 15) at (calls.passed w14 800001)
 
   takes : desk_of w16 ≡ desk_take (desk_of w15) 3
-  takes = rw taken_16 at (calls.take w15 3)
+  takes = rw (made 16) at (calls.take w15 3)
 
   says_given : replies.Given (Ok job_3) ≡ replies.Given (take_answer (desk_of w15).reg (desk_of w15).known 3)
-  says_given = rw taken_16 at (calls.taken w15 3)
+  says_given = rw (made 16) at (calls.taken w15 3)
 
   settles : desk_of w6 ≡ desk_settle (desk_of w5) 1 (ended_at 1 6000000)
-  settles = rw settled_6 at (calls.settle w5 1 (ended_at 1 6000000) refl refl)
+  settles = rw (made 6) at (calls.settle w5 1 (ended_at 1 6000000) refl refl)
 
   says_settled : replies.Ended (Some (ended_at 1 6000000)) ≡ replies.Ended (told w5 1)
-  says_settled = rw settled_6 at (calls.settled w5 1)
+  says_settled = rw (made 6) at (calls.settled w5 1)
 
   -- the first answer waits, and takes no stub
   settles_none : desk_settle (desk_of w3) 1 GivenUp ≡ desk_of w3
   settles_none = (calls.settle_none w3 1 refl).1 GivenUp
 
   tries : desk_of w17 ≡ desk_of w16
-  tries = rw tried_17 at (calls.try w16 3)
+  tries = rw (made 17) at (calls.try w16 3)
 
   cancels : desk_of w19 ≡ desk_of w18
   cancels = rw cancelled_19 at (calls.cancel w18 1)

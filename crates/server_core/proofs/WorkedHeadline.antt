@@ -11,7 +11,7 @@ use Rattle.server_core.proofs.Headlines.{every_run_keeps_headline}
 use Rattle.server_core.proofs.WorkedInputs.{settings, limits, first_device, second_device, kept_copy, both_copies, gathering}
 use Rattle.server_core.proofs.WorkedInputs.{uplink}
 use Rattle.server_core.proofs.WorkedSteps.{gateway_1, gateway_3, third_copy, w18}
-use Rattle.server_core.proofs.WorkedRun.{steps, after, whole_run}
+use Rattle.server_core.proofs.WorkedSteps.{steps, after, whole_run}
 use Rattle.server_core.proofs.WorkedPromise.{are, first_held, second_held, third_held, one_of_one, one_of_two}
 
 module _ (headline : KeepsHeadline settings after) where

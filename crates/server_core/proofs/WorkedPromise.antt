@@ -17,7 +17,7 @@ use Rattle.server_core.proofs.Runs.{every_interleaving_is_safe}
 use Rattle.server_core.proofs.WorkedInputs.{settings, limits, first_device, second_device, kept_copy, both_copies, gathering}
 use Rattle.server_core.proofs.WorkedInputs.{uplink, rx1, rx2, device_at}
 use Rattle.server_core.proofs.WorkedSteps.{job_1, job_2, job_3, gateway_1, gateway_3, third_copy, w18}
-use Rattle.server_core.proofs.WorkedRun.{steps, after, whole_run}
+use Rattle.server_core.proofs.WorkedSteps.{steps, after, whole_run}
 
 -- the settings are accepted
 pub are : AreSettings settings.gateways settings.devices
