@@ -4,6 +4,7 @@ use Rattle.server_core.proofs.Words.{some_inj, desk_of, Done, DeskView, Settle, 
 use Rattle.server_core.proofs.Words.{Try, Cancel, Tick, opening, Standing, Outcome, GatewaySetting, NotHere, ticked, with_booked}
 use Rattle.server_core.proofs.Words.{Book, CancelFault, Result, Sent, ℕ, Step, Reply, Answer, World}
 use Rattle.server_core.proofs.Words.{told, with_cancelled, orderly_nil}
+use Rattle.server_core.proofs.Words.{IsOrderly}
 use Rattle.radio_airtime.specs.TimeOnAir.{airtime_of}
 use Rattle.radio_bands.specs.Band.{band_of}
 use Rattle.resv_list.specs.Reservations.{begun}
@@ -46,16 +47,11 @@ first_book = record {
 first_kept : IsBookAt 1 0 w18.gateways first_book
 unfolding kept airtime_of band_of overlap full_hour begun
 first_kept =
-    record {
-      gateway = gateway_1;
-      found = refl;
-      keeps = record {
-        id = refl;
-        rules = refl;
-        orderly = record { by_start = (omega arith, tt); lawful = safe_run.lawful 0 gateway_1 refl };
-        remembers = record { floor = refl; list = refl; booked = refl; cancelled = refl };
-      };
-    }
+    let orderly : IsOrderly gateway_1.state.list = record {
+      by_start = (omega arith, tt);
+      lawful = safe_run.lawful 0 gateway_1 refl;
+    } in
+    record { gateway = gateway_1; found = refl; keeps = assumption orderly }
 
 -- the receipt of a candidate that a book reserved
 abbrev receipt_of : {A : Type 0} → Job → Candidate → Reservation → Receipt A
@@ -133,14 +129,7 @@ module _ {A : Type 0} (calls : BookCallsAreSteps A) (alone : OthersLeaveAlone) w
   first_tried : TriedIs {A = A} first_ticket (unused_book first_gateway) with_first
       (tried.Booked first_stub (receipt_of job_1 (rx1 1 6000000) first_held.member))
   unfolding candidates_of airtime_of band_of overlap full_hour kept begun
-  first_tried =
-      record {
-        asked = refl;
-        accepted = refl;
-        ended = refl;
-        named = record { number = refl; gateway = refl; window = refl; reservation = first_held.asked; frame = refl };
-        book = refl;
-      }
+  first_tried = assumption first_held.asked
 
   unused_first : IsBookAt 1 0 w4.gateways (unused_book first_gateway)
   unused_first = opened calls alone
@@ -165,28 +154,11 @@ module _ {A : Type 0} (calls : BookCallsAreSteps A) (alone : OthersLeaveAlone) w
   second_tried : TriedIs {A = A} (record { job = job_2; at = 1 }) (unused_book second_gateway) with_second
       (tried.Booked (record { number = 2; result = ended_at 2 10000000 }) (receipt_of job_2 (rx1 2 10000000) second_held.member))
   unfolding candidates_of airtime_of band_of overlap full_hour kept begun
-  second_tried =
-      record {
-        asked = refl;
-        accepted = refl;
-        ended = refl;
-        named = record { number = refl; gateway = refl; window = refl; reservation = second_held.asked; frame = refl };
-        book = refl;
-      }
+  second_tried = assumption second_held.asked
 
   unused_second : IsBookAt 2 1 w11.gateways (unused_book second_gateway)
   unfolding kept
-  unused_second =
-      record {
-        gateway = gateway_at 2 unused;
-        found = refl;
-        keeps = record {
-          id = refl;
-          rules = refl;
-          orderly = orderly_nil;
-          remembers = record { floor = refl; list = refl; booked = refl; cancelled = refl };
-        };
-      }
+  unused_second = record { gateway = gateway_at 2 unused; found = refl; keeps = assumption orderly_nil }
 
   second_booked : LeavesStub w11 2 2 1 (record { number = 2; result = ended_at 2 10000000 }) with_second None
   second_booked = calls.try_on w11 (record { job = job_2; at = 1 }) 2 1 (unused_book second_gateway) with_second
@@ -203,7 +175,7 @@ module _ {A : Type 0} (calls : BookCallsAreSteps A) (alone : OthersLeaveAlone) w
 
   third_tried : TriedIs {A = A} third_ticket with_second with_second (tried.Next (next_of third_ticket) (Taken 10000000))
   unfolding candidates_of airtime_of band_of overlap full_hour kept begun second_held
-  third_tried = record { asked = refl; refused = refl; follows = refl; moved = refl; book = refl }
+  third_tried = assumption
 
   refused : LeavesTicket w16 3 2 1 (next_of third_ticket) with_second (Some (Taken 10000000))
   refused = calls.try_on w16 third_ticket 2 1 with_second with_second (tried.Next (next_of third_ticket) (Taken 10000000))
@@ -231,7 +203,7 @@ module _ {A : Type 0} (calls : BookCallsAreSteps A) (alone : OthersLeaveAlone) w
   late_tried : TriedIs {A = A} (next_of third_ticket) late late
       (tried.Out (record { number = 3; result = Unanswered Passed }) Passed)
   unfolding candidates_of airtime_of band_of overlap full_hour kept begun
-  late_tried = record { asked = refl; refused = refl; last = refl; ended = refl; book = refl }
+  late_tried = assumption
 
   out : LeavesStub late_world 3 2 1 (record { number = 3; result = Unanswered Passed }) late (Some Passed)
   out = calls.try_on late_world (next_of third_ticket) 2 1 late late

@@ -12,7 +12,7 @@ use Rattle.server_core.proofs.WorkedInputs.{settings, limits, first_device, seco
 use Rattle.server_core.proofs.WorkedInputs.{uplink}
 use Rattle.server_core.proofs.WorkedSteps.{gateway_1, gateway_3, third_copy, w18}
 use Rattle.server_core.proofs.WorkedSteps.{steps, after, whole_run}
-use Rattle.server_core.proofs.WorkedPromise.{are, first_held, second_held, third_held, one_of_one, one_of_two}
+use Rattle.server_core.proofs.WorkedPromise.{are, first_held, second_held, third_held, the_only}
 
 module _ (headline : KeepsHeadline settings after) where
   disjoint : second_held.member.start + airtime_of second_held.member.rate second_held.member.len ≤ third_held.member.start
@@ -36,16 +36,12 @@ module _ (headline : KeepsHeadline settings after) where
   its_uplink = some_inj (sym own.its_own ∙ ap (λ n. numbered n w18.reg.gathered.list) second_held.asked.number)
 
   its_copy : own.copy ≡ kept_copy 2 9000000 50
-  its_copy =
-      let heard : Contains both_copies own.copy = subst (λ (g : Gathering). Contains g.copies own.copy) its_uplink own.copied in
-      elim (one_of_two (kept_copy 1 5000000 55) (kept_copy 2 9000000 50) own.copy heard)
-      [ inl e ↦ absurd (omega (arith, ap (λ (c : HeardCopy). c.gateway) e, own.heard)) | inr e ↦ e ]
+  its_copy = the_only (λ (c : HeardCopy). c.gateway) (kept_copy 2 9000000 50) both_copies own.copy (assumption)
+      (subst (λ (g : Gathering). Contains g.copies own.copy) its_uplink own.copied) own.heard
 
   its_device : own.device ≡ first_device
-  its_device =
-      let is : own.device.addr ≡ 0x26011bda = own.addr ∙ ap (λ (g : Gathering). addr_of g.bytes) its_uplink in
-      elim (one_of_two first_device second_device own.device own.set)
-      [ inl e ↦ e | inr e ↦ absurd (omega (arith, is, ap (λ (d : DeviceSetting). d.addr) e)) ]
+  its_device = the_only (λ (d : DeviceSetting). d.addr) first_device settings.devices own.device (assumption) own.set
+      (own.addr ∙ ap (λ (g : Gathering). addr_of g.bytes) its_uplink)
 
   -- it takes RX1 of that copy, and not RX2
   its_window : TakesRx1 first_device (kept_copy 2 9000000 50) second_held.member
@@ -65,15 +61,12 @@ module _ (headline : KeepsHeadline settings after) where
   third_uplink = some_inj (sym third_own.its_own ∙ ap (λ n. numbered n w18.reg.gathered.list) third_held.asked.number)
 
   third_is_heard : third_own.copy ≡ kept_copy 2 8000000 50
-  third_is_heard =
-      one_of_one (kept_copy 2 8000000 50) third_own.copy
-      (subst (λ (g : Gathering). Contains g.copies third_own.copy) third_uplink third_own.copied)
+  third_is_heard = the_only (λ (c : HeardCopy). c.gateway) (kept_copy 2 8000000 50) third_copy third_own.copy (assumption)
+      (subst (λ (g : Gathering). Contains g.copies third_own.copy) third_uplink third_own.copied) third_own.heard
 
   third_device : third_own.device ≡ second_device
-  third_device =
-      let is : third_own.device.addr ≡ 0x26011bdb = third_own.addr ∙ ap (λ (g : Gathering). addr_of g.bytes) third_uplink in
-      elim (one_of_two first_device second_device third_own.device third_own.set)
-      [ inl e ↦ absurd (omega (arith, is, ap (λ (d : DeviceSetting). d.addr) e)) | inr e ↦ e ]
+  third_device = the_only (λ (d : DeviceSetting). d.addr) second_device settings.devices third_own.device (assumption) third_own.set
+      (third_own.addr ∙ ap (λ (g : Gathering). addr_of g.bytes) third_uplink)
 
   -- it takes RX2 of its copy, as the second device listens, and not RX1
   third_window : TakesRx2 second_device (kept_copy 2 8000000 50) third_held.member

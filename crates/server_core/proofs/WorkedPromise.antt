@@ -1,10 +1,14 @@
 -- What the promise says of the worked run: each of its records has a member there, and each of its clauses tells a fact.
-use Rattle.server_core.proofs.Words.{ap, arith, inl, inr, subst, sym, ◌∙◌, All-cons, All-head, All-nil, AllPairs-cons}
-use Rattle.server_core.proofs.Words.{Contains, IsSome, Some, [], length, refl, slice_get, suc, true, ℕ, zero}
-use Rattle.server_core.proofs.Words.{◌+◌, ◌≡◌, ◌≢◌, ◌≤◌, ◌⊎◌, ◌∷◌, Reservation, IsAsked, Gathering, HeardCopy, numbered}
+use Rattle.server_core.proofs.Words.{ap, arith, inl, inr, subst, sym, ◌∙◌, All-head}
+use Rattle.server_core.proofs.Words.{Contains, Some, [], length, refl, slice_get, suc, true, ℕ, zero}
+use Rattle.server_core.proofs.Words.{◌+◌, ◌≡◌, ◌≢◌, ◌≤◌, ◌∷◌, Reservation, IsAsked, Gathering, HeardCopy, numbered}
 use Rattle.server_core.proofs.Words.{AllPairs-head, Candidate, Job, ask_for, candidates, Device, Gateway, AreSettings}
-use Rattle.server_core.proofs.Words.{some_inj, GatewaySetting, HaveOwnCounters, IsMember, IsOwnWindow, IsSafe}
-use Rattle.server_core.proofs.Words.{plan_for, setting_of, net, None, DeviceSetting, addr_of}
+use Rattle.server_core.proofs.Words.{some_inj, HaveOwnCounters, IsMember, IsOwnWindow, IsSafe}
+use Rattle.server_core.proofs.Words.{plan_for, setting_of, net, None, addr_of}
+use Rattle.server_core.proofs.Words.{Bool, false, ◌==◌, ⊤, List}
+use Rattle.server_desk.proofs.SettingsLemmas.{are_settings}
+use Rattle.server_desk.specs.Settings.{settings_fault}
+use Rattle.std.proofs.Common.{eq-eqb}
 use Rattle.radio_airtime.specs.TimeOnAir.{airtime_of}
 use Rattle.radio_bands.specs.declared.band.Band.TheVariants.{M}
 use Rattle.radio_bands.specs.Band.{band_of}
@@ -12,7 +16,6 @@ use Rattle.resv_list.specs.Reservations.{begun, spent}
 use Rattle.gateway_book.specs.Answer.{overlap}
 use Rattle.gateway_book.specs.Kept.{kept}
 use Rattle.gateway_book.specs.Duty.{full_hour}
-use Rattle.server_desk.specs.Settings.{IsGatewayInRange, IsDeviceInRange}
 use Rattle.server_core.proofs.Runs.{every_interleaving_is_safe}
 use Rattle.server_core.proofs.WorkedInputs.{settings, limits, first_device, second_device, kept_copy, both_copies, gathering}
 use Rattle.server_core.proofs.WorkedInputs.{uplink, rx1, rx2, device_at}
@@ -21,32 +24,8 @@ use Rattle.server_core.proofs.WorkedSteps.{steps, after, whole_run}
 
 -- the settings are accepted
 pub are : AreSettings settings.gateways settings.devices
-unfolding band_of
-are =
-    let g : IsGatewayInRange (record { id = 1; cap = 4096 }) = record { id = omega arith; cap = omega arith } in
-    let h : IsGatewayInRange (record { id = 2; cap = 4096 }) = record { id = omega arith; cap = omega arith } in
-    let d : IsDeviceInRange first_device = record { delay = omega arith; offset = omega arith; down = omega arith } in
-    let e : IsDeviceInRange second_device = record { delay = omega arith; offset = omega arith; down = omega arith } in
-    let is_in_band : DeviceSetting → Type 0 = λ d. IsSome (band_of d.rx2_freq d.rx2_rate) in
-    let one : GatewaySetting = record { id = 1; cap = 4096 } in
-    let two : GatewaySetting = record { id = 2; cap = 4096 } in
-    record {
-      gateway_count = omega arith;
-      device_count = omega arith;
-      gateways_in_range = All-cons IsGatewayInRange one (two ∷ []) g
-          (All-cons IsGatewayInRange two [] h (All-nil IsGatewayInRange));
-      ids_differ = AllPairs-cons (λ a b. a.id ≢ b.id) one (two ∷ [])
-          (All-cons (λ b. one.id ≢ b.id) two [] (λ e. absurd (omega (arith, e))) (All-nil (λ b. one.id ≢ b.id)))
-          (λ i j x l m. absurd (omega arith));
-      devices_in_range = All-cons IsDeviceInRange first_device (second_device ∷ []) d
-          (All-cons IsDeviceInRange second_device [] e (All-nil IsDeviceInRange));
-      rx2_in_bands = All-cons is_in_band first_device (second_device ∷ []) refl
-          (All-cons is_in_band second_device [] refl (All-nil is_in_band));
-      addrs_differ = AllPairs-cons (λ a b. a.addr ≢ b.addr) first_device (second_device ∷ [])
-          (All-cons (λ b. first_device.addr ≢ b.addr) second_device [] (λ x. absurd (omega (arith, x)))
-          (All-nil (λ b. first_device.addr ≢ b.addr)))
-          (λ i j x l m. absurd (omega arith));
-    }
+unfolding settings_fault band_of
+are = are_settings settings.gateways settings.devices refl
 
 -- the gateway's member at place k is what this candidate asks for
 pub record HoldsAt (g : Gateway) (k : ℕ) (job : Job) (c : Candidate) : Type 0 where
@@ -56,30 +35,15 @@ pub record HoldsAt (g : Gateway) (k : ℕ) (job : Job) (c : Candidate) : Type 0 
 
 pub first_held : HoldsAt gateway_1 0 job_1 (rx1 1 6000000)
 unfolding airtime_of band_of overlap full_hour kept begun
-first_held =
-    record {
-      member = _;
-      there = refl;
-      asked = record { number = refl; start = refl; freq_hz = refl; rate = refl; len = refl };
-    }
+first_held = record { member = _; there = refl; asked = assumption }
 
 unfoldable pub second_held : HoldsAt gateway_3 0 job_2 (rx1 2 10000000)
 unfolding airtime_of band_of overlap full_hour kept begun
-second_held =
-    record {
-      member = _;
-      there = refl;
-      asked = record { number = refl; start = refl; freq_hz = refl; rate = refl; len = refl };
-    }
+second_held = record { member = _; there = refl; asked = assumption }
 
 pub third_held : HoldsAt gateway_3 1 job_3 rx2
 unfolding airtime_of band_of overlap full_hour kept begun
-third_held =
-    record {
-      member = _;
-      there = refl;
-      asked = record { number = refl; start = refl; freq_hz = refl; rate = refl; len = refl };
-    }
+third_held = record { member = _; there = refl; asked = assumption }
 
 first_member : IsMember w18 0 0 gateway_1 first_held.member
 first_member = record { gateway = refl; member = first_held.there }
@@ -90,20 +54,21 @@ second_member = record { gateway = refl; member = second_held.there }
 third_member : IsMember w18 1 1 gateway_3 third_held.member
 third_member = record { gateway = refl; member = third_held.there }
 
-pub one_of_one : {X : Type 0} (x z : X) → Contains (x ∷ []) z → z ≡ x
-one_of_one x z (zero, l, e) = sym e
-one_of_one x z (suc k, l, e) = absurd (omega (arith, l))
+-- of the members of a list one alone has its key
+abbrev pub When : Bool → Type 0 → Type 0
+When true P = P
+When false P = ⊤
 
-one_of_three : {X : Type 0} (x y u z : X) → Contains (x ∷ y ∷ u ∷ []) z → (z ≡ x) ⊎ ((z ≡ y) ⊎ (z ≡ u))
-one_of_three x y u z (zero, l, e) = inl (sym e)
-one_of_three x y u z (suc zero, l, e) = inr (inl (sym e))
-one_of_three x y u z (suc (suc zero), l, e) = inr (inr (sym e))
-one_of_three x y u z (suc (suc (suc k)), l, e) = absurd (omega (arith, l))
+abbrev pub IsOnly : {X : Type 0} → (X → ℕ) → X → List X → Type 0
+IsOnly key x [] = ⊤
+IsOnly key x (y ∷ ys) = When (key y == key x) (y ≡ x) × IsOnly key x ys
 
-pub one_of_two : {X : Type 0} (x y z : X) → Contains (x ∷ y ∷ []) z → (z ≡ x) ⊎ (z ≡ y)
-one_of_two x y z (zero, l, e) = inl (sym e)
-one_of_two x y z (suc zero, l, e) = inr (sym e)
-one_of_two x y z (suc (suc k), l, e) = absurd (omega (arith, l))
+pub the_only : {X : Type 0} (key : X → ℕ) (x : X) (xs : List X) (z : X) → IsOnly key x xs → Contains xs z → key z ≡ key x → z ≡ x
+the_only key x [] z h c e = absurd (omega (arith, c.1))
+the_only key x (y ∷ ys) z h (zero, l, e) same =
+    let h = rw (eq-eqb (key y) (key x) (ap key e ∙ same)) at h in
+    sym e ∙ h.0
+the_only key x (y ∷ ys) z h (suc k, l, e) same = the_only key x ys z h.1 (k, omega (arith, l), e) same
 
 module _ (safe : IsSafe settings after) where
   gateway_set : Some (setting_of gateway_3) ≡ slice_get settings.gateways 1
@@ -149,19 +114,13 @@ module _ (safe : IsSafe settings after) where
   its_gathering = some_inj (sym own.gathered ∙ ap (λ n. numbered n w18.reg.gathered.list) number_is)
 
   its_job : own.job ≡ job_2
-  its_job = elim (one_of_three job_1 job_2 job_3 own.job own.given) [
-    | inl e ↦ absurd (omega (arith, ap (λ (j : Job). j.number) e, own.asked.number, number_is))
-    | inr (inl e) ↦ e
-    | inr (inr e) ↦ absurd (omega (arith, ap (λ (j : Job). j.number) e, own.asked.number, number_is))
-  ]
+  its_job = the_only (λ (j : Job). j.number) job_2 (job_1 ∷ job_2 ∷ job_3 ∷ []) own.job (assumption) own.given
+      (sym own.asked.number ∙ number_is)
 
   its_copy : own.window.copy ≡ kept_copy 2 9000000 50
-  its_copy =
-      let here : own.window.copy.gateway ≡ 2 = sym own.window.gateway ∙ own.here in
-      let heard : Contains both_copies own.window.copy =
-      subst (λ (g : Gathering). Contains g.copies own.window.copy) its_gathering own.window.heard in
-      elim (one_of_two (kept_copy 1 5000000 55) (kept_copy 2 9000000 50) own.window.copy heard)
-      [ inl e ↦ absurd (omega (arith, ap (λ (c : HeardCopy). c.gateway) e, here)) | inr e ↦ e ]
+  its_copy = the_only (λ (c : HeardCopy). c.gateway) (kept_copy 2 9000000 50) both_copies own.window.copy (assumption)
+      (subst (λ (g : Gathering). Contains g.copies own.window.copy) its_gathering own.window.heard)
+      (sym own.window.gateway ∙ own.here)
 
   its_start : own.candidate.start ≡ 10000000
   its_start = sym own.asked.start ∙ second_held.asked.start
@@ -174,8 +133,8 @@ module _ (safe : IsSafe settings after) where
 
   -- of the two devices it is the first
   its_device : own.device ≡ device_at first_device (Some 1) 2
-  its_device = elim (one_of_two (device_at first_device (Some 1) 2) (device_at second_device (Some 0) 1) own.device own.served)
-      [ inl e ↦ e | inr e ↦ absurd (omega (arith, its_address, ap (λ (d : Device). d.setting.addr) e)) ]
+  its_device = the_only (λ (d : Device). d.setting.addr) (device_at first_device (Some 1) 2) w18.reg.devices own.device
+      (assumption) own.served its_address
 
   -- the two tickets answer different uplinks, and have different counters
   tickets_differ : job_1.number ≢ job_2.number
@@ -196,26 +155,20 @@ module _ (safe : IsSafe settings after) where
   third_gathering = some_inj (sym third_own.gathered ∙ ap (λ n. numbered n w18.reg.gathered.list) third_held.asked.number)
 
   third_job : third_own.job ≡ job_3
-  third_job =
-      let is : third_own.job.number ≡ 3 = sym third_own.asked.number ∙ third_held.asked.number in
-      elim (one_of_three job_1 job_2 job_3 third_own.job third_own.given) [
-        | inl e ↦ absurd (omega (arith, ap (λ (j : Job). j.number) e, is))
-        | inr (inl e) ↦ absurd (omega (arith, ap (λ (j : Job). j.number) e, is))
-        | inr (inr e) ↦ e
-      ]
+  third_job = the_only (λ (j : Job). j.number) job_3 (job_1 ∷ job_2 ∷ job_3 ∷ []) third_own.job (assumption) third_own.given
+      (sym third_own.asked.number ∙ third_held.asked.number)
 
   third_is_heard : third_own.window.copy ≡ kept_copy 2 8000000 50
-  third_is_heard =
-      one_of_one (kept_copy 2 8000000 50) third_own.window.copy
+  third_is_heard = the_only (λ (c : HeardCopy). c.gateway) (kept_copy 2 8000000 50) third_copy third_own.window.copy (assumption)
       (subst (λ (g : Gathering). Contains g.copies third_own.window.copy) third_gathering third_own.window.heard)
+      (sym third_own.window.gateway ∙ third_own.here)
 
   third_address : third_own.device.setting.addr ≡ 0x26011bdb
   third_address = third_own.its_own ∙ ap (λ (g : Gathering). addr_of g.bytes) third_gathering
 
   third_device : third_own.device ≡ device_at second_device (Some 0) 1
-  third_device =
-      elim (one_of_two (device_at first_device (Some 1) 2) (device_at second_device (Some 0) 1) third_own.device third_own.served)
-      [ inl e ↦ absurd (omega (arith, third_address, ap (λ (d : Device). d.setting.addr) e)) | inr e ↦ e ]
+  third_device = the_only (λ (d : Device). d.setting.addr) (device_at second_device (Some 0) 1) w18.reg.devices third_own.device
+      (assumption) third_own.served third_address
 
   third_start : third_own.candidate.start ≡ 11000000
   third_start = sym third_own.asked.start ∙ third_held.asked.start

@@ -2,9 +2,9 @@
 -- two. The first is answered on the first gateway; there the answer to the second, in the same window, is refused, and it goes
 -- to the second gateway. This one alone hears the third; there RX1 is refused, since it sends to the first device then, and RX2
 -- is taken. From there on, two of the three are cancelled. Each step computes.
-use Rattle.server_core.proofs.Words.{suc, zero, ◌-◌, true, false, Bool, List, [], ◌∷◌, ◌++◌, map, Asked, ℕ, ◌≡◌, Some, None, Ok, refl, Gathering}
+use Rattle.server_core.proofs.Words.{suc, zero, ◌-◌, true, false, Bool, List, [], ◌∷◌, ◌++◌, map, ℕ, ◌≡◌, Some, None, Ok, refl, Gathering}
 use Rattle.server_core.proofs.Words.{Job, Answer, Waiting, Open, Booked, Settled, Gateway, World, Hear, Pass, Take, Settle, Try}
-use Rattle.server_core.proofs.Words.{Cancel, opening, step, decide, due_of, take_answer, HeardCopy, Device, Step, Reply, Run, run}
+use Rattle.server_core.proofs.Words.{Cancel, opening, step, decide, due_of, take_answer, HeardCopy, Step, Reply, Run, run}
 use Rattle.server_core.proofs.Words.{run_from, ⊤}
 use Rattle.radio_airtime.specs.TimeOnAir.{airtime_of}
 use Rattle.radio_bands.specs.Band.{band_of}

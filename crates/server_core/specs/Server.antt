@@ -1,5 +1,5 @@
-use Rattle.std.specs.Prelude.{ℕ, ◌≡◌, ◌==◌, Bool, false, List, [], ◌∷◌, ◌++◌, map, Contains, IsTrue, Some, Result, Ok, Err}
-use Rattle.std.specs.List.{list_any, AllZip}
+use Rattle.std.specs.Prelude.{ℕ, ◌≡◌, false, List, [], ◌∷◌, ◌++◌, map, Contains, IsTrue, Some, Result, Ok, Err}
+use Rattle.std.specs.List.{AllZip}
 use Rattle.gateway_book.specs.Book.{Book}
 use Rattle.gateway_book.specs.Orderly.{IsOrderly}
 use Rattle.gateway_book.specs.Remembers.{Remembers}
