@@ -27,19 +27,14 @@ use Rattle.server_core.proofs.UntriedSteps.{not_open, no_book}
 
 later_by : {X : Type 0} (o : Option (ℕ × X)) (i : ℕ) (y : X) → option_map next_place o ≡ Some (i, y)
     → (j : ℕ) × (o ≡ Some (j, y)) × (i ≡ suc j)
-later_by None i y e = absurd (cc (e))
-later_by {X} (Some p) i y e =
-    let q = some_inj e in
-    (p.0, ap (λ (x : X). Some (p.0, x)) (ap (λ (z : ℕ × X). z.1) q), sym (ap (λ (z : ℕ × X). z.0) q))
+later_by o i y e = grind arith
 
 module _ {X : Type 0} (test : X → Bool) (v : X) (passes : test v ≡ true) where
   again_by : (x : X) (xs : List X) (t : Bool) (i : ℕ) (y : X) → test x ≡ t
       → ((j : ℕ) → first_at test xs ≡ Some (j, y) → first_at test (slice_set xs j v) ≡ Some (j, v))
       → (if t then Some (0, x) else option_map next_place (first_at test xs)) ≡ Some (i, y)
       → first_at test (slice_set (x ∷ xs) i v) ≡ Some (i, v)
-  again_by x xs true zero y h rest f = rw passes refl
-  again_by x xs true (suc i) y h rest f = let q = ap (λ (z : ℕ × X). z.0) (some_inj f) in absurd (omega (arith, q))
-  again_by x xs false i y h rest f = let s = later_by (first_at test xs) i y f in rw (s.2, h, rest s.0 s.1) refl
+  again_by x xs t i y h rest f = grind (arith, rest, passes)
 
   found_again : (xs : List X) (i : ℕ) (y : X) → first_at test xs ≡ Some (i, y) → first_at test (slice_set xs i v) ≡ Some (i, v)
   found_again [] i y f = absurd (cc (f))
@@ -50,8 +45,7 @@ among_by : (id : ℕ) (x : Gateway) (xs : List Gateway) (t : Bool) (i : ℕ) (g 
     → ((j : ℕ) → gateway_with id xs ≡ Some (j, g) → is_among (map (λ y. y.id) xs) id ≡ true)
     → (if t then Some (0, x) else option_map next_place (gateway_with id xs)) ≡ Some (i, g)
     → is_among (map (λ y. y.id) (x ∷ xs)) id ≡ true
-among_by id x xs true i g h rest f = rw h refl
-among_by id x xs false i g h rest f = let s = later_by (gateway_with id xs) i g f in rw (h, rest s.0 s.1) refl
+among_by id x xs t i g h rest f = grind (arith, rest)
 
 found_among : (id : ℕ) (xs : List Gateway) (i : ℕ) (g : Gateway) → gateway_with id xs ≡ Some (i, g)
     → is_among (map (λ y. y.id) xs) id ≡ true
@@ -97,8 +91,7 @@ tick_no_book w id now f = rw f refl
 -- What is booked is cancelled.
 
 sent_is : (w : World) (n : ℕ) (o : Option Answer) → cancel_of w n o ≡ cancel_sent w n (option_and_then sent_for o)
-sent_is w n None = refl
-sent_is w n (Some answer) = refl
+sent_is w n o = grind arith
 
 pub cancel_is : (w : World) (n : ℕ) (o : Option Sent) → sent_at w n ≡ o → step w (Cancel n) ≡ cancel_sent w n o
 unfolding step
@@ -111,8 +104,7 @@ cancel_no_book w n sent e f = cancel_is w n (Some sent) e ∙ rw f refl
 -- it is the same gateway's book
 same_by : (n start : ℕ) (old new : Book) (r : Result ℕ CancelFault) → IfOk r (λ airtime. new ≡ with_cancelled old n start airtime)
     → OnErr r (new ≡ old) → (new.id ≡ old.id) × (new.rules ≡ old.rules)
-same_by n start old new (Ok airtime) c e = (cc (c), cc (c))
-same_by n start old new (Err fault) c e = (cc (e), cc (e))
+same_by n start old new r c e = grind arith
 
 pub same_book : (n start : ℕ) (old new : Book) (r : Result ℕ CancelFault) → IsCancel n start old new r
     → (new.id ≡ old.id) × (new.rules ≡ old.rules)
@@ -143,8 +135,7 @@ some_and P None h = absurd h
 some_and P (Some x) h = (x, refl, h)
 
 pub is_some_is : {X : Type 0} (o : Option X) → IsSome o → (x : X) × (o ≡ Some x)
-is_some_is None e = absurd (cc (e))
-is_some_is (Some x) e = (x, refl)
+is_some_is o e = grind arith
 
 module _ (w : World) (t : Standing) (out : IsTicketIn w t) (id at : ℕ) (old : Book) (b : IsBookAt id at w.gateways old)
     (c : Candidate) (stands : candidate_of t ≡ Some c) (asked : old.id ≡ c.gateway) where
@@ -247,8 +238,7 @@ try_of_book w t id at old new (tried.NoMemory ticket) out b c stands h = (h.same
 
 settled_by : (w : World) (n : ℕ) (o : Option Answer) (ending : Ending) → option_and_then ending_of o ≡ Some ending
     → settle_of w n o ≡ settle_as w n (Some ending)
-settled_by w n None ending e = absurd (cc (e))
-settled_by w n (Some answer) ending e = ap (settle_as w n) e
+settled_by w n o ending e = grind arith
 
 settle_is : (w : World) (stub : Outcome) → IsStubIn w stub → IsSettleStep w stub
 unfolding step

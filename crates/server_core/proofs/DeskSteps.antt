@@ -44,13 +44,9 @@ module _ (w : World) (P : After → Type 0) where
       → g.id ≡ c.gateway → (o : Option Refusal) → refusal_of (terms g) g.state.list (ask_for job c) ≡ o
       → P (tried_by w n k job c (i, g) o)) where
     tried_walk : (o : Option Answer) → numbered n w.answers ≡ o → P (try_of w n o)
-    tried_walk None e = none
-    tried_walk (Some Waiting) e = none
     tried_walk (Some (Open k job)) e = by_option (λ o. P (try_candidate w n k job o)) (candidate_at job k) (λ f. none)
         (λ c f. gateway_walk c.gateway (λ o. P (try_on w n k job c o)) none (λ i g q own. asked k job c i g e f q own _ refl))
-    tried_walk (Some (Booked sent window carried)) e = none
-    tried_walk (Some (Out refusal)) e = none
-    tried_walk (Some (Settled sent)) e = none
+    tried_walk o e = none
 
     pub try_walk : P (try w n)
     try_walk = tried_walk (numbered n w.answers) refl
@@ -130,8 +126,7 @@ same_airtime id (Settled sent) = refl
 
 same_answered : (id : ℕ) (answers : List Answer) → answered_at id (map known_of answers) ≡ answered_in id answers
 same_answered id [] = refl
-same_answered id (answer ∷ answers) = ap (λ (n : ℕ). n + answered_at id (map known_of answers)) (same_airtime id answer)
-    ∙ ap (λ (n : ℕ). answer_airtime id answer + n) (same_answered id answers)
+same_answered id (answer ∷ answers) = cc (same_airtime id answer, same_answered id answers)
 
 pub desk_calls_are_steps : DeskCallsAreSteps
 unfolding step

@@ -40,9 +40,7 @@ module _ (number start : ℕ) (l : List Reservation) (r : Reservation) (o : IsBy
       (λ e. absurd (cc (f, named_none number start l e))) (λ m e. named_by m (is_named number start m) refl e)
 
 was_found : (o : Option Reservation) (t : Bool) (r : Reservation) → (if t then Err Begun else found_or o) ≡ Ok r → o ≡ Some r
-was_found o true r e = absurd (cc)
-was_found None false r e = absurd (cc)
-was_found (Some s) false r e = cc
+was_found o t r e = grind arith
 
 abbrev cancelled : Gateway → Result Reservation CancelFault → ℕ → ℕ → Gateway
 cancelled g r number start = record g { state = after_cancel r g.state number start }

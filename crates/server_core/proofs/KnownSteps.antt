@@ -19,11 +19,10 @@ use Rattle.server_core.proofs.{DeskSteps.settle_walk, Members.equal_where_tested
 module _ {settings : SettingLists} {T : Job → Type 0} {w : World} (h : Holds settings T w) (addr : ℕ) (payload : Payload) where
   queued_by : (r : Result ℕ QueueFault) (o : Option (ℕ × Device)) → device_with addr w.reg.devices ≡ o
       → IsGood settings T w (record w { reg = after_queueing r o payload w.reg })
-  queued_by (Err fault) o e = unchanged h
-  queued_by (Ok count) None e = unchanged h
   queued_by (Ok count) (Some found) e =
       let there = found_there (λ (d : Device). d.setting.addr == addr) w.reg.devices found e in
       device_written h found.0 found.1 (with_payload payload found.1) there.0 refl (omega arith)
+  queued_by r o e = unchanged h
 
   pub queue_good : IsGoodStep settings T w (queue w addr payload)
   queue_good = record { good = queued_by (queue_answer w.reg addr payload) (device_with addr w.reg.devices) refl; used = tt }
@@ -95,11 +94,7 @@ module _ {settings : SettingLists} {T : Job → Type 0} {w : World} (h : Holds s
 -- what was booked for it is kept
 ended_sent : (answer : Answer) (ending : Ending) → ending_of answer ≡ Some ending → (s : Sent) → sent_for answer ≡ Some s
     → sent_of ending ≡ Some s
-ended_sent Waiting ending e s q = absurd (cc (e))
-ended_sent (Open k job) ending e s q = absurd (cc (q))
-ended_sent (Booked sent window carried) ending e s q = rw (← some_inj e) q
-ended_sent (Out refusal) ending e s q = absurd (cc (q))
-ended_sent (Settled sent) ending e s q = absurd (cc (e))
+ended_sent answer ending e s q = grind arith
 
 module _ {settings : SettingLists} {T : Job → Type 0} {w : World} (h : Holds settings T w) (n : ℕ) where
   abbrev with_reg : Register → World

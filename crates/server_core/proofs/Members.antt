@@ -53,5 +53,4 @@ equal_where_tested m n e = grind (arith, nat_tests)
 
 -- no list at all has a member
 pub none_numbered : {X : Type 0} (n : ℕ) (x : X) → numbered n [] ≡ Some x → ⊥
-none_numbered zero x e = cc
-none_numbered (suc i) x e = cc
+none_numbered n x e = grind arith

@@ -25,11 +25,7 @@ module _ (now : ℕ) where
     rest : due_from k now l ≡ m ∷ due_from k now (slice_set l place (closed gathering))
 
   was_open : (g : Gathering) → is_due now g ≡ true → is_open g ≡ true
-  was_open g e = open_by (is_open g) (nat_lt (g.opened + join_us) now) e
-    where
-      open_by : (s t : Bool) → (s && t) ≡ true → s ≡ true
-      open_by true t e = refl
-      open_by false t e = absurd (cc (e))
+  was_open g e = grind arith
 
   -- none is due, or this is the first
   abbrev IsNextDue : ℕ → List Gathering → Option ℕ → Type 0
@@ -39,15 +35,14 @@ module _ (now : ℕ) where
   later_due : (k : ℕ) (g : Gathering) (gs : List Gathering) (o : Option ℕ) → is_due now g ≡ false → IsNextDue (k + 1) gs o
       → IsNextDue k (g ∷ gs) o
   later_due k g gs None e r = rw e r
-  later_due k g gs (Some m) e r =
-      record {
-        place = suc r.place;
-        gathering = r.gathering;
-        number = omega (arith, r.number);
-        there = r.there;
-        is_open = r.is_open;
-        rest = rw (e, r.rest) refl;
-      }
+  later_due k g gs (Some m) e r = record {
+    place = suc r.place;
+    gathering = r.gathering;
+    number = omega (arith, r.number);
+    there = r.there;
+    is_open = r.is_open;
+    rest = rw (e, r.rest) refl;
+  }
 
   next_by : (k : ℕ) (g : Gathering) (gs : List Gathering) (o : Option ℕ) (t : Bool) → is_due now g ≡ t → IsNextDue (k + 1) gs o
       → IsNextDue k (g ∷ gs) (if t then Some k else o)

@@ -66,8 +66,7 @@ abbrev IsHere : List ℕ → ℕ → Decision → Type 0
 IsHere ids gateway d = ((fault : DeskFault) × (d ≡ Refuse fault)) ⊎ IsTrue (is_among ids gateway)
 
 known_gateway : (t : Bool) (rest : Option DeskFault) → (if not t then Some UnknownGateway else rest) ≡ None → t ≡ true
-known_gateway true rest e = refl
-known_gateway false rest e = absurd (cc (e))
+known_gateway t rest e = grind arith
 
 module _ (ids : List ℕ) (reg : Register) (bytes : List ℕ) (heard : Heard1) (arrived : ℕ) where
   copy_here : (uplink : Uplink) (o : Option DeskFault) → copy_fault ids heard arrived ≡ o

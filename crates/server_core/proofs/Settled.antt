@@ -68,8 +68,7 @@ trying_next first t next old now mid a n =
 
 -- fewer candidates are left
 some_within : {X : Type 0} (xs : List X) (k : ℕ) (o : Option X) → slice_get xs k ≡ o → IsSome o → k < length xs
-some_within xs k None e s = absurd (cc (s))
-some_within xs k (Some x) e s = slice_get_within xs k x e
+some_within xs k o e s = grind (arith, slice_get_within xs k)
 
 pub fewer_left : {A : Type 0} (t next : Standing) (now mid : Seen A) → MovesOn t now mid next
     → length (candidates next.job) - next.at < length (candidates t.job) - t.at

@@ -37,9 +37,8 @@ module _ (w : World) (n : ℕ) (a : Answer) (at : numbered n w.answers ≡ Some 
   other_stays f m x e d = elim (numbered_after f m n w.answers x a e at) [ inl h ↦ absurd (d h.0 (sym h.1)) | inr h ↦ h ]
 
   heard_stays : (d : Decision) → numbered n (answers_after d w.answers) ≡ Some a
-  heard_stays (Refuse fault) = at
-  heard_stays (Join m) = at
   heard_stays (hearing.Open o) = numbered-append n w.answers (Waiting ∷ []) a at
+  heard_stays d = at
 
   taken_stays : is_given (known_of a) ≡ true → (m : ℕ) (r : Result Job TakeFault) → take_answer w.reg (known w) m ≡ r
       → numbered n (take_by w m r).0.answers ≡ Some a

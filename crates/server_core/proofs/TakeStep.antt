@@ -44,17 +44,14 @@ module _ (reg : Register) (known : List Known) (n : ℕ) (job : Job) where
   waits_by : (asked : Asked) (state : Known) (t : Bool) (o : Option Device) → numbered n reg.asked ≡ Some asked
       → numbered n known ≡ Some state → is_not_given state ≡ t → slice_get reg.devices asked.device ≡ o
       → (if t then take_asked reg known n asked o else Err Taken) ≡ Ok job → IsTicket reg known n job
-  waits_by asked state true None a s t d e = absurd (cc (e))
   waits_by asked state true (Some device) a s t d e = fault_by asked a state s t device d (take_fault reg known asked device) e
-  waits_by asked state false o a s t d e = absurd (cc (e))
+  waits_by asked state t o a s u d e = absurd (cc (e))
 
   known_by : (o : Option Asked) (k : Option Known) → numbered n reg.asked ≡ o → numbered n known ≡ k
       → take_known reg known n o k ≡ Ok job → IsTicket reg known n job
   known_by (Some asked) (Some state) a s e =
       waits_by asked state (is_not_given state) (slice_get reg.devices asked.device) a s refl refl e
-  known_by (Some asked) None a s e = absurd (cc (e))
-  known_by None (Some state) a s e = absurd (cc (e))
-  known_by None None a s e = absurd (cc (e))
+  known_by o k a s e = absurd (cc (e))
 
   closed_by : (t : Bool) → (if t then take_known reg known n (numbered n reg.asked) (numbered n known) else Err NotReady) ≡ Ok job
       → IsTicket reg known n job
@@ -67,11 +64,7 @@ module _ (reg : Register) (known : List Known) (n : ℕ) (job : Job) where
 
 -- the answer of such an uplink waits
 waits_only : (a : Answer) → is_not_given (known_of a) ≡ true → a ≡ Waiting
-waits_only Waiting e = refl
-waits_only (Open k job) e = absurd (cc (e))
-waits_only (Booked sent window carried) e = absurd (cc (e))
-waits_only (Out refusal) e = absurd (cc (e))
-waits_only (Settled sent) e = absurd (cc (e))
+waits_only a e = grind arith
 
 pub still_waits : (answers : List Answer) (n : ℕ) (k : Known) → numbered n (map known_of answers) ≡ Some k → is_not_given k ≡ true
     → numbered n answers ≡ Some Waiting

@@ -21,8 +21,7 @@ module _ {X : Type 0} where
   -- what is left from a place on
   drop_at : (xs : List X) (k : ℕ) (x : X) → slice_get xs k ≡ Some x → drop k xs ≡ x ∷ drop (suc k) xs
   drop_at [] k x e = absurd (cc (e))
-  drop_at (y ∷ xs) zero x e = ap (λ z. z ∷ xs) (some_inj e)
-  drop_at (y ∷ xs) (suc k) x e = drop_at xs k x e
+  drop_at (y ∷ xs) k x e = grind (arith, drop_at xs)
 
   pub drop_past : (xs : List X) (k : ℕ) → slice_get xs k ≡ None → drop k xs ≡ []
   drop_past [] zero e = refl
