@@ -1,9 +1,10 @@
 -- A gateway's book, by the gateway's id: time passes for it, or what was sent for an answer is cancelled.
+use Rattle.server_core.proofs.Words.{arith}
 use Rattle.server_core.proofs.Words.{ap, sym, ◌∙◌, get_or_from_slice_get, slice_get_within, AllZip, option_map, Bool, Err}
 use Rattle.server_core.proofs.Words.{List, None, Ok, Option, Result, Some, [], false, get_or, if◌then◌else◌, length, map}
 use Rattle.server_core.proofs.Words.{refl, slice_get, slice_set, suc, true, zero, ℕ, ◌<◌, ◌==◌, ◌||◌, ◌∷◌, ◌≡◌, Book}
 use Rattle.server_core.proofs.Words.{ticked, CancelFault}
-use Rattle.server_core.proofs.Words.{NotHere, numbered, Answer, Booked, Open, Out, Settled, Waiting, is_given, known_of}
+use Rattle.server_core.proofs.Words.{NotHere, numbered, Answer, is_given, known_of}
 use Rattle.server_core.proofs.Words.{numbered-map, from_map, map_set, some_inj, next_place, kept_by, Gateway, World, gateway_with}
 use Rattle.server_core.proofs.Words.{known, found_there, Sent, gateway_of, lines_for, AreBooksOf, IsAt, IsBookOf}
 use Rattle.server_core.proofs.Words.{IsCancelled, IsIdle, IsBetweenCalls, Seen, cancelled_line, ids_of, is_among, with_lines}
@@ -37,17 +38,14 @@ module _ {X Y : Type 0} (R : X → Y → Type 0) where
 -- the place of a member, and the member there
 place_next : {X : Type 0} (t : Bool) (x : X) (o : Option (ℕ × X)) → option_map (λ p. p.0)
     (if t then Some (0, x) else option_map next_place o) ≡ (if t then Some 0 else option_map suc (option_map (λ p. p.0) o))
-place_next true x o = refl
-place_next false x None = refl
-place_next false x (Some p) = refl
+place_next t x o = grind arith
 
 found_at : {X : Type 0} (o : Option (ℕ × X)) (i : ℕ) → Some i ≡ option_map (λ p. p.0) o → (x : X) × (o ≡ Some (i, x))
 found_at None i e = absurd (cc (e))
 found_at (Some p) i e = (p.1, ap (λ (j : ℕ). Some (j, p.1)) (sym (some_inj e)))
 
 none_found : {X : Type 0} (o : Option (ℕ × X)) → None ≡ option_map (λ p. p.0) o → o ≡ None
-none_found None e = refl
-none_found (Some p) e = absurd (cc (e))
+none_found o e = grind arith
 
 -- the book that was found
 pub record IsFound (id at : ℕ) (books : List Book) (book : Book) : Type 0 where
@@ -104,9 +102,7 @@ module _ (id : ℕ) (books : List Book) (gateways : List Gateway) (are : AreBook
 among_by : {X : Type 0} (t r : Bool) (x : X) (o : Option (ℕ × X)) → (t || r) ≡ true
     → None ≡ option_map (λ p. p.0) (if t then Some (0, x) else option_map next_place o)
     → (r ≡ true → None ≡ option_map (λ p. p.0) o → ⊥) → ⊥
-among_by true r x o a f rest = cc (f)
-among_by false r x None a f rest = rest a refl
-among_by false r x (Some p) a f rest = cc (f)
+among_by t r x o a f rest = grind arith
 
 pub has_place : (id : ℕ) (books : List Book) → is_among (ids_of books) id ≡ true → None ≡ place_of id books → ⊥
 has_place id [] a f = cc (a)
@@ -164,16 +160,11 @@ module _ {A : Type 0} (place : ℕ) (old mid new : Seen A) (gateway now : ℕ) (
 
 -- where no ticket is out, the desk knows what was sent for an answer
 sent_same : (a : Answer) → is_given (known_of a) ≡ false → sent_for a ≡ kept_by (Some (known_of a))
-sent_same Waiting e = refl
-sent_same (Open k job) e = absurd (cc (e))
-sent_same (Booked sent window carried) e = absurd (cc (e))
-sent_same (Out refusal) e = absurd (cc (e))
-sent_same (Settled sent) e = refl
+sent_same a e = grind arith
 
 sent_by_known : (o : Option Answer) → ((a : Answer) → o ≡ Some a → is_given (known_of a) ≡ false)
     → option_and_then sent_for o ≡ kept_by (option_map known_of o)
-sent_by_known None f = refl
-sent_by_known (Some a) f = sent_same a (f a refl)
+sent_by_known o f = grind arith
 
 sent_known : (w : World) (n : ℕ) → IsIdle (known w) → sent_at w n ≡ kept_by (numbered n (known w))
 sent_known w n idle = sent_by_known (numbered n w.answers)

@@ -1,13 +1,14 @@
 -- The calls of a ticket and of a gateway's book are the steps of the world.
+use Rattle.server_core.specs.BookCalls.{next_candidate}
 use Rattle.server_core.proofs.Words.{ap, arith, sym, ◌∙◌, IsSome, IsSomeAnd, IsTrue, option_and_then, option_map, Bool, Err, IfOk}
-use Rattle.server_core.proofs.Words.{List, None, Ok, OnErr, Option, Result, Some, [], false, if◌then◌else◌, map, refl}
-use Rattle.server_core.proofs.Words.{slice_get, slice_set, suc, true, zero, ℕ, ◌+◌, ◌==◌, ◌∷◌, ◌≡◌, Reservation, Book}
+use Rattle.server_core.proofs.Words.{List, None, Ok, OnErr, Option, Result, Some, [], if◌then◌else◌, map, refl}
+use Rattle.server_core.proofs.Words.{slice_get, slice_set, suc, true, ℕ, ◌+◌, ◌==◌, ◌∷◌, ◌≡◌, Reservation, Book}
 use Rattle.server_core.proofs.Words.{ticked, with_booked, with_cancelled, book_step, cancel_step, tick_step, orderly_booked}
 use Rattle.server_core.proofs.Words.{orderly_cancelled, remembers_answer, remembers_booked, remembers_cancel, remembers_cancelled}
 use Rattle.server_core.proofs.Words.{remembers_ticked, IsAsked, refusal_of, CancelFault, NotHere, Refusal, numbered, rewritten}
 use Rattle.server_core.proofs.Words.{Candidate, Job, ask_for, next_of, refusal_by, answered_as, Standing}
 use Rattle.server_core.proofs.Words.{candidate_of, Ending, Unanswered, Outcome, Answer, Booked, Open, Out, Waiting}
-use Rattle.server_core.proofs.Words.{numbered-here, some_inj, next_place, is_here, Gateway, World, TakeFault}
+use Rattle.server_core.proofs.Words.{numbered-here, next_place, is_here, Gateway, World, TakeFault}
 use Rattle.server_core.proofs.Words.{gateway_with, known, found_there, Sent, IsBookOf, is_among, Cancel, Reply, Step, Take}
 use Rattle.server_core.proofs.Words.{Tick, Try, cancel_of, cancel_sent, ending_of, refused, sent_by, sent_for, settle_as}
 use Rattle.server_core.proofs.Words.{settle_of, take_by, terms, tried_by, take_answer, step}
@@ -21,7 +22,7 @@ use Rattle.server_core.specs.BookCalls.{IsSettleStep, IsCancel, BookCallsAreStep
 use Rattle.server_core.specs.Steps as replies
 use Rattle.server_core.proofs.{Members.equal_where_tested, DeskSteps.desk_calls_are_steps, DeskSteps.may}
 use Rattle.server_core.proofs.TakeStep.{ticket, still_waits}
-use Rattle.server_core.proofs.UntriedSteps.{not_open, no_book}
+use Rattle.server_core.proofs.Words.{try_of}
 
 -- What was found is found again where it was written anew.
 
@@ -233,6 +234,14 @@ try_of_book w t id at old new (tried.Out stub refusal) out b c stands h =
     rw (h.ended, h.book) (out_left w t out id at old b c stands h.asked refusal h.refused h.last)
 try_of_book w t id at old new (tried.Wrong ticket) out b c stands h = (h.same, h.book)
 try_of_book w t id at old new (tried.NoMemory ticket) out b c stands h = (h.same, h.book)
+
+-- an answer that isn't open is not tried, nor one at a gateway without a book
+not_open : (w : World) (n : ℕ) (o : Option Answer) → next_candidate o ≡ None → try_of w n o ≡ (w, replies.Tried None)
+not_open w n o e = grind arith
+
+no_book : (w : World) (n : ℕ) (o : Option Answer) (c : Candidate) → next_candidate o ≡ Some c
+    → gateway_with c.gateway w.gateways ≡ None → try_of w n o ≡ (w, replies.Tried None)
+no_book w n o c e f = grind arith
 
 -- What is left of a ticket is settled.
 

@@ -1,7 +1,8 @@
 -- Steps one after another, and a call that is one step: one thread notes the step, makes it, and tells its line.
+use Rattle.server_core.proofs.Words.{arith}
 use Rattle.server_core.proofs.Words.{ap, append-nil, append_assoc, sym, ◌∙◌, map-append, Err, IfOk, IsOkUnless, List, MatchResult}
-use Rattle.server_core.proofs.Words.{None, Ok, OnErr, OnOk, Option, Result, Some, [], map, refl, ℕ, ◌++◌, ◌∷◌, ◌≡◌, ◌≢◌, Payload}
-use Rattle.server_core.proofs.Words.{DeskView, desk_hear, desk_of, desk_queue, known_after, Decision, Join, Refuse, answer_to}
+use Rattle.server_core.proofs.Words.{Ok, OnErr, OnOk, Option, Result, [], map, refl, ℕ, ◌++◌, ◌∷◌, ◌≡◌, ◌≢◌, Payload}
+use Rattle.server_core.proofs.Words.{DeskView, desk_hear, desk_of, desk_queue, known_after, Decision, answer_to}
 use Rattle.server_core.proofs.Words.{copy_of, Device, Register, device_with, World, after_queueing, queue_answer, DeskFault}
 use Rattle.server_core.proofs.Words.{QueueFault, Heard1, entry_at, lines_for, reached, step_of, AreHeard, IsAt, IsIdle}
 use Rattle.server_core.proofs.Words.{IsBetweenCalls}
@@ -9,7 +10,6 @@ use Rattle.server_core.proofs.Words.{Makes, Moves, Seen, heard_line, queued_line
 use Rattle.server_core.proofs.Words.{Queued, Reply, Step, Line, decide, step_lines, run_from, step}
 use Rattle.server_core.specs.declared.event.Step.{Step as Made}
 use Rattle.server_desk.specs.Hearing.{after_hearing}
-use Rattle.server_desk.specs.Hearing as hearing
 use Rattle.server_core.proofs.{DeskSteps.desk_calls_are_steps, Ready.heard_after, Ready.idle_hear}
 
 -- Steps one after another, and the lines for them.
@@ -141,9 +141,7 @@ call_done {A} {X} {E} {s} {q} {after} none place made old mid new r d line is sa
 
 queue_same_by : (reg : Register) (payload : Payload) (q : Result ℕ QueueFault) (o : Option (ℕ × Device))
     → (after_queueing q o payload reg).gathered ≡ reg.gathered
-queue_same_by reg payload (Err fault) o = refl
-queue_same_by reg payload (Ok count) None = refl
-queue_same_by reg payload (Ok count) (Some found) = refl
+queue_same_by reg payload q o = grind arith
 
 pub queue_is : {A : Type 0} (addr : ℕ) (payload : Payload)
     → IsDeskStep {A = A} (Queue addr payload) (λ d. queue_answer d.reg addr payload) (λ d. desk_queue d addr payload) Queued
@@ -165,9 +163,7 @@ queue_is {A} addr payload =
 hear_refused : (d : DeskView) (bytes : List ℕ) (heard : Heard1) (arrived : ℕ) (c : Decision) (fault : DeskFault)
     → answer_to c d.reg ≡ Err fault
     → record d { reg = after_hearing c d.reg bytes (copy_of heard) arrived; known = known_after c d.known } ≡ d
-hear_refused d bytes heard arrived (Refuse other) fault e = refl
-hear_refused d bytes heard arrived (Join n) fault e = absurd (cc (e))
-hear_refused d bytes heard arrived (hearing.Open o) fault e = absurd (cc (e))
+hear_refused d bytes heard arrived c fault e = grind arith
 
 pub hear_is : {A : Type 0} (bytes : List ℕ) (heard : Heard1) (arrived : ℕ)
     → IsDeskStep {A = A} (Hear bytes heard arrived) (λ d. answer_to (decide d.ids d.reg bytes heard arrived) d.reg)

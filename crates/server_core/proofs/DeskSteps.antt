@@ -1,10 +1,11 @@
 -- What a step comes to, and that the calls of the desk are the world's steps on its part.
+use Rattle.server_core.proofs.Words.{arith}
 use Rattle.server_core.proofs.Words.{ap, sym, ◌∙◌, map-append, option_and_then, option_map, option_map_or, Err, List, None, Ok}
 use Rattle.server_core.proofs.Words.{Option, Result, Some, [], false, is_some, map, refl, slice_get, slice_set, true, ℕ, ◌+◌}
 use Rattle.server_core.proofs.Words.{◌==◌, ◌∷◌, ◌≡◌, State, book_step, cancel_step, tick_step, refusal_of, NotHere, Refusal}
 use Rattle.server_core.proofs.Words.{numbered, Candidate, Job, ask_for, candidate_at, Ending, answer_airtime, answered_at}
-use Rattle.server_core.proofs.Words.{answered_in, known_airtime, Answer, Booked, Open, Out, Settled, Waiting, is_given, known_of}
-use Rattle.server_core.proofs.Words.{desk_of, desk_settled, desk_taken, known_after, Decision, Join, Refuse, register_after}
+use Rattle.server_core.proofs.Words.{answered_in, known_airtime, Answer, Booked, Open, Settled, is_given, known_of}
+use Rattle.server_core.proofs.Words.{desk_of, desk_settled, desk_taken, known_after, Decision, register_after}
 use Rattle.server_core.proofs.Words.{map-rewritten, numbered-map, same_rewritten, map_set, some_inj, after_settling, is_here}
 use Rattle.server_core.proofs.Words.{may_settle, sent_of, after_taking, Gateway, World, gateway_with, ids, known, found_there}
 use Rattle.server_core.proofs.Words.{Known, Done, Sent, TakeFault, After, answers_after, cancel, cancel_at, cancel_of}
@@ -13,7 +14,6 @@ use Rattle.server_core.proofs.Words.{terms, tick, tick_at, tried_by, try, try_ca
 use Rattle.server_core.proofs.Words.{decide, take_answer, step}
 use Rattle.server_desk.specs.declared.answers.Known.TheVariants.{Pending}
 use Rattle.server_core.specs.Steps as replies
-use Rattle.server_desk.specs.Hearing as hearing
 use Rattle.server_core.proofs.Members.{equal_where_tested}
 
 pub by_option : {X : Type 0} (P : Option X → Type 0) (o : Option X) → (o ≡ None → P None)
@@ -64,9 +64,7 @@ same_known w v r i k = cc
 
 hear_known : (d : Decision) (answers : List Answer) → map known_of (answers_after d answers)
     ≡ known_after d (map known_of answers)
-hear_known (Refuse fault) answers = refl
-hear_known (Join n) answers = refl
-hear_known (hearing.Open o) answers = map-append known_of answers (Waiting ∷ [])
+hear_known d answers = grind (arith, map-append known_of)
 
 take_desk : (w : World) (n : ℕ) (r : Result Job TakeFault) → desk_of (take_by w n r).0 ≡ desk_taken r n (desk_of w)
 take_desk w n (Err fault) = refl
@@ -85,12 +83,7 @@ settle_desk w n ending e = settle_walk w (λ a. desk_of a.0 ≡ desk_settled end
 
 -- an answer is known to be out exactly where it would end somehow
 known_out : (o : Option Answer) → option_map_or is_given (option_map known_of o) false ≡ is_some (option_and_then ending_of o)
-known_out None = refl
-known_out (Some Waiting) = refl
-known_out (Some (Open k job)) = refl
-known_out (Some (Booked sent window carried)) = refl
-known_out (Some (Out refusal)) = refl
-known_out (Some (Settled sent)) = refl
+known_out o = grind arith
 
 -- what is out and on a gateway of the settings may be settled
 pub may : (w : World) (n : ℕ) (ending : Ending) → told w n ≡ Some ending → is_here (ids w) ending ≡ true
@@ -118,11 +111,7 @@ try_desk w n k job c i g None e there =
     (same_rewritten known_of (λ a. Booked (sent_by job c) c.window c.carries) n w.answers (Open k job) e refl)
 
 same_airtime : (id : ℕ) (answer : Answer) → known_airtime id (known_of answer) ≡ answer_airtime id answer
-same_airtime id Waiting = refl
-same_airtime id (Open k job) = refl
-same_airtime id (Booked sent window carried) = refl
-same_airtime id (Out refusal) = refl
-same_airtime id (Settled sent) = refl
+same_airtime id answer = grind arith
 
 same_answered : (id : ℕ) (answers : List Answer) → answered_at id (map known_of answers) ≡ answered_in id answers
 same_answered id [] = refl

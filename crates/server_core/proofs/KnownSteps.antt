@@ -1,9 +1,9 @@
 -- A payload is queued, a copy is heard, time passes for the gatherings, an answer is settled: what holds of the world holds then.
-use Rattle.server_core.proofs.Words.{arith, sym, Contains-append_left, Bool, Err, List, None, Ok, Option, Result, Some, false}
+use Rattle.server_core.proofs.Words.{arith, sym, Contains-append_left, Bool, List, None, Ok, Option, Result, Some, false}
 use Rattle.server_core.proofs.Words.{if◌then◌else◌, refl, slice_get, true, ℕ, ◌==◌, ◌≡◌, addr_of, Gathering, is_open_at, numbered}
-use Rattle.server_core.proofs.Words.{rewritten, place_of, with_copy, Joins, Job, Payload, Ending, Answer, Booked, Open, Out}
-use Rattle.server_core.proofs.Words.{Settled, Waiting, Decision, Join, Opening, Refuse, asked_by, copy_of, length-rewritten}
-use Rattle.server_core.proofs.Words.{some_inj, Device, Register, device_with, after_settling, delivered, has_carried, head_taken}
+use Rattle.server_core.proofs.Words.{rewritten, place_of, with_copy, Joins, Job, Payload, Ending, Answer}
+use Rattle.server_core.proofs.Words.{Settled, Decision, Join, Opening, Refuse, asked_by, copy_of, length-rewritten}
+use Rattle.server_core.proofs.Words.{Device, Register, device_with, after_settling, delivered, has_carried, head_taken}
 use Rattle.server_core.proofs.Words.{sent_of, without_head, World, ids, after_queueing, queue_answer, with_payload, IsDecided}
 use Rattle.server_core.proofs.Words.{decided, found_there, closing, pass_answer, SettingLists, Asked, Sent, QueueFault, Heard1}
 use Rattle.server_core.proofs.Words.{ending_of, hear, hear_by, pass, queue, sent_for, settle}

@@ -16,7 +16,6 @@ pub mod WorkedBookCalls
 pub mod DeskSteps
 pub mod Ready
 pub mod Calls
-pub mod UntriedSteps
 pub mod BookSteps
 pub mod OtherCancels
 pub mod StaySteps

@@ -1,5 +1,6 @@
 -- A cancel of what isn't booked for its number on a gateway changes nothing there.
-use Rattle.server_core.proofs.Words.{ap, subst, sym, true≢false, ◌∙◌, Bool, Err, List, None, Ok, OnErr, Option, Result, Some}
+use Rattle.server_core.proofs.Words.{arith}
+use Rattle.server_core.proofs.Words.{ap, subst, sym, ◌∙◌, Bool, Err, List, None, Ok, OnErr, Option, Result, Some}
 use Rattle.server_core.proofs.Words.{[], cond, false, find, if◌then◌else◌, nat_le, refl, slice_get, suc, true, ℕ, ◌==◌, ◌&&◌, ◌∷◌}
 use Rattle.server_core.proofs.Words.{◌≡◌, ◌≢◌, Reservation, Book, is_named, remembers_cancel, CancelFault, Begun}
 use Rattle.server_core.proofs.Words.{Limits, opening, some_inj, World, AreSettings, SettingLists, Sent, IsMember, Step}
@@ -25,8 +26,7 @@ module _ {X : Type 0} (test : X → Bool) (x : X) where
   found_member (y ∷ ys) f = there_by y ys (test y) refl f (found_member ys)
 
 both : (s t : Bool) → (s && t) ≡ true → (s ≡ true) × (t ≡ true)
-both true t h = (refl, h)
-both false t h = absurd (true≢false (sym h))
+both s t h = grind arith
 
 -- where nothing is found, a cancel is refused
 refused_by : (floor start : ℕ) (o : Option Reservation) (t : Bool) → ((r : Reservation) → o ≡ Some r → ⊥)

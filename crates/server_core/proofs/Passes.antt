@@ -1,7 +1,7 @@
 -- Time passes for the gatherings: all that are due are closed and answered.
 use Rattle.server_core.proofs.Words.{ap, append-nil, arith, sym, ◌∙◌, position_from, Bool, List, None, Option, Some, [], false}
-use Rattle.server_core.proofs.Words.{if◌then◌else◌, length, nat_lt, refl, slice_get, slice_set, suc, true, ℕ, ◌&&◌, ◌++◌, ◌+◌}
-use Rattle.server_core.proofs.Words.{◌<◌, ◌∷◌, ◌≡◌, Gathering, Gatherings, close_step, is_due, is_open, join_us, DeskView}
+use Rattle.server_core.proofs.Words.{if◌then◌else◌, length, refl, slice_get, slice_set, suc, true, ℕ, ◌++◌, ◌+◌}
+use Rattle.server_core.proofs.Words.{◌<◌, ◌∷◌, ◌≡◌, Gathering, Gatherings, close_step, is_due, is_open, DeskView}
 use Rattle.server_core.proofs.Words.{desk_pass, World, closing, pass_answer, answer_steps, closing_steps, due_from, due_numbers}
 use Rattle.server_core.proofs.Words.{reached, IsAt, IsBetweenCalls, Makes, Moves, Seen, pass_whole, with_step, Pass, due_of}
 use Rattle.server_core.proofs.Words.{pass_steps}

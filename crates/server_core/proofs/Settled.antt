@@ -1,5 +1,5 @@
 -- A ticket is tried until it is booked or out, and settled.
-use Rattle.server_core.proofs.Words.{ap, append-nil, append_assoc, arith, sym, ◌∙◌, slice_get_within, IsSome, IsTrue, List, None}
+use Rattle.server_core.proofs.Words.{ap, append-nil, append_assoc, arith, sym, ◌∙◌, slice_get_within, IsSome, IsTrue, List}
 use Rattle.server_core.proofs.Words.{Ok, Option, Some, [], length, map, refl, slice_get, ℕ, ◌++◌, ◌+◌, ◌-◌, ◌<◌, ◌∷◌, ◌≡◌}
 use Rattle.server_core.proofs.Words.{numbered, Candidate, candidates, next_of, Standing, candidate_of, Ending, Open, desk_of}
 use Rattle.server_core.proofs.Words.{desk_settled, may_settle, World, given_steps, reached, AreHere, IsAt, Moves, Seen, ids_of}

@@ -1,11 +1,12 @@
 -- What is out stays that of the world through the steps of others.
+use Rattle.server_core.proofs.Words.{arith, nat_tests}
 use Rattle.server_core.proofs.Words.{ap, sym, true≢false, ◌∙◌, AllPairs, Bool, Err, List, None, Ok}
 use Rattle.server_core.proofs.Words.{Option, Result, Some, [], false}
-use Rattle.server_core.proofs.Words.{if◌then◌else◌, map, option_and_then, option_map, refl}
+use Rattle.server_core.proofs.Words.{map, option_and_then, option_map, refl}
 use Rattle.server_core.proofs.Words.{slice_get, slice_set, suc, true, zero, ℕ}
 use Rattle.server_core.proofs.Words.{◌==◌, ◌∷◌, ◌≡◌, ◌≢◌, inl, inr, kept-nil, remembers_own, Refusal, orderly_nil, AllPairs-head}
 use Rattle.server_core.proofs.Words.{AllPairs-tail, numbered, rewritten, Candidate, Job, Ending, Outcome, Answer, Waiting}
-use Rattle.server_core.proofs.Words.{Open, is_given, known_of, Decision, Join, Refuse, all_get, next_place, numbered-append}
+use Rattle.server_core.proofs.Words.{Open, is_given, known_of, Decision, all_get, numbered-append}
 use Rattle.server_core.proofs.Words.{numbered_after, some_inj, Gateway, World, gateway_with, ids, known, opened_gateway}
 use Rattle.server_core.proofs.Words.{GatewaySetting, Sent, TakeFault, Step, Queue, Hear, Pass}
 use Rattle.server_core.proofs.Words.{Take, Settle, Try, Cancel, Tick, answers_after, cancel_at, cancel_sent, ending_of, take_by}
@@ -13,21 +14,18 @@ use Rattle.server_core.proofs.Words.{tick_at, tried_by, decide, take_answer, ste
 use Rattle.std.specs.Cmp.{unsigned_Decides}
 use Rattle.server_desk.specs.Hearing as hearing
 use Rattle.server_desk.specs.Register.{first_at}
-use Rattle.server_desk.specs.Answers as answers
 use Rattle.server_core.specs.BookCalls.{IsStubIn, sent_at}
 use Rattle.server_core.specs.Staying.{spends, gateway_asked, unused_book, OthersLeaveAlone}
-use Rattle.server_core.proofs.Members.{equal_where_tested}
 use Rattle.server_core.proofs.DeskSteps.{by_option, gateway_walk, tick_walk, cancel_walk, try_walk}
 use Rattle.server_core.proofs.DeskSteps.{settle_walk, desk_calls_are_steps}
 use Rattle.server_core.proofs.TakeStep.{ticket, still_waits}
 use Rattle.server_core.proofs.{BookSteps.cancel_is, OtherCancels.other_cancel}
 
 not_tested : (m n : ℕ) → (m == n) ≡ false → m ≢ n
-not_tested m n h e = true≢false (sym ((unsigned_Decides m n).1 e) ∙ h)
+not_tested m n h = grind (arith, nat_tests)
 
 tested_not : (m n : ℕ) (t : Bool) → (m == n) ≡ t → m ≢ n → (m == n) ≡ false
-tested_not m n true e d = absurd (d (equal_where_tested m n e))
-tested_not m n false e d = e
+tested_not m n t e d = grind (arith, nat_tests)
 
 -- The answer of a number that is out.
 
@@ -80,16 +78,11 @@ ids_stay w (Tick id now) = ap (λ d. d.ids) (desk_calls_are_steps.tick w id now)
 
 -- an answer that would end somehow is out
 out_if_ends : (a : Answer) (ending : Ending) → ending_of a ≡ Some ending → is_given (known_of a) ≡ true
-out_if_ends Waiting ending e = absurd (cc (e))
-out_if_ends (Open k job) ending e = refl
-out_if_ends (answers.Booked sent window carried) ending e = refl
-out_if_ends (answers.Out refusal) ending e = refl
-out_if_ends (answers.Settled sent) ending e = absurd (cc (e))
+out_if_ends a ending e = grind arith
 
 ends_at : (o : Option Answer) (ending : Ending) → option_and_then ending_of o ≡ Some ending
     → (a : Answer) × (o ≡ Some a) × (ending_of a ≡ Some ending)
-ends_at None ending e = absurd (cc (e))
-ends_at (Some a) ending e = (a, refl, e)
+ends_at o ending e = grind arith
 
 stub_stays : (w : World) (s : Step) (stub : Outcome) → IsStubIn w stub → spends stub.number s ≡ false → IsStubIn (step w s).0 stub
 stub_stays w s stub is o =
@@ -103,9 +96,7 @@ module _ {X : Type 0} (test : X → Bool) where
   other_found : (xs : List X) (i : ℕ) (x v : X) → slice_get xs i ≡ Some x → test x ≡ false → test v ≡ false
       → first_at test (slice_set xs i v) ≡ first_at test xs
   other_found [] i x v e s t = refl
-  other_found (y ∷ ys) zero x v e s t = rw (some_inj e, s, t) refl
-  other_found (y ∷ ys) (suc i) x v e s t =
-      ap (λ o. if test y then Some (0, y) else option_map next_place o) (other_found ys i x v e s t)
+  other_found (y ∷ ys) i x v e s t = grind (arith, other_found ys)
 
 module _ (w : World) (id : ℕ) where
   abbrev Stays : List Gateway → Type 0

@@ -2,7 +2,7 @@
 use Rattle.server_core.proofs.Words.{ap, arith, inl, inr, subst, sym, true≢false, ◌∙◌, Bool, Err, List, None, Ok, Option, Result}
 use Rattle.server_core.proofs.Words.{Some, false, if◌then◌else◌, map, refl, slice_get, suc, true, zero, ℕ, ◌≡◌, ◌≤◌, ◌⊎◌}
 use Rattle.server_core.proofs.Words.{copies_of, is_closed_at, numbered, IsWindowOf, IsWindowOf-ranked, on_gateways_that_heard}
-use Rattle.server_core.proofs.Words.{candidates_of, Candidate, Job, candidate_at, Answer, Booked, Open, Out, Settled, Waiting}
+use Rattle.server_core.proofs.Words.{candidates_of, Candidate, Job, candidate_at, Answer, Open, Waiting}
 use Rattle.server_core.proofs.Words.{is_not_given, known_of, numbered-here, all_get, from_map, get_set_same, some_inj, Device}
 use Rattle.server_core.proofs.Words.{Register, given_or, job_of, take_fault, take_known, with_counter_given, World, known}
 use Rattle.server_core.proofs.Words.{AreSettings, SettingLists, Asked, Known, TakeFault, NotReady, Taken, take, take_by}
