@@ -1,6 +1,6 @@
 -- A device's place by its address.
 use Rattle.server_desk.proofs.Words.{zero-add, ℕ, ◌≡◌, ◌+◌, ◌==◌, nat_eq, Bool, true, false, List, [], ◌∷◌, map, position, Option}
-use Rattle.server_desk.proofs.Words.{Some, None, refl, option_map, position_from, ap, ◌∙◌, arith, nat_tests, Device, next_place}
+use Rattle.server_desk.proofs.Words.{Some, refl, option_map, position_from, ap, ◌∙◌, arith, nat_tests, Device, next_place}
 use Rattle.server_desk.proofs.Words.{device_with}
 use Rattle.std.proofs.lemmas.Iterator.Adapters.{position_from-zero}
 
@@ -15,8 +15,7 @@ flipped a b t e = grind (arith, nat_tests, e)
 -- the place of an address among the addresses is that of its device
 next_from : (n : ℕ) (o : Option (ℕ × Device)) → option_map (λ p. n + 1 + p.0) o
     ≡ option_map (λ p. n + p.0) (option_map next_place o)
-next_from n None = refl
-next_from n (Some p) = ap Some (omega arith)
+next_from n o = grind arith
 
 place_from : (addr n : ℕ) (devices : List Device) → position_from (nat_eq addr) n (map addr_of devices)
     ≡ option_map (λ p. n + p.0) (device_with addr devices)

@@ -1,8 +1,8 @@
-use Rattle.server_desk.proofs.Words.{ℕ, ◌≡◌, ◌-◌, Bool, true, false, List, if◌then◌else◌, Option, Some}
-use Rattle.server_desk.proofs.Words.{None, Result, Ok, Err, refl, arith, Limits, numbered, is_closed_at, Job, Heard1, TakeFault}
-use Rattle.server_desk.proofs.Words.{SettingLists, Register, Asked, Decision, Refuse, Join, Open, decide, Known, NotGiven}
+use Rattle.server_desk.proofs.Words.{ℕ, ◌≡◌, ◌-◌, Bool, List, if◌then◌else◌, Option, Some}
+use Rattle.server_desk.proofs.Words.{Result, Ok, Err, refl, arith, Limits, numbered, is_closed_at, Job, Heard1, TakeFault}
+use Rattle.server_desk.proofs.Words.{SettingLists, Register, Asked, Decision, decide, Known, NotGiven}
 use Rattle.server_desk.proofs.Words.{Pending}
-use Rattle.server_desk.proofs.Words.{Done, take_answer, take_known, settled_airtime, DeskView, total_of, desk_of, desk_hear}
+use Rattle.server_desk.proofs.Words.{take_answer, take_known, settled_airtime, DeskView, total_of, desk_of, desk_hear}
 use Rattle.server_desk.proofs.Words.{desk_take, desk_taken, known_after}
 use Rattle.server_desk.specs.declared.faults.TakeFault.TheVariants.{NotReady}
 use Rattle.server_desk.specs.World.{opening}
@@ -16,9 +16,7 @@ pub total-opening : (settings : SettingLists) (limits : Limits) → total_of (de
 total-opening settings limits = refl
 
 heard_by : (known : List Known) (decision : Decision) → settled_airtime (known_after decision known) ≡ settled_airtime known
-heard_by known (Refuse fault) = refl
-heard_by known (Join n) = refl
-heard_by known (Open o) = settled_push known
+heard_by known decision = grind (arith, settled_push)
 
 pub total-hear : (d : DeskView) (bytes : List ℕ) (heard : Heard1) (arrived : ℕ)
     → total_of (desk_hear d bytes heard arrived) ≡ total_of d
@@ -27,13 +25,7 @@ total-hear d bytes heard arrived = heard_by d.known (decide d.ids d.reg bytes he
 -- a ticket is given only where none was
 waits_by : (reg : Register) (known : List Known) (n : ℕ) (job : Job) (t : Bool) (o : Option Asked) (k : Option Known)
     → (if t then take_known reg known n o k else Err NotReady) ≡ Ok job → k ≡ Some NotGiven
-waits_by reg known n job false o k e = absurd (cc)
-waits_by reg known n job true None None e = absurd (cc)
-waits_by reg known n job true None (Some k) e = absurd (cc)
-waits_by reg known n job true (Some a) None e = absurd (cc)
-waits_by reg known n job true (Some a) (Some NotGiven) e = refl
-waits_by reg known n job true (Some a) (Some Pending) e = absurd (cc)
-waits_by reg known n job true (Some a) (Some (Done sent)) e = absurd (cc)
+waits_by reg known n job t o k e = grind arith
 
 waits : (reg : Register) (known : List Known) (n : ℕ) (job : Job) → take_answer reg known n ≡ Ok job
     → numbered n known ≡ Some NotGiven

@@ -1,15 +1,14 @@
 -- The airtimes of the gateways, as the desk keeps them.
 use Rattle.server_desk.proofs.Words.{◌-◌, numbered, known_airtime, map-map, ℕ, ◌≡◌, ◌≢◌, ◌+◌, ◌^◌, ◌<◌, ◌≤◌, ◌==◌, true, List, []}
-use Rattle.server_desk.proofs.Words.{◌∷◌, ◌++◌, map, length, slice_set, get_or, All, AllPairs, Option, Some, None, Result, Ok}
-use Rattle.server_desk.proofs.Words.{Err, refl, option_map, sym, ap, ◌∙◌, subst, arith, length-map, length-append, length-set}
+use Rattle.server_desk.proofs.Words.{◌∷◌, ◌++◌, map, length, slice_set, get_or, All, AllPairs, Option, Some, Result}
+use Rattle.server_desk.proofs.Words.{refl, option_map, sym, ap, ◌∙◌, subst, arith, length-map, length-append, length-set}
 use Rattle.server_desk.proofs.Words.{All-nil, All-map, All-push, All-set, AllPairs-head, AllPairs-tail, longest_us}
-use Rattle.server_desk.proofs.Words.{IsWithinLongest, Ending, HeardCopy, HearFault, Heard, Opened, Joined, Gatherings}
-use Rattle.server_desk.proofs.Words.{after_hearing, GatewaySetting, Known, NotGiven, Pending, Done, Sent, first_at, sent_of}
+use Rattle.server_desk.proofs.Words.{IsWithinLongest, Ending, HeardCopy, HearFault, Heard, Gatherings}
+use Rattle.server_desk.proofs.Words.{after_hearing, GatewaySetting, Known, NotGiven, Done, Sent, first_at, sent_of}
 use Rattle.server_desk.proofs.Words.{is_here, is_booked_on, answered_at, answered_for, sent_airtime, airtime_of_ending}
 use Rattle.server_desk.proofs.Words.{settled_limit}
 use Rattle.server_desk.proofs.Words.{whole_airtime, AreAirtimes, raised, CanRaise, kept_by}
 use Rattle.server_desk.proofs.Numbers.{at_number}
-use Rattle.answer_ticket.specs.declared.outcome.Ending.TheVariants.{Answered, Unanswered, GivenUp}
 use Rattle.std.proofs.lemmas.List.Kept.{AllPairs-cons}
 use Rattle.server_desk.proofs.AirtimeSums.{answered_set, answered_push, same_airtimes, answered_found}
 use Rattle.server_desk.proofs.AirtimeSums.{raises, answered_short}
@@ -27,9 +26,7 @@ module _ (ids airtimes : List ℕ) (limit : ℕ) (known : List Known) (i : AreAi
   raised_by : (k : Known) → raised ids (kept_by (Some k)) (map (λ id. answered_at id known) ids)
       ≡ map (λ id. answered_at id known + known_airtime id k) ids
   raised_by (Done (Some sent)) = (raises (λ id. answered_at id known) sent ids i.differ).0
-  raised_by (Done None) = same_airtimes (λ id. answered_at id known) (λ id. answered_at id known + 0) (λ id. omega arith) ids
-  raised_by Pending = same_airtimes (λ id. answered_at id known) (λ id. answered_at id known + 0) (λ id. omega arith) ids
-  raised_by NotGiven = same_airtimes (λ id. answered_at id known) (λ id. answered_at id known + 0) (λ id. omega arith) ids
+  raised_by k = same_airtimes (λ id. answered_at id known) (λ id. answered_at id known + 0) (λ id. omega arith) ids
 
   -- where more is known, by what this adds
   more_airtimes : (more : List Known) (k : Known) → ((id : ℕ) → answered_at id more ≡ answered_at id known + known_airtime id k)
@@ -61,16 +58,12 @@ module _ (ids airtimes : List ℕ) (limit : ℕ) (known : List Known) (i : AreAi
 
 -- an answer that may be settled was booked on one of the gateways, if it was booked
 pub booked_here : (ids : List ℕ) (ending : Ending) → is_here ids ending ≡ true → is_booked_on ids (Done (sent_of ending)) ≡ true
-booked_here ids (Answered gateway window start airtime carried) here = here
-booked_here ids (Unanswered refusal) here = refl
-booked_here ids GivenUp here = refl
+booked_here ids ending here = grind arith
 
 -- hearing a copy leaves the limits as they are
 pub limits_kept : (r : Result Heard HearFault) (s : Gatherings) (bytes : List ℕ) (copy : HeardCopy) (arrived : ℕ)
     → (after_hearing r s bytes copy arrived).limits ≡ s.limits
-limits_kept (Ok (Opened n)) s bytes copy arrived = refl
-limits_kept (Ok (Joined n copies)) s bytes copy arrived = refl
-limits_kept (Err fault) s bytes copy arrived = refl
+limits_kept r s bytes copy arrived = grind arith
 
 -- before anything was heard
 ids_differ : (gateways : List GatewaySetting) → AllPairs (λ g h. g.id ≢ h.id) gateways
@@ -95,9 +88,7 @@ first_airtimes gateways limit d h =
     }
 
 pub short_ending : (ending : Ending) → IsWithinLongest ending → airtime_of_ending ending ≤ longest_us
-short_ending (Answered gateway window start airtime carried) h = h
-short_ending (Unanswered refusal) h = omega arith
-short_ending GivenUp h = omega arith
+short_ending ending h = grind arith
 
 -- an answer's airtime can be added
 pub can_raise : (ids airtimes : List ℕ) (limit : ℕ) (known : List Known) (sent : Option Sent)

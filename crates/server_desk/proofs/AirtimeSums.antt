@@ -1,19 +1,17 @@
 -- Sums of airtimes over gateways and answers.
-use Rattle.server_desk.proofs.Words.{◌++◌, ℕ, zero, suc, ◌≡◌, ◌≢◌, ◌+◌, ◌*◌, ◌≤◌, ◌==◌, Bool, true, false, if◌then◌else◌, List}
-use Rattle.server_desk.proofs.Words.{[], ◌∷◌, map, length, slice_get, slice_set, get_or, All, AllPairs, Option, Some, None, refl}
+use Rattle.server_desk.proofs.Words.{◌++◌, ℕ, ◌≡◌, ◌≢◌, ◌+◌, ◌*◌, ◌≤◌, ◌==◌, Bool, true, false, if◌then◌else◌, List}
+use Rattle.server_desk.proofs.Words.{[], ◌∷◌, map, length, slice_get, slice_set, get_or, All, AllPairs, Option, Some, refl}
 use Rattle.server_desk.proofs.Words.{ap, ◌∙◌, subst, arith, option_map, nat_tests, All-head, All-tail, AllPairs-head}
-use Rattle.server_desk.proofs.Words.{AllPairs-tail, longest_us, Known, NotGiven, Pending, Done, Sent, own_airtime, known_airtime}
+use Rattle.server_desk.proofs.Words.{AllPairs-tail, longest_us, Known, NotGiven, Done, Sent, own_airtime, known_airtime}
 use Rattle.server_desk.proofs.Words.{answered_at, answered_for, total_at, settled_limit, whole_airtime, settled_airtime}
 use Rattle.server_desk.proofs.Words.{is_booked_on, AreAirtimes, raised_at}
 use Rattle.server_desk.proofs.Words.{is_among, raised, first_at, next_place}
-use Rattle.server_desk.proofs.Places.{some_inj}
 
 -- an answer is written anew, or one more comes
 pub answered_set : (id : ℕ) (known : List Known) (i : ℕ) (old new : Known) → slice_get known i ≡ Some old
     → answered_at id (slice_set known i new) + known_airtime id old ≡ answered_at id known + known_airtime id new
 answered_set id [] i old new e = absurd (cc)
-answered_set id (k ∷ known) zero old new e = omega (arith, ap (known_airtime id) (some_inj e))
-answered_set id (k ∷ known) (suc i) old new e = omega (arith, answered_set id known i old new e)
+answered_set id (k ∷ known) i old new e = grind (arith, answered_set id known)
 
 pub answered_push : (id : ℕ) (known : List Known) → answered_at id (known ++ NotGiven ∷ []) ≡ answered_at id known
 answered_push id [] = refl
@@ -48,8 +46,7 @@ module _ (known : List Known) (gateway d : ℕ) where
   next_found : (o : Option (ℕ × ℕ)) (x : ℕ) (xs : List ℕ)
       → option_map (λ p. get_or (x ∷ xs) p d) (option_map (λ found. found.0) (option_map next_place o))
       ≡ option_map (λ p. get_or xs p d) (option_map (λ found. found.0) o)
-  next_found None x xs = refl
-  next_found (Some found) x xs = refl
+  next_found o x xs = grind arith
 
   found_by : (id : ℕ) (ids : List ℕ) (t : Bool) → (id == gateway) ≡ t → IsFound ids → IsFound (id ∷ ids)
   found_by id ids true q rest =
@@ -79,8 +76,7 @@ module _ (f : ℕ → ℕ) (sent : Sent) where
 
   later : (o : Option (ℕ × ℕ)) (x : ℕ) (xs : List ℕ) → raised_at (option_map next_place o) sent.airtime (x ∷ xs)
       ≡ x ∷ raised_at o sent.airtime xs
-  later None x xs = refl
-  later (Some found) x xs = refl
+  later o x xs = grind arith
 
   raises_by : (id : ℕ) (ids : List ℕ) (t : Bool) → (id == sent.gateway) ≡ t → All (λ y. id ≢ y) ids → Raises ids
       → Raises (id ∷ ids)
@@ -102,10 +98,7 @@ module _ (f : ℕ → ℕ) (sent : Sent) where
 
 -- no gateway was on air for longer than all answers
 known_short : (id : ℕ) (k : Known) → known_airtime id k ≤ whole_airtime k
-known_short id NotGiven = omega arith
-known_short id Pending = omega arith
-known_short id (Done None) = omega arith
-known_short id (Done (Some sent)) = grind (arith, nat_tests)
+known_short id k = grind (arith, nat_tests)
 
 pub answered_short : (id : ℕ) (known : List Known) → All (λ k. whole_airtime k ≤ longest_us) known
     → answered_at id known ≤ longest_us * length known
@@ -121,8 +114,7 @@ answered_short id (k ∷ known) a = omega (
 pub settled_set : (known : List Known) (i : ℕ) (old new : Known) → slice_get known i ≡ Some old
     → settled_airtime (slice_set known i new) + whole_airtime old ≡ settled_airtime known + whole_airtime new
 settled_set [] i old new e = absurd (cc)
-settled_set (k ∷ known) zero old new e = omega (arith, ap whole_airtime (some_inj e))
-settled_set (k ∷ known) (suc i) old new e = omega (arith, settled_set known i old new e)
+settled_set (k ∷ known) i old new e = grind (arith, settled_set known)
 
 pub settled_push : (known : List Known) → settled_airtime (known ++ NotGiven ∷ []) ≡ settled_airtime known
 settled_push [] = refl
@@ -144,10 +136,8 @@ within_limit ids airtimes limit known i = omega (arith, settled_short known i.sh
 -- where each was booked on one of the gateways, it is that of all gateways
 one_whole : (ids : List ℕ) (k : Known) → AllPairs (λ a b. a ≢ b) ids → is_booked_on ids k ≡ true
     → total_at ids (k ∷ []) ≡ whole_airtime k
-one_whole ids NotGiven d here = total_none ids NotGiven (λ id. refl)
-one_whole ids Pending d here = total_none ids Pending (λ id. refl)
-one_whole ids (Done None) d here = total_none ids (Done None) (λ id. refl)
 one_whole ids (Done (Some sent)) d here = rw here at (raises (λ id. 0) sent ids d).1
+one_whole ids k d here = total_none ids k (λ id. refl)
 
 total_whole : (ids : List ℕ) (known : List Known) → AllPairs (λ a b. a ≢ b) ids → All (λ k. is_booked_on ids k ≡ true) known
     → total_at ids known ≡ settled_airtime known

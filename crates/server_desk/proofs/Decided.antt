@@ -27,8 +27,7 @@ IsTimely heard (Open o) = heard.at ≤ 2 ^ 60
 
 timely_by : (heard : Heard1) (d : Decision) → heard.at ≤ 2 ^ 60 → IsTimely heard d
 timely_by heard (Refuse fault) h = tt
-timely_by heard (Join n) h = h
-timely_by heard (Open o) h = h
+timely_by heard d h = h
 
 -- what was read of the bytes is their record
 pub read_same : (bytes : List ℕ) (u : Uplink) → uplink_of bytes ≡ Ok u → uplink_record bytes ≡ u

@@ -48,8 +48,7 @@ was_fault P repeat (Err f) fault e h = h
 -- and where it is none, the gathering's is the one that was told
 pub was_told : (repeat : Bool) (a r : Result Heard HearFault) (x : DeskHeard) → desk_answer repeat r ≡ Ok x
     → IfOk r (λ heard. a ≡ Ok heard) → r ≡ a
-was_told repeat a (Ok heard) x q h = sym h
-was_told repeat a (Err fault) x q h = absurd (cc)
+was_told repeat a r x q h = grind arith
 
 -- a copy joins a gathering
 module _ {ids : List ℕ} {reg : Register} {bytes : List ℕ} {heard : Heard1} {arrived : ℕ}

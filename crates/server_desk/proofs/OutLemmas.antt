@@ -23,16 +23,14 @@ module _ (place : ℕ) where
   pub count_push : (asked : List Asked) (known : List Known) (a : Asked) → length asked ≡ length known
       → count_out place (asked ++ a ∷ []) (known ++ NotGiven ∷ []) ≡ count_out place asked known
   count_push [] [] a e = refl
-  count_push [] (k ∷ known) a e = absurd (omega (arith, e))
-  count_push (b ∷ asked) [] a e = absurd (omega (arith, e))
   count_push (b ∷ asked) (k ∷ known) a e = ap (λ n. own_out place b k + n) (count_push asked known a (omega (arith, e)))
+  count_push asked known a e = absurd (omega (arith, e))
 
   -- a device is engaged where one is out
   engaged_count : (asked : List Asked) (known : List Known) → is_engaged place asked known
       ≡ nat_lt 0 (count_out place asked known)
-  engaged_count [] known = refl
-  engaged_count (a ∷ asked) [] = refl
   engaged_count (a ∷ asked) (k ∷ known) = grind (arith, nat_tests, engaged_count asked known)
+  engaged_count asked known = refl
 
 -- a device is engaged as it says
 pub engaged_is : (outs : List Bool) (asked : List Asked) (known : List Known) (place : ℕ) (out : Bool) → AreOut outs asked known

@@ -1,5 +1,5 @@
 -- Members of a list by their places.
-use Rattle.server_desk.proofs.Words.{Bool, true, false, if◌then◌else◌, None, first_at, next_place, ℕ, zero, suc, ◌≡◌, ◌≢◌, ◌⊎◌}
+use Rattle.server_desk.proofs.Words.{Bool, true, if◌then◌else◌, first_at, next_place, ℕ, zero, suc, ◌≡◌, ◌≢◌, ◌⊎◌}
 use Rattle.server_desk.proofs.Words.{List, [], ◌∷◌, ◌++◌, map, length, All, Contains, slice_get, slice_set, Option, Some}
 use Rattle.server_desk.proofs.Words.{unwrap_or, refl, inl, inr, sym, ap, ◌∙◌, subst, arith, option_map, slice_get-map}
 use Rattle.server_desk.proofs.Words.{slice_get_within, get_or_from_slice_get}
@@ -12,14 +12,12 @@ module _ {X : Type 0} where
   -- what is written at a place is found there, and what stands at other places stays
   pub get_set_same : (xs : List X) (i : ℕ) (x y : X) → slice_get xs i ≡ Some x → slice_get (slice_set xs i y) i ≡ Some y
   get_set_same [] i x y e = absurd (cc)
-  get_set_same (z ∷ xs) zero x y e = refl
-  get_set_same (z ∷ xs) (suc i) x y e = get_set_same xs i x y e
+  get_set_same (z ∷ xs) i x y e = grind (arith, get_set_same xs)
 
   -- a list that goes on has the same at its old places, and what follows at the next one
   pub get_append : (xs ys : List X) (i : ℕ) (x : X) → slice_get xs i ≡ Some x → slice_get (xs ++ ys) i ≡ Some x
   get_append [] ys i x e = absurd (cc)
-  get_append (z ∷ xs) ys zero x e = e
-  get_append (z ∷ xs) ys (suc i) x e = get_append xs ys i x e
+  get_append (z ∷ xs) ys i x e = grind (arith, get_append xs)
 
   pub get_next : (xs : List X) (y : X) → slice_get (xs ++ y ∷ []) (length xs) ≡ Some y
   get_next [] y = refl
@@ -76,21 +74,13 @@ module _ {X Y : Type 0} (f : X → Y) where
 
 -- the first member that passes a test, and its place
 module _ {X : Type 0} (test : X → Bool) where
-  -- what was found in the rest stands one place later
-  later : (o : Option (ℕ × X)) (p : ℕ × X) → option_map next_place o ≡ Some p → (q : ℕ × X) × ((o ≡ Some q) × (p ≡ next_place q))
-  later None p e = absurd (cc)
-  later (Some q) p e = (q, (refl, sym (some_inj e)))
-
   -- it stands at its place and passes the test
   abbrev IsThere : List X → ℕ × X → Type 0
   IsThere xs p = (slice_get xs p.0 ≡ Some p.1) × (test p.1 ≡ true)
 
   found_by : (x : X) (xs : List X) (t : Bool) (p : ℕ × X) → test x ≡ t → ((q : ℕ × X) → first_at test xs ≡ Some q → IsThere xs q)
       → (if t then Some (0, x) else option_map next_place (first_at test xs)) ≡ Some p → IsThere (x ∷ xs) p
-  found_by x xs true p h rest e = subst (IsThere (x ∷ xs)) (some_inj e) (refl, h)
-  found_by x xs false p h rest e =
-      let s = later (first_at test xs) p e in
-      subst (IsThere (x ∷ xs)) (sym s.1.1) (rest s.0 s.1.0)
+  found_by x xs t p h rest e = grind (arith, rest)
 
   pub found_there : (xs : List X) (p : ℕ × X) → first_at test xs ≡ Some p → IsThere xs p
   found_there [] p e = absurd (cc)

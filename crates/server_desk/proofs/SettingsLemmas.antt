@@ -1,5 +1,5 @@
 use Rattle.server_desk.proofs.Words.{◌≡◌, ◌≢◌, ℕ, zero, suc, ◌<◌, ◌==◌, true, false, List, [], ◌∷◌, ◌++◌, length, get_or, take}
-use Rattle.server_desk.proofs.Words.{Option, Some, None, AllPairs, refl, sym, ◌∙◌, append_assoc, length-take, arith, option_or}
+use Rattle.server_desk.proofs.Words.{Option, None, AllPairs, refl, sym, ◌∙◌, append_assoc, length-take, arith, option_or}
 use Rattle.server_desk.proofs.Words.{list_any, true≢false, eq-eqb, ne_eqb, nat_tests, append-nil, get_or-take, get_or_default}
 use Rattle.server_desk.proofs.Words.{list_any_at, list_any_none, GatewaySetting, DeviceSetting, IsGatewayInRange}
 use Rattle.server_desk.proofs.Words.{is_gateway_in_range, IsDeviceInRange, is_device_in_range, has_rx2_band, AreSettings}
@@ -9,8 +9,7 @@ use Rattle.server_desk.specs.declared.settings_fault.SettingsFault.{SettingsFaul
 -- Settings have no fault exactly where they are what `AreSettings` says.
 
 both_none : (o p : Option SettingsFault) → option_or o p ≡ None → (o ≡ None) × (p ≡ None)
-both_none None p h = (refl, h)
-both_none (Some fault) p h = absurd (cc)
+both_none o p h = grind arith
 
 -- the member at each place has no fault beside those before it
 abbrev pub FaultFree : {S : Type 0} → (List S → S → Option SettingsFault) → List S → List S → Type 0

@@ -1,7 +1,8 @@
 -- An answer is settled, as the desk settles it.
+use Rattle.server_desk.proofs.Words.{arith}
 use Rattle.server_desk.proofs.Words.{ℕ, ◌≡◌, ◌-◌, Bool, true, false, ◌&&◌, if◌then◌else◌, List, slice_get, slice_set, get_or}
-use Rattle.server_desk.proofs.Words.{Option, Some, None, refl, option_map_or, sym, ap, ◌∙◌, get_or_from_slice_get, length-set}
-use Rattle.server_desk.proofs.Words.{map-set, All-drop, Gatherings, numbered, Ending, KnownDevice, Known, NotGiven, Pending}
+use Rattle.server_desk.proofs.Words.{Option, Some, refl, option_map_or, sym, ap, ◌∙◌, get_or_from_slice_get, length-set}
+use Rattle.server_desk.proofs.Words.{map-set, All-drop, Gatherings, numbered, Ending, KnownDevice, Known, Pending}
 use Rattle.server_desk.proofs.Words.{Done, Sent}
 use Rattle.server_desk.proofs.Words.{is_given, Device, Asked, sent_of, has_carried, is_here, may_settle, without_head, delivered}
 use Rattle.server_desk.proofs.Words.{shown, outs, IsSendable, IsServable, desk_settled}
@@ -13,10 +14,7 @@ use Rattle.server_desk.proofs.TakeLemmas.{number_too, out_there}
 
 -- what may be settled is out, and on one of the gateways
 out_by : (o : Option Known) (here : Bool) → (option_map_or is_given o false && here) ≡ true → (o ≡ Some Pending) × (here ≡ true)
-out_by None here e = absurd (cc)
-out_by (Some NotGiven) here e = absurd (cc)
-out_by (Some Pending) here e = (refl, e)
-out_by (Some (Done sent)) here e = absurd (cc)
+out_by o here e = grind arith
 
 pub is_out : (ids : List ℕ) (known : List Known) (n : ℕ) (ending : Ending) → may_settle ids known n ending ≡ true
     → (numbered n known ≡ Some Pending) × (is_here ids ending ≡ true)

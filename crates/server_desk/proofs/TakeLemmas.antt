@@ -5,7 +5,7 @@ use Rattle.server_desk.proofs.Words.{option_map, ForSome, sym, ap, ◌∙◌, su
 use Rattle.server_desk.proofs.Words.{All-head, HeardCopy, Gatherings, numbered, is_closed_at, copies_of, length-ranked}
 use Rattle.server_desk.proofs.Words.{All-ranked, IsHeard, Job, Payload, IsJob, IsPort, payload_len, KnownDevice, Known}
 use Rattle.server_desk.proofs.Words.{NotGiven, Pending}
-use Rattle.server_desk.proofs.Words.{Done, is_not_given, Device, Asked, head, is_engaged, job_for, fault_of, given_or}
+use Rattle.server_desk.proofs.Words.{is_not_given, Device, Asked, head, is_engaged, job_for, fault_of, given_or}
 use Rattle.server_desk.proofs.Words.{take_answer, with_counter_given, shown, outs, IsSendable, IsServable, IsGathered, MayBeGiven}
 use Rattle.server_desk.proofs.Words.{desk_take, TakeFault, slice_get_cases, slice_get_within, inl, inr}
 use Rattle.server_desk.proofs.Places.{map_there, some_inj, all_get}
@@ -86,9 +86,7 @@ module _ {A : Type 0} (keys : List ℕ) (kepts : List (KnownDevice A)) (gathered
       answer_is o f = rw (← closed, p, ← q, ← t, there, engaged, ← f) refl
 
       waiting : (x : Known) → true ≡ is_not_given x → Some x ≡ numbered n known → numbered n known ≡ Some NotGiven
-      waiting NotGiven h e = sym e
-      waiting Pending h e = absurd (cc (h))
-      waiting (Done sent) h e = absurd (cc (h))
+      waiting x h e = grind arith
 
       pub is_ready : None ≡ fault_of a (shown k) k.out → MayBeGiven (seen_reg kepts gathered asked) known n a
       is_ready f =
