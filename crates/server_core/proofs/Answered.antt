@@ -1,7 +1,7 @@
 -- An uplink is answered: a ticket is taken, tried and settled.
 use Rattle.server_core.proofs.Words.{ap, append-nil, arith, subst, sym, ◌∙◌, set-set, option_map_or, Bool, Contains, Err}
 use Rattle.server_core.proofs.Words.{IsOkUnless, IsTrue, List, MatchResult, None, Ok, Option, Result, Some, [], false}
-use Rattle.server_core.proofs.Words.{if◌then◌else◌, refl, slice_set, true, ℕ, ◌-◌, ◌∷◌, ◌≡◌, ◌≢◌, Gathering, numbered, rewritten}
+use Rattle.server_core.proofs.Words.{if◌then◌else◌, refl, slice_set, ℕ, ◌-◌, ◌∷◌, ◌≡◌, ◌≢◌, Gathering, numbered, rewritten}
 use Rattle.server_core.proofs.Words.{HeardCopy, Standing, Answer, Open, Waiting, is_given, DeskView, desk_settled, desk_take}
 use Rattle.server_core.proofs.Words.{desk_taken, numbered-here, rewritten-found, Device, Register, delivered, has_carried}
 use Rattle.server_core.proofs.Words.{sent_of, job_of, taken_from, World, known, Asked, Known, Done, TakeFault, not_taken}
@@ -18,14 +18,11 @@ use Rattle.server_core.proofs.{DeskSteps.desk_calls_are_steps, Ready.all_rewritt
 -- the desk's part after a ticket was taken and settled
 
 taken_gathered : (o : Option Asked) (reg : Register) → (taken_from o reg).gathered ≡ reg.gathered
-taken_gathered None reg = refl
-taken_gathered (Some asked) reg = refl
+taken_gathered o reg = grind arith
 
 settled_gathered : (carried : Bool) (o : Option Asked) (reg : Register)
     → (if carried then delivered o reg else reg).gathered ≡ reg.gathered
-settled_gathered true None reg = refl
-settled_gathered true (Some asked) reg = refl
-settled_gathered false o reg = refl
+settled_gathered carried o reg = grind arith
 
 -- once it is settled, no ticket is out again
 rewritten_twice : (known : List Known) (n : ℕ) (k a b : Known) → numbered n known ≡ Some k
@@ -170,6 +167,4 @@ module _ {A : Type 0} (place n : ℕ) (old mid : Seen A) (noted : mid ≡ with_s
 -- a refusal that is no want of memory is the answer
 pub refused_is : {X Y E : Type 0} (q : Result X E) (r : Result Y E) (fault none : E) → r ≡ Err fault
     → MatchResult q (λ _. IsOkUnless r none) (λ f. r ≡ Err f) → fault ≢ none → q ≡ Err fault
-refused_is (Err f) r fault none e m n = cc
-refused_is (Ok x) (Err f) fault none e m n = absurd (n (cc))
-refused_is (Ok x) (Ok y) fault none e m n = absurd (cc (e))
+refused_is q r fault none e m n = grind (arith, m, n)

@@ -1,16 +1,16 @@
 -- The calls of a ticket and of a gateway's book are the steps of the world.
 use Rattle.server_core.specs.BookCalls.{next_candidate}
-use Rattle.server_core.proofs.Words.{ap, arith, sym, ◌∙◌, IsSome, IsSomeAnd, IsTrue, option_and_then, option_map, Bool, Err, IfOk}
-use Rattle.server_core.proofs.Words.{List, None, Ok, OnErr, Option, Result, Some, [], if◌then◌else◌, map, refl}
-use Rattle.server_core.proofs.Words.{slice_get, slice_set, suc, true, ℕ, ◌+◌, ◌==◌, ◌∷◌, ◌≡◌, Reservation, Book}
-use Rattle.server_core.proofs.Words.{ticked, with_booked, with_cancelled, book_step, cancel_step, tick_step, orderly_booked}
+use Rattle.server_core.proofs.Words.{ap, arith, sym, ◌∙◌, IsSome, IsSomeAnd, IsTrue, option_and_then, Bool, Err}
+use Rattle.server_core.proofs.Words.{List, None, Ok, Option, Result, Some, [], map, refl}
+use Rattle.server_core.proofs.Words.{slice_get, slice_set, true, ℕ, ◌+◌, ◌==◌, ◌∷◌, ◌≡◌, Reservation, Book}
+use Rattle.server_core.proofs.Words.{ticked, with_booked, book_step, cancel_step, tick_step, orderly_booked}
 use Rattle.server_core.proofs.Words.{orderly_cancelled, remembers_answer, remembers_booked, remembers_cancel, remembers_cancelled}
 use Rattle.server_core.proofs.Words.{remembers_ticked, IsAsked, refusal_of, CancelFault, NotHere, Refusal, numbered, rewritten}
 use Rattle.server_core.proofs.Words.{Candidate, Job, ask_for, next_of, refusal_by, answered_as, Standing}
 use Rattle.server_core.proofs.Words.{candidate_of, Ending, Unanswered, Outcome, Answer, Booked, Open, Out, Waiting}
-use Rattle.server_core.proofs.Words.{numbered-here, next_place, is_here, Gateway, World, TakeFault}
+use Rattle.server_core.proofs.Words.{numbered-here, is_here, Gateway, World, TakeFault}
 use Rattle.server_core.proofs.Words.{gateway_with, known, found_there, Sent, IsBookOf, is_among, Cancel, Reply, Step, Take}
-use Rattle.server_core.proofs.Words.{Tick, Try, cancel_of, cancel_sent, ending_of, refused, sent_by, sent_for, settle_as}
+use Rattle.server_core.proofs.Words.{Tick, Try, cancel_sent, ending_of, refused, sent_by, settle_as}
 use Rattle.server_core.proofs.Words.{settle_of, take_by, terms, tried_by, take_answer, step}
 use Rattle.server_desk.specs.Register.{first_at}
 use Rattle.uplink_gather.proofs.KeptLemmas.{set_same}
@@ -26,32 +26,26 @@ use Rattle.server_core.proofs.Words.{try_of}
 
 -- What was found is found again where it was written anew.
 
-later_by : {X : Type 0} (o : Option (ℕ × X)) (i : ℕ) (y : X) → option_map next_place o ≡ Some (i, y)
-    → (j : ℕ) × (o ≡ Some (j, y)) × (i ≡ suc j)
-later_by o i y e = grind arith
-
 module _ {X : Type 0} (test : X → Bool) (v : X) (passes : test v ≡ true) where
-  again_by : (x : X) (xs : List X) (t : Bool) (i : ℕ) (y : X) → test x ≡ t
+  again_by : (x : X) (xs : List X) (i : ℕ) (y : X)
       → ((j : ℕ) → first_at test xs ≡ Some (j, y) → first_at test (slice_set xs j v) ≡ Some (j, v))
-      → (if t then Some (0, x) else option_map next_place (first_at test xs)) ≡ Some (i, y)
-      → first_at test (slice_set (x ∷ xs) i v) ≡ Some (i, v)
-  again_by x xs t i y h rest f = grind (arith, rest, passes)
+      → first_at test (x ∷ xs) ≡ Some (i, y) → first_at test (slice_set (x ∷ xs) i v) ≡ Some (i, v)
+  again_by x xs i y h f = grind (arith, h, passes)
 
   found_again : (xs : List X) (i : ℕ) (y : X) → first_at test xs ≡ Some (i, y) → first_at test (slice_set xs i v) ≡ Some (i, v)
   found_again [] i y f = absurd (cc (f))
-  found_again (x ∷ xs) i y f = again_by x xs (test x) i y refl (λ j. found_again xs j y) f
+  found_again (x ∷ xs) i y f = again_by x xs i y (λ j. found_again xs j y) f
 
 -- a gateway that was found is among the ids
-among_by : (id : ℕ) (x : Gateway) (xs : List Gateway) (t : Bool) (i : ℕ) (g : Gateway) → (x.id == id) ≡ t
+among_by : (id : ℕ) (x : Gateway) (xs : List Gateway) (i : ℕ) (g : Gateway)
     → ((j : ℕ) → gateway_with id xs ≡ Some (j, g) → is_among (map (λ y. y.id) xs) id ≡ true)
-    → (if t then Some (0, x) else option_map next_place (gateway_with id xs)) ≡ Some (i, g)
-    → is_among (map (λ y. y.id) (x ∷ xs)) id ≡ true
-among_by id x xs t i g h rest f = grind (arith, rest)
+    → gateway_with id (x ∷ xs) ≡ Some (i, g) → is_among (map (λ y. y.id) (x ∷ xs)) id ≡ true
+among_by id x xs i g h f = grind (arith, h)
 
 found_among : (id : ℕ) (xs : List Gateway) (i : ℕ) (g : Gateway) → gateway_with id xs ≡ Some (i, g)
     → is_among (map (λ y. y.id) xs) id ≡ true
 found_among id [] i g f = absurd (cc (f))
-found_among id (x ∷ xs) i g f = among_by id x xs (x.id == id) i g refl (λ j. found_among id xs j g) f
+found_among id (x ∷ xs) i g f = among_by id x xs i g (λ j. found_among id xs j g) f
 
 -- A gateway's book is asked.
 
@@ -91,25 +85,18 @@ tick_no_book w id now f = rw f refl
 
 -- What is booked is cancelled.
 
-sent_is : (w : World) (n : ℕ) (o : Option Answer) → cancel_of w n o ≡ cancel_sent w n (option_and_then sent_for o)
-sent_is w n o = grind arith
-
 pub cancel_is : (w : World) (n : ℕ) (o : Option Sent) → sent_at w n ≡ o → step w (Cancel n) ≡ cancel_sent w n o
 unfolding step
-cancel_is w n o e = sent_is w n (numbered n w.answers) ∙ ap (cancel_sent w n) e
+cancel_is w n o e = grind arith
 
 pub cancel_no_book : (w : World) (n : ℕ) (sent : Sent) → sent_at w n ≡ Some sent → gateway_with sent.gateway w.gateways ≡ None
     → step w (Cancel n) ≡ (w, replies.Cancelled (Err NotHere))
 cancel_no_book w n sent e f = cancel_is w n (Some sent) e ∙ rw f refl
 
 -- it is the same gateway's book
-same_by : (n start : ℕ) (old new : Book) (r : Result ℕ CancelFault) → IfOk r (λ airtime. new ≡ with_cancelled old n start airtime)
-    → OnErr r (new ≡ old) → (new.id ≡ old.id) × (new.rules ≡ old.rules)
-same_by n start old new r c e = grind arith
-
 pub same_book : (n start : ℕ) (old new : Book) (r : Result ℕ CancelFault) → IsCancel n start old new r
     → (new.id ≡ old.id) × (new.rules ≡ old.rules)
-same_book n start old new r c = same_by n start old new r c.cancelled c.refused
+same_book n start old new r c = grind (arith, c.cancelled, c.refused)
 
 pub cancel_at_book : (w : World) (n at : ℕ) (sent : Sent) (old new : Book) (result : Result ℕ CancelFault)
     → sent_at w n ≡ Some sent → IsBookAt sent.gateway at w.gateways old → IsCancel n sent.start old new result

@@ -117,10 +117,7 @@ pub record IsDeskStep {A X E : Type 0} (s : Step) (q : DeskView → Result X E) 
 -- a call that found memory gave the answer, and left what it leaves, also where it was refused
 outcome : {X E : Type 0} (none : E) (q r : Result X E) (before after d : DeskView) → IsCall none q before after r d
     → ((fault : E) → q ≡ Err fault → after ≡ before) → r ≢ Err none → (q ≡ r) × (d ≡ after)
-outcome none (Ok x) (Ok y) before after d call f n = (call.told, call.step)
-outcome none (Ok x) (Err fault) before after d call f n = absurd (n (ap Err call.answer))
-outcome none (Err fault) (Ok y) before after d call f n = absurd (cc (call.answer))
-outcome none (Err fault) (Err other) before after d call f n = (sym call.answer, call.refused ∙ sym (f fault refl))
+outcome none q r before after d call f n = grind (arith, call.answer, call.told, call.step, call.refused, f, n)
 
 pub call_done : {A X E : Type 0} {s : Step} {q : DeskView → Result X E} {after : DeskView → DeskView}
     {reply : Result X E → Reply} {say : Result X E → Line A} (none : E) (place : ℕ) (made : Made A) (old mid new : Seen A)

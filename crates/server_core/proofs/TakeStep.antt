@@ -1,13 +1,12 @@
 -- A ticket is given: what is known of its uplink, and what holds of the world then.
-use Rattle.server_core.proofs.Words.{ap, arith, inl, inr, subst, sym, true≢false, ◌∙◌, Bool, Err, List, None, Ok, Option, Result}
-use Rattle.server_core.proofs.Words.{Some, false, if◌then◌else◌, map, refl, slice_get, suc, true, zero, ℕ, ◌≡◌, ◌≤◌, ◌⊎◌}
-use Rattle.server_core.proofs.Words.{copies_of, is_closed_at, numbered, IsWindowOf, IsWindowOf-ranked, on_gateways_that_heard}
+use Rattle.server_core.proofs.Words.{ap, arith, inl, inr, subst, sym, true≢false, ◌∙◌, Err, List, Ok, Result}
+use Rattle.server_core.proofs.Words.{Some, map, refl, slice_get, suc, true, zero, ℕ, ◌≡◌, ◌≤◌, ◌⊎◌}
+use Rattle.server_core.proofs.Words.{copies_of, numbered, IsWindowOf, IsWindowOf-ranked, on_gateways_that_heard}
 use Rattle.server_core.proofs.Words.{candidates_of, Candidate, Job, candidate_at, Answer, Open, Waiting}
 use Rattle.server_core.proofs.Words.{is_not_given, known_of, numbered-here, all_get, from_map, get_set_same, some_inj, Device}
-use Rattle.server_core.proofs.Words.{Register, given_or, job_of, take_fault, take_known, with_counter_given, World, known}
-use Rattle.server_core.proofs.Words.{AreSettings, SettingLists, Asked, Known, TakeFault, NotReady, Taken, take, take_by}
+use Rattle.server_core.proofs.Words.{Register, job_of, with_counter_given, World, known}
+use Rattle.server_core.proofs.Words.{AreSettings, SettingLists, Asked, Known, TakeFault, take, take_by}
 use Rattle.server_core.proofs.Words.{take_answer}
-use Rattle.server_desk.specs.Taking.{take_asked}
 use Rattle.server_core.proofs.Holds.{IsJobAt, Holds, IsGivenAt, IsGood, IsGoodStep, IsNew, IsUsed, Holds-weaker, has_now}
 use Rattle.server_core.proofs.Holds.{unchanged, both_good, device_setting, one_device}
 use Rattle.server_core.proofs.Written.{with_device, device_written, with_answer, answer_written}
@@ -23,44 +22,10 @@ pub record IsTicket (reg : Register) (known : List Known) (n : ℕ) (job : Job) 
   pub served : slice_get reg.devices asked.device ≡ Some device
   pub made : job_of reg n asked device ≡ job
 
-module _ (reg : Register) (known : List Known) (n : ℕ) (job : Job) where
-  module _ (asked : Asked) (there : numbered n reg.asked ≡ Some asked) (state : Known) (stated : numbered n known ≡ Some state)
-      (waits : is_not_given state ≡ true) where
-    fault_by : (device : Device) → slice_get reg.devices asked.device ≡ Some device → (o : Option TakeFault)
-        → given_or reg n asked device o ≡ Ok job → IsTicket reg known n job
-    fault_by device d None e =
-        record {
-          asked = asked;
-          there = there;
-          state = state;
-          stated = stated;
-          waits = waits;
-          device = device;
-          served = d;
-          made = cc (e);
-        }
-    fault_by device d (Some fault) e = absurd (cc (e))
-
-  waits_by : (asked : Asked) (state : Known) (t : Bool) (o : Option Device) → numbered n reg.asked ≡ Some asked
-      → numbered n known ≡ Some state → is_not_given state ≡ t → slice_get reg.devices asked.device ≡ o
-      → (if t then take_asked reg known n asked o else Err Taken) ≡ Ok job → IsTicket reg known n job
-  waits_by asked state true (Some device) a s t d e = fault_by asked a state s t device d (take_fault reg known asked device) e
-  waits_by asked state t o a s u d e = absurd (cc (e))
-
-  known_by : (o : Option Asked) (k : Option Known) → numbered n reg.asked ≡ o → numbered n known ≡ k
-      → take_known reg known n o k ≡ Ok job → IsTicket reg known n job
-  known_by (Some asked) (Some state) a s e =
-      waits_by asked state (is_not_given state) (slice_get reg.devices asked.device) a s refl refl e
-  known_by o k a s e = absurd (cc (e))
-
-  closed_by : (t : Bool) → (if t then take_known reg known n (numbered n reg.asked) (numbered n known) else Err NotReady) ≡ Ok job
-      → IsTicket reg known n job
-  closed_by true e = known_by (numbered n reg.asked) (numbered n known) refl refl e
-  closed_by false e = absurd (cc (e))
-
-  pub ticket : take_answer reg known n ≡ Ok job → IsTicket reg known n job
-  unfolding take_answer
-  ticket e = closed_by (is_closed_at n reg.gathered.list) e
+pub ticket : (reg : Register) (known : List Known) (n : ℕ) (job : Job) → take_answer reg known n ≡ Ok job
+    → IsTicket reg known n job
+unfolding take_answer
+ticket reg known n job e = grind arith
 
 -- the answer of such an uplink waits
 waits_only : (a : Answer) → is_not_given (known_of a) ≡ true → a ≡ Waiting

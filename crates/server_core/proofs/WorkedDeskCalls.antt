@@ -41,51 +41,43 @@ ticked_19 : step w18 (Tick 1 7) ≡ (ticked_world, replies.Ticked (Some 7))
 unfolding step airtime_of band_of overlap full_hour kept begun
 ticked_19 = refl
 
-module _ (calls : DeskCallsAreSteps) where
+-- what each clause tells of the run
+record AreTold : Type 0 where
   queues : desk_of queued_world ≡ desk_queue (desk_of w18) 0x26011bdb waiting
-  queues = rw queued_19 at (calls.queue w18 0x26011bdb waiting)
-
   says_queued : replies.Queued (Ok 1) ≡ replies.Queued (queue_answer (desk_of w18).reg 0x26011bdb waiting)
-  says_queued = rw queued_19 at (calls.queued w18 0x26011bdb waiting)
-
   hears : desk_of w7 ≡ desk_hear (desk_of w6) second (copy_at 1 5000000 55) 300000
-  hears = rw (made 7) at (calls.hear w6 second (copy_at 1 5000000 55) 300000)
-
   says_heard : replies.Heard (Ok (Opened 2 false))
       ≡ replies.Heard (answer_to (decide (desk_of w6).ids (desk_of w6).reg second (copy_at 1 5000000 55) 300000) (desk_of w6).reg)
-  says_heard = rw (made 7) at (calls.heard w6 second (copy_at 1 5000000 55) 300000)
-
   passes : desk_of w15 ≡ desk_pass (desk_of w14) 800001
-  passes = rw (made 15) at (calls.pass w14 800001)
-
   says_passed : replies.Passed (Some 3) ≡ replies.Passed (pass_answer (desk_of w14).reg 800001)
-  says_passed = rw (made 15) at (calls.passed w14 800001)
-
   takes : desk_of w16 ≡ desk_take (desk_of w15) 3
-  takes = rw (made 16) at (calls.take w15 3)
-
   says_given : replies.Given (Ok job_3) ≡ replies.Given (take_answer (desk_of w15).reg (desk_of w15).known 3)
-  says_given = rw (made 16) at (calls.taken w15 3)
-
   settles : desk_of w6 ≡ desk_settle (desk_of w5) 1 (ended_at 1 6000000)
-  settles = rw (made 6) at (calls.settle w5 1 (ended_at 1 6000000) refl refl)
-
   says_settled : replies.Ended (Some (ended_at 1 6000000)) ≡ replies.Ended (told w5 1)
-  says_settled = rw (made 6) at (calls.settled w5 1)
-
   -- the first answer waits, and takes no stub
   settles_none : desk_settle (desk_of w3) 1 GivenUp ≡ desk_of w3
-  settles_none = (calls.settle_none w3 1 refl).1 GivenUp
-
   tries : desk_of w17 ≡ desk_of w16
-  tries = rw (made 17) at (calls.try w16 3)
-
   cancels : desk_of w19 ≡ desk_of w18
-  cancels = rw cancelled_19 at (calls.cancel w18 1)
-
   ticks : desk_of ticked_world ≡ desk_of w18
-  ticks = rw ticked_19 at (calls.tick w18 1 7)
-
   -- the first gateway was on air for the first answer
   is_answered : answered_at 1 (desk_of w18).known ≡ 41216
-  is_answered = calls.answered w18 1
+
+are_told : DeskCallsAreSteps → AreTold
+are_told calls =
+    record {
+      queues = rw queued_19 at (calls.queue w18 0x26011bdb waiting);
+      says_queued = rw queued_19 at (calls.queued w18 0x26011bdb waiting);
+      hears = rw (made 7) at (calls.hear w6 second (copy_at 1 5000000 55) 300000);
+      says_heard = rw (made 7) at (calls.heard w6 second (copy_at 1 5000000 55) 300000);
+      passes = rw (made 15) at (calls.pass w14 800001);
+      says_passed = rw (made 15) at (calls.passed w14 800001);
+      takes = rw (made 16) at (calls.take w15 3);
+      says_given = rw (made 16) at (calls.taken w15 3);
+      settles = rw (made 6) at (calls.settle w5 1 (ended_at 1 6000000) refl refl);
+      says_settled = rw (made 6) at (calls.settled w5 1);
+      settles_none = (calls.settle_none w3 1 refl).1 GivenUp;
+      tries = rw (made 17) at (calls.try w16 3);
+      cancels = rw cancelled_19 at (calls.cancel w18 1);
+      ticks = rw ticked_19 at (calls.tick w18 1 7);
+      is_answered = calls.answered w18 1;
+    }
