@@ -49,10 +49,7 @@ module _ (known : List Known) (gateway d : ℕ) where
   next_found o x xs = grind arith
 
   found_by : (id : ℕ) (ids : List ℕ) (t : Bool) → (id == gateway) ≡ t → IsFound ids → IsFound (id ∷ ids)
-  found_by id ids true q rest =
-      let same : id ≡ gateway = grind (arith, nat_tests, q) in
-      rw q (ap (λ g. Some (answered_at g known)) same)
-  found_by id ids false q rest = rw q (next_found (first_at (λ id. id == gateway) ids) _ _ ∙ rest)
+  found_by id ids t q rest = grind (arith, nat_tests, next_found)
 
   pub answered_found : (ids : List ℕ) → IsFound ids
   answered_found [] = refl
@@ -69,10 +66,8 @@ module _ (f : ℕ → ℕ) (sent : Sent) where
   elsewhere [] a = (refl, refl)
   elsewhere (id ∷ ids) a =
       let other = All-head (λ y. sent.gateway ≢ y) id ids a in
-      let none : own_airtime id (Some sent) ≡ 0 = grind (arith, nat_tests, other) in
       let rest = elsewhere ids (All-tail (λ y. sent.gateway ≢ y) id ids a) in
-      let here : f id ≡ f id + own_airtime id (Some sent) = omega (arith, none) in
-      (cc (here, rest.0), omega (arith, none, rest.1))
+      grind (arith, nat_tests, other, rest)
 
   later : (o : Option (ℕ × ℕ)) (x : ℕ) (xs : List ℕ) → raised_at (option_map next_place o) sent.airtime (x ∷ xs)
       ≡ x ∷ raised_at o sent.airtime xs
@@ -82,14 +77,9 @@ module _ (f : ℕ → ℕ) (sent : Sent) where
       → Raises (id ∷ ids)
   raises_by id ids true q a rest =
       let same : id ≡ sent.gateway = grind (arith, nat_tests, q) in
-      let own : own_airtime id (Some sent) ≡ sent.airtime = grind (arith, nat_tests, same) in
       let others = elsewhere ids (subst (λ x. All (λ y. x ≢ y) ids) same a) in
-      let here : f id + sent.airtime ≡ f id + own_airtime id (Some sent) = omega (arith, own) in
-      rw q (cc (here, others.0), omega (arith, own, others.1))
-  raises_by id ids false q a rest =
-      let none : own_airtime id (Some sent) ≡ 0 = grind (arith, nat_tests, q) in
-      let here : f id ≡ f id + own_airtime id (Some sent) = omega (arith, none) in
-      rw q (later (first_at (λ x. x == sent.gateway) ids) (f id) (map f ids) ∙ cc (here, rest.0), omega (arith, none, rest.1))
+      grind (arith, nat_tests, others)
+  raises_by id ids false q a rest = grind (arith, nat_tests, later)
 
   pub raises : (ids : List ℕ) → AllPairs (λ a b. a ≢ b) ids → Raises ids
   raises [] d = (refl, refl)

@@ -34,9 +34,8 @@ answered repeat (Err fault) r h = ap (desk_answer repeat) h
 
 pub told : (repeat : Bool) (a r : Result Heard HearFault) → IfOk r (λ heard. a ≡ Ok heard)
     → IfOk (desk_answer repeat r) (λ told. desk_answer repeat a ≡ Ok told)
-told repeat a (Ok (gathers.Opened n)) h = ap (desk_answer repeat) h
-told repeat a (Ok (gathers.Joined n copies)) h = ap (desk_answer repeat) h
 told repeat a (Err fault) h = tt
+told repeat a (Ok heard) h = grind (arith, h)
 
 -- where the desk's answer is a fault, the gathering's was one
 pub was_fault : (P : Type 0) (repeat : Bool) (r : Result Heard HearFault) (fault : DeskFault) → desk_answer repeat r ≡ Err fault

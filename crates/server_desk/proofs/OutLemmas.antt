@@ -16,8 +16,7 @@ module _ (place : ℕ) where
       → count_out place asked (slice_set known i new) + own_out place a k ≡ count_out place asked known + own_out place a new
   count_set [] known i a k new e f = absurd (cc)
   count_set (b ∷ asked) [] i a k new e f = absurd (cc)
-  count_set (b ∷ asked) (l ∷ known) zero a k new e f = rw (some_inj e, some_inj f) (omega arith)
-  count_set (b ∷ asked) (l ∷ known) (suc i) a k new e f = omega (arith, count_set asked known i a k new e f)
+  count_set (b ∷ asked) (l ∷ known) i a k new e f = grind (arith, count_set asked known)
 
   -- of one more uplink no ticket is out
   pub count_push : (asked : List Asked) (known : List Known) (a : Asked) → length asked ≡ length known

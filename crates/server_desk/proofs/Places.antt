@@ -26,31 +26,20 @@ module _ {X : Type 0} where
   -- a member of a list with one more at its end is one of the old ones or the new one
   pub get_append_cases : (xs : List X) (y z : X) (i : ℕ) → slice_get (xs ++ y ∷ []) i ≡ Some z
       → (slice_get xs i ≡ Some z) ⊎ ((i ≡ length xs) × (z ≡ y))
-  get_append_cases [] y z zero e = inr (refl, sym (some_inj e))
-  get_append_cases [] y z (suc i) e = absurd (cc)
-  get_append_cases (x ∷ xs) y z zero e = inl e
-  get_append_cases (x ∷ xs) y z (suc i) e =
-      elim (get_append_cases xs y z i e) [ inl h ↦ inl h | inr h ↦ inr (ap suc h.0, h.1) ]
+  get_append_cases [] y z i e = grind arith
+  get_append_cases (x ∷ xs) y z i e = grind (arith, get_append_cases xs y z)
 
   -- a member of a list in which one place was written is the new one at that place, or an old one at another
   pub get_set_cases : (xs : List X) (i j : ℕ) (y z : X) → slice_get (slice_set xs i y) j ≡ Some z
       → ((i ≡ j) × (z ≡ y)) ⊎ ((i ≢ j) × (slice_get xs j ≡ Some z))
   get_set_cases [] i j y z e = absurd (cc)
-  get_set_cases (x ∷ xs) zero zero y z e = inl (refl, sym (some_inj e))
-  get_set_cases (x ∷ xs) zero (suc j) y z e = inr (λ q. absurd (omega (arith, q)), e)
-  get_set_cases (x ∷ xs) (suc i) zero y z e = inr (λ q. absurd (omega (arith, q)), e)
-  get_set_cases (x ∷ xs) (suc i) (suc j) y z e = elim (get_set_cases xs i j y z e)
-      [ inl h ↦ inl (ap suc h.0, h.1) | inr h ↦ inr (λ q. h.0 (omega (arith, q)), h.1) ]
+  get_set_cases (x ∷ xs) i j y z e = grind (arith, get_set_cases xs)
 
   -- a member of the list before that place was written is there still, or was the one that was written anew
   pub get_set_after : (xs : List X) (i j : ℕ) (x y z : X) → slice_get xs i ≡ Some x → slice_get xs j ≡ Some z
       → ((i ≡ j) × (z ≡ x) × (slice_get (slice_set xs i y) j ≡ Some y)) ⊎ (slice_get (slice_set xs i y) j ≡ Some z)
   get_set_after [] i j x y z e f = absurd (cc)
-  get_set_after (u ∷ xs) zero zero x y z e f = inl (refl, sym (some_inj f) ∙ some_inj e, refl)
-  get_set_after (u ∷ xs) zero (suc j) x y z e f = inr f
-  get_set_after (u ∷ xs) (suc i) zero x y z e f = inr f
-  get_set_after (u ∷ xs) (suc i) (suc j) x y z e f =
-      elim (get_set_after xs i j x y z e f) [ inl h ↦ inl (ap suc h.0, h.1, h.2) | inr h ↦ inr h ]
+  get_set_after (u ∷ xs) i j x y z e f = grind (arith, get_set_after xs)
 
   -- what stands at a place is a member, and what is true of all is true of it
   pub get_contains : (xs : List X) (k : ℕ) (x : X) → slice_get xs k ≡ Some x → Contains xs x
