@@ -20,13 +20,7 @@ next_from n o = grind arith
 place_from : (addr n : ℕ) (devices : List Device) → position_from (nat_eq addr) n (map addr_of devices)
     ≡ option_map (λ p. n + p.0) (device_with addr devices)
 place_from addr n [] = refl
-place_from addr n (d ∷ devices) = by (d.setting.addr == addr) refl (place_from addr (n + 1) devices)
-  where
-    by : (t : Bool) → (d.setting.addr == addr) ≡ t
-        → position_from (nat_eq addr) (n + 1) (map addr_of devices) ≡ option_map (λ p. n + 1 + p.0) (device_with addr devices)
-        → position_from (nat_eq addr) n (map addr_of (d ∷ devices)) ≡ option_map (λ p. n + p.0) (device_with addr (d ∷ devices))
-    by true q rest = rw (q, flipped addr d.setting.addr true q) (ap Some (omega arith))
-    by false q rest = rw (q, flipped addr d.setting.addr false q) (rest ∙ next_from n (device_with addr devices))
+place_from addr n (d ∷ devices) = grind (arith, nat_tests, place_from addr (n + 1) devices, next_from n)
 
 pub place_found : (addr : ℕ) (devices : List Device) → position (nat_eq addr) (map addr_of devices)
     ≡ option_map (λ p. p.0) (device_with addr devices)

@@ -22,16 +22,10 @@ pub total-hear : (d : DeskView) (bytes : List ℕ) (heard : Heard1) (arrived : �
     → total_of (desk_hear d bytes heard arrived) ≡ total_of d
 total-hear d bytes heard arrived = heard_by d.known (decide d.ids d.reg bytes heard arrived)
 
--- a ticket is given only where none was
-waits_by : (reg : Register) (known : List Known) (n : ℕ) (job : Job) (t : Bool) (o : Option Asked) (k : Option Known)
-    → (if t then take_known reg known n o k else Err NotReady) ≡ Ok job → k ≡ Some NotGiven
-waits_by reg known n job t o k e = grind arith
-
 waits : (reg : Register) (known : List Known) (n : ℕ) (job : Job) → take_answer reg known n ≡ Ok job
     → numbered n known ≡ Some NotGiven
 unfolding take_answer
-waits reg known n job e =
-    waits_by reg known n job (is_closed_at n reg.gathered.list) (numbered n reg.asked) (numbered n known) e
+waits reg known n job e = grind arith
 
 taken_by : (d : DeskView) (n : ℕ) (r : Result Job TakeFault) → take_answer d.reg d.known n ≡ r
     → total_of (desk_taken r n d) ≡ total_of d

@@ -48,12 +48,9 @@ module _ (known : List Known) (gateway d : ℕ) where
       ≡ option_map (λ p. get_or xs p d) (option_map (λ found. found.0) o)
   next_found o x xs = grind arith
 
-  found_by : (id : ℕ) (ids : List ℕ) (t : Bool) → (id == gateway) ≡ t → IsFound ids → IsFound (id ∷ ids)
-  found_by id ids t q rest = grind (arith, nat_tests, next_found)
-
   pub answered_found : (ids : List ℕ) → IsFound ids
   answered_found [] = refl
-  answered_found (id ∷ ids) = found_by id ids (id == gateway) refl (answered_found ids)
+  answered_found (id ∷ ids) = grind (arith, nat_tests, next_found, answered_found ids)
 
 -- where one of different gateways sent this: its airtime alone is raised, and the total by as much
 module _ (f : ℕ → ℕ) (sent : Sent) where

@@ -41,14 +41,10 @@ module _ {X : Type 0} where
   numbered_cases f n m xs x z e g = grind (arith, get_set_cases xs)
 
 module _ {X Y : Type 0} (f : X → Y) where
-  map-rewritten_by : (g : X → X) (h : Y → Y) → ((x : X) → f (g x) ≡ h (f x)) → (n : ℕ) (xs : List X) (o : Option X)
-      → numbered n xs ≡ o → map f (rewritten g n xs) ≡ rewritten h n (map f xs)
-  map-rewritten_by g h s n xs o e = grind (arith, numbered-map f, map-set f xs, s)
-
   -- a member that is written anew is written anew on the list of what the members look like
   pub map-rewritten : (g : X → X) (h : Y → Y) → ((x : X) → f (g x) ≡ h (f x)) → (n : ℕ) (xs : List X)
       → map f (rewritten g n xs) ≡ rewritten h n (map f xs)
-  map-rewritten g h s n xs = map-rewritten_by g h s n xs (numbered n xs) refl
+  map-rewritten g h s n xs = grind (arith, numbered-map f, map-set f xs, s)
 
   -- where what is written anew looks the same, the list does
   pub same_rewritten : (g : X → X) (n : ℕ) (xs : List X) (x : X) → numbered n xs ≡ Some x → f (g x) ≡ f x

@@ -67,10 +67,6 @@ module _ {X : Type 0} (test : X → Bool) where
   abbrev IsThere : List X → ℕ × X → Type 0
   IsThere xs p = (slice_get xs p.0 ≡ Some p.1) × (test p.1 ≡ true)
 
-  found_by : (x : X) (xs : List X) (t : Bool) (p : ℕ × X) → test x ≡ t → ((q : ℕ × X) → first_at test xs ≡ Some q → IsThere xs q)
-      → (if t then Some (0, x) else option_map next_place (first_at test xs)) ≡ Some p → IsThere (x ∷ xs) p
-  found_by x xs t p h rest e = grind (arith, rest)
-
   pub found_there : (xs : List X) (p : ℕ × X) → first_at test xs ≡ Some p → IsThere xs p
   found_there [] p e = absurd (cc)
-  found_there (x ∷ xs) p e = found_by x xs (test x) p refl (found_there xs) e
+  found_there (x ∷ xs) p e = grind (arith, found_there xs)

@@ -12,13 +12,9 @@ use Rattle.server_desk.proofs.DeskLemmas.{seen_reg, Holds, seen, written_holds}
 use Rattle.server_desk.proofs.OutLemmas.{out_settled}
 use Rattle.server_desk.proofs.TakeLemmas.{number_too, out_there}
 
--- what may be settled is out, and on one of the gateways
-out_by : (o : Option Known) (here : Bool) → (option_map_or is_given o false && here) ≡ true → (o ≡ Some Pending) × (here ≡ true)
-out_by o here e = grind arith
-
 pub is_out : (ids : List ℕ) (known : List Known) (n : ℕ) (ending : Ending) → may_settle ids known n ending ≡ true
     → (numbered n known ≡ Some Pending) × (is_here ids ending ≡ true)
-is_out ids known n ending e = out_by (numbered n known) (is_here ids ending) e
+is_out ids known n ending e = grind arith
 
 -- a device without its payload is in its ranges
 settled_servable : (t : Bool) (device : Device) → IsServable device → IsServable (if t then without_head device else device)
