@@ -17,13 +17,6 @@ use Rattle.server_core.proofs.{DeskSteps.desk_calls_are_steps, Ready.all_rewritt
 
 -- the desk's part after a ticket was taken and settled
 
-taken_gathered : (o : Option Asked) (reg : Register) → (taken_from o reg).gathered ≡ reg.gathered
-taken_gathered o reg = grind arith
-
-settled_gathered : (carried : Bool) (o : Option Asked) (reg : Register)
-    → (if carried then delivered o reg else reg).gathered ≡ reg.gathered
-settled_gathered carried o reg = grind arith
-
 -- once it is settled, no ticket is out again
 rewritten_twice : (known : List Known) (n : ℕ) (k a b : Known) → numbered n known ≡ Some k
     → rewritten (λ x. b) n (rewritten (λ x. a) n known) ≡ rewritten (λ x. b) n known
@@ -39,8 +32,7 @@ idle_settled known n k done idle e d =
 -- each candidate of an uplink's job is on a gateway that heard it
 copies_heard : (ids : List ℕ) (l : List Gathering) (n : ℕ) (o : Option Gathering) → numbered n l ≡ o → AreHeard ids l
     → (copy : HeardCopy) → Contains (option_map_or (λ g. g.copies) o []) copy → IsTrue (is_among ids copy.gateway)
-copies_heard ids l n None e h copy k = absurd (omega (arith, k.1))
-copies_heard ids l n (Some g) e h copy k = h n g e copy k
+copies_heard ids l n o e h copy k = grind (arith, h n)
 
 job_here : (ids : List ℕ) (reg : Register) (n : ℕ) (asked : Asked) (device : Device) → AreHeard ids reg.gathered.list
     → AreHere ids (job_of reg n asked device)
@@ -98,9 +90,7 @@ module _ {A : Type 0} (place n : ℕ) (old mid : Seen A) (noted : mid ≡ with_s
       new_desk = rw (a.desk, number, d_is) refl
 
       answer_gathered : new.desk.reg.gathered ≡ old.desk.reg.gathered
-      answer_gathered = rw new_desk
-          (settled_gathered (has_carried a.ending) _ (taken_from (numbered n old.desk.reg.asked) old.desk.reg)
-          ∙ taken_gathered (numbered n old.desk.reg.asked) old.desk.reg)
+      answer_gathered = rw new_desk (grind arith)
 
       answer_ready : IsBetweenCalls new
       answer_ready =

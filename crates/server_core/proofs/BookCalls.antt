@@ -36,16 +36,9 @@ module _ {X Y : Type 0} (R : X → Y → Type 0) where
   zip_set (a ∷ u) (b ∷ v) (suc i) x y z r = (z.0, zip_set u v i x y z.1 r)
 
 -- the place of a member, and the member there
-place_next : {X : Type 0} (t : Bool) (x : X) (o : Option (ℕ × X)) → option_map (λ p. p.0)
-    (if t then Some (0, x) else option_map next_place o) ≡ (if t then Some 0 else option_map suc (option_map (λ p. p.0) o))
-place_next t x o = grind arith
-
 found_at : {X : Type 0} (o : Option (ℕ × X)) (i : ℕ) → Some i ≡ option_map (λ p. p.0) o → (x : X) × (o ≡ Some (i, x))
 found_at None i e = absurd (cc (e))
 found_at (Some p) i e = (p.1, ap (λ (j : ℕ). Some (j, p.1)) (sym (some_inj e)))
-
-none_found : {X : Type 0} (o : Option (ℕ × X)) → None ≡ option_map (λ p. p.0) o → o ≡ None
-none_found o e = grind arith
 
 -- the book that was found
 pub record IsFound (id at : ℕ) (books : List Book) (book : Book) : Type 0 where
@@ -79,13 +72,7 @@ same_place : (id : ℕ) (books : List Book) (gateways : List Gateway) → AreBoo
 same_place id [] [] z = refl
 same_place id [] (g ∷ gs) z = absurd z
 same_place id (b ∷ v) [] z = absurd z
-same_place id (b ∷ v) (g ∷ gs) z =
-    cc (
-      z.0.id,
-      same_place id v gs z.1,
-      place_next (g.id == id) g (gateway_with id gs),
-      place_next (b.id == id) (gateway_of b) (gateway_with id (map gateway_of v)),
-    )
+same_place id (b ∷ v) (g ∷ gs) z = grind (arith, z.0.id, same_place id v gs z.1)
 
 module _ (id : ℕ) (books : List Book) (gateways : List Gateway) (are : AreBooksOf books gateways) where
   pub gateway_found : (at : ℕ) (book : Book) → Some at ≡ place_of id books → IsFound id at books book
@@ -96,18 +83,12 @@ module _ (id : ℕ) (books : List Book) (gateways : List Gateway) (are : AreBook
       record { gateway = g.0; found = g.1; keeps = zip_at IsBookOf books gateways at book g.0 are b.there there.0 }
 
   pub no_gateway : None ≡ place_of id books → gateway_with id gateways ≡ None
-  no_gateway f = none_found (gateway_with id gateways) (f ∙ sym (same_place id books gateways are))
+  no_gateway f = grind (arith, same_place id books gateways are)
 
 -- a gateway that is among these has a book
-among_by : {X : Type 0} (t r : Bool) (x : X) (o : Option (ℕ × X)) → (t || r) ≡ true
-    → None ≡ option_map (λ p. p.0) (if t then Some (0, x) else option_map next_place o)
-    → (r ≡ true → None ≡ option_map (λ p. p.0) o → ⊥) → ⊥
-among_by t r x o a f rest = grind arith
-
 pub has_place : (id : ℕ) (books : List Book) → is_among (ids_of books) id ≡ true → None ≡ place_of id books → ⊥
 has_place id [] a f = cc (a)
-has_place id (b ∷ v) a f =
-    among_by (b.id == id) (is_among (ids_of v) id) (gateway_of b) (gateway_with id (map gateway_of v)) a f (has_place id v)
+has_place id (b ∷ v) a f = grind (arith, has_place id v)
 
 -- the books are those of the world where one was asked, and is its gateway's after the step
 pub books_stepped : (w : World) (step_made : Step) (id i : ℕ) (answers : List Answer) (book : Book) (reply : Reply)
@@ -158,14 +139,11 @@ module _ {A : Type 0} (place : ℕ) (old mid new : Seen A) (gateway now : ℕ) (
       })
       told ready
 
--- where no ticket is out, the desk knows what was sent for an answer
-sent_same : (a : Answer) → is_given (known_of a) ≡ false → sent_for a ≡ kept_by (Some (known_of a))
-sent_same a e = grind arith
-
 sent_by_known : (o : Option Answer) → ((a : Answer) → o ≡ Some a → is_given (known_of a) ≡ false)
     → option_and_then sent_for o ≡ kept_by (option_map known_of o)
 sent_by_known o f = grind arith
 
+-- where no ticket is out, the desk knows what was sent for an answer
 sent_known : (w : World) (n : ℕ) → IsIdle (known w) → sent_at w n ≡ kept_by (numbered n (known w))
 sent_known w n idle = sent_by_known (numbered n w.answers)
     (λ a e. idle n (known_of a) (numbered-map known_of n w.answers ∙ ap (option_map known_of) e))

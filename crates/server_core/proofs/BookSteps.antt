@@ -37,15 +37,10 @@ module _ {X : Type 0} (test : X → Bool) (v : X) (passes : test v ≡ true) whe
   found_again (x ∷ xs) i y f = again_by x xs i y (λ j. found_again xs j y) f
 
 -- a gateway that was found is among the ids
-among_by : (id : ℕ) (x : Gateway) (xs : List Gateway) (i : ℕ) (g : Gateway)
-    → ((j : ℕ) → gateway_with id xs ≡ Some (j, g) → is_among (map (λ y. y.id) xs) id ≡ true)
-    → gateway_with id (x ∷ xs) ≡ Some (i, g) → is_among (map (λ y. y.id) (x ∷ xs)) id ≡ true
-among_by id x xs i g h f = grind (arith, h)
-
 found_among : (id : ℕ) (xs : List Gateway) (i : ℕ) (g : Gateway) → gateway_with id xs ≡ Some (i, g)
     → is_among (map (λ y. y.id) xs) id ≡ true
 found_among id [] i g f = absurd (cc (f))
-found_among id (x ∷ xs) i g f = among_by id x xs i g (λ j. found_among id xs j g) f
+found_among id (x ∷ xs) i g f = grind (arith, found_among id xs)
 
 -- A gateway's book is asked.
 

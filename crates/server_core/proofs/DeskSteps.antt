@@ -88,7 +88,7 @@ known_out o = grind arith
 -- what is out and on a gateway of the settings may be settled
 pub may : (w : World) (n : ℕ) (ending : Ending) → told w n ≡ Some ending → is_here (ids w) ending ≡ true
     → may_settle (ids w) (known w) n ending ≡ true
-may w n ending e h = rw (numbered-map known_of n w.answers, known_out (numbered n w.answers), e) h
+may w n ending e h = grind (arith, numbered-map known_of n w.answers)
 
 may_not : (w : World) (n : ℕ) (ending : Ending) → told w n ≡ None → may_settle (ids w) (known w) n ending ≡ false
 may_not w n ending e = rw (numbered-map known_of n w.answers, known_out (numbered n w.answers), e) refl

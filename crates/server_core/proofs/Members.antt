@@ -19,20 +19,12 @@ module _ {X : Type 0} (key : X → ℕ) where
   -- no two members of a rising list have one key
   rises_above : (low : ℕ) (xs : List X) (k : ℕ) (x : X) → RisesFrom key low xs → slice_get xs k ≡ Some x → low ≤ key x
   rises_above low [] k x r e = absurd (cc)
-  rises_above low (y ∷ ys) zero x r e = let same = ap key (some_inj e) in omega (arith, r.0)
-  rises_above low (y ∷ ys) (suc k) x r e = omega (arith, r.0, rises_above (key y + 1) ys k x r.1 e)
+  rises_above low (y ∷ ys) k x r e = grind (arith, rises_above (key y + 1) ys)
 
   pub rises_once : (low : ℕ) (xs : List X) (i j : ℕ) (a b : X) → RisesFrom key low xs → slice_get xs i ≡ Some a
       → slice_get xs j ≡ Some b → key a ≡ key b → i ≡ j
   rises_once low [] i j a b r e f q = absurd (cc)
-  rises_once low (x ∷ xs) zero zero a b r e f q = refl
-  rises_once low (x ∷ xs) zero (suc j) a b r e f q =
-      let same = ap key (some_inj e) in
-      absurd (omega (arith, rises_above (key x + 1) xs j b r.1 f))
-  rises_once low (x ∷ xs) (suc i) zero a b r e f q =
-      let same = ap key (some_inj f) in
-      absurd (omega (arith, rises_above (key x + 1) xs i a r.1 e))
-  rises_once low (x ∷ xs) (suc i) (suc j) a b r e f q = ap suc (rises_once (key x + 1) xs i j a b r.1 e f q)
+  rises_once low (x ∷ xs) i j a b r e f q = grind (arith, rises_above (key x + 1) xs, rises_once (key x + 1) xs)
 
   -- nor of a list whose keys differ
   abbrev Differ : X → X → Type 0

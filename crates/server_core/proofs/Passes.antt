@@ -60,7 +60,7 @@ module _ (now : ℕ) where
 
   closed_at : (s : Gatherings) (i : ℕ) (g : Gathering) → slice_get s.list i ≡ Some g → is_open g ≡ true
       → (close_step s (suc i)).list ≡ slice_set s.list i (closed g)
-  closed_at s i g e o = rw (e, o) (ap (λ (j : ℕ). slice_set s.list j (closed g)) (omega arith))
+  closed_at s i g e o = grind arith
 
   closed_first : (s : Gatherings) (n : ℕ) → IsFirst 1 s.list n
       → due_numbers now s.list ≡ n ∷ due_numbers now (close_step s n).list

@@ -67,14 +67,9 @@ trying_next first t next old now mid a n =
     })
 
 -- fewer candidates are left
-some_within : {X : Type 0} (xs : List X) (k : ℕ) (o : Option X) → slice_get xs k ≡ o → IsSome o → k < length xs
-some_within xs k o e s = grind (arith, slice_get_within xs k)
-
 pub fewer_left : {A : Type 0} (t next : Standing) (now mid : Seen A) → MovesOn t now mid next
     → length (candidates next.job) - next.at < length (candidates t.job) - t.at
-fewer_left t next now mid n =
-    let within = some_within (candidates t.job) (t.at + 1) (candidate_of (next_of t)) refl n.follows in
-    rw n.moved (omega arith)
+fewer_left t next now mid n = rw n.moved (grind (arith, n.follows, slice_get_within (candidates t.job) (t.at + 1)))
 
 pub tries_over : {A : Type 0} (first t : Standing) (old now new : Seen A) (ended : TriedOut A) → AreTrying first t old now
     → AreTries t now new ended → AreTries first old new ended

@@ -76,10 +76,6 @@ ids_stay w (Try m) = ap (λ d. d.ids) (desk_calls_are_steps.try w m)
 ids_stay w (Cancel m) = ap (λ d. d.ids) (desk_calls_are_steps.cancel w m)
 ids_stay w (Tick id now) = ap (λ d. d.ids) (desk_calls_are_steps.tick w id now)
 
--- an answer that would end somehow is out
-out_if_ends : (a : Answer) (ending : Ending) → ending_of a ≡ Some ending → is_given (known_of a) ≡ true
-out_if_ends a ending e = grind arith
-
 ends_at : (o : Option Answer) (ending : Ending) → option_and_then ending_of o ≡ Some ending
     → (a : Answer) × (o ≡ Some a) × (ending_of a ≡ Some ending)
 ends_at o ending e = grind arith
@@ -87,8 +83,8 @@ ends_at o ending e = grind arith
 stub_stays : (w : World) (s : Step) (stub : Outcome) → IsStubIn w stub → spends stub.number s ≡ false → IsStubIn (step w s).0 stub
 stub_stays w s stub is o =
     let x = ends_at (numbered stub.number w.answers) stub.result is.told in
-    let stays = answer_stays w stub.number x.0 x.1 (out_if_ends x.0 stub.result x.2) s o in
-    record { told = rw stays x.2; here = rw (ids_stay w s) is.here }
+    let out : is_given (known_of x.0) ≡ true = grind (arith, x.2) in
+    record { told = rw (answer_stays w stub.number x.0 x.1 out s o) x.2; here = rw (ids_stay w s) is.here }
 
 -- A gateway's book.
 

@@ -70,11 +70,7 @@ pub record Mic (last counter : ℕ) : Type 0 where
 
 four_bytes : (l : List ℕ) → length l ≡ 4 → (a : ℕ) × (b : ℕ) × (c : ℕ) × (d : ℕ) × (l ≡ a ∷ b ∷ c ∷ d ∷ [])
 four_bytes (a ∷ b ∷ c ∷ d ∷ []) e = (a, b, c, d, refl)
-four_bytes [] e = absurd (omega (arith, e))
-four_bytes (a ∷ []) e = absurd (omega (arith, e))
-four_bytes (a ∷ b ∷ []) e = absurd (omega (arith, e))
-four_bytes (a ∷ b ∷ c ∷ []) e = absurd (omega (arith, e))
-four_bytes (a ∷ b ∷ c ∷ d ∷ x ∷ more) e = absurd (omega (arith, e))
+four_bytes l e = absurd (omega (arith, e))
 
 pub mic : (last counter : ℕ) → Mic last counter
 mic last counter =

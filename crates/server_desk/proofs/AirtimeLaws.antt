@@ -22,6 +22,7 @@ pub total-hear : (d : DeskView) (bytes : List ℕ) (heard : Heard1) (arrived : �
     → total_of (desk_hear d bytes heard arrived) ≡ total_of d
 total-hear d bytes heard arrived = heard_by d.known (decide d.ids d.reg bytes heard arrived)
 
+-- a ticket is given only where none was
 waits : (reg : Register) (known : List Known) (n : ℕ) (job : Job) → take_answer reg known n ≡ Ok job
     → numbered n known ≡ Some NotGiven
 unfolding take_answer

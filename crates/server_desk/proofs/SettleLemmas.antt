@@ -12,6 +12,7 @@ use Rattle.server_desk.proofs.DeskLemmas.{seen_reg, Holds, seen, written_holds}
 use Rattle.server_desk.proofs.OutLemmas.{out_settled}
 use Rattle.server_desk.proofs.TakeLemmas.{number_too, out_there}
 
+-- what may be settled is out, and on one of the gateways
 pub is_out : (ids : List ℕ) (known : List Known) (n : ℕ) (ending : Ending) → may_settle ids known n ending ≡ true
     → (numbered n known ≡ Some Pending) × (is_here ids ending ≡ true)
 is_out ids known n ending e = grind arith
