@@ -1,19 +1,16 @@
 -- An uplink is answered: a ticket is taken, tried and settled.
-use Rattle.server_core.proofs.Words.{ap, append-nil, arith, subst, sym, ◌∙◌, set-set, option_map_or, Bool, Contains, Err}
-use Rattle.server_core.proofs.Words.{IsOkUnless, IsTrue, List, MatchResult, None, Ok, Option, Result, Some, [], false}
-use Rattle.server_core.proofs.Words.{if◌then◌else◌, refl, slice_set, ℕ, ◌-◌, ◌∷◌, ◌≡◌, ◌≢◌, Gathering, numbered, rewritten}
-use Rattle.server_core.proofs.Words.{HeardCopy, Standing, Answer, Open, Waiting, is_given, DeskView, desk_settled, desk_take}
-use Rattle.server_core.proofs.Words.{desk_taken, numbered-here, rewritten-found, Device, Register, delivered, has_carried}
-use Rattle.server_core.proofs.Words.{sent_of, job_of, taken_from, World, known, Asked, Known, Done, TakeFault, not_taken}
-use Rattle.server_core.proofs.Words.{answer_steps, given_steps, AreBooksOf, AreHeard, AreHere, IsAt, IsIdle, IsBetweenCalls}
-use Rattle.server_core.proofs.Words.{Makes}
-use Rattle.server_core.proofs.Words.{Moves, Seen, ids_of, is_among, with_lines, with_step, After, Step, Take, take_by, IsAnswered}
-use Rattle.server_core.proofs.Words.{IsGivenTo, Line, take_answer, run_from, step}
+use Rattle.server_core.proofs.Words
+use Words.{ap, append-nil, arith, subst, sym, ◌∙◌, set-set, option_map_or, Contains, Err, IsOkUnless, IsTrue, List, MatchResult}
+use Words.{Ok, Option, Result, Some, [], false, refl, slice_set, ℕ, ◌-◌, ◌∷◌, ◌≡◌, ◌≢◌, Gathering, numbered, rewritten, HeardCopy}
+use Words.{Standing, Answer, Open, Waiting, is_given, DeskView, desk_settled, desk_take, desk_taken, numbered-here}
+use Words.{rewritten-found, Device, Register, sent_of, job_of, World, known, Asked, Known, Done, TakeFault, not_taken}
+use Words.{answer_steps, given_steps, AreBooksOf, AreHeard, AreHere, IsAt, IsIdle, IsBetweenCalls, Makes, Moves, Seen, ids_of}
+use Words.{is_among, with_lines, with_step, After, Step, Take, take_by, IsAnswered, IsGivenTo, Line, take_answer, run_from, step}
+use Rattle.server_core.proofs.TakeStep.{IsTicket, ticket, still_waits, job_window}
+use Rattle.server_core.proofs.{DeskSteps.desk_calls_are_steps, Ready.all_rewritten, Calls.one_step, Calls.moves_on}
 use Rattle.server_desk.specs.declared.answers.Known.TheVariants.{Pending}
 use Rattle.server_core.specs.declared.event.Step.TheVariants as made
 use Rattle.server_core.specs.Steps as replies
-use Rattle.server_core.proofs.TakeStep.{IsTicket, ticket, still_waits, job_window}
-use Rattle.server_core.proofs.{DeskSteps.desk_calls_are_steps, Ready.all_rewritten, Calls.one_step, Calls.moves_on}
 
 -- the desk's part after a ticket was taken and settled
 

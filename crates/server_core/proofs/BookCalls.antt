@@ -1,22 +1,17 @@
 -- A gateway's book, by the gateway's id: time passes for it, or what was sent for an answer is cancelled.
-use Rattle.server_core.proofs.Words.{arith}
-use Rattle.server_core.proofs.Words.{ap, sym, ◌∙◌, get_or_from_slice_get, slice_get_within, AllZip, option_map, Bool, Err}
-use Rattle.server_core.proofs.Words.{List, None, Ok, Option, Result, Some, [], false, get_or, if◌then◌else◌, length, map}
-use Rattle.server_core.proofs.Words.{refl, slice_get, slice_set, suc, true, zero, ℕ, ◌<◌, ◌==◌, ◌||◌, ◌∷◌, ◌≡◌, Book}
-use Rattle.server_core.proofs.Words.{ticked, CancelFault}
-use Rattle.server_core.proofs.Words.{NotHere, numbered, Answer, is_given, known_of}
-use Rattle.server_core.proofs.Words.{numbered-map, from_map, map_set, some_inj, next_place, kept_by, Gateway, World, gateway_with}
-use Rattle.server_core.proofs.Words.{known, found_there, Sent, gateway_of, lines_for, AreBooksOf, IsAt, IsBookOf}
-use Rattle.server_core.proofs.Words.{IsCancelled, IsIdle, IsBetweenCalls, Seen, cancelled_line, ids_of, is_among, with_lines}
-use Rattle.server_core.proofs.Words.{with_step}
-use Rattle.server_core.proofs.Words.{Cancel, Tick, sent_for, Line, step}
+use Rattle.server_core.proofs.Words
+use Words.{arith, ap, sym, ◌∙◌, get_or_from_slice_get, slice_get_within, AllZip, option_map, Bool, Err, List, None, Ok, Option}
+use Words.{Result, Some, [], false, get_or, length, map, refl, slice_get, slice_set, suc, true, zero, ℕ, ◌<◌, ◌==◌, ◌∷◌, ◌≡◌}
+use Words.{Book, ticked, CancelFault, NotHere, numbered, Answer, is_given, known_of, numbered-map, from_map, map_set, some_inj}
+use Words.{kept_by, Gateway, World, gateway_with, known, found_there, Sent, gateway_of, lines_for, AreBooksOf, IsAt, IsBookOf}
+use Words.{IsCancelled, IsIdle, IsBetweenCalls, Seen, cancelled_line, ids_of, is_among, with_lines, with_step, Cancel, Tick}
+use Words.{sent_for, Line, step, Reply, Step, option_and_then}
+use Rattle.server_core.proofs.BookSteps.{book_calls_are_steps, same_book}
+use Rattle.server_core.proofs.{Members.equal_where_tested, DeskSteps.desk_calls_are_steps, Calls.IsDone, Calls.done}
+use Rattle.server_core.specs.BookCalls.{IsBookAt, IsStepAt, IsCancel, sent_at}
 use Rattle.server_core.specs.declared.event.Step.TheVariants as made
 use Rattle.server_core.specs.Steps as replies
 use Rattle.server_core.specs.declared.entry.Line.TheVariants as says
-use Rattle.server_core.specs.BookCalls.{IsBookAt, IsStepAt, IsCancel, sent_at}
-use Rattle.server_core.proofs.BookSteps.{book_calls_are_steps, same_book}
-use Rattle.server_core.proofs.Words.{Reply, Step, option_and_then}
-use Rattle.server_core.proofs.{Members.equal_where_tested, DeskSteps.desk_calls_are_steps, Calls.IsDone, Calls.done}
 
 module _ {X Y : Type 0} (R : X → Y → Type 0) where
   pub zip_at : (xs : List X) (ys : List Y) (i : ℕ) (x : X) (y : Y) → AllZip R xs ys → slice_get xs i ≡ Some x

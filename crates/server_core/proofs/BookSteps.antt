@@ -1,28 +1,22 @@
 -- The calls of a ticket and of a gateway's book are the steps of the world.
-use Rattle.server_core.specs.BookCalls.{next_candidate}
-use Rattle.server_core.proofs.Words.{ap, arith, sym, ◌∙◌, IsSome, IsSomeAnd, IsTrue, option_and_then, Bool, Err}
-use Rattle.server_core.proofs.Words.{List, None, Ok, Option, Result, Some, [], map, refl}
-use Rattle.server_core.proofs.Words.{slice_get, slice_set, true, ℕ, ◌+◌, ◌==◌, ◌∷◌, ◌≡◌, Reservation, Book}
-use Rattle.server_core.proofs.Words.{ticked, with_booked, book_step, cancel_step, tick_step, orderly_booked}
-use Rattle.server_core.proofs.Words.{orderly_cancelled, remembers_answer, remembers_booked, remembers_cancel, remembers_cancelled}
-use Rattle.server_core.proofs.Words.{remembers_ticked, IsAsked, refusal_of, CancelFault, NotHere, Refusal, numbered, rewritten}
-use Rattle.server_core.proofs.Words.{Candidate, Job, ask_for, next_of, refusal_by, answered_as, Standing}
-use Rattle.server_core.proofs.Words.{candidate_of, Ending, Unanswered, Outcome, Answer, Booked, Open, Out, Waiting}
-use Rattle.server_core.proofs.Words.{numbered-here, is_here, Gateway, World, TakeFault}
-use Rattle.server_core.proofs.Words.{gateway_with, known, found_there, Sent, IsBookOf, is_among, Cancel, Reply, Step, Take}
-use Rattle.server_core.proofs.Words.{Tick, Try, cancel_sent, ending_of, refused, sent_by, settle_as}
-use Rattle.server_core.proofs.Words.{settle_of, take_by, terms, tried_by, take_answer, step}
+use Rattle.server_core.proofs.Words
+use Words.{ap, arith, sym, ◌∙◌, IsSome, IsSomeAnd, IsTrue, option_and_then, Bool, Err, List, None, Ok, Option, Result, Some, []}
+use Words.{map, refl, slice_get, slice_set, true, ℕ, ◌+◌, ◌==◌, ◌∷◌, ◌≡◌, Reservation, Book, ticked, with_booked, book_step}
+use Words.{cancel_step, tick_step, orderly_booked, orderly_cancelled, remembers_answer, remembers_booked, remembers_cancel}
+use Words.{remembers_cancelled, remembers_ticked, IsAsked, refusal_of, CancelFault, NotHere, Refusal, numbered, rewritten}
+use Words.{Candidate, Job, ask_for, next_of, refusal_by, answered_as, Standing, candidate_of, Ending, Unanswered, Outcome, Answer}
+use Words.{Booked, Open, Out, Waiting, numbered-here, is_here, Gateway, World, TakeFault, gateway_with, known, found_there, Sent}
+use Words.{IsBookOf, is_among, Cancel, Reply, Step, Take, Tick, Try, cancel_sent, ending_of, refused, sent_by, settle_as}
+use Words.{settle_of, take_by, terms, tried_by, take_answer, step, try_of}
+use Rattle.server_core.proofs.DeskSteps.{desk_calls_are_steps, may}
+use Rattle.server_core.proofs.{Members.equal_where_tested, TakeStep.ticket, TakeStep.still_waits}
+use Rattle.server_core.specs.BookCalls.{next_candidate, IsBookAt, IsStepAt, IsTicketIn, IsStubIn, IsTryStep, LeavesStub}
+use Rattle.server_core.specs.BookCalls.{LeavesTicket, IsTry, IsSettleStep, IsCancel, BookCallsAreSteps, sent_at}
 use Rattle.server_desk.specs.Register.{first_at}
 use Rattle.uplink_gather.proofs.KeptLemmas.{set_same}
-use Rattle.answer_ticket.specs.declared.tried.Tried.{Tried}
+use Rattle.answer_ticket.specs.{declared.tried.Tried.Tried, Tried.TriedAs}
 use Rattle.answer_ticket.specs.declared.tried.Tried.TheVariants as tried
-use Rattle.answer_ticket.specs.Tried.{TriedAs}
-use Rattle.server_core.specs.BookCalls.{IsBookAt, IsStepAt, IsTicketIn, IsStubIn, IsTryStep, LeavesStub, LeavesTicket, IsTry}
-use Rattle.server_core.specs.BookCalls.{IsSettleStep, IsCancel, BookCallsAreSteps, sent_at}
 use Rattle.server_core.specs.Steps as replies
-use Rattle.server_core.proofs.{Members.equal_where_tested, DeskSteps.desk_calls_are_steps, DeskSteps.may}
-use Rattle.server_core.proofs.TakeStep.{ticket, still_waits}
-use Rattle.server_core.proofs.Words.{try_of}
 
 -- What was found is found again where it was written anew.
 

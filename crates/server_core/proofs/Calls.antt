@@ -1,16 +1,14 @@
 -- Steps one after another, and a call that is one step: one thread notes the step, makes it, and tells its line.
-use Rattle.server_core.proofs.Words.{arith}
-use Rattle.server_core.proofs.Words.{ap, append-nil, append_assoc, sym, ◌∙◌, map-append, Err, IfOk, IsOkUnless, List, MatchResult}
-use Rattle.server_core.proofs.Words.{Ok, OnErr, OnOk, Option, Result, [], map, refl, ℕ, ◌++◌, ◌∷◌, ◌≡◌, ◌≢◌, Payload}
-use Rattle.server_core.proofs.Words.{DeskView, desk_hear, desk_of, desk_queue, known_after, Decision, answer_to}
-use Rattle.server_core.proofs.Words.{copy_of, Device, Register, device_with, World, after_queueing, queue_answer, DeskFault}
-use Rattle.server_core.proofs.Words.{QueueFault, Heard1, entry_at, lines_for, reached, step_of, AreHeard, IsAt, IsIdle}
-use Rattle.server_core.proofs.Words.{IsBetweenCalls}
-use Rattle.server_core.proofs.Words.{Makes, Moves, Seen, heard_line, queued_line, with_lines, with_step, Hear, Heard, Queue}
-use Rattle.server_core.proofs.Words.{Queued, Reply, Step, Line, decide, step_lines, run_from, step}
-use Rattle.server_core.specs.declared.event.Step.{Step as Made}
-use Rattle.server_desk.specs.Hearing.{after_hearing}
+use Rattle.server_core.proofs.Words
+use Words.{arith, ap, append-nil, append_assoc, sym, ◌∙◌, map-append, Err, IfOk, IsOkUnless, List, MatchResult, Ok, OnErr, OnOk}
+use Words.{Option, Result, [], map, refl, ℕ, ◌++◌, ◌∷◌, ◌≡◌, ◌≢◌, Payload, DeskView, desk_hear, desk_of, desk_queue, known_after}
+use Words.{Decision, answer_to, copy_of, Device, Register, device_with, World, after_queueing, queue_answer, DeskFault}
+use Words.{QueueFault, Heard1, entry_at, lines_for, reached, step_of, AreHeard, IsAt, IsIdle, IsBetweenCalls, Makes, Moves, Seen}
+use Words.{heard_line, queued_line, with_lines, with_step, Hear, Heard, Queue, Queued, Reply, Step, Line, decide, step_lines}
+use Words.{run_from, step}
 use Rattle.server_core.proofs.{DeskSteps.desk_calls_are_steps, Ready.heard_after, Ready.idle_hear}
+use Rattle.server_core.specs.{declared.event.Step.Step as Made}
+use Rattle.server_desk.specs.Hearing.{after_hearing}
 
 -- Steps one after another, and the lines for them.
 

@@ -1,12 +1,11 @@
 -- The headline follows from what is promised of every run.
-use Rattle.server_core.proofs.Words.{ap, inl, inr, subst, sym, ◌∙◌, Contains, List, Some, ◌≡◌, ◌⊎◌}
-use Rattle.server_core.proofs.Words.{Reservation, IsAsked, HeardCopy}
-use Rattle.server_core.proofs.Words.{Candidate, Job, ask_for, Gateway, SettingLists, Device, Run, IsSafe}
-use Rattle.server_core.proofs.Words.{IsOwnWindow, plan_for, map, get_contains, map_there}
+use Rattle.server_core.proofs.Words
+use Words.{ap, inl, inr, subst, sym, ◌∙◌, Contains, List, Some, ◌≡◌, ◌⊎◌, Reservation, IsAsked, HeardCopy, Candidate, Job}
+use Words.{ask_for, Gateway, SettingLists, Device, Run, IsSafe, IsOwnWindow, plan_for, map, get_contains, map_there}
+use Rattle.server_core.proofs.Runs.{every_interleaving_is_safe}
 use Rattle.std.proofs.lemmas.Option.{slice_get-get_or}
 use Rattle.rx_windows.specs.Windows.{rx1_of, rx2_of}
 use Rattle.server_core.specs.Headline.{TakesRx1, TakesRx2, IsOfItsUplink, KeepsHeadline, EveryRunKeepsHeadline}
-use Rattle.server_core.proofs.Runs.{every_interleaving_is_safe}
 
 contains_map : {X Y : Type 0} (f : X → Y) (xs : List X) (x : X) → Contains xs x → Contains (map f xs) (f x)
 contains_map f xs x c =

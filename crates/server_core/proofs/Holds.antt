@@ -1,11 +1,10 @@
 -- What the system keeps at every step.
-use Rattle.server_core.proofs.Words.{arith, inl, inr, subst, sym, ◌∙◌, All-weaker, All, Contains, List, None, Ok, Option, Some}
-use Rattle.server_core.proofs.Words.{false, length, map, refl, slice_get, ℕ, ⊤, ◌++◌, ◌+◌, ◌<◌, ◌≡◌, ◌≤◌, ◌⊎◌, Reservation}
-use Rattle.server_core.proofs.Words.{IsOrderly, addr_of, Gathering, numbered, rewritten, HeardCopy, IsWindowOf, Candidate, Job}
-use Rattle.server_core.proofs.Words.{candidate_at, Answer, Open, is_not_given, known_of, numbered-append, numbered_after}
-use Rattle.server_core.proofs.Words.{rewritten-none, all_get, map_there, Device, plan_for, Gateway, World, AreSettings}
-use Rattle.server_core.proofs.Words.{SettingLists, Asked, Sent, DeviceSetting, IsMember, setting_of, Given, Reply}
-use Rattle.server_core.proofs.Words.{sent_for, net, IsAsked, ask_for}
+use Rattle.server_core.proofs.Words
+use Words.{arith, inl, inr, subst, sym, ◌∙◌, All-weaker, All, Contains, List, None, Ok, Option, Some, false, length, map, refl}
+use Words.{slice_get, ℕ, ⊤, ◌++◌, ◌+◌, ◌<◌, ◌≡◌, ◌≤◌, ◌⊎◌, Reservation, IsOrderly, addr_of, Gathering, numbered, rewritten}
+use Words.{HeardCopy, IsWindowOf, Candidate, Job, candidate_at, Answer, Open, is_not_given, known_of, numbered-append}
+use Words.{numbered_after, rewritten-none, all_get, map_there, Device, plan_for, Gateway, World, AreSettings, SettingLists, Asked}
+use Words.{Sent, DeviceSetting, IsMember, setting_of, Given, Reply, sent_for, net, IsAsked, ask_for}
 use Rattle.server_core.proofs.Members.{apart_once}
 
 -- a member with this number, of which this holds

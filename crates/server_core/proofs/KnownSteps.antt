@@ -1,18 +1,17 @@
 -- A payload is queued, a copy is heard, time passes for the gatherings, an answer is settled: what holds of the world holds then.
-use Rattle.server_core.proofs.Words.{arith, sym, Contains-append_left, Bool, List, None, Ok, Option, Result, Some, false}
-use Rattle.server_core.proofs.Words.{if◌then◌else◌, refl, slice_get, true, ℕ, ◌==◌, ◌≡◌, addr_of, Gathering, is_open_at, numbered}
-use Rattle.server_core.proofs.Words.{rewritten, place_of, with_copy, Joins, Job, Payload, Ending, Answer}
-use Rattle.server_core.proofs.Words.{Settled, Decision, Join, Opening, Refuse, asked_by, copy_of, length-rewritten}
-use Rattle.server_core.proofs.Words.{Device, Register, device_with, after_settling, delivered, has_carried, head_taken}
-use Rattle.server_core.proofs.Words.{sent_of, without_head, World, ids, after_queueing, queue_answer, with_payload, IsDecided}
-use Rattle.server_core.proofs.Words.{decided, found_there, closing, pass_answer, SettingLists, Asked, Sent, QueueFault, Heard1}
-use Rattle.server_core.proofs.Words.{ending_of, hear, hear_by, pass, queue, sent_for, settle}
-use Rattle.uplink_gather.specs.Hearing as gathers
-use Rattle.server_desk.specs.Hearing as hearing
+use Rattle.server_core.proofs.Words
+use Words.{arith, sym, Contains-append_left, Bool, List, None, Ok, Option, Result, Some, false, if◌then◌else◌, refl, slice_get}
+use Words.{true, ℕ, ◌==◌, ◌≡◌, addr_of, Gathering, is_open_at, numbered, rewritten, place_of, with_copy, Joins, Job, Payload}
+use Words.{Ending, Answer, Settled, Decision, Join, Opening, Refuse, asked_by, copy_of, length-rewritten, Device, Register}
+use Words.{device_with, after_settling, delivered, has_carried, head_taken, sent_of, without_head, World, ids, after_queueing}
+use Words.{queue_answer, with_payload, IsDecided, decided, found_there, closing, pass_answer, SettingLists, Asked, Sent}
+use Words.{QueueFault, Heard1, ending_of, hear, hear_by, pass, queue, sent_for, settle}
 use Rattle.server_core.proofs.Holds.{IsGrown, Holds, IsGood, IsGoodStep, unchanged, IsOfDevice, both_good, device_setting}
 use Rattle.server_core.proofs.Written.{device_written, with_device, answer_written, Grow-rewritten, gathered_grown}
 use Rattle.server_core.proofs.Written.{uplink_gathered}
 use Rattle.server_core.proofs.{DeskSteps.settle_walk, Members.equal_where_tested}
+use Rattle.uplink_gather.specs.Hearing as gathers
+use Rattle.server_desk.specs.Hearing as hearing
 
 -- A payload is queued.
 

@@ -1,15 +1,12 @@
 -- A cancel of what isn't booked for its number on a gateway changes nothing there.
-use Rattle.server_core.proofs.Words.{arith}
-use Rattle.server_core.proofs.Words.{ap, subst, sym, ◌∙◌, Bool, Err, List, None, Ok, OnErr, Option, Result, Some}
-use Rattle.server_core.proofs.Words.{[], cond, false, find, if◌then◌else◌, nat_le, refl, slice_get, suc, true, ℕ, ◌==◌, ◌&&◌, ◌∷◌}
-use Rattle.server_core.proofs.Words.{◌≡◌, ◌≢◌, Reservation, Book, is_named, remembers_cancel, CancelFault, Begun}
-use Rattle.server_core.proofs.Words.{Limits, opening, some_inj, World, AreSettings, SettingLists, Sent, IsMember, Step}
-use Rattle.server_core.proofs.Words.{run, found_or}
+use Rattle.server_core.proofs.Words.{arith, ap, subst, sym, ◌∙◌, Bool, Err, List, None, Ok, OnErr, Option, Result, Some, [], cond}
+use Rattle.server_core.proofs.Words.{false, find, if◌then◌else◌, nat_le, refl, slice_get, suc, true, ℕ, ◌==◌, ◌&&◌, ◌∷◌, ◌≡◌, ◌≢◌}
+use Rattle.server_core.proofs.Words.{Reservation, Book, is_named, remembers_cancel, CancelFault, Begun, Limits, opening, some_inj}
+use Rattle.server_core.proofs.Words.{World, AreSettings, SettingLists, Sent, IsMember, Step, run, found_or}
+use Rattle.server_core.proofs.Holds.{Holds, member_stands}
+use Rattle.server_core.proofs.{Members.equal_where_tested, BookSteps.there, BookSteps.own, Runs.opened, Runs.run_good}
 use Rattle.gateway_book.specs.Book.{airtime_answer}
 use Rattle.server_core.specs.BookCalls.{IsBookAt, IsCancel, sent_at}
-use Rattle.server_core.proofs.{Members.equal_where_tested, BookSteps.there, BookSteps.own}
-use Rattle.server_core.proofs.Holds.{Holds, member_stands}
-use Rattle.server_core.proofs.Runs.{opened, run_good}
 
 -- a member that is found stands at a place and passes the test
 module _ {X : Type 0} (test : X → Bool) (x : X) where

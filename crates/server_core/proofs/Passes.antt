@@ -1,13 +1,11 @@
 -- Time passes for the gatherings: all that are due are closed and answered.
-use Rattle.server_core.proofs.Words.{ap, append-nil, arith, sym, ◌∙◌, position_from, Bool, List, None, Option, Some, [], false}
-use Rattle.server_core.proofs.Words.{if◌then◌else◌, length, refl, slice_get, slice_set, suc, true, ℕ, ◌++◌, ◌+◌}
-use Rattle.server_core.proofs.Words.{◌<◌, ◌∷◌, ◌≡◌, Gathering, Gatherings, close_step, is_due, is_open, DeskView}
-use Rattle.server_core.proofs.Words.{desk_pass, World, closing, pass_answer, answer_steps, closing_steps, due_from, due_numbers}
-use Rattle.server_core.proofs.Words.{reached, IsAt, IsBetweenCalls, Makes, Moves, Seen, pass_whole, with_step, Pass, due_of}
-use Rattle.server_core.proofs.Words.{pass_steps}
-use Rattle.server_core.proofs.Words.{run_from, step}
-use Rattle.server_core.specs.declared.event.Step.TheVariants as made
+use Rattle.server_core.proofs.Words
+use Words.{ap, append-nil, arith, sym, ◌∙◌, position_from, Bool, List, None, Option, Some, [], false, if◌then◌else◌, length, refl}
+use Words.{slice_get, slice_set, suc, true, ℕ, ◌++◌, ◌+◌, ◌<◌, ◌∷◌, ◌≡◌, Gathering, Gatherings, close_step, is_due, is_open}
+use Words.{DeskView, desk_pass, World, closing, pass_answer, answer_steps, closing_steps, due_from, due_numbers, reached, IsAt}
+use Words.{IsBetweenCalls, Makes, Moves, Seen, pass_whole, with_step, Pass, due_of, pass_steps, run_from, step}
 use Rattle.server_core.proofs.{Calls.one_step, Calls.moves_on, Ready.heard_closed}
+use Rattle.server_core.specs.declared.event.Step.TheVariants as made
 
 -- The gatherings that are due, one after another.
 

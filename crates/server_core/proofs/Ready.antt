@@ -1,11 +1,11 @@
 -- What a server on one thread keeps at every event.
-use Rattle.server_core.proofs.Words.{arith, inl, inr, subst, sym, Contains-push_cases, Bool, Contains, Err, IsTrue, List, None}
-use Rattle.server_core.proofs.Words.{Ok, Option, Result, Some, [], false, if◌then◌else◌, length, not, refl, true, ℕ, ◌++◌, ◌+◌}
-use Rattle.server_core.proofs.Words.{◌∷◌, ◌≡◌, ◌⊎◌, uplink_of, FrameFault, Uplink, Gathering, Gatherings, close_step, is_open_at}
-use Rattle.server_core.proofs.Words.{numbered, rewritten, hear_answer, with_copy, Joined, Opened, HearFault, HeardCopy, is_given}
-use Rattle.server_core.proofs.Words.{known_after, Decision, Join, Refuse, copy_fault, copy_of, decide_copy, decide_frame}
-use Rattle.server_core.proofs.Words.{register_after, numbered-append_cases, numbered_cases, rewritten-none, Register, Known}
-use Rattle.server_core.proofs.Words.{NotGiven, DeskFault, UnknownGateway, Heard1, AreHeard, HasHeard, IsIdle, is_among, decide}
+use Rattle.server_core.proofs.Words
+use Words.{arith, inl, inr, subst, sym, Contains-push_cases, Bool, Contains, Err, IsTrue, List, None, Ok, Option, Result, Some}
+use Words.{[], false, if◌then◌else◌, length, not, refl, true, ℕ, ◌++◌, ◌+◌, ◌∷◌, ◌≡◌, ◌⊎◌, uplink_of, FrameFault, Uplink}
+use Words.{Gathering, Gatherings, close_step, is_open_at, numbered, rewritten, hear_answer, with_copy, Joined, Opened, HearFault}
+use Words.{HeardCopy, is_given, known_after, Decision, Join, Refuse, copy_fault, copy_of, decide_copy, decide_frame}
+use Words.{register_after, numbered-append_cases, numbered_cases, rewritten-none, Register, Known, NotGiven, DeskFault}
+use Words.{UnknownGateway, Heard1, AreHeard, HasHeard, IsIdle, is_among, decide}
 use Rattle.uplink_gather.specs.{declared.answers.Heard.Heard, Hearing.opening, Hearing.after_hearing}
 use Rattle.server_desk.specs.Hearing.{Open}
 use Rattle.server_desk.specs.Hearing as hearing

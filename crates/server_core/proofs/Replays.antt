@@ -1,15 +1,13 @@
 -- Events, one after another, from a server that has heard nothing.
-use Rattle.server_core.proofs.Words.{ap, append-nil, append_assoc, arith, sym, ◌∙◌, drop_of_length-le, drop-cons, List, [], drop}
-use Rattle.server_core.proofs.Words.{get_or, length, map, refl, suc, ℕ, ◌++◌, ◌+◌, ◌<◌, ◌∷◌, ◌≡◌, ◌≤◌, map-map, Book, orderly_nil}
-use Rattle.server_core.proofs.Words.{kept-nil, remembers_own, desk_of, Gateway, World, opened_gateway}
-use Rattle.server_core.proofs.Words.{opening, AreSettings, SettingLists}
-use Rattle.server_core.proofs.Words.{GatewaySetting, entries, gateway_of, gateways_after, kept_gateway, reached, schedule}
-use Rattle.server_core.proofs.Words.{step_of, usual_limits, AreBooksOf, Does, IsAt, IsOpened, IsBetweenCalls, Seen, with_lines}
-use Rattle.server_core.proofs.Words.{Step}
-use Rattle.server_core.proofs.Words.{Event, event_steps, schedule_from, entries_from, run_from}
+use Rattle.server_core.proofs.Words
+use Words.{ap, append-nil, append_assoc, arith, sym, ◌∙◌, drop_of_length-le, drop-cons, List, [], drop, get_or, length, map, refl}
+use Words.{suc, ℕ, ◌++◌, ◌+◌, ◌<◌, ◌∷◌, ◌≡◌, ◌≤◌, map-map, Book, orderly_nil, kept-nil, remembers_own, desk_of, Gateway, World}
+use Words.{opened_gateway, opening, AreSettings, SettingLists, GatewaySetting, entries, gateway_of, gateways_after, kept_gateway}
+use Words.{reached, schedule, step_of, usual_limits, AreBooksOf, Does, IsAt, IsOpened, IsBetweenCalls, Seen, with_lines, Step}
+use Words.{Event, event_steps, schedule_from, entries_from, run_from}
+use Rattle.server_core.proofs.{Calls.reached_append, Members.none_numbered}
 use Rattle.server_core.specs.declared.event.Event.TheVariants as events
 use Rattle.server_core.specs.declared.entry.Line.TheVariants as says
-use Rattle.server_core.proofs.{Calls.reached_append, Members.none_numbered}
 
 -- a server that has heard nothing
 

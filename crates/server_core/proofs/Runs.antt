@@ -1,17 +1,16 @@
 -- The world before the first step and after every list of steps, and what is promised of a run.
-use Rattle.server_core.proofs.Words.{ap, arith, inl, inr, subst, sym, ◌∙◌, All-cons, All-nil, All-weaker, Contains-append_right}
-use Rattle.server_core.proofs.Words.{AllPairs-cons, All, AllPairs, Contains, List, Ok, Some, [], map, refl, slice_get, ℕ, ◌+◌}
-use Rattle.server_core.proofs.Words.{◌∷◌, ◌≡◌, ◌≢◌, ◌⊎◌, start_of, Reservation, orderly_nil, IsLawful, addr_of, Limits, Job}
-use Rattle.server_core.proofs.Words.{candidates, from_map, get_contains, some_inj, Device, opened_device, plan_for, Gateway}
-use Rattle.server_core.proofs.Words.{World, opened_gateway, opening, AreSettings, SettingLists, Sent, EveryInterleavingIsSafe}
-use Rattle.server_core.proofs.Words.{HaveOwnCounters, IsMember, IsOwnWindow, IsSafe, jobs_given, setting_of, with_given, Cancel}
-use Rattle.server_core.proofs.Words.{Given, Hear, Pass, Queue, Reply, Run, Settle, Step, Take, Tick, Try, run, sent_for, net}
-use Rattle.server_core.proofs.Words.{run_from, step}
+use Rattle.server_core.proofs.Words
+use Words.{ap, arith, inl, inr, subst, sym, ◌∙◌, All-cons, All-nil, All-weaker, Contains-append_right, AllPairs-cons, All}
+use Words.{AllPairs, Contains, List, Ok, Some, [], map, refl, slice_get, ℕ, ◌+◌, ◌∷◌, ◌≡◌, ◌≢◌, ◌⊎◌, start_of, Reservation}
+use Words.{orderly_nil, IsLawful, addr_of, Limits, Job, candidates, from_map, get_contains, some_inj, Device, opened_device}
+use Words.{plan_for, Gateway, World, opened_gateway, opening, AreSettings, SettingLists, Sent, EveryInterleavingIsSafe}
+use Words.{HaveOwnCounters, IsMember, IsOwnWindow, IsSafe, jobs_given, setting_of, with_given, Cancel, Given, Hear, Pass, Queue}
+use Words.{Reply, Run, Settle, Step, Take, Tick, Try, run, sent_for, net, run_from, step}
 use Rattle.server_core.proofs.Holds.{IsKept, Stands, Holds, IsInOrder, AllStand, IsGivenAt, Follows, IsGoodStep, IsNew, UsesUp}
 use Rattle.server_core.proofs.Holds.{given_after, Holds-weaker, one_gateway, member_stands}
 use Rattle.server_core.proofs.KnownSteps.{queue_good, hear_good, pass_good, settle_good}
-use Rattle.server_core.proofs.GatewaySteps.{try_good, cancel_good, tick_good}
-use Rattle.server_core.proofs.{Members.rises_once, Members.none_numbered, TakeStep.take_good}
+use Rattle.server_core.proofs.{GatewaySteps.try_good, GatewaySteps.cancel_good, GatewaySteps.tick_good, Members.rises_once}
+use Rattle.server_core.proofs.{Members.none_numbered, TakeStep.take_good}
 
 module _ {settings : SettingLists} (are : AreSettings settings.gateways settings.devices) {T : Job → Type 0} {w : World}
     (h : Holds settings T w) where

@@ -1,14 +1,13 @@
 -- A ticket is tried until it is booked or out, and settled.
-use Rattle.server_core.proofs.Words.{ap, append-nil, append_assoc, arith, sym, ◌∙◌, slice_get_within, IsSome, IsTrue, List}
-use Rattle.server_core.proofs.Words.{Ok, Option, Some, [], length, map, refl, slice_get, ℕ, ◌++◌, ◌+◌, ◌-◌, ◌<◌, ◌∷◌, ◌≡◌}
-use Rattle.server_core.proofs.Words.{numbered, Candidate, candidates, next_of, Standing, candidate_of, Ending, Open, desk_of}
-use Rattle.server_core.proofs.Words.{desk_settled, may_settle, World, given_steps, reached, AreHere, IsAt, Moves, Seen, ids_of}
-use Rattle.server_core.proofs.Words.{Settle, Try, AreTries, EndsTries, GoesOn, IsAnswered, IsGivenTo, MovesOn, HasTicketOut}
-use Rattle.server_core.proofs.Words.{IsSame}
-use Rattle.server_core.proofs.Words.{IsSettled, end_lines, tries_from, TriedOut, step_lines, run_from, step}
-use Rattle.server_core.specs.Steps as replies
+use Rattle.server_core.proofs.Words
+use Words.{ap, append-nil, append_assoc, arith, sym, ◌∙◌, slice_get_within, IsTrue, List, Ok, Some, [], length, map, refl, ℕ}
+use Words.{◌++◌, ◌+◌, ◌-◌, ◌<◌, ◌∷◌, ◌≡◌, numbered, Candidate, candidates, next_of, Standing, Ending, Open, desk_of, desk_settled}
+use Words.{may_settle, World, given_steps, reached, AreHere, IsAt, Moves, Seen, ids_of, Settle, Try, AreTries, EndsTries, GoesOn}
+use Words.{IsAnswered, IsGivenTo, MovesOn, HasTicketOut, IsSame, IsSettled, end_lines, tries_from, TriedOut, step_lines, run_from}
+use Words.{step}
 use Rattle.server_core.proofs.Calls.{reached_append, lines_append}
 use Rattle.server_core.proofs.DeskSteps.{settle_walk, settle_desk, desk_calls_are_steps}
+use Rattle.server_core.specs.Steps as replies
 
 -- A ticket is tried until it is booked or out.
 

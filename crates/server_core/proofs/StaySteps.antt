@@ -1,25 +1,20 @@
 -- What is out stays that of the world through the steps of others.
-use Rattle.server_core.proofs.Words.{arith, nat_tests}
-use Rattle.server_core.proofs.Words.{ap, sym, true≢false, ◌∙◌, AllPairs, Bool, Err, List, None, Ok}
-use Rattle.server_core.proofs.Words.{Option, Result, Some, [], false}
-use Rattle.server_core.proofs.Words.{map, option_and_then, option_map, refl}
-use Rattle.server_core.proofs.Words.{slice_get, slice_set, suc, true, zero, ℕ}
-use Rattle.server_core.proofs.Words.{◌==◌, ◌∷◌, ◌≡◌, ◌≢◌, inl, inr, kept-nil, remembers_own, Refusal, orderly_nil, AllPairs-head}
-use Rattle.server_core.proofs.Words.{AllPairs-tail, numbered, rewritten, Candidate, Job, Ending, Outcome, Answer, Waiting}
-use Rattle.server_core.proofs.Words.{Open, is_given, known_of, Decision, all_get, numbered-append}
-use Rattle.server_core.proofs.Words.{numbered_after, some_inj, Gateway, World, gateway_with, ids, known, opened_gateway}
-use Rattle.server_core.proofs.Words.{GatewaySetting, Sent, TakeFault, Step, Queue, Hear, Pass}
-use Rattle.server_core.proofs.Words.{Take, Settle, Try, Cancel, Tick, answers_after, cancel_at, cancel_sent, ending_of, take_by}
-use Rattle.server_core.proofs.Words.{tick_at, tried_by, decide, take_answer, step}
+use Rattle.server_core.proofs.Words
+use Words.{arith, nat_tests, ap, sym, true≢false, ◌∙◌, AllPairs, Bool, Err, List, None, Ok, Option, Result, Some, [], false, map}
+use Words.{option_and_then, option_map, refl, slice_get, slice_set, suc, true, zero, ℕ, ◌==◌, ◌∷◌, ◌≡◌, ◌≢◌, inl, inr, kept-nil}
+use Words.{remembers_own, Refusal, orderly_nil, AllPairs-head, AllPairs-tail, numbered, rewritten, Candidate, Job, Ending}
+use Words.{Outcome, Answer, Waiting, Open, is_given, known_of, Decision, all_get, numbered-append, numbered_after, some_inj}
+use Words.{Gateway, World, gateway_with, ids, known, opened_gateway, GatewaySetting, Sent, TakeFault, Step, Queue, Hear, Pass}
+use Words.{Take, Settle, Try, Cancel, Tick, answers_after, cancel_at, cancel_sent, ending_of, take_by, tick_at, tried_by, decide}
+use Words.{take_answer, step}
+use Rattle.server_core.proofs.DeskSteps.{by_option, gateway_walk, tick_walk, cancel_walk, try_walk, settle_walk}
+use Rattle.server_core.proofs.DeskSteps.{desk_calls_are_steps}
+use Rattle.server_core.proofs.{TakeStep.ticket, TakeStep.still_waits, BookSteps.cancel_is, OtherCancels.other_cancel}
 use Rattle.std.specs.Cmp.{unsigned_Decides}
-use Rattle.server_desk.specs.Hearing as hearing
 use Rattle.server_desk.specs.Register.{first_at}
 use Rattle.server_core.specs.BookCalls.{IsStubIn, sent_at}
 use Rattle.server_core.specs.Staying.{spends, gateway_asked, unused_book, OthersLeaveAlone}
-use Rattle.server_core.proofs.DeskSteps.{by_option, gateway_walk, tick_walk, cancel_walk, try_walk}
-use Rattle.server_core.proofs.DeskSteps.{settle_walk, desk_calls_are_steps}
-use Rattle.server_core.proofs.TakeStep.{ticket, still_waits}
-use Rattle.server_core.proofs.{BookSteps.cancel_is, OtherCancels.other_cancel}
+use Rattle.server_desk.specs.Hearing as hearing
 
 not_tested : (m n : ℕ) → (m == n) ≡ false → m ≢ n
 not_tested m n h = grind (arith, nat_tests)

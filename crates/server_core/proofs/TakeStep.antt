@@ -1,12 +1,10 @@
 -- A ticket is given: what is known of its uplink, and what holds of the world then.
-use Rattle.server_core.proofs.Words.{ap, arith, inl, inr, subst, sym, true≢false, ◌∙◌, Err, List, Ok, Result}
-use Rattle.server_core.proofs.Words.{Some, map, refl, slice_get, suc, true, zero, ℕ, ◌≡◌, ◌≤◌, ◌⊎◌}
-use Rattle.server_core.proofs.Words.{copies_of, numbered, IsWindowOf, IsWindowOf-ranked, on_gateways_that_heard}
-use Rattle.server_core.proofs.Words.{candidates_of, Candidate, Job, candidate_at, Answer, Open, Waiting}
-use Rattle.server_core.proofs.Words.{is_not_given, known_of, numbered-here, all_get, from_map, get_set_same, some_inj, Device}
-use Rattle.server_core.proofs.Words.{Register, job_of, with_counter_given, World, known}
-use Rattle.server_core.proofs.Words.{AreSettings, SettingLists, Asked, Known, TakeFault, take, take_by}
-use Rattle.server_core.proofs.Words.{take_answer}
+use Rattle.server_core.proofs.Words
+use Words.{ap, arith, inl, inr, subst, sym, true≢false, ◌∙◌, Err, List, Ok, Result, Some, map, refl, slice_get, suc, true, zero}
+use Words.{ℕ, ◌≡◌, ◌≤◌, ◌⊎◌, copies_of, numbered, IsWindowOf, IsWindowOf-ranked, on_gateways_that_heard, candidates_of, Candidate}
+use Words.{Job, candidate_at, Answer, Open, Waiting, is_not_given, known_of, numbered-here, all_get, from_map, get_set_same}
+use Words.{some_inj, Device, Register, job_of, with_counter_given, World, known, AreSettings, SettingLists, Asked, Known}
+use Words.{TakeFault, take, take_by, take_answer}
 use Rattle.server_core.proofs.Holds.{IsJobAt, Holds, IsGivenAt, IsGood, IsGoodStep, IsNew, IsUsed, Holds-weaker, has_now}
 use Rattle.server_core.proofs.Holds.{unchanged, both_good, device_setting, one_device}
 use Rattle.server_core.proofs.Written.{with_device, device_written, with_answer, answer_written}

@@ -1,21 +1,18 @@
 -- The candidates of a ticket are tried on the books of their gateways.
-use Rattle.server_core.proofs.Words.{ap, arith, subst, sym, ◌∙◌, map-append, IsSomeAnd, option_map, List, None, Option}
-use Rattle.server_core.proofs.Words.{Some, [], drop, get_or, if◌then◌else◌, map, refl, slice_get, slice_set, suc, zero, ℕ, ◌++◌}
-use Rattle.server_core.proofs.Words.{◌+◌, ◌∷◌, ◌≡◌, Book}
-use Rattle.server_core.proofs.Words.{IsAsked, refusal_of, Refusal, Candidate, ask_for, candidates}
-use Rattle.server_core.proofs.Words.{IsBooked, IsReceipt, IsWrong, next_of, refusal_by, answered_as, Standing, candidate_of}
-use Rattle.server_core.proofs.Words.{Unanswered, Outcome, Receipt, Answer, Open, map_set, some_inj}
-use Rattle.server_core.proofs.Words.{Gateway, World, gateway_with, is_accepted, is_none, step_of, up_to_first, AreBooksOf}
-use Rattle.server_core.proofs.Words.{AreHere, Seen, ids_of, with_step, Try, terms, AreTries}
-use Rattle.server_core.proofs.Words.{EndsTries, GoesOn, MovesOn, HasTicketOut, IsSame, tries_from, step_lines, run_from, step}
-use Rattle.answer_ticket.specs.Tried.{IsNext as IsRefused, IsOut as IsRefusedLast}
-use Rattle.server_core.specs.declared.event.Step.TheVariants as made
-use Rattle.answer_ticket.specs.declared.tried.Tried.{Tried}
-use Rattle.answer_ticket.specs.declared.tried.Tried.TheVariants as tried
-use Rattle.answer_ticket.specs.Tried.{TriedIs}
-use Rattle.server_core.specs.BookCalls.{IsBookAt, IsTryStep, LeavesStub, LeavesTicket, IsTry}
+use Rattle.server_core.proofs.Words
+use Words.{ap, arith, subst, sym, ◌∙◌, map-append, IsSomeAnd, option_map, List, None, Option, Some, [], drop, get_or}
+use Words.{if◌then◌else◌, map, refl, slice_get, slice_set, suc, zero, ℕ, ◌++◌, ◌+◌, ◌∷◌, ◌≡◌, Book, IsAsked, refusal_of, Refusal}
+use Words.{Candidate, ask_for, candidates, IsBooked, IsReceipt, IsWrong, next_of, refusal_by, answered_as, Standing, candidate_of}
+use Words.{Unanswered, Outcome, Receipt, Answer, Open, map_set, some_inj, Gateway, World, gateway_with, is_accepted, is_none}
+use Words.{step_of, up_to_first, AreBooksOf, AreHere, Seen, ids_of, with_step, Try, terms, AreTries, EndsTries, GoesOn, MovesOn}
+use Words.{HasTicketOut, IsSame, tries_from, step_lines, run_from, step}
 use Rattle.server_core.proofs.BookSteps.{book_calls_are_steps, some_and, found_for, answer_is, try_is}
 use Rattle.server_core.proofs.BookCalls.{IsFound, place_of, book_found, gateway_found, books_stepped, has_place}
+use Rattle.answer_ticket.specs.Tried.{IsNext as IsRefused, IsOut as IsRefusedLast, TriedIs}
+use Rattle.answer_ticket.specs.declared.tried.Tried.{Tried}
+use Rattle.server_core.specs.BookCalls.{IsBookAt, IsTryStep, LeavesStub, LeavesTicket, IsTry}
+use Rattle.server_core.specs.declared.event.Step.TheVariants as made
+use Rattle.answer_ticket.specs.declared.tried.Tried.TheVariants as tried
 
 module _ {X : Type 0} where
   -- what is left from a place on

@@ -13,19 +13,17 @@ pub use Rattle.std.specs.Prelude.{is_some, length, map, max, nat_le, nat_lt, not
 pub use Rattle.std.specs.Prelude.{⊤, ◌&&◌, ◌++◌, ◌+◌, ◌-◌, ◌<◌, ◌==◌, ◌||◌, ◌∷◌, ◌≡◌, ◌≢◌, ◌≤◌, ◌⊎◌}
 pub use Rattle.resv_list.specs.Reservations.{IsByStart, airtime_us, member_from, place, start_of, without}
 pub use Rattle.resv_list.specs.{Sorted.RisesFrom, Sorted.place_by, declared.reservation.Reservation.Reservation}
-pub use Rattle.gateway_book.specs.Book.{Book, ticked, with_booked, with_cancelled}
-pub use Rattle.gateway_book.proofs.OrderlyLaws.{may_join, orderly_filter, orderly_nil, orderly_placed}
-pub use Rattle.gateway_book.specs.Step.{State, after_cancel, book_step, cancel_answer, cancel_step, found_or, is_fit-IsFit}
-pub use Rattle.gateway_book.specs.Step.{is_named, tick_step, without_named}
-pub use Rattle.gateway_book.proofs.RememberedLaws.{orderly_booked, orderly_cancelled, remembers_answer, remembers_booked}
-pub use Rattle.gateway_book.proofs.RememberedLaws.{remembers_cancel, remembers_cancelled, remembers_own, remembers_ticked}
-pub use Rattle.gateway_book.specs.Answer.{IsAsked, refusal_of}
-pub use Rattle.gateway_book.proofs.{AnswerLaws.accepted, AnswerLaws.book_step-accepted}
-pub use Rattle.gateway_book.proofs.{CancelLaws.named_found, CancelLaws.named_none, CancelLaws.net_named, KeptLaws.kept-nil}
-pub use Rattle.gateway_book.proofs.{KeptLaws.net-place}
+pub use Rattle.gateway_book.specs.{Book.Book, Book.ticked, Book.with_booked, Book.with_cancelled, Step.State, Step.after_cancel}
+pub use Rattle.gateway_book.specs.{Step.book_step, Step.cancel_answer, Step.cancel_step, Step.found_or, Step.is_fit-IsFit}
+pub use Rattle.gateway_book.specs.{Step.is_named, Step.tick_step, Step.without_named, Answer.IsAsked, Answer.refusal_of}
 pub use Rattle.gateway_book.specs.{Orderly.IsOrderly, declared.ask.Ask.Ask, declared.cancel.CancelFault.CancelFault}
 pub use Rattle.gateway_book.specs.{declared.cancel.CancelFault.TheVariants.Begun, declared.cancel.CancelFault.TheVariants.NotHere}
 pub use Rattle.gateway_book.specs.{declared.refusal.Refusal.Refusal, declared.totals.Totals.Totals, Lawful.IsLawful}
+pub use Rattle.gateway_book.proofs.OrderlyLaws.{may_join, orderly_filter, orderly_nil, orderly_placed}
+pub use Rattle.gateway_book.proofs.RememberedLaws.{orderly_booked, orderly_cancelled, remembers_answer, remembers_booked}
+pub use Rattle.gateway_book.proofs.RememberedLaws.{remembers_cancel, remembers_cancelled, remembers_own, remembers_ticked}
+pub use Rattle.gateway_book.proofs.CancelLaws.{named_found, named_none, net_named}
+pub use Rattle.gateway_book.proofs.{AnswerLaws.accepted, AnswerLaws.book_step-accepted, KeptLaws.kept-nil, KeptLaws.net-place}
 pub use Rattle.lora_frame.specs.Reading.{addr_of, uplink_of}
 pub use Rattle.lora_frame.specs.{declared.reading.FrameFault.FrameFault, declared.reading.Uplink.Uplink}
 pub use Rattle.uplink_gather.specs.Gatherings.{Gathering, Gatherings, close_step, copies_of, is_closed_at, is_due, is_open}
@@ -45,20 +43,17 @@ pub use Rattle.answer_ticket.specs.{declared.tried.Receipt.Receipt, declared.tri
 pub use Rattle.server_desk.specs.Airtime.{answer_airtime, answered_at, answered_in, known_airtime}
 pub use Rattle.server_desk.specs.Answers.{Answer, Booked, Open, Out, Settled, Waiting, is_given, is_not_given, known_of}
 pub use Rattle.server_desk.specs.Desk.{DeskView, desk_hear, desk_of, desk_pass, desk_queue, desk_settled, desk_take, desk_taken}
+pub use Rattle.server_desk.specs.Desk.{known_after}
 pub use Rattle.server_desk.specs.Hearing.{Decision, Join, Opening, Refuse, answer_to, asked_by, copy_fault, copy_of, decide_copy}
-pub use Rattle.server_desk.proofs.Numbers.{length-rewritten, map-rewritten, numbered-append, numbered-append_cases, numbered-here}
-pub use Rattle.server_desk.proofs.Numbers.{numbered-map, numbered_after, numbered_cases, numbered_next, rewritten-found}
-pub use Rattle.server_desk.proofs.Numbers.{rewritten-none, same_rewritten}
-pub use Rattle.server_desk.proofs.Places.{all_get, from_map, get_contains, get_set_after, get_set_cases, get_set_same, map_set}
-pub use Rattle.server_desk.specs.Register.{Device, Register, device_with, next_place, opened_device}
+pub use Rattle.server_desk.specs.Hearing.{decide_frame, register_after}
+pub use Rattle.server_desk.specs.Register.{Device, Register, device_with, next_place, opened_device, is_among}
 pub use Rattle.server_desk.specs.Settling.{after_settling, delivered, has_carried, head_taken, is_here, kept_by, may_settle}
+pub use Rattle.server_desk.specs.Settling.{sent_of, without_head}
 pub use Rattle.server_desk.specs.Taking.{after_taking, given_or, job_of, plan_for, take_fault, take_known, taken_from}
+pub use Rattle.server_desk.specs.Taking.{with_counter_given}
 pub use Rattle.server_desk.specs.World.{Gateway, World, gateway_with, ids, known, opened_gateway, opening}
-pub use Rattle.server_desk.specs.Queueing.{after_queueing, queue_answer, with_payload}
-pub use Rattle.server_desk.proofs.{Places.map_there, Places.some_inj, Places.found_there, Decided.IsDecided, Decided.decided}
-pub use Rattle.server_desk.specs.{Desk.known_after, Hearing.decide_frame, Hearing.register_after, Settling.sent_of}
-pub use Rattle.server_desk.specs.{Settling.without_head, Taking.with_counter_given, Passing.closing, Passing.pass_answer}
-pub use Rattle.server_desk.specs.{Settings.AreSettings, Settings.SettingLists, declared.answers.Asked.Asked}
+pub use Rattle.server_desk.specs.{Queueing.after_queueing, Queueing.queue_answer, Queueing.with_payload, Passing.closing}
+pub use Rattle.server_desk.specs.{Passing.pass_answer, Settings.AreSettings, Settings.SettingLists, declared.answers.Asked.Asked}
 pub use Rattle.server_desk.specs.{declared.answers.Known.Known, declared.answers.Known.TheVariants.Done}
 pub use Rattle.server_desk.specs.{declared.answers.Known.TheVariants.NotGiven, declared.answers.Sent.Sent}
 pub use Rattle.server_desk.specs.{declared.faults.DeskFault.DeskFault, declared.faults.DeskFault.TheVariants.UnknownGateway}
@@ -66,22 +61,27 @@ pub use Rattle.server_desk.specs.{declared.faults.QueueFault.QueueFault, declare
 pub use Rattle.server_desk.specs.{declared.faults.TakeFault.TheVariants.NoMemory, declared.faults.TakeFault.TheVariants.NotReady}
 pub use Rattle.server_desk.specs.{declared.faults.TakeFault.TheVariants.Taken, declared.heard.Heard1.Heard1}
 pub use Rattle.server_desk.specs.{declared.setting.DeviceSetting.DeviceSetting, declared.setting.GatewaySetting.GatewaySetting}
+pub use Rattle.server_desk.proofs.Numbers.{length-rewritten, map-rewritten, numbered-append, numbered-append_cases, numbered-here}
+pub use Rattle.server_desk.proofs.Numbers.{numbered-map, numbered_after, numbered_cases, numbered_next, rewritten-found}
+pub use Rattle.server_desk.proofs.Numbers.{rewritten-none, same_rewritten}
+pub use Rattle.server_desk.proofs.Places.{all_get, from_map, get_contains, get_set_after, get_set_cases, get_set_same, map_set}
+pub use Rattle.server_desk.proofs.Places.{map_there, some_inj, found_there}
+pub use Rattle.server_desk.proofs.Decided.{IsDecided, decided}
 pub use Rattle.server_core.specs.Entries.{entries, entry_at, gateway_of, gateways_after, kept_gateway, lines_for, not_taken}
-pub use Rattle.server_core.specs.Promise.{EveryInterleavingIsSafe, HaveOwnCounters, IsMember, IsOwnWindow, IsSafe}
-pub use Rattle.server_core.specs.Promise.{jobs_given, setting_of, with_given}
+pub use Rattle.server_core.specs.Promise.{EveryInterleavingIsSafe, HaveOwnCounters, IsMember, IsOwnWindow, IsSafe, jobs_given}
+pub use Rattle.server_core.specs.Promise.{setting_of, with_given}
 pub use Rattle.server_core.specs.Schedule.{answer_steps, closing_steps, due_from, due_numbers, given_steps, is_accepted, is_none}
 pub use Rattle.server_core.specs.Schedule.{reached, schedule, step_of, up_to_first, usual_limits}
 pub use Rattle.server_core.specs.Server.{AreBooksOf, AreHeard, AreHere, Does, HasHeard, IsAt, IsBookOf, IsCancelled, IsIdle}
 pub use Rattle.server_core.specs.Server.{IsOpened, IsBetweenCalls, Makes, Moves, Seen, cancelled_line, heard_line, ids_of}
-pub use Rattle.server_desk.specs.Register.{is_among}
 pub use Rattle.server_core.specs.Server.{pass_whole, queued_line, seen, with_lines, with_step}
 pub use Rattle.server_core.specs.Steps.{After, Cancel, Given, Hear, Heard, Pass, Queue, Queued, Reply, Run, Settle, Step, Take}
 pub use Rattle.server_core.specs.Steps.{Tick, Try, answers_after, cancel, cancel_at, cancel_of, cancel_sent, ending_of, hear}
 pub use Rattle.server_core.specs.Steps.{hear_by, pass, queue, refused, run, sent_by, sent_for, settle, settle_as, settle_of, take}
 pub use Rattle.server_core.specs.Steps.{take_by, terms, tick, tick_at, tried_by, try, try_candidate, try_of, try_on}
 pub use Rattle.server_core.specs.Tries.{AreTries, EndsTries, GoesOn, IsAnswered, IsGivenTo, MovesOn, HasTicketOut, IsSame}
-pub use Rattle.server_core.specs.Tries.{IsSettled}
-pub use Rattle.server_core.specs.{Tries.end_lines, Tries.tries_from, DeskCalls.DeskCallsAreSteps, DeskCalls.told}
+pub use Rattle.server_core.specs.Tries.{IsSettled, end_lines, tries_from}
+pub use Rattle.server_core.specs.DeskCalls.{DeskCallsAreSteps, told}
 pub use Rattle.server_core.specs.{declared.entry.Line.Line, declared.event.Event.Event}
 unfoldable pub use Rattle.resv_list.specs.Reservations.{net}
 unfoldable pub use Rattle.uplink_gather.specs.Gatherings.{due_of}

@@ -1,34 +1,26 @@
 -- What the laws of the calls of a ticket and of a book say of the worked run: each clause tells a fact.
-use Rattle.server_core.proofs.Words.{ap, arith, None, Some, [], Ok, Err, refl, ◌≡◌, ◌∷◌, List, slice_set}
-use Rattle.server_core.proofs.Words.{some_inj, desk_of, Done, DeskView, Settle, step, Reservation}
-use Rattle.server_core.proofs.Words.{Try, Cancel, Tick, opening, Standing, Outcome, GatewaySetting, NotHere, ticked, with_booked}
-use Rattle.server_core.proofs.Words.{Book, CancelFault, Result, Sent, ℕ, Step, Reply, Answer, World}
-use Rattle.server_core.proofs.Words.{told, with_cancelled, orderly_nil}
-use Rattle.server_core.proofs.Words.{IsOrderly}
+use Rattle.server_core.proofs.Words
+use Words.{ap, arith, None, Some, [], Ok, Err, refl, ◌≡◌, ◌∷◌, List, slice_set, some_inj, desk_of, Done, DeskView, Settle, step}
+use Words.{Reservation, Try, Cancel, Tick, opening, Standing, Outcome, GatewaySetting, NotHere, ticked, with_booked, Book}
+use Words.{CancelFault, Result, Sent, ℕ, Step, Reply, Answer, World, told, with_cancelled, orderly_nil, IsOrderly}
+use Rattle.server_core.proofs.WorkedInputs.{settings, limits, gateway_at, unused, sent_at, ended_at, rx1}
+use Rattle.server_core.proofs.WorkedSteps.{job_1, job_2, job_3, gateway_1, w3, w4, w5, w6, w11, w15, w16, w17, w18, w19}
+use Rattle.server_core.proofs.WorkedSteps.{cancelled_19, made, steps, whole_run}
+use Rattle.server_core.proofs.WorkedPromise.{are, safe_run, first_held, second_held}
 use Rattle.radio_airtime.specs.TimeOnAir.{airtime_of}
 use Rattle.radio_bands.specs.Band.{band_of}
 use Rattle.resv_list.specs.Reservations.{begun}
-use Rattle.gateway_book.specs.Answer.{overlap}
-use Rattle.gateway_book.specs.Kept.{kept}
-use Rattle.gateway_book.specs.Duty.{full_hour}
 use Rattle.gateway_book.specs.declared.refusal.Refusal.TheVariants.{Taken, Passed}
-use Rattle.rx_windows.specs.Windows.{candidates_of}
-use Rattle.rx_windows.specs.declared.candidate.Candidate.{Candidate}
+use Rattle.gateway_book.specs.{Answer.overlap, Kept.kept, Duty.full_hour}
+use Rattle.rx_windows.specs.{Windows.candidates_of, declared.candidate.Candidate.Candidate}
 use Rattle.answer_ticket.specs.declared.outcome.Ending.TheVariants.{GivenUp, Unanswered}
-use Rattle.answer_ticket.specs.declared.tried.Receipt.{Receipt}
-use Rattle.answer_ticket.specs.declared.tried.Tried.TheVariants as tried
-use Rattle.answer_ticket.specs.Job.{Job, frame_for}
-use Rattle.answer_ticket.specs.Tried.{TriedIs, next_of}
+use Rattle.answer_ticket.specs.{declared.tried.Receipt.Receipt, Job.Job, Job.frame_for, Tried.TriedIs, Tried.next_of}
 use Rattle.server_desk.specs.Desk.{desk_settle}
 use Rattle.server_core.specs.BookCalls.{IsBookAt, IsStepAt, IsTicketIn, IsStubIn, IsCancel, LeavesStub, LeavesTicket}
 use Rattle.server_core.specs.BookCalls.{BookCallsAreSteps}
 use Rattle.server_core.specs.Staying.{unused_book, OthersLeaveAlone}
+use Rattle.answer_ticket.specs.declared.tried.Tried.TheVariants as tried
 use Rattle.server_core.specs.Steps as replies
-use Rattle.server_core.proofs.WorkedInputs.{settings, limits, gateway_at, unused, sent_at, ended_at, rx1}
-use Rattle.server_core.proofs.WorkedSteps.{job_1, job_2, job_3, gateway_1, w3, w4, w5, w6, w11, w15, w16, w17, w18}
-use Rattle.server_core.proofs.WorkedSteps.{w19, cancelled_19, made}
-use Rattle.server_core.proofs.WorkedSteps.{steps, whole_run}
-use Rattle.server_core.proofs.WorkedPromise.{are, safe_run, first_held, second_held}
 
 -- The worked books.
 

@@ -1,21 +1,17 @@
 -- What the law of the desk's calls says of the worked run: each clause tells a fact.
-use Rattle.server_core.proofs.Words.{DeskCallsAreSteps, desk_of, desk_queue, desk_hear, desk_pass, desk_take, told}
-use Rattle.server_core.proofs.Words.{queue_answer, answer_to, decide, pass_answer, take_answer, answered_at, Queue}
-use Rattle.server_core.proofs.Words.{step, Tick, World, refl, ◌≡◌, [], ◌∷◌, Some, Ok, false}
+use Rattle.server_core.proofs.Words
+use Words.{DeskCallsAreSteps, desk_of, desk_queue, desk_hear, desk_pass, desk_take, told, queue_answer, answer_to, decide}
+use Words.{pass_answer, take_answer, answered_at, Queue, step, Tick, World, refl, ◌≡◌, [], ◌∷◌, Some, Ok, false}
+use Rattle.server_core.proofs.WorkedInputs.{copy_at, ended_at, device_at, first_device, second_device}
+use Rattle.server_core.proofs.WorkedSteps.{second, w3, w5, w6, w7, w14, w15, w16, w17, w18, w19, job_3, made, cancelled_19}
+use Rattle.server_core.proofs.WorkedSteps.{gateway_1, gateway_3}
 use Rattle.radio_airtime.specs.TimeOnAir.{airtime_of}
 use Rattle.radio_bands.specs.Band.{band_of}
 use Rattle.resv_list.specs.Reservations.{begun}
-use Rattle.gateway_book.specs.Answer.{overlap}
-use Rattle.gateway_book.specs.Kept.{kept}
-use Rattle.gateway_book.specs.Duty.{full_hour}
-use Rattle.answer_ticket.specs.Job.{Payload}
-use Rattle.server_desk.specs.Desk.{desk_settle}
-use Rattle.answer_ticket.specs.declared.outcome.Ending.TheVariants.{GivenUp}
-use Rattle.server_desk.specs.declared.heard.DeskHeard.TheVariants.{Opened}
+use Rattle.gateway_book.specs.{Answer.overlap, Kept.kept, Duty.full_hour}
+use Rattle.answer_ticket.specs.{Job.Payload, declared.outcome.Ending.TheVariants.GivenUp}
+use Rattle.server_desk.specs.{Desk.desk_settle, declared.heard.DeskHeard.TheVariants.Opened}
 use Rattle.server_core.specs.Steps as replies
-use Rattle.server_core.proofs.WorkedInputs.{copy_at, ended_at, device_at, first_device, second_device}
-use Rattle.server_core.proofs.WorkedSteps.{second, w3, w5, w6, w7, w14, w15, w16, w17, w18, w19, job_3, made}
-use Rattle.server_core.proofs.WorkedSteps.{cancelled_19, gateway_1, gateway_3}
 
 abbrev waiting : Payload
 waiting = (9, 1 ∷ [])

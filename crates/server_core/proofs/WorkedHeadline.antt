@@ -1,18 +1,16 @@
 -- What the headline and the law of book calls say of the worked run: each clause tells a fact.
-use Rattle.server_core.proofs.Words.{ap, arith, inl, inr, subst, sym, ◌∙◌, Contains, refl, true, ◌+◌, ◌≡◌, ◌≤◌}
-use Rattle.server_core.proofs.Words.{Gathering, HeardCopy, numbered, some_inj}
-use Rattle.server_core.proofs.Words.{DeviceSetting, addr_of}
+use Rattle.server_core.proofs.Words.{ap, arith, inl, inr, subst, sym, ◌∙◌, Contains, refl, true, ◌+◌, ◌≡◌, ◌≤◌, Gathering}
+use Rattle.server_core.proofs.Words.{HeardCopy, numbered, some_inj, DeviceSetting, addr_of}
+use Rattle.server_core.proofs.WorkedInputs.{settings, limits, first_device, second_device, kept_copy, both_copies, gathering}
+use Rattle.server_core.proofs.WorkedInputs.{uplink}
+use Rattle.server_core.proofs.WorkedSteps.{gateway_1, gateway_3, third_copy, w18, steps, after, whole_run}
+use Rattle.server_core.proofs.WorkedPromise.{are, first_held, second_held, third_held, the_only}
+use Rattle.server_core.proofs.Headlines.{every_run_keeps_headline}
 use Rattle.radio_airtime.specs.declared.data_rate.DataRate.TheVariants.{Dr3, Dr5}
 use Rattle.radio_airtime.specs.TimeOnAir.{airtime_of}
 use Rattle.radio_bands.specs.declared.band.Band.TheVariants.{M}
 use Rattle.resv_list.specs.Reservations.{begun}
 use Rattle.server_core.specs.Headline.{TakesRx1, TakesRx2, IsOfItsUplink, KeepsHeadline}
-use Rattle.server_core.proofs.Headlines.{every_run_keeps_headline}
-use Rattle.server_core.proofs.WorkedInputs.{settings, limits, first_device, second_device, kept_copy, both_copies, gathering}
-use Rattle.server_core.proofs.WorkedInputs.{uplink}
-use Rattle.server_core.proofs.WorkedSteps.{gateway_1, gateway_3, third_copy, w18}
-use Rattle.server_core.proofs.WorkedSteps.{steps, after, whole_run}
-use Rattle.server_core.proofs.WorkedPromise.{are, first_held, second_held, third_held, the_only}
 
 module _ (headline : KeepsHeadline settings after) where
   disjoint : second_held.member.start + airtime_of second_held.member.rate second_held.member.len ≤ third_held.member.start
@@ -65,8 +63,8 @@ module _ (headline : KeepsHeadline settings after) where
       (subst (λ (g : Gathering). Contains g.copies third_own.copy) third_uplink third_own.copied) third_own.heard
 
   third_device : third_own.device ≡ second_device
-  third_device = the_only (λ (d : DeviceSetting). d.addr) second_device settings.devices third_own.device (assumption) third_own.set
-      (third_own.addr ∙ ap (λ (g : Gathering). addr_of g.bytes) third_uplink)
+  third_device = the_only (λ (d : DeviceSetting). d.addr) second_device settings.devices third_own.device (assumption)
+      third_own.set (third_own.addr ∙ ap (λ (g : Gathering). addr_of g.bytes) third_uplink)
 
   -- it takes RX2 of its copy, as the second device listens, and not RX1
   third_window : TakesRx2 second_device (kept_copy 2 8000000 50) third_held.member

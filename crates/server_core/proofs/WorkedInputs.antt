@@ -2,12 +2,10 @@
 use Rattle.server_core.proofs.Words.{arith, List, [], None, Option, length, refl, true, ℕ, ◌++◌, ◌∷◌, ◌≡◌, State, book_step}
 use Rattle.server_core.proofs.Words.{Gathering, HeardCopy, Limits, Candidate, Job, ask_for, Ending, Answer, Device, Gateway}
 use Rattle.server_core.proofs.Words.{World, SettingLists, Asked, Sent, Heard1, DeviceSetting, Bool, false}
-use Rattle.std.specs.Prelude.{pos, negsuc}
-use Rattle.std.specs.Str.{bytes_eq}
+use Rattle.std.specs.{Prelude.pos, Prelude.negsuc, Str.bytes_eq}
 use Rattle.std.proofs.lemmas.Slice.Eq.{bytes_eq-Decides}
 use Rattle.radio_airtime.specs.declared.data_rate.DataRate.TheVariants.{Dr0, Dr3, Dr5}
-use Rattle.lora_frame.specs.Blocks.{mic_of}
-use Rattle.lora_frame.specs.Reading.{addr_of, has_mic}
+use Rattle.lora_frame.specs.{Blocks.mic_of, Reading.addr_of, Reading.has_mic}
 use Rattle.lora_frame.proofs.RoundTrips.{length-mic}
 use Rattle.rx_windows.specs.declared.candidate.Window.TheVariants.{Rx1, Rx2}
 use Rattle.answer_ticket.specs.declared.outcome.Ending.TheVariants.{Answered}

@@ -1,26 +1,20 @@
 -- What the promise says of the worked run: each of its records has a member there, and each of its clauses tells a fact.
-use Rattle.server_core.proofs.Words.{ap, arith, inl, inr, subst, sym, ◌∙◌, All-head}
-use Rattle.server_core.proofs.Words.{Contains, Some, [], length, refl, slice_get, suc, true, ℕ, zero}
-use Rattle.server_core.proofs.Words.{◌+◌, ◌≡◌, ◌≢◌, ◌≤◌, ◌∷◌, Reservation, IsAsked, Gathering, HeardCopy, numbered}
-use Rattle.server_core.proofs.Words.{AllPairs-head, Candidate, Job, ask_for, candidates, Device, Gateway, AreSettings}
-use Rattle.server_core.proofs.Words.{some_inj, HaveOwnCounters, IsMember, IsOwnWindow, IsSafe}
-use Rattle.server_core.proofs.Words.{plan_for, setting_of, net, None, addr_of}
-use Rattle.server_core.proofs.Words.{Bool, false, ◌==◌, ⊤, List}
+use Rattle.server_core.proofs.Words
+use Words.{ap, arith, inl, inr, subst, sym, ◌∙◌, All-head, Contains, Some, [], length, refl, slice_get, suc, true, ℕ, zero, ◌+◌}
+use Words.{◌≡◌, ◌≢◌, ◌≤◌, ◌∷◌, Reservation, IsAsked, Gathering, HeardCopy, numbered, AllPairs-head, Candidate, Job, ask_for}
+use Words.{candidates, Device, Gateway, AreSettings, some_inj, HaveOwnCounters, IsMember, IsOwnWindow, IsSafe, plan_for}
+use Words.{setting_of, net, None, addr_of, Bool, false, ◌==◌, ⊤, List}
+use Rattle.server_core.proofs.WorkedInputs.{settings, limits, first_device, second_device, kept_copy, both_copies, gathering}
+use Rattle.server_core.proofs.WorkedInputs.{uplink, rx1, rx2, device_at}
+use Rattle.server_core.proofs.WorkedSteps.{job_1, job_2, job_3, gateway_1, gateway_3, third_copy, w18, steps, after, whole_run}
+use Rattle.server_core.proofs.Runs.{every_interleaving_is_safe}
 use Rattle.server_desk.proofs.SettingsLemmas.{are_settings}
 use Rattle.server_desk.specs.Settings.{settings_fault}
 use Rattle.std.proofs.Common.{eq-eqb}
 use Rattle.radio_airtime.specs.TimeOnAir.{airtime_of}
-use Rattle.radio_bands.specs.declared.band.Band.TheVariants.{M}
-use Rattle.radio_bands.specs.Band.{band_of}
+use Rattle.radio_bands.specs.{declared.band.Band.TheVariants.M, Band.band_of}
 use Rattle.resv_list.specs.Reservations.{begun, spent}
-use Rattle.gateway_book.specs.Answer.{overlap}
-use Rattle.gateway_book.specs.Kept.{kept}
-use Rattle.gateway_book.specs.Duty.{full_hour}
-use Rattle.server_core.proofs.Runs.{every_interleaving_is_safe}
-use Rattle.server_core.proofs.WorkedInputs.{settings, limits, first_device, second_device, kept_copy, both_copies, gathering}
-use Rattle.server_core.proofs.WorkedInputs.{uplink, rx1, rx2, device_at}
-use Rattle.server_core.proofs.WorkedSteps.{job_1, job_2, job_3, gateway_1, gateway_3, third_copy, w18}
-use Rattle.server_core.proofs.WorkedSteps.{steps, after, whole_run}
+use Rattle.gateway_book.specs.{Answer.overlap, Kept.kept, Duty.full_hour}
 
 -- the settings are accepted
 pub are : AreSettings settings.gateways settings.devices

@@ -2,27 +2,22 @@
 -- two. The first is answered on the first gateway; there the answer to the second, in the same window, is refused, and it goes
 -- to the second gateway. This one alone hears the third; there RX1 is refused, since it sends to the first device then, and RX2
 -- is taken. From there on, two of the three are cancelled. Each step computes.
-use Rattle.server_core.proofs.Words.{suc, zero, ◌-◌, true, false, Bool, List, [], ◌∷◌, ◌++◌, map, ℕ, ◌≡◌, Some, None, Ok, refl, Gathering}
-use Rattle.server_core.proofs.Words.{Job, Answer, Waiting, Open, Booked, Settled, Gateway, World, Hear, Pass, Take, Settle, Try}
-use Rattle.server_core.proofs.Words.{Cancel, opening, step, decide, due_of, take_answer, HeardCopy, Step, Reply, Run, run}
-use Rattle.server_core.proofs.Words.{run_from, ⊤}
+use Rattle.server_core.proofs.Words
+use Words.{suc, zero, ◌-◌, true, false, Bool, List, [], ◌∷◌, ◌++◌, map, ℕ, ◌≡◌, Some, None, Ok, refl, Gathering, Job, Answer}
+use Words.{Waiting, Open, Booked, Settled, Gateway, World, Hear, Pass, Take, Settle, Try, Cancel, opening, step, decide, due_of}
+use Words.{take_answer, HeardCopy, Step, Reply, Run, run, run_from, ⊤}
+use Rattle.server_core.proofs.WorkedInputs.{settings, limits, uplink, bytes_same, has_its_mic, copy_at, device_at, gateway_at}
+use Rattle.server_core.proofs.WorkedInputs.{unused, kept_copy, world, job, both_copies, sent_at, ended_at, with_booked, gathering}
+use Rattle.server_core.proofs.WorkedInputs.{first_alone, asked_by, first_device, second_device, rx1, rx2, sent_in_rx2}
 use Rattle.radio_airtime.specs.TimeOnAir.{airtime_of}
 use Rattle.radio_bands.specs.Band.{band_of}
 use Rattle.resv_list.specs.Reservations.{begun}
-use Rattle.gateway_book.specs.Answer.{overlap}
-use Rattle.gateway_book.specs.Kept.{kept}
-use Rattle.gateway_book.specs.Duty.{full_hour}
-use Rattle.gateway_book.specs.declared.refusal.Refusal.TheVariants.{Taken}
+use Rattle.gateway_book.specs.{Answer.overlap, Kept.kept, Duty.full_hour, declared.refusal.Refusal.TheVariants.Taken}
 use Rattle.uplink_gather.specs.Gatherings.{newest}
-use Rattle.rx_windows.specs.Rank.{ranked}
-use Rattle.rx_windows.specs.Windows.{candidates_of}
 use Rattle.rx_windows.specs.declared.candidate.Window.TheVariants.{Rx1, Rx2}
+use Rattle.rx_windows.specs.{Rank.ranked, Windows.candidates_of}
 use Rattle.server_desk.specs.declared.heard.DeskHeard.TheVariants.{Opened, Joined}
 use Rattle.server_core.specs.Steps as replies
-use Rattle.server_core.proofs.WorkedInputs.{settings, limits, uplink, bytes_same, has_its_mic, copy_at, device_at}
-use Rattle.server_core.proofs.WorkedInputs.{gateway_at, unused, kept_copy, world, job, both_copies, sent_at}
-use Rattle.server_core.proofs.WorkedInputs.{ended_at, with_booked, gathering, first_alone, asked_by, first_device}
-use Rattle.server_core.proofs.WorkedInputs.{second_device, rx1, rx2, sent_in_rx2}
 
 -- The worlds on the way, each after so many steps.
 

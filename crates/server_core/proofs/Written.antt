@@ -1,9 +1,9 @@
 -- A device, an answer, a gateway or a gathering is written anew, or an uplink is gathered.
-use Rattle.server_core.proofs.Words.{ap, arith, inl, inr, length-append, subst, sym, ◌∙◌, List, Some, [], false, length, refl}
-use Rattle.server_core.proofs.Words.{slice_get, slice_set, ℕ, ◌++◌, ◌+◌, ◌∷◌, ◌≡◌, ◌≢◌, ◌≤◌, ◌⊎◌, Gathering, numbered, rewritten}
-use Rattle.server_core.proofs.Words.{Job, Answer, Open, Waiting, is_not_given, known_of, length-rewritten, numbered-append_cases}
-use Rattle.server_core.proofs.Words.{numbered_cases, numbered_next, get_set_after, get_set_cases, map_set, some_inj, Device}
-use Rattle.server_core.proofs.Words.{Gateway, World, SettingLists, Asked, Sent, setting_of, sent_for}
+use Rattle.server_core.proofs.Words
+use Words.{ap, arith, inl, inr, length-append, subst, sym, ◌∙◌, List, Some, [], false, length, refl, slice_get, slice_set, ℕ}
+use Words.{◌++◌, ◌+◌, ◌∷◌, ◌≡◌, ◌≢◌, ◌≤◌, ◌⊎◌, Gathering, numbered, rewritten, Job, Answer, Open, Waiting, is_not_given, known_of}
+use Words.{length-rewritten, numbered-append_cases, numbered_cases, numbered_next, get_set_after, get_set_cases, map_set}
+use Words.{some_inj, Device, Gateway, World, SettingLists, Asked, Sent, setting_of, sent_for}
 use Rattle.server_core.proofs.Holds.{IsGrown, IsOfDevice, IsAskedAt, IsJobAt, AllStand, Holds, Grow, IsGivenAt, IsGood}
 use Rattle.server_core.proofs.Holds.{Follows-refl, job_on, jobs_on, stands_on, Has-append, Has-rewritten, has_now, Has, IsInOrder}
 use Rattle.server_core.proofs.Holds.{IsLater}

@@ -1,17 +1,14 @@
 -- The airtimes of the gateways, as the desk keeps them.
-use Rattle.server_desk.proofs.Words.{◌-◌, numbered, known_airtime, map-map, ℕ, ◌≡◌, ◌≢◌, ◌+◌, ◌^◌, ◌<◌, ◌≤◌, ◌==◌, true, List, []}
-use Rattle.server_desk.proofs.Words.{◌∷◌, ◌++◌, map, length, slice_set, get_or, All, AllPairs, Option, Some, Result}
-use Rattle.server_desk.proofs.Words.{refl, option_map, sym, ap, ◌∙◌, subst, arith, length-map, length-append, length-set}
-use Rattle.server_desk.proofs.Words.{All-nil, All-map, All-push, All-set, AllPairs-head, AllPairs-tail, longest_us}
-use Rattle.server_desk.proofs.Words.{IsWithinLongest, Ending, HeardCopy, HearFault, Heard, Gatherings}
-use Rattle.server_desk.proofs.Words.{after_hearing, GatewaySetting, Known, NotGiven, Done, Sent, first_at, sent_of}
-use Rattle.server_desk.proofs.Words.{is_here, is_booked_on, answered_at, answered_for, sent_airtime, airtime_of_ending}
-use Rattle.server_desk.proofs.Words.{settled_limit}
-use Rattle.server_desk.proofs.Words.{whole_airtime, AreAirtimes, raised, CanRaise, kept_by}
+use Rattle.server_desk.proofs.Words
+use Words.{◌-◌, numbered, known_airtime, map-map, ℕ, ◌≡◌, ◌≢◌, ◌+◌, ◌^◌, ◌<◌, ◌≤◌, ◌==◌, true, List, [], ◌∷◌, ◌++◌, map, length}
+use Words.{slice_set, get_or, All, AllPairs, Option, Some, Result, refl, option_map, sym, ap, ◌∙◌, subst, arith, length-map}
+use Words.{length-append, length-set, All-nil, All-map, All-push, All-set, AllPairs-head, AllPairs-tail, longest_us}
+use Words.{IsWithinLongest, Ending, HeardCopy, HearFault, Heard, Gatherings, after_hearing, GatewaySetting, Known, NotGiven, Done}
+use Words.{Sent, first_at, sent_of, is_here, is_booked_on, answered_at, answered_for, sent_airtime, airtime_of_ending}
+use Words.{settled_limit, whole_airtime, AreAirtimes, raised, CanRaise, kept_by}
+use Rattle.server_desk.proofs.AirtimeSums.{answered_set, answered_push, same_airtimes, answered_found, raises, answered_short}
 use Rattle.server_desk.proofs.Numbers.{at_number}
 use Rattle.std.proofs.lemmas.List.Kept.{AllPairs-cons}
-use Rattle.server_desk.proofs.AirtimeSums.{answered_set, answered_push, same_airtimes, answered_found}
-use Rattle.server_desk.proofs.AirtimeSums.{raises, answered_short}
 
 module _ (ids airtimes : List ℕ) (limit : ℕ) (known : List Known) (i : AreAirtimes ids airtimes limit known) where
   pub as_many : length airtimes ≡ length ids

@@ -1,11 +1,10 @@
 -- Sums of airtimes over gateways and answers.
-use Rattle.server_desk.proofs.Words.{◌++◌, ℕ, ◌≡◌, ◌≢◌, ◌+◌, ◌*◌, ◌≤◌, ◌==◌, Bool, true, false, if◌then◌else◌, List}
-use Rattle.server_desk.proofs.Words.{[], ◌∷◌, map, length, slice_get, slice_set, get_or, All, AllPairs, Option, Some, refl}
-use Rattle.server_desk.proofs.Words.{ap, ◌∙◌, subst, arith, option_map, nat_tests, All-head, All-tail, AllPairs-head}
-use Rattle.server_desk.proofs.Words.{AllPairs-tail, longest_us, Known, NotGiven, Done, Sent, own_airtime, known_airtime}
-use Rattle.server_desk.proofs.Words.{answered_at, answered_for, total_at, settled_limit, whole_airtime, settled_airtime}
-use Rattle.server_desk.proofs.Words.{is_booked_on, AreAirtimes, raised_at}
-use Rattle.server_desk.proofs.Words.{is_among, raised, first_at, next_place}
+use Rattle.server_desk.proofs.Words
+use Words.{◌++◌, ℕ, ◌≡◌, ◌≢◌, ◌+◌, ◌*◌, ◌≤◌, ◌==◌, Bool, true, false, if◌then◌else◌, List, [], ◌∷◌, map, length, slice_get}
+use Words.{slice_set, get_or, All, AllPairs, Option, Some, refl, ap, ◌∙◌, subst, arith, option_map, nat_tests, All-head, All-tail}
+use Words.{AllPairs-head, AllPairs-tail, longest_us, Known, NotGiven, Done, Sent, own_airtime, known_airtime, answered_at}
+use Words.{answered_for, total_at, settled_limit, whole_airtime, settled_airtime, is_booked_on, AreAirtimes, raised_at, is_among}
+use Words.{raised, first_at, next_place}
 
 -- an answer is written anew, or one more comes
 pub answered_set : (id : ℕ) (known : List Known) (i : ℕ) (old new : Known) → slice_get known i ≡ Some old

@@ -1,12 +1,11 @@
 -- The copies of gathered uplinks stay in their ranges, and each of another gateway.
-use Rattle.server_desk.proofs.Words.{ℕ, ◌≡◌, ◌≢◌, ◌-◌, ◌<◌, ◌==◌, false, List, [], ◌∷◌, ◌++◌, length, All, get_or, Option, Some}
-use Rattle.server_desk.proofs.Words.{None, Result, Ok, Err, IfOk, refl, sym, ◌∙◌, arith, eq-eqb, true≢false, length-append}
-use Rattle.server_desk.proofs.Words.{All-set, All-push, All-nil, All-cons, list_any_at, HeardCopy, HearFault, Heard, Opened}
-use Rattle.server_desk.proofs.Words.{Joined, Joins, Gathering, Gatherings, numbered, rewritten, place_of, place_by, has_gateway}
-use Rattle.server_desk.proofs.Words.{hear_answer, after_hearing, with_copy, IsHeard, IsGathered}
+use Rattle.server_desk.proofs.Words
+use Words.{ℕ, ◌≡◌, ◌≢◌, ◌-◌, ◌<◌, ◌==◌, false, List, [], ◌∷◌, ◌++◌, length, All, get_or, Option, Some, None, Result, Ok, Err}
+use Words.{IfOk, refl, sym, ◌∙◌, arith, eq-eqb, true≢false, length-append, All-set, All-push, All-nil, All-cons, list_any_at}
+use Words.{HeardCopy, HearFault, Heard, Opened, Joined, Joins, Gathering, Gatherings, numbered, rewritten, place_of, place_by}
+use Words.{has_gateway, hear_answer, after_hearing, with_copy, IsHeard, IsGathered}
+use Rattle.server_desk.proofs.{Places.some_inj, Places.all_get, Numbers.at_number}
 use Rattle.uplink_gather.specs.Hearing.{opening}
-use Rattle.server_desk.proofs.Places.{some_inj, all_get}
-use Rattle.server_desk.proofs.Numbers.{at_number}
 use Rattle.std.proofs.lemmas.List.Quantifiers.{all_pairs_push}
 use Rattle.uplink_gather.proofs.HearingLaws.{joins_at, answer_joined}
 

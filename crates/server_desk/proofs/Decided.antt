@@ -1,13 +1,11 @@
 -- What is known of a copy that joins a gathering, or opens one.
-use Rattle.server_desk.proofs.Words.{ℕ, ◌≡◌, ◌^◌, ◌≤◌, false, List, Option, Some, None, Result, Ok, Err, ⊤, refl, sym, ap, arith}
-use Rattle.server_desk.proofs.Words.{nat_tests, addr_of, uplink_record, uplink_of, has_mic, HearFault, Joins, Opens, place_of}
-use Rattle.server_desk.proofs.Words.{is_crowded, Heard1, DeskFault, BadMic, Crowded, Device, Register, device_with, Decision}
-use Rattle.server_desk.proofs.Words.{Refuse, Join, Open, Opening, copy_fault, decide_room, decide_mic, decide_device}
-use Rattle.server_desk.proofs.Words.{decide_place, decide_copy, decide_frame, decide}
+use Rattle.server_desk.proofs.Words
+use Words.{ℕ, ◌≡◌, ◌^◌, ◌≤◌, false, List, Option, Some, None, Result, Ok, Err, ⊤, refl, sym, ap, arith, nat_tests, addr_of}
+use Words.{uplink_record, uplink_of, has_mic, HearFault, Joins, Opens, place_of, is_crowded, Heard1, DeskFault, BadMic, Crowded}
+use Words.{Device, Register, device_with, Decision, Refuse, Join, Open, Opening, copy_fault, decide_room, decide_mic}
+use Words.{decide_device, decide_place, decide_copy, decide_frame, decide}
 use Rattle.std.proofs.lemmas.Bool.{cond_both}
-use Rattle.lora_frame.specs.declared.reading.Uplink.{Uplink}
-use Rattle.lora_frame.specs.declared.reading.FrameFault.{FrameFault}
-use Rattle.lora_frame.specs.Counter.{inferred_counter}
+use Rattle.lora_frame.specs.{declared.reading.Uplink.Uplink, declared.reading.FrameFault.FrameFault, Counter.inferred_counter}
 use Rattle.uplink_gather.specs.declared.answers.Place.{Place}
 
 -- the newest gathering of the bytes tells where the copy goes; one that opens a gathering has room, and is of a device

@@ -1,7 +1,7 @@
 -- What is known of a copy by the desk's verdict on it.
-use Rattle.server_desk.proofs.Words.{false, ℕ, ◌≡◌, ◌^◌, ◌≤◌, List, Some, Ok, refl, subst, Heard1, addr_of, Joins, Opens}
-use Rattle.server_desk.proofs.Words.{place_of, is_crowded, NewUplink, Register, device_with, Decision, Refuse, Join, Open}
-use Rattle.server_desk.proofs.Words.{Opening, decide, is_last, asked_by, verdict_of, ⊤}
+use Rattle.server_desk.proofs.Words
+use Words.{false, ℕ, ◌≡◌, ◌^◌, ◌≤◌, List, Some, Ok, refl, subst, Heard1, addr_of, Joins, Opens, place_of, is_crowded, NewUplink}
+use Words.{Register, device_with, Decision, Refuse, Join, Open, Opening, decide, is_last, asked_by, verdict_of, ⊤}
 use Rattle.server_desk.proofs.Decided.{IsDecided, decided, IsTimely, timely}
 use Rattle.server_desk.specs.declared.verdict.Verdict.{Verdict}
 use Rattle.server_desk.specs.declared.verdict.Verdict.TheVariants as says

@@ -1,13 +1,12 @@
 -- The devices as the desk keeps them, and as they are seen.
-use Rattle.server_desk.proofs.Words.{Register, ℕ, ◌≡◌, ◌==◌, ◌<◌, List, map, length, slice_get, slice_set, get_or, Option, Some}
-use Rattle.server_desk.proofs.Words.{None, Result, Ok, Err, IfOk, OnOk, OnErr, refl, option_map, sym, ap, ◌∙◌, arith}
-use Rattle.server_desk.proofs.Words.{slice_get_within, nat_tests, length-map, length-set, map-set, All-set, All-push, Payload}
-use Rattle.server_desk.proofs.Words.{KnownDevice, Known, Device, Asked, device_with, Gatherings, shown, outs, IsSendable}
-use Rattle.server_desk.proofs.Words.{IsServable}
-use Rattle.server_desk.proofs.Words.{AreOut, IsDesk, DeskView, desk_queue, slice_get_read}
+use Rattle.server_desk.proofs.Words
+use Words.{Register, ℕ, ◌≡◌, ◌==◌, ◌<◌, List, map, length, slice_get, slice_set, get_or, Option, Some, None, Result, Ok, Err}
+use Words.{IfOk, OnOk, OnErr, refl, option_map, sym, ap, ◌∙◌, arith, slice_get_within, nat_tests, length-map, length-set, map-set}
+use Words.{All-set, All-push, Payload, KnownDevice, Known, Device, Asked, device_with, Gatherings, shown, outs, IsSendable}
+use Words.{IsServable, AreOut, IsDesk, DeskView, desk_queue, slice_get_read}
 use Rattle.server_desk.proofs.Places.{some_inj, all_get, map_set, map_there, found_there}
-use Rattle.server_desk.specs.declared.faults.QueueFault.{QueueFault}
 use Rattle.server_desk.specs.Queueing.{queue_fault, queued_or, with_payload}
+use Rattle.server_desk.specs.declared.faults.QueueFault.{QueueFault}
 
 -- the desk's part of the world, by what it keeps, and what is true of it
 abbrev pub seen_reg : {A : Type 0} → List (KnownDevice A) → Gatherings → List Asked → Register

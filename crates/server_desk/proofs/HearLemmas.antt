@@ -1,19 +1,15 @@
 -- A copy of an uplink, as the desk hears it.
-use Rattle.server_desk.proofs.Words.{length_push, nat_tests, slice_get_within, decide, ℕ, ◌≡◌, ◌+◌, ◌<◌, ◌==◌, Bool, false, List}
-use Rattle.server_desk.proofs.Words.{[], ◌∷◌, ◌++◌, map, length, slice_get, slice_set, Some, Result, Ok, Err, IfOk, OnErr}
-use Rattle.server_desk.proofs.Words.{MatchResult, IsOkUnless, refl, sym, ap, ◌∙◌, arith, addr_of, Heard, HearFault, Gatherings}
-use Rattle.server_desk.proofs.Words.{hear_answer, after_hearing, with_copy, hear_step, KnownDevice, Known, NotGiven, NewUplink}
-use Rattle.server_desk.proofs.Words.{Heard1}
-use Rattle.server_desk.proofs.Words.{Device, Asked, Register, copy_of, named_fault, answer_to, shown, IsServable, IsDesk}
-use Rattle.server_desk.proofs.Words.{desk_answer, desk_hear, length-map, length-set, map-set, All-push, DeskFault, NoMemory}
-use Rattle.uplink_gather.specs.Hearing.{opening}
-use Rattle.server_desk.proofs.Places.{map_there, some_inj, found_there}
-use Rattle.server_desk.proofs.Numbers.{length-rewritten}
+use Rattle.server_desk.proofs.Words
+use Words.{length_push, nat_tests, slice_get_within, decide, ℕ, ◌≡◌, ◌+◌, ◌<◌, ◌==◌, Bool, false, List, [], ◌∷◌, ◌++◌, map}
+use Words.{length, slice_get, slice_set, Some, Result, Ok, Err, IfOk, OnErr, MatchResult, IsOkUnless, refl, sym, ap, ◌∙◌, arith}
+use Words.{addr_of, Heard, HearFault, Gatherings, hear_answer, after_hearing, with_copy, hear_step, KnownDevice, Known, NotGiven}
+use Words.{NewUplink, Heard1, Device, Asked, Register, copy_of, named_fault, answer_to, shown, IsServable, IsDesk, desk_answer}
+use Words.{desk_hear, length-map, length-set, map-set, All-push, DeskFault, NoMemory}
 use Rattle.server_desk.proofs.DeskLemmas.{Holds, seen_reg, seen, queued_holds}
+use Rattle.server_desk.proofs.{Places.map_there, Places.some_inj, Places.found_there, Numbers.length-rewritten}
+use Rattle.server_desk.proofs.{OutLemmas.count_push, CopyLemmas.all_heard, DecisionLemmas.IsJoin, DecisionLemmas.IsNew}
+use Rattle.uplink_gather.specs.Hearing.{opening}
 use Rattle.server_desk.specs.declared.heard.DeskHeard.{DeskHeard}
-use Rattle.server_desk.proofs.OutLemmas.{count_push}
-use Rattle.server_desk.proofs.CopyLemmas.{all_heard}
-use Rattle.server_desk.proofs.DecisionLemmas.{IsJoin, IsNew}
 use Rattle.uplink_gather.specs.declared.answers.Heard.TheVariants as gathers
 use Rattle.uplink_gather.specs.declared.fault.HearFault.TheVariants as gathering
 

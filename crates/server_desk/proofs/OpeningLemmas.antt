@@ -1,14 +1,12 @@
 -- A desk before anything was heard.
-use Rattle.server_desk.proofs.Words.{map_push, map_more, map-map, ℕ, ◌≡◌, ◌≢◌, ◌+◌, ◌<◌, ◌==◌, nat_eq, false, if◌then◌else◌, List}
-use Rattle.server_desk.proofs.Words.{[], ◌∷◌, ◌++◌, map, length, take, get_or, All, AllPairs, refl, list_any, sym, ◌∙◌, All-nil}
-use Rattle.server_desk.proofs.Words.{All-push, All-map, All-weaker, DeviceSetting, KnownDevice, SettingLists, IsDeviceInRange}
-use Rattle.server_desk.proofs.Words.{AreSettings, Asked, opened_device, shown, outs, IsSendable, IsServable, IsGathered, AreOut}
-use Rattle.server_desk.proofs.Words.{desk_of, Limits}
+use Rattle.server_desk.proofs.Words
+use Words.{map_push, map_more, map-map, ℕ, ◌≡◌, ◌≢◌, ◌+◌, ◌<◌, ◌==◌, nat_eq, false, if◌then◌else◌, List, [], ◌∷◌, ◌++◌, map}
+use Words.{length, take, get_or, All, AllPairs, refl, list_any, sym, ◌∙◌, All-nil, All-push, All-map, All-weaker, DeviceSetting}
+use Words.{KnownDevice, SettingLists, IsDeviceInRange, AreSettings, Asked, opened_device, shown, outs, IsSendable, IsServable}
+use Words.{IsGathered, AreOut, desk_of, Limits}
 use Rattle.server_desk.proofs.Places.{from_map, all_get}
-use Rattle.server_desk.proofs.DeskLemmas.{Holds, seen}
+use Rattle.server_desk.proofs.{DeskLemmas.Holds, DeskLemmas.seen, SettingsLemmas.IsNew-from_AllPairs, AddrLemmas.flipped}
 use Rattle.server_desk.specs.World.{opening}
-use Rattle.server_desk.proofs.SettingsLemmas.{IsNew-from_AllPairs}
-use Rattle.server_desk.proofs.AddrLemmas.{flipped}
 
 abbrev addr_of : DeviceSetting → ℕ
 addr_of d = d.addr

@@ -1,8 +1,8 @@
 -- Members of a list by their places.
-use Rattle.server_desk.proofs.Words.{Bool, true, if◌then◌else◌, first_at, next_place, ℕ, zero, suc, ◌≡◌, ◌≢◌, ◌⊎◌}
-use Rattle.server_desk.proofs.Words.{List, [], ◌∷◌, ◌++◌, map, length, All, Contains, slice_get, slice_set, Option, Some}
-use Rattle.server_desk.proofs.Words.{unwrap_or, refl, inl, inr, sym, ap, ◌∙◌, subst, arith, option_map, slice_get-map}
-use Rattle.server_desk.proofs.Words.{slice_get_within, get_or_from_slice_get}
+use Rattle.server_desk.proofs.Words
+use Words.{Bool, true, if◌then◌else◌, first_at, next_place, ℕ, zero, suc, ◌≡◌, ◌≢◌, ◌⊎◌, List, [], ◌∷◌, ◌++◌, map, length, All}
+use Words.{Contains, slice_get, slice_set, Option, Some, unwrap_or, refl, inl, inr, sym, ap, ◌∙◌, subst, arith, option_map}
+use Words.{slice_get-map, slice_get_within, get_or_from_slice_get}
 use Rattle.std.proofs.Math.Seq.{map-set_same}
 
 pub some_inj : {X : Type 0} {x y : X} → Some x ≡ Some y → x ≡ y

@@ -1,9 +1,9 @@
-use Rattle.server_desk.proofs.Words.{◌≡◌, ◌≢◌, ℕ, zero, suc, ◌<◌, ◌==◌, true, false, List, [], ◌∷◌, ◌++◌, length, get_or, take}
-use Rattle.server_desk.proofs.Words.{Option, None, AllPairs, refl, sym, ◌∙◌, append_assoc, length-take, arith, option_or}
-use Rattle.server_desk.proofs.Words.{list_any, true≢false, eq-eqb, ne_eqb, nat_tests, append-nil, get_or-take, get_or_default}
-use Rattle.server_desk.proofs.Words.{list_any_at, list_any_none, GatewaySetting, DeviceSetting, IsGatewayInRange}
-use Rattle.server_desk.proofs.Words.{is_gateway_in_range, IsDeviceInRange, is_device_in_range, has_rx2_band, AreSettings}
-use Rattle.server_desk.proofs.Words.{are_counts_in_range, gateway_fault, device_fault, first_fault, settings_fault}
+use Rattle.server_desk.proofs.Words
+use Words.{◌≡◌, ◌≢◌, ℕ, zero, suc, ◌<◌, ◌==◌, true, false, List, [], ◌∷◌, ◌++◌, length, get_or, take, Option, None, AllPairs}
+use Words.{refl, sym, ◌∙◌, append_assoc, length-take, arith, option_or, list_any, true≢false, eq-eqb, ne_eqb, nat_tests}
+use Words.{append-nil, get_or-take, get_or_default, list_any_at, list_any_none, GatewaySetting, DeviceSetting, IsGatewayInRange}
+use Words.{is_gateway_in_range, IsDeviceInRange, is_device_in_range, has_rx2_band, AreSettings, are_counts_in_range}
+use Words.{gateway_fault, device_fault, first_fault, settings_fault}
 use Rattle.server_desk.specs.declared.settings_fault.SettingsFault.{SettingsFault}
 
 -- Settings have no fault exactly where they are what `AreSettings` says.

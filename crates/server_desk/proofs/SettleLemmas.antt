@@ -1,16 +1,12 @@
 -- An answer is settled, as the desk settles it.
-use Rattle.server_desk.proofs.Words.{arith}
-use Rattle.server_desk.proofs.Words.{ℕ, ◌≡◌, ◌-◌, Bool, true, false, ◌&&◌, if◌then◌else◌, List, slice_get, slice_set, get_or}
-use Rattle.server_desk.proofs.Words.{Option, Some, refl, option_map_or, sym, ap, ◌∙◌, get_or_from_slice_get, length-set}
-use Rattle.server_desk.proofs.Words.{map-set, All-drop, Gatherings, numbered, Ending, KnownDevice, Known, Pending}
-use Rattle.server_desk.proofs.Words.{Done, Sent}
-use Rattle.server_desk.proofs.Words.{is_given, Device, Asked, sent_of, has_carried, is_here, may_settle, without_head, delivered}
-use Rattle.server_desk.proofs.Words.{shown, outs, IsSendable, IsServable, desk_settled}
-use Rattle.server_desk.proofs.Places.{map_set, map_there}
-use Rattle.server_desk.proofs.Numbers.{at_number}
+use Rattle.server_desk.proofs.Words
+use Words.{arith, ℕ, ◌≡◌, ◌-◌, Bool, true, false, ◌&&◌, if◌then◌else◌, List, slice_get, slice_set, get_or, Option, Some, refl}
+use Words.{option_map_or, sym, ap, ◌∙◌, get_or_from_slice_get, length-set, map-set, All-drop, Gatherings, numbered, Ending}
+use Words.{KnownDevice, Known, Pending, Done, Sent, is_given, Device, Asked, sent_of, has_carried, is_here, may_settle}
+use Words.{without_head, delivered, shown, outs, IsSendable, IsServable, desk_settled}
 use Rattle.server_desk.proofs.DeskLemmas.{seen_reg, Holds, seen, written_holds}
-use Rattle.server_desk.proofs.OutLemmas.{out_settled}
-use Rattle.server_desk.proofs.TakeLemmas.{number_too, out_there}
+use Rattle.server_desk.proofs.{TakeLemmas.number_too, TakeLemmas.out_there, Places.map_set, Places.map_there, Numbers.at_number}
+use Rattle.server_desk.proofs.{OutLemmas.out_settled}
 
 -- what may be settled is out, and on one of the gateways
 pub is_out : (ids : List ℕ) (known : List Known) (n : ℕ) (ending : Ending) → may_settle ids known n ending ≡ true

@@ -1,19 +1,16 @@
 -- A ticket is given, as the desk gives it.
-use Rattle.server_desk.proofs.Words.{slice_get_read, get_or, ℕ, zero, suc, ◌≡◌, ◌-◌, ◌^◌, ◌<◌, ◌≤◌, true, false, List, [], ◌∷◌}
-use Rattle.server_desk.proofs.Words.{map, length, All, slice_get, slice_set, Option, Some, None, Result, Ok, Err, IfOk, refl}
-use Rattle.server_desk.proofs.Words.{option_map, ForSome, sym, ap, ◌∙◌, subst, arith, nat_tests, length-map, length-set, map-set}
-use Rattle.server_desk.proofs.Words.{All-head, HeardCopy, Gatherings, numbered, is_closed_at, copies_of, length-ranked}
-use Rattle.server_desk.proofs.Words.{All-ranked, IsHeard, Job, Payload, IsJob, IsPort, payload_len, KnownDevice, Known}
-use Rattle.server_desk.proofs.Words.{NotGiven, Pending}
-use Rattle.server_desk.proofs.Words.{is_not_given, Device, Asked, head, is_engaged, job_for, fault_of, given_or}
-use Rattle.server_desk.proofs.Words.{take_answer, with_counter_given, shown, outs, IsSendable, IsServable, IsGathered, MayBeGiven}
-use Rattle.server_desk.proofs.Words.{desk_take, TakeFault, slice_get_cases, slice_get_within, inl, inr}
+use Rattle.server_desk.proofs.Words
+use Words.{slice_get_read, get_or, ℕ, zero, suc, ◌≡◌, ◌-◌, ◌^◌, ◌<◌, ◌≤◌, true, false, List, [], ◌∷◌, map, length, All, slice_get}
+use Words.{slice_set, Option, Some, None, Result, Ok, Err, IfOk, refl, option_map, ForSome, sym, ap, ◌∙◌, subst, arith, nat_tests}
+use Words.{length-map, length-set, map-set, All-head, HeardCopy, Gatherings, numbered, is_closed_at, copies_of, length-ranked}
+use Words.{All-ranked, IsHeard, Job, Payload, IsJob, IsPort, payload_len, KnownDevice, Known, NotGiven, Pending, is_not_given}
+use Words.{Device, Asked, head, is_engaged, job_for, fault_of, given_or, take_answer, with_counter_given, shown, outs, IsSendable}
+use Words.{IsServable, IsGathered, MayBeGiven, desk_take, TakeFault, slice_get_cases, slice_get_within, inl, inr}
 use Rattle.server_desk.proofs.Places.{map_there, some_inj, all_get}
-use Rattle.server_desk.proofs.Numbers.{at_number}
 use Rattle.server_desk.proofs.DeskLemmas.{seen_reg, Holds, seen, written_holds}
+use Rattle.server_desk.proofs.{Numbers.at_number, OutLemmas.engaged_is, OutLemmas.out_given}
 use Rattle.rx_windows.specs.Rank.{ranked}
 use Rattle.answer_ticket.specs.Ticket.{Standing}
-use Rattle.server_desk.proofs.OutLemmas.{engaged_is, out_given}
 
 -- the job that a ticket is given for
 head_port : (queue : List Payload) → All IsSendable queue → ForSome (head queue) (λ b. IsPort b.0)
