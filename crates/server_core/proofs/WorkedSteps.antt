@@ -178,18 +178,17 @@ abbrev Go : World → List Row → Type 0
 Go w [] = ⊤
 Go w (r ∷ rs) = (step w r.does ≡ (r.makes, r.says)) × Go r.makes rs
 
-pub each_step : Go (opening settings limits) rows
+-- one step, and the others
+also : {P Q : Type 0} → P → Q → P × Q
+also p q = (p, q)
+
+each_step : Go (opening settings limits) rows
 unfolding step decide newest band_of due_of take_answer ranked candidates_of airtime_of overlap full_hour kept begun
-each_step = (
-  rw (has_its_mic 0xda 0) refl,
-  (rw (bytes_same first, bytes_same first) refl,
-  (refl, (refl, (refl, (refl,
-  (rw (has_its_mic 0xda 1) refl,
-  (rw (bytes_same second, bytes_same second) refl,
-  (refl, (refl, (refl, (refl, (refl,
-  (rw (has_its_mic 0xdb 0) refl,
-  (refl, (refl, (refl, (refl, tt))))))))))))))))),
-)
+each_step =
+    also (rw (has_its_mic 0xda 0) refl) (also (rw (bytes_same first, bytes_same first) refl) (also refl (also refl (also refl
+    (also refl (also (rw (has_its_mic 0xda 1) refl) (also (rw (bytes_same second, bytes_same second) refl) (also refl (also refl
+    (also refl (also refl (also refl (also (rw (has_its_mic 0xdb 0) refl) (also refl (also refl (also refl (also refl
+    tt)))))))))))))))))
 
 -- the step with this number, counted from 0, is made
 abbrev Makes : ℕ → World → List Row → Type 0
