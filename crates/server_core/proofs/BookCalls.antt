@@ -25,10 +25,9 @@ module _ {X Y : Type 0} (R : X → Y → Type 0) where
   pub zip_set : (xs : List X) (ys : List Y) (i : ℕ) (x : X) (y : Y) → AllZip R xs ys → R x y
       → AllZip R (slice_set xs i x) (slice_set ys i y)
   zip_set [] [] i x y z r = z
-  zip_set [] (b ∷ v) i x y z r = absurd z
-  zip_set (a ∷ u) [] i x y z r = absurd z
   zip_set (a ∷ u) (b ∷ v) zero x y z r = (r, z.1)
   zip_set (a ∷ u) (b ∷ v) (suc i) x y z r = (z.0, zip_set u v i x y z.1 r)
+  zip_set xs ys i x y z r = absurd z
 
 -- the place of a member, and the member there
 found_at : {X : Type 0} (o : Option (ℕ × X)) (i : ℕ) → Some i ≡ option_map (λ p. p.0) o → (x : X) × (o ≡ Some (i, x))
@@ -65,9 +64,8 @@ module _ (id : ℕ) (books : List Book) where
 same_place : (id : ℕ) (books : List Book) (gateways : List Gateway) → AreBooksOf books gateways
     → option_map (λ p. p.0) (gateway_with id gateways) ≡ place_of id books
 same_place id [] [] z = refl
-same_place id [] (g ∷ gs) z = absurd z
-same_place id (b ∷ v) [] z = absurd z
 same_place id (b ∷ v) (g ∷ gs) z = grind (arith, z.0.id, same_place id v gs z.1)
+same_place id books gs z = absurd z
 
 module _ (id : ℕ) (books : List Book) (gateways : List Gateway) (are : AreBooksOf books gateways) where
   pub gateway_found : (at : ℕ) (book : Book) → Some at ≡ place_of id books → IsFound id at books book

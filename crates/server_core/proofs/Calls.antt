@@ -151,8 +151,7 @@ queue_is {A} addr payload =
       desk = λ w. refl;
       gateways = λ w. refl;
       replied = λ w. refl;
-      lines = λ w r. elim r as (λ x. lines_for {A = A} w (Queue addr payload) (Queued x) ≡ queued_line addr x ∷ [])
-          [ Ok count ↦ refl | Err fault ↦ refl ];
+      lines = λ w r. grind arith;
     }
 
 hear_refused : (d : DeskView) (bytes : List ℕ) (heard : Heard1) (arrived : ℕ) (c : Decision) (fault : DeskFault)
@@ -173,6 +172,5 @@ hear_is {A} bytes heard arrived =
       desk = λ w. desk_calls_are_steps.hear w bytes heard arrived;
       gateways = λ w. refl;
       replied = λ w. refl;
-      lines = λ w r. elim r as (λ x. lines_for {A = A} w (Hear bytes heard arrived) (Heard x) ≡ heard_line x ∷ [])
-          [ Ok told ↦ refl | Err fault ↦ refl ];
+      lines = λ w r. grind arith;
     }

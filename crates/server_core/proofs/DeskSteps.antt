@@ -5,7 +5,7 @@ use Words.{[], false, is_some, map, refl, slice_get, slice_set, true, ℕ, ◌+�
 use Words.{tick_step, refusal_of, NotHere, Refusal, numbered, Candidate, Job, ask_for, candidate_at, Ending, answer_airtime}
 use Words.{answered_at, answered_in, known_airtime, Answer, Booked, Open, Settled, is_given, known_of, desk_of, desk_settled}
 use Words.{desk_taken, known_after, Decision, register_after, map-rewritten, numbered-map, same_rewritten, map_set, some_inj}
-use Words.{after_settling, is_here, may_settle, sent_of, after_taking, Gateway, World, gateway_with, ids, known, found_there}
+use Words.{after_settling, is_here, may_settle, sent_of, Gateway, World, gateway_with, ids, known, found_there}
 use Words.{Known, Done, Sent, TakeFault, After, answers_after, cancel, cancel_at, cancel_of, cancel_sent, ending_of, refused}
 use Words.{sent_by, sent_for, settle, settle_as, settle_of, take_by, terms, tick, tick_at, tried_by, try, try_candidate, try_of}
 use Words.{try_on, DeskCallsAreSteps, told, decide, take_answer, step}
@@ -64,9 +64,7 @@ hear_known : (d : Decision) (answers : List Answer) → map known_of (answers_af
 hear_known d answers = grind (arith, map-append known_of)
 
 take_desk : (w : World) (n : ℕ) (r : Result Job TakeFault) → desk_of (take_by w n r).0 ≡ desk_taken r n (desk_of w)
-take_desk w n (Err fault) = refl
-take_desk w n (Ok job) = ap (λ (l : List Known). record { ids = ids w; reg = after_taking (Ok job) n w.reg; known = l })
-    (map-rewritten known_of (λ a. Open 0 job) (λ k. Pending) (λ x. refl) n w.answers)
+take_desk w n r = grind (arith, map-rewritten known_of)
 
 settle_as_desk : (w : World) (n : ℕ) (ending : Ending) → desk_of (settle_as w n (Some ending)).0
     ≡ desk_settled ending n (desk_of w)
@@ -88,7 +86,7 @@ pub may : (w : World) (n : ℕ) (ending : Ending) → told w n ≡ Some ending �
 may w n ending e h = grind (arith, numbered-map known_of n w.answers)
 
 may_not : (w : World) (n : ℕ) (ending : Ending) → told w n ≡ None → may_settle (ids w) (known w) n ending ≡ false
-may_not w n ending e = rw (numbered-map known_of n w.answers, known_out (numbered n w.answers), e) refl
+may_not w n ending e = grind (arith, numbered-map known_of n w.answers)
 
 -- a gateway's state alone changes
 same_ids : (w : World) (i : ℕ) (g : Gateway) (s : State) → slice_get w.gateways i ≡ Some g

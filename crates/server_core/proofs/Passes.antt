@@ -56,17 +56,9 @@ module _ (now : ℕ) where
   unfolding due_of
   due_none l e = rw e at (next_due 1 l)
 
-  closed_at : (s : Gatherings) (i : ℕ) (g : Gathering) → slice_get s.list i ≡ Some g → is_open g ≡ true
-      → (close_step s (suc i)).list ≡ slice_set s.list i (closed g)
-  closed_at s i g e o = grind arith
-
   closed_first : (s : Gatherings) (n : ℕ) → IsFirst 1 s.list n
       → due_numbers now s.list ≡ n ∷ due_numbers now (close_step s n).list
-  closed_first s n f =
-      let number : n ≡ suc f.place = omega (arith, f.number) in
-      let after : (close_step s n).list ≡ slice_set s.list f.place (closed f.gathering) =
-      ap (λ (m : ℕ). (close_step s m).list) number ∙ closed_at s f.place f.gathering f.there f.is_open in
-      f.rest ∙ ap (λ (l : List Gathering). n ∷ due_numbers now l) (sym after)
+  closed_first s n f = grind (arith, f.number, f.there, f.is_open, f.rest)
 
   -- the least number that is due, and those that are due when it is closed
   pub due_some : (s : Gatherings) (n : ℕ) → due_of now s.list ≡ Some n

@@ -93,11 +93,10 @@ module _ {A : Type 0} (settings : SettingLists) (es : List (Event A)) (i : ℕ) 
 -- the books have what is kept of the gateways
 books_kept : (books : List Book) (gs : List Gateway) → AreBooksOf books gs → map gateway_of books ≡ map kept_gateway gs
 books_kept [] [] z = refl
-books_kept [] (g ∷ gs) z = absurd z
-books_kept (b ∷ bs) [] z = absurd z
 books_kept (b ∷ bs) (g ∷ gs) z =
     let r = z.0.remembers in
     cc (z.0.id, z.0.rules, r.floor, r.list, r.booked, r.cancelled, books_kept bs gs z.1)
+books_kept books gs z = absurd z
 
 module _ {A : Type 0} (settings : SettingLists) (es : List (Event A)) (i : ℕ) (s : Seen A) (over : length es ≤ i)
     (r : IsReplaying settings es i s) where

@@ -61,15 +61,10 @@ module _ (w : World) (n : ℕ) (a : Answer) (at : numbered n w.answers ≡ Some 
 
 ids_stay : (w : World) (s : Step) → ids (step w s).0 ≡ ids w
 unfolding step
-ids_stay w (Queue addr payload) = refl
-ids_stay w (Hear bytes heard arrived) = refl
-ids_stay w (Pass now) = refl
-ids_stay w (Take m) = elim (take_answer w.reg (known w) m) as (λ r. ids (take_by w m r).0 ≡ ids w)
-    [ Ok job ↦ refl | Err fault ↦ refl ]
-ids_stay w (Settle m) = settle_walk w (λ x. ids x.0 ≡ ids w) m (λ f. refl) (λ answer ending e f told. refl)
 ids_stay w (Try m) = ap (λ d. d.ids) (desk_calls_are_steps.try w m)
 ids_stay w (Cancel m) = ap (λ d. d.ids) (desk_calls_are_steps.cancel w m)
 ids_stay w (Tick id now) = ap (λ d. d.ids) (desk_calls_are_steps.tick w id now)
+ids_stay w s = grind arith
 
 ends_at : (o : Option Answer) (ending : Ending) → option_and_then ending_of o ≡ Some ending
     → (a : Answer) × (o ≡ Some a) × (ending_of a ≡ Some ending)
