@@ -1,9 +1,9 @@
 -- What a step comes to, and that the calls of the desk are the world's steps on its part.
 use Rattle.server_core.proofs.Words
-use Words.{arith, ap, sym, ◌∙◌, map-append, option_and_then, option_map, option_map_or, Err, List, None, Ok, Option, Result, Some}
-use Words.{[], false, is_some, map, refl, slice_get, slice_set, true, ℕ, ◌+◌, ◌==◌, ◌∷◌, ◌≡◌, State, book_step, cancel_step}
+use Words.{arith, ap, sym, ◌∙◌, map-append, Err, List, None, Ok, Option, Result, Some}
+use Words.{[], false, map, refl, slice_get, slice_set, true, ℕ, ◌+◌, ◌==◌, ◌∷◌, ◌≡◌, State, book_step, cancel_step}
 use Words.{tick_step, refusal_of, NotHere, Refusal, numbered, Candidate, Job, ask_for, candidate_at, Ending, answer_airtime}
-use Words.{answered_at, answered_in, known_airtime, Answer, Booked, Open, Settled, is_given, known_of, desk_of, desk_settled}
+use Words.{answered_at, answered_in, known_airtime, Answer, Booked, Open, Settled, known_of, desk_of, desk_settled}
 use Words.{desk_taken, known_after, Decision, register_after, map-rewritten, numbered-map, same_rewritten, map_set, some_inj}
 use Words.{after_settling, is_here, may_settle, sent_of, Gateway, World, gateway_with, ids, known, found_there}
 use Words.{Known, Done, Sent, TakeFault, After, answers_after, cancel, cancel_at, cancel_of, cancel_sent, ending_of, refused}
@@ -75,10 +75,6 @@ pub settle_desk : (w : World) (n : ℕ) (ending : Ending) → told w n ≡ Some 
     → desk_of (settle w n).0 ≡ desk_settled ending n (desk_of w)
 settle_desk w n ending e = settle_walk w (λ a. desk_of a.0 ≡ desk_settled ending n (desk_of w)) n (λ f. absurd (cc (e, f)))
     (λ answer x q g f. rw (some_inj (sym e ∙ f)) (settle_as_desk w n x))
-
--- an answer is known to be out exactly where it would end somehow
-known_out : (o : Option Answer) → option_map_or is_given (option_map known_of o) false ≡ is_some (option_and_then ending_of o)
-known_out o = grind arith
 
 -- what is out and on a gateway of the settings may be settled
 pub may : (w : World) (n : ℕ) (ending : Ending) → told w n ≡ Some ending → is_here (ids w) ending ≡ true
