@@ -43,8 +43,7 @@ pub enum OpenFault {
 /// the airtime that begins in an hour, wherever the hour opens, is within the band's limit (this
 /// project's profile of ETSI EN 300 220-2, duty cycle over one hour, with its sub-bands), and that the
 /// booked airtime is the sum of what was cancelled, what was retired and what is kept. It keeps just what began
-/// no more than an hour before its floor. Moments are in
-/// microseconds of the gateway's clock.
+/// no more than an hour before its floor. Moments are in microseconds of the gateway's clock.
 #[derive(Drop)]
 pub struct GatewayBook<R: Roster> {
     roster: R,
