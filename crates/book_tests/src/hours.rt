@@ -162,7 +162,10 @@ fn answers_alike<R: Roster>(
         let over = roster.first_over(band, from, start, less);
         assert_eq!(rt; over, wanted, "in turn {turn}");
         let spent = roster.spent(band, from, start);
-        assert!(rt; roster.is_within(band, from, start, spent), "in turn {turn}");
+        assert!(rt;
+            roster.is_within(band, from, start, spent),
+            "in turn {turn}"
+        );
         let has_less = spent > 0 && roster.is_within(band, from, start, spent - 1);
         assert!(rt; !has_less, "in turn {turn}");
     }

@@ -5,3 +5,5 @@
 mod codes;
 #[cfg(test)]
 mod frames;
+#[cfg(test)]
+mod growths;

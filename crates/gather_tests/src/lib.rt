@@ -4,4 +4,6 @@
 #[cfg(test)]
 mod gathering;
 #[cfg(test)]
+mod growths;
+#[cfg(test)]
 mod windows;

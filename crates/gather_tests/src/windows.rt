@@ -10,7 +10,7 @@ use std::test::Fail;
 use uplink_gather::HeardCopy;
 
 /// A copy at DR5 on 868.1 MHz.
-fn copy(gateway: u16, at: u64, snr: i16, rssi: i16) -> HeardCopy
+pub(crate) fn copy(gateway: u16, at: u64, snr: i16, rssi: i16) -> HeardCopy
     requires { at ≤ 2 ^ 60 }
     ensures gateway { result.gateway ≡ gateway }
     ensures heard { IsHeard result }
@@ -25,7 +25,8 @@ fn copy(gateway: u16, at: u64, snr: i16, rssi: i16) -> HeardCopy
     }
 }
 
-fn plan(delay: u8, offset: u8, payload: Option<u8>) -> Plan
+/// How a device listens, with RX2 on 869.525 MHz at DR0; the delay in seconds, the payload in bytes.
+pub(crate) fn plan(delay: u8, offset: u8, payload: Option<u8>) -> Plan
     requires delay_from { 1 ≤ delay }
     requires delay_to { delay ≤ 15 }
     requires offset { offset ≤ 5 }
