@@ -1,6 +1,6 @@
-use Rattle.std.specs.Prelude.{ℕ, ◌≡◌, ◌<◌, ◌≤◌, ◌+◌, max, List, length, Result, Ok, Err}
+use Rattle.std.specs.Prelude.{ℕ, ◌≡◌, ◌<◌, ◌≤◌, ◌+◌, ◌-◌, max, List, length, Result, Ok, Err}
 use Rattle.resv_list.specs.declared.reservation.Reservation.{Reservation}
-use Rattle.resv_list.specs.Reservations.{net, place, airtime_us}
+use Rattle.resv_list.specs.Reservations.{IsByStart, net, place, airtime_us}
 use Rattle.gateway_book.specs.declared.totals.Totals.{Totals}
 use Rattle.gateway_book.specs.Lawful.{IsLawful}
 use Rattle.gateway_book.specs.Kept.{kept, retired_of}
@@ -69,3 +69,27 @@ pub record IsSound (b : Book) : Type 0 where
   pub kept_whole : kept b.list b.floor ≡ b.list
   pub balanced : b.booked ≡ b.cancelled + b.retired + net b.list
   pub bounded : b.booked ≤ total_limit
+
+-- a list that a book with these rules, this floor and this booked airtime may keep
+pub record IsBookList (rules : Rules) (floor booked : ℕ) (l : List Reservation) : Type 0 where
+  pub opened : 0 < rules.cap
+  pub capped : rules.cap ≤ 65536
+  pub counted : length l ≤ rules.cap
+  pub by_start : IsByStart l
+  pub lawful : IsLawful l
+  pub kept_whole : kept l floor ≡ l
+  pub covered : net l ≤ booked
+  pub bounded : booked ≤ total_limit
+
+-- the book that is opened with such a list: what was booked beside it is retired
+abbrev pub trial_book : ℕ → Rules → ℕ → ℕ → List Reservation → Book
+trial_book id rules floor booked l =
+    record {
+      id = id;
+      rules = rules;
+      floor = floor;
+      list = l;
+      booked = booked;
+      cancelled = 0;
+      retired = booked - net l;
+    }

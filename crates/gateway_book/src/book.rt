@@ -1,23 +1,25 @@
-ghost use Rattle.std.specs.Prelude.{◌≡◌, ℕ, ◌+◌, ◌≤◌, ◌↔◌, [], ◌∷◌, IsOk, IfOk, OnOk, OnErr, MatchOption, IsOkUnless, IsOkAnd};
-ghost use Rattle.std.specs.Prelude.{nat_lt};
-ghost use Rattle.std.specs.Option.{option_map, option_and_then};
-ghost use Rattle.gateway_book.specs.Answer.{IsAsked, first_some, no_band, too_long, past_end, refusal_of, overlap, overfull};
+ghost use Rattle.std.specs.Prelude.{◌≡◌, ◌+◌, ◌≤◌, ◌↔◌, [], IsOk, IfOk, OnOk, OnErr, MatchOption, IsOkUnless, IsOkAnd};
+ghost use Rattle.std.specs.Option.{option_and_then};
+ghost use Rattle.gateway_book.specs.Answer.{IsAsked, refusal_of, overlap, overfull};
 ghost use Rattle.gateway_book.specs.Lawful.{IsLawful};
+ghost use Rattle.gateway_book.specs.Book.{IsBookList, trial_book};
 ghost use Rattle.gateway_book.specs.Book.{terms_of, state_of, with_booked, with_cancelled, ticked, airtime_answer, totals_of};
 ghost use Rattle.gateway_book.specs.Remembers.{Remembers};
 ghost use Rattle.radio_bands.specs.Band.{band_of};
-ghost use Rattle.resv_list.specs.Reservations.{start_of, end_of, airtime_us};
+ghost use Rattle.resv_list.specs.Reservations.{end_of, airtime_us};
 ghost use Rattle.gateway_book.specs.Busiest.{IsBusiestAnswer, busiest_of};
-ghost use Rattle.gateway_book.specs.Spaced.{keep_if};
 ghost use Rattle.gateway_book.specs.Step.{book_step, cancel_answer, cancel_step, tick_step};
 
+use crate::ask::fitted;
 use crate::busiest::busiest_hour;
 use crate::cancel::named;
 use crate::duty::full_hour;
 use crate::listing::members_of;
+use crate::overlap::{ending_after, starting_before};
+use crate::trial::filled;
 use crate::{Ask, CancelFault, Refusal, Totals};
 use radio_bands::Band;
-use resv_list::{HOUR, Reservation, Roster};
+use resv_list::{HOUR, Reservation, Roster, airtime_of};
 use std::alloc::{AllocError, Allocator};
 use std::marker::Model;
 use thiserror::Error;
@@ -111,6 +113,34 @@ impl<R: Roster> GatewayBook<R> {
             booked: 0,
             cancelled: 0,
             retired: 0,
+        })
+    }
+
+    /// A book to try asks on, over an empty roster: with another's list, cap, floor and booked airtime (both in microseconds) it
+    /// answers as that one does. What it doesn't keep of what was booked is retired. A roster that found no memory is dropped.
+    pub fn trial(
+        roster: R,
+        id: u16,
+        cap: u32,
+        floor: u64,
+        booked: u64,
+        list: &[Reservation],
+    ) -> Result<Self, NoMemory>
+    where
+        R: Drop,
+        requires empty { R.list roster ≡ [] }
+        requires listed { IsBookList (record { cap = cap }) floor booked list.now }
+        ensures { IfOk result (λ b. b ≡ trial_book id (record { cap = cap }) floor booked list.now) }
+    {
+        let roster = filled(roster, list)?;
+        Ok(GatewayBook {
+            roster,
+            id,
+            cap,
+            floor,
+            booked,
+            cancelled: 0,
+            retired: booked - airtime_of(list),
         })
     }
 
@@ -263,38 +293,8 @@ impl<R: Roster> GatewayBook<R> {
     pub fn list<A: Allocator>(&self, alloc: A) -> Result<Vec<Reservation, A>, NoMemory>
         ensures members { IfOk result (λ members. members.items ≡ self.now.list) }
         ensures lawful { IsLawful self.now.list }
+        ensures whole { IsBookList self.now.rules self.now.floor self.now.booked self.now.list }
     {
         members_of(alloc, &self.roster)
-    }
-}
-
-/// The reservation with the asked fields, or why they are not fit for one.
-fn fitted(ask: Ask) -> Result<Reservation, Refusal>
-    ensures { MatchOption (first_some (no_band ask ∷ too_long ask ∷ past_end ask ∷ [])) (IsOkAnd result (IsAsked ask))
-        (λ refusal. result ≡ Err refusal) }
-{
-    if Band::of(ask.freq_hz, ask.rate).is_none() {
-        return Err(Refusal::NoBand);
-    }
-    if ask.len > ask.rate.max_phy() {
-        return Err(Refusal::TooLong);
-    }
-    Reservation::new(ask.number, ask.start, ask.freq_hz, ask.rate, ask.len).ok_or(Refusal::PastEnd)
-}
-
-/// The member, if it ends after `from`.
-fn ending_after(member: Option<Reservation>, from: u64) -> Option<Reservation>
-    ensures { result ≡ keep_if (λ b. nat_lt from (end_of b)) member }
-{
-    member.filter(|before| before.end() > from)
-}
-
-/// The member's start, if that lies before `to`.
-fn starting_before(member: Option<Reservation>, to: u64) -> Option<u64>
-    ensures { result ≡ option_map start_of (keep_if (λ n. nat_lt n.start to) member) }
-{
-    match member {
-        Some(next) if next.start < to => Some(next.start),
-        _ => None,
     }
 }

@@ -8,8 +8,10 @@ mod cancel;
 mod duty;
 mod laws;
 mod listing;
+mod overlap;
 mod refusal;
 mod totals;
+mod trial;
 
 pub use ask::Ask;
 pub use book::{GatewayBook, MAX_CAP, NoMemory, OpenFault, TOTAL_LIMIT};

@@ -3,8 +3,8 @@ ghost use Rattle.resv_list.specs.declared.reservation.Reservation.{Reservation a
 ghost use Rattle.resv_list.specs.declared.roster.TheConstants.{MAX_MEMBERS};
 ghost use Rattle.resv_list.specs.Sorted.{IsCut, RisesFrom, RisesFrom-prop};
 ghost use Rattle.resv_list.specs.Reservations.{start_of, IsByStart, place, member_before, member_from, member_at, without, begun};
-ghost use Rattle.resv_list.specs.Reservations.{net};
 
+use crate::airtime::airtime_of;
 use crate::{Dropped, MAX_MEMBERS, Reservation, Roster, RosterFault};
 use radio_bands::Band;
 use std::alloc::Allocator;
@@ -126,18 +126,6 @@ fn place_at(members: &[Reservation], start: u64) -> Option<usize>
     } else {
         None
     }
-}
-
-/// The airtime of the members.
-fn airtime_of(members: &[Reservation]) -> u64
-    requires { length members.now ≤ MAX_MEMBERS }
-    ensures { result ≡ net members.now }
-{
-    let mut sum = 0;
-    for member in members {
-        sum += member.airtime();
-    }
-    sum
 }
 
 /// The airtime of the members of the band, of members by start, that begin from `from` on and before

@@ -2,7 +2,7 @@ use Rattle.std.proofs.Common.{◌≡◌, ◌+◌, ◌∷◌, drop, arith, sym, �
 use Rattle.std.proofs.lemmas.List.{at_drop_more, at_drop_all}
 use Rattle.resv_list.specs.Reservations.{net}
 use Rattle.resv_list.proofs.NetLemmas.{net-cons, net-nil}
-use Rattle.resv_list.proofs.vec_roster.airtime_of.Goals as goal
+use Rattle.resv_list.proofs.airtime.airtime_of.Goals as goal
 
 pub loop-member-preserved : goal.loop-member-preserved
 loop-member-preserved c =
