@@ -1,0 +1,5 @@
+pub mod WhatIf
+pub use Rattle.gateway_book.specs.Answer
+pub use Rattle.gateway_book.specs.Step
+pub use Rattle.gateway_book.specs.Book
+pub use Rattle.resv_list.specs.Reservations

@@ -1,0 +1,8 @@
+//! What a gateway's book would answer to asks, tried on a copy in an arena.
+#![tactic(auto)]
+
+mod asking;
+mod laws;
+
+pub use asking::{answer_to, what_if};
+pub use laws::law_live_book_answers_alike;
