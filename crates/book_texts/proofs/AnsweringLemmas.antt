@@ -1,5 +1,5 @@
 -- Lemmas on one line: how a command is carried out, and its answer written.
-use Rattle.std.proofs.Common.{◌≡◌, ℕ, max, true, false, Option, None, Some, Result, Ok, Err, MatchOption, IfOk, OnErr}
+use Rattle.std.proofs.Common.{◌≡◌, ℕ, max, true, false, Option, None, Some, Result, Ok, Err, MatchOption}
 use Rattle.std.proofs.Common.{IsOkUnless, refl, sym, ap, ◌∙◌, subst}
 use Rattle.resv_list.specs.declared.reservation.Reservation.{Reservation}
 use Rattle.resv_list.specs.Reservations.{end_of}
@@ -8,7 +8,7 @@ use Rattle.gateway_book.specs.declared.cancel.CancelFault.{CancelFault}
 use Rattle.gateway_book.specs.declared.refusal.Refusal.{Refusal}
 use Rattle.gateway_book.specs.declared.refusal.Refusal.TheVariants.{NoMemory}
 use Rattle.gateway_book.specs.Answer.{IsAsked, refusal_of}
-use Rattle.gateway_book.specs.Step.{State, after_answer, cancel_answer, cancel_step}
+use Rattle.gateway_book.specs.Step.{after_answer, cancel_answer, cancel_step}
 use Rattle.gateway_book.specs.Book.{Book, terms_of, state_of, with_booked, with_cancelled, ticked, airtime_answer}
 use Rattle.gateway_book.specs.Remembers.{StandsFor}
 use Rattle.gateway_book.proofs.RememberedLaws.{remembers_cancel}
@@ -52,7 +52,7 @@ carried_out-refused old new ask refusal h same =
     let P : Book → Type 0 = λ b. IsCarriedOut old b (Booking ask) (Refused ask.number refusal) in
     subst P (sym same) (refused_by old ask refusal (refusal_of (terms_of old) old.list ask) refl h)
 
-accepted_none : (o : Option Refusal) (r : Reservation) → MatchOption o (IsOkUnless {T = Reservation} (Ok r) NoMemory)
+pub accepted_none : (o : Option Refusal) (r : Reservation) → MatchOption o (IsOkUnless {T = Reservation} (Ok r) NoMemory)
     (λ e. ◌≡◌ {A = Result Reservation Refusal} (Ok r) (Err e)) → o ≡ None
 accepted_none None r h = refl
 accepted_none (Some e) r h = absurd (cc)

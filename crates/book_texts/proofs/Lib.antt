@@ -4,3 +4,4 @@ pub mod ReportLemmas
 pub mod LawLemmas
 pub mod Worked
 pub mod TurnLemmas
+pub mod TryingLemmas

@@ -1,6 +1,5 @@
 -- A line that was carried out is the book's turn, from each standing.
 use Rattle.std.proofs.Common.{◌≡◌, ℕ, Bool, true, false, ◌||◌, List, [], ◌∷◌, ◌++◌, Option, None, Some, ap, ◌∙◌, refl, sym, subst}
-use Rattle.text_lines.specs.Line.{text_of}
 use Rattle.text_lines.specs.Progress.{IsAnswer}
 use Rattle.text_words.specs.Words.{is_refusal}
 use Rattle.gateway_book.specs.Answer.{Rules}

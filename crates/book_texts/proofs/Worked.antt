@@ -9,6 +9,7 @@ use Rattle.gateway_book.specs.Kept.{kept}
 use Rattle.gateway_book.specs.Duty.{full_hour}
 use Rattle.gateway_book.specs.Busiest.{busiest_of}
 use Rattle.book_texts.specs.Output.{output}
+use Rattle.book_texts.specs.Planning.{plan_output}
 use Rattle.book_texts.specs.Toa.{toa_line}
 
 -- two transmissions that touch, and a third that overlaps both
@@ -48,6 +49,29 @@ pub full_hour_of_k :
     ∷ codes "kept 3 2973696" ∷ codes "floor 3600000000" ∷ codes "busiest K 0 2973696" ∷ []
 unfolding airtime_of band_of net begun kept overlap full_hour busiest_of digits
 full_hour_of_k = refl
+
+-- bookings that are tried: one that overlaps what is booked, one that is accepted, and one that overlaps both; the report is of
+-- what is booked
+pub planned_bookings :
+    plan_output (record { cap = 4096 }) [] (codes "book 1 10000000 868100000 5 12" ∷ codes "plan"
+    ∷ codes "book 8 10000000 868100000 5 12" ∷ codes "book 9 10041216 868100000 5 12"
+    ∷ codes "book 10 10041215 868100000 5 12" ∷ [])
+    ≡ codes "ok 1 10000000 10041216" ∷ codes "if no 8 Taken 10000000" ∷ codes "if ok 9 10041216 10082432"
+    ∷ codes "if no 10 Taken 10000000" ∷ codes "booked 41216" ∷ codes "cancelled 0" ∷ codes "retired 0" ∷ codes "kept 1 41216"
+    ∷ codes "floor 0" ∷ codes "busiest M 10000000 41216" ∷ []
+unfolding airtime_of band_of net begun kept overlap full_hour busiest_of digits
+planned_bookings = refl
+
+-- after a line `plan` no other command is taken, a second `plan` neither; the second booking finds no memory
+pub planned_alone :
+    plan_output (record { cap = 1 }) (7 ∷ []) (codes "plan now" ∷ codes "  plan " ∷ codes "plan" ∷ codes "tick 5" ∷ []
+    ∷ codes "book 1 0 868100000 5 12" ∷ codes "book 1 0 868100000 5 12" ∷ codes "book 2 0 868100000 5 12"
+    ∷ codes "cancel 1 0" ∷ [])
+    ≡ codes "bad 1 Syntax" ∷ codes "bad 3 Syntax" ∷ codes "bad 4 Syntax" ∷ codes "if ok 1 0 41216" ∷ codes "if no 1 NoMemory"
+    ∷ codes "if no 2 Taken 0" ∷ codes "bad 9 Syntax" ∷ codes "booked 0" ∷ codes "cancelled 0" ∷ codes "retired 0"
+    ∷ codes "kept 0 0" ∷ codes "floor 0" ∷ []
+unfolding airtime_of band_of net begun kept overlap full_hour busiest_of digits
+planned_alone = refl
 
 pub longest_frame : toa_line 0 64 ≡ codes "2793472"
 unfolding airtime_of digits

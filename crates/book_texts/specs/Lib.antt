@@ -4,6 +4,8 @@ pub mod Report
 pub mod Answering
 pub mod Output
 pub mod Toa
+pub mod Planning
 pub mod Progress
+pub mod Trying
 pub mod Promise
 pub mod Laws

@@ -72,16 +72,21 @@ said line =
 said-long : (line : List ℕ) → is_too_long line ≡ true → said line ≡ Malformed
 said-long line e = rw e refl
 
-kept-by : (line : List ℕ) (t : Bool) → is_too_long line ≡ t → said (kept line) ≡ said line
-kept-by line true e =
-    let long : 1024 < length line = ltb-true 1024 (length line) e in
-    let n : length (kept line) ≡ 1025 = length-take-le 1025 line (omega arith) in
-    let still : is_too_long (kept line) ≡ true = lt-ltb 1024 (length (kept line)) (omega arith) in
-    said-long (kept line) still ∙ sym (said-long line e)
-kept-by line false e =
-    let short : length line ≤ 1024 = ltb-false 1024 (length line) e in
-    ap said (take_all 1025 line (omega arith))
+-- a value that all lines have which are too long is told by what is kept of a line
+pub by_kept : {X : Type 0} (f : List ℕ → X) (x : X) → ((line : List ℕ) → is_too_long line ≡ true → f line ≡ x)
+    → (line : List ℕ) → f (kept line) ≡ f line
+by_kept {X} f x long line = by (is_too_long line) refl
+  where
+    by : (t : Bool) → is_too_long line ≡ t → f (kept line) ≡ f line
+    by true e =
+        let above : 1024 < length line = ltb-true 1024 (length line) e in
+        let n : length (kept line) ≡ 1025 = length-take-le 1025 line (omega arith) in
+        let still : is_too_long (kept line) ≡ true = lt-ltb 1024 (length (kept line)) (omega arith) in
+        long (kept line) still ∙ sym (long line e)
+    by false e =
+        let short : length line ≤ 1024 = ltb-false 1024 (length line) e in
+        ap f (take_all 1025 line (omega arith))
 
 -- what is kept of a line says what the line does
 pub said-kept : (line : List ℕ) → said (kept line) ≡ said line
-said-kept line = kept-by line (is_too_long line) refl
+said-kept = by_kept said Malformed said-long

@@ -1,13 +1,15 @@
 // The text of `airbook book`: one pass over the input, which holds one line at a time.
-ghost use Rattle.std.specs.Prelude.{◌≡◌, IfOk, OnErr};
+ghost use Rattle.std.specs.Prelude.{◌≡◌, [], IfOk, OnErr};
+ghost use Rattle.text_lines.specs.Progress.{IsTurn};
 ghost use Rattle.text_words.specs.Fault.{CountsReads, CountsWrites};
-ghost use Rattle.book_texts.specs.Output.{opened};
-ghost use Rattle.book_texts.specs.Progress.{IsCarriedOut, IsReplied};
+ghost use Rattle.book_texts.specs.Output.{opened, book_turns};
+ghost use Rattle.book_texts.specs.Progress.{IsCarriedOut, IsReplied, StandsIn};
+ghost use Rattle.book_texts.specs.Trying.{IsTried};
 ghost use Rattle.book_texts.specs.Promise.{AnswersAll, AnswersFront, AnswersRead, KeepsLimit, IsCap, IsSettingOf};
 
 use crate::command::{Command, Said, read_line};
 use crate::reply::Reply;
-use crate::report::write_report;
+use crate::report::put_report;
 use gateway_book::{Ask, GatewayBook};
 use resv_list::Roster;
 use resv_tree::TreeRoster;
@@ -16,7 +18,7 @@ use text_lines::{ByteIn, ByteOut, CallFailed, LineAnswerer, TextLine, WriteBehin
 use text_words::TextFault;
 
 /// The number of the gateway whose book the lines speak of.
-const GATEWAY: u16 = 1;
+pub(crate) const GATEWAY: u16 = 1;
 
 /// Books what the lines of the input ask for, on an empty book that keeps at most `cap` transmissions, 1 to 65,536,
 /// and writes an answer to each line, and at the end a report. It answers whether a line of the output begins with
@@ -69,22 +71,34 @@ impl<B: Roster + Drop> LineAnswerer for BookLines<B> {
     ghost Stands = { λ lines. StandsIn lines.book };
 
     fn answer(&mut self, number: u64, line: &[u8], text: &mut TextLine) -> bool {
-        let Some(reply) = reply_to_line(&mut self.book, number, line) else {
-            return false;
-        };
-        reply.write(text);
-        reply.is_refusal()
+        answer_line(&mut self.book, number, line, text)
     }
 
     fn end<W: ByteOut>(self, output: &mut WriteBehind, writer: &mut W) -> Result<(), CallFailed> {
-        let mut text = TextLine::new();
-        write_report(&self.book, &mut text);
-        output.put(writer, text.as_slice())
+        put_report(&self.book, output, writer)
     }
 
     ghost by_kept = { book_turns_by_kept };
 
     ghost no_refusal_at_the_end = { book_ends_without_refusal };
+}
+
+/// Carries out line `number`, makes the empty `text` the answer, if the line is not passed over, and says whether it begins with
+/// `no` or `bad`.
+pub(crate) fn answer_line<B: Roster>(
+    book: &mut GatewayBook<B>,
+    number: u64,
+    line: &[u8],
+    text: &mut TextLine,
+) -> bool
+    requires { text.old ≡ [] }
+    ensures { IsTurn book_turns (StandsIn book.old) (StandsIn book.new) number line.now text.new result }
+{
+    let Some(reply) = reply_to_line(book, number, line) else {
+        return false;
+    };
+    reply.write(text);
+    reply.is_refusal()
 }
 
 /// Carries out line `number`, and gives the answer, if the line is not passed over.
@@ -110,8 +124,9 @@ fn carry_out<B: Roster>(book: &mut GatewayBook<B>, command: Command) -> Reply
 }
 
 /// Books what is asked for, and gives the answer.
-fn reserve<B: Roster>(book: &mut GatewayBook<B>, ask: Ask) -> Reply
-    ensures { IsCarriedOut book.old book.new (Command.Book ask) result }
+pub(crate) fn reserve<B: Roster>(book: &mut GatewayBook<B>, ask: Ask) -> Reply
+    ensures carried_out { IsCarriedOut book.old book.new (Command.Book ask) result }
+    ensures tried { IsTried book.old book.new ask result }
 {
     match book.book(ask) {
         Ok(reservation) => Reply::Booked {

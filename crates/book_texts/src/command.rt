@@ -1,5 +1,6 @@
 // What a line of input says.
 ghost use Rattle.std.specs.Prelude.{◌≡◌, map, ◌≤◌};
+ghost use Rattle.book_texts.specs.Planning.{are_plan, opens_plan};
 ghost use Rattle.book_texts.specs.Said.{book_command, cancel_command, tick_command, command_of, said};
 
 use gateway_book::Ask;
@@ -41,6 +42,26 @@ pub(crate) fn read_line(line: &[u8]) -> Said
     match read_command(Words::of(line).as_slice()) {
         Some(command) => Said::Order(command),
         None => Said::Malformed,
+    }
+}
+
+/// Whether a line opens a plan: its one word is `plan`.
+pub(crate) fn opens_plan(line: &[u8]) -> bool
+    ensures { result ≡ opens_plan line.now }
+{
+    if is_too_long(line) {
+        return false;
+    }
+    are_plan(Words::of(line).as_slice())
+}
+
+/// Whether the words are the one word `plan`.
+fn are_plan(words: &[&[u8]]) -> bool
+    ensures { result ≡ are_plan (map (λ word. word.now) words.now) }
+{
+    match words {
+        [name] => is_word(name, b"plan"),
+        _ => false,
     }
 }
 

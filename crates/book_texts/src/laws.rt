@@ -1,5 +1,5 @@
 // Laws on the definitions of the output.
-ghost use Rattle.book_texts.specs.Laws.{OkWhereAccepted, OneAnswerALine, AnswersComeFirst};
+ghost use Rattle.book_texts.specs.Laws.{OkWhereAccepted, OneAnswerALine, AnswersComeFirst, PlanIsBook, PlanTellsAnswers};
 
 /// A booking is answered by a line that begins with neither `no` nor `bad` exactly where the book accepts what is
 /// asked for and finds memory for it.
@@ -15,4 +15,15 @@ pub fn law_one_answer_a_line()
 /// What answers some lines comes first in what answers them and others after them: no answer looks ahead.
 pub fn law_answers_come_first()
     ensures { AnswersComeFirst }
+{}
+
+/// Without a line `plan` the output of `airbook plan` is that of `airbook book`.
+pub fn law_plan_is_book()
+    ensures { PlanIsBook }
+{}
+
+/// The bookings of a plan are answered by what the book would answer to these asks, one after another, as `what_if` of
+/// `airtime_planner` tells it, where memory is found.
+pub fn law_plan_tells_answers()
+    ensures { PlanTellsAnswers }
 {}

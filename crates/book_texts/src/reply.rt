@@ -1,5 +1,5 @@
 // The answer to a line, and its text.
-ghost use Rattle.std.specs.Prelude.{◌≡◌, [], ◌∷◌, ◌++◌};
+ghost use Rattle.std.specs.Prelude.{◌≡◌, ◌≤◌, [], ◌∷◌, ◌++◌, length};
 
 use gateway_book::{CancelFault, Refusal};
 use text_lines::TextLine;
@@ -24,6 +24,7 @@ pub(crate) enum Reply {
 
 impl Reply {
     ghost use Rattle.book_texts.specs.Reply.{reply_line};
+    ghost use Rattle.book_texts.specs.Planning.{if_line};
     ghost use Rattle.text_words.specs.Words.{is_refusal};
 
     /// Makes `text` the answer's line, with its end.
@@ -31,6 +32,26 @@ impl Reply {
         ensures { text.new ≡ reply_line self.now ++ (10 ∷ []) }
     {
         text.clear();
+        self.add(text);
+        text.text(b"\n");
+    }
+
+    /// Makes `text` the answer's line after the word `if`, with its end.
+    pub(crate) fn write_if(&self, text: &mut TextLine)
+        ensures { text.new ≡ if_line self.now ++ (10 ∷ []) }
+    {
+        text.clear();
+        text.text(b"if ");
+        self.add(text);
+        text.text(b"\n");
+    }
+
+    /// Adds the answer's words.
+    fn add(&self, text: &mut TextLine)
+        requires { length text.old ≤ 3 }
+        ensures text { text.new ≡ text.old ++ reply_line self.now }
+        ensures len { length text.new ≤ 200 }
+    {
         match self {
             Reply::Booked { number, start, end } => {
                 text.text(b"ok");
@@ -63,7 +84,6 @@ impl Reply {
                 add_word(text, b"Syntax");
             }
         }
-        text.text(b"\n");
     }
 
     /// Whether the answer's line begins with `no` or `bad`.

@@ -1,4 +1,3 @@
-use Rattle.std.proofs.Common.{◌∙◌, sym}
 use Rattle.book_texts.proofs.AnsweringLemmas.{carried_out-cancelled, carried_out-not_cancelled}
 use Rattle.book_texts.proofs.booking.take_out.Goals as goal
 

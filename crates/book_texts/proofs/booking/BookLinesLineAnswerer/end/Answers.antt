@@ -1,27 +1,10 @@
-use Rattle.std.proofs.Common.{◌≡◌, ℕ, List, ◌++◌, ap, ◌∙◌, subst}
 use Rattle.std.proofs.lemmas.Result.{on_ok_weaker, on_err_weaker}
-use Rattle.text_lines.specs.Line.{text_of}
-use Rattle.text_lines.specs.Writing.{WritesAllBut, WritesFront}
-use Rattle.book_texts.specs.Output.{report_at}
-use Rattle.book_texts.proofs.ReportLemmas.{report_stands}
 use Rattle.book_texts.proofs.booking.BookLinesLineAnswerer.end.Goals as goal
 
 pub returns-clause-ok : goal.returns-clause-ok
 returns-clause-ok g c =
-    on_ok_weaker c.put.result (λ wrote at stood.
-    let is : c.as_slice.result.now ≡ text_of (report_at at.state) =
-    c.as_slice.ensures.bytes ∙ c.write_report.ensures
-    ∙ ap text_of (report_stands _ c.args.self.book at c.drop.view_is c.drop.invariant stood) in
-    let Put : List ℕ → Type 0 = λ text. WritesAllBut (g.W.ByteOut.taken c.args.writer.now) (g.W.ByteOut.taken c.put.new.writer)
-    (c.args.output.now ++ text) c.put.new.self in
-    subst Put is wrote) c.put.ensures.ok
+    on_ok_weaker c.put_report.result (λ wrote at stood. wrote at.state stood.stands) c.put_report.ensures.ok
 
 pub returns-clause-err : goal.returns-clause-err
 returns-clause-err g c =
-    on_err_weaker c.put.result (λ wrote at stood.
-    let is : c.as_slice.result.now ≡ text_of (report_at at.state) =
-    c.as_slice.ensures.bytes ∙ c.write_report.ensures
-    ∙ ap text_of (report_stands _ c.args.self.book at c.drop.view_is c.drop.invariant stood) in
-    let Put : List ℕ → Type 0 = λ text. WritesFront (g.W.ByteOut.taken c.args.writer.now) (g.W.ByteOut.taken c.put.new.writer)
-    (c.args.output.now ++ text) in
-    subst Put is wrote) c.put.ensures.err
+    on_err_weaker c.put_report.result (λ wrote at stood. wrote at.state stood.stands) c.put_report.ensures.err

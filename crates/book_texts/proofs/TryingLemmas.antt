@@ -1,0 +1,110 @@
+-- A booking that is tried on the copy of a book is the plan's turn.
+use Rattle.std.proofs.Common.{◌≡◌, ℕ, true, false, List, [], ◌∷◌, ◌++◌, Option, None, Some, Result, Ok, Err, MatchOption}
+use Rattle.std.proofs.Common.{IsOkUnless, is_some, refl, sym, ap, ◌∙◌, Bool}
+use Rattle.resv_list.specs.declared.reservation.Reservation.{Reservation}
+use Rattle.resv_list.specs.Reservations.{end_of}
+use Rattle.text_lines.specs.Progress.{IsAnswer, IsTurn}
+use Rattle.text_words.specs.Words.{is_refusal}
+use Rattle.gateway_book.specs.declared.ask.Ask.{Ask}
+use Rattle.gateway_book.specs.declared.refusal.Refusal.{Refusal}
+use Rattle.gateway_book.specs.declared.refusal.Refusal.TheVariants.{NoMemory}
+use Rattle.gateway_book.specs.Answer.{IsAsked, refusal_of}
+use Rattle.gateway_book.specs.Step.{State, book_step, after_answer}
+use Rattle.gateway_book.specs.Book.{Book, terms_of, state_of, with_booked}
+use Rattle.book_texts.specs.declared.command.Command.TheVariants.{Book as Booking}
+use Rattle.book_texts.specs.declared.command.Said.TheVariants.{Order}
+use Rattle.book_texts.specs.declared.reply.Reply.{Reply}
+use Rattle.book_texts.specs.declared.reply.Reply.TheVariants.{Booked, Refused, Cancelled, NotCancelled, Floor, Bad}
+use Rattle.book_texts.specs.Said.{said}
+use Rattle.book_texts.specs.Answering.{booking_reply}
+use Rattle.book_texts.specs.Planning.{Planned, plan_turns, opens_plan, if_line, tried_reply, tried_after}
+use Rattle.book_texts.specs.Trying.{IsTried, IsTriedOn, IsCopyOf, IsTrialTurn, StandsPlanned}
+use Rattle.book_texts.specs.Output.{book_turns}
+use Rattle.book_texts.specs.Progress.{StandsIn}
+use Rattle.book_texts.proofs.AnsweringLemmas.{accepted_none}
+
+pub tried-accepted : (old new : Book) (ask : Ask) (r : Reservation)
+    → MatchOption (refusal_of (terms_of old) old.list ask) (IsOkUnless {T = Reservation} (Ok r) NoMemory)
+    (λ e. ◌≡◌ {A = Result Reservation Refusal} (Ok r) (Err e)) → IsAsked ask r → new ≡ with_booked old r
+    → state_of new ≡ book_step old.rules (state_of old) ask → IsTried old new ask (Booked r.number r.start (end_of r))
+tried-accepted old new ask r h a is step =
+    let none = accepted_none (refusal_of (terms_of old) old.list ask) r h in
+    record {
+      starved = false;
+      answered = rw (a.number, a.start, a.rate, a.len) (sym (ap (λ o. booking_reply false o ask) none));
+      reached = step;
+      rules = rw is refl;
+    }
+
+module _ (old : Book) (ask : Ask) (refusal : Refusal) where
+  refused_by : (o : Option Refusal) → refusal_of (terms_of old) old.list ask ≡ o
+      → MatchOption o (IsOkUnless {T = Reservation} (Err refusal) NoMemory)
+      (λ e. ◌≡◌ {A = Result Reservation Refusal} (Err refusal) (Err e)) → IsTried old old ask (Refused ask.number refusal)
+  refused_by None is h =
+      record { starved = true; answered = ap (λ e. Refused ask.number e) h; reached = refl; rules = refl }
+  refused_by (Some e) is h =
+      let same : refusal ≡ e = cc in
+      record {
+        starved = false;
+        answered = ap (λ e. Refused ask.number e) same ∙ sym (ap (λ o. booking_reply false o ask) is);
+        reached = sym (ap (λ o. after_answer o (state_of old) ask) is);
+        rules = refl;
+      }
+
+  pub tried-refused : (new : Book) → MatchOption (refusal_of (terms_of old) old.list ask)
+      (IsOkUnless {T = Reservation} (Err refusal) NoMemory) (λ e. ◌≡◌ {A = Result Reservation Refusal} (Err refusal) (Err e))
+      → new ≡ old → IsTried old new ask (Refused ask.number refusal)
+  tried-refused new h same = rw same (refused_by (refusal_of (terms_of old) old.list ask) refl h)
+
+-- a line that begins with `if` begins with neither `no` nor `bad`
+pub if_line-unrefused : (reply : Reply) → is_refusal (if_line reply) ≡ false
+if_line-unrefused (Booked number start end) = refl
+if_line-unrefused (Refused number refusal) = refl
+if_line-unrefused (Cancelled number airtime) = refl
+if_line-unrefused (NotCancelled number fault) = refl
+if_line-unrefused (Floor floor) = refl
+if_line-unrefused (Bad line) = refl
+
+module _ (number : ℕ) (line text : List ℕ) (ask : Ask) (reply : Reply) (is : said line ≡ Order (Booking ask))
+    (put : text ≡ if_line reply ++ (10 ∷ [])) where
+  turn_at : (new : Option Book) (at : Planned) (t : State) (starved : Bool) → at.trial ≡ Some t
+      → reply ≡ tried_reply at.rules starved t ask
+      → IsCopyOf new (record { rules = at.rules; state = at.state; trial = Some (tried_after at.rules starved t ask) })
+      → IsAnswer plan_turns at (λ next. (next.rules ≡ at.rules) × (next.state ≡ at.state) × IsCopyOf new next) number line text
+      false
+  turn_at new at t starved trial e stood =
+      record {
+        starved = starved;
+        is_text = rw (trial, is) (put ∙ ap (λ r. if_line r ++ (10 ∷ [])) e);
+        told = rw (trial, is, if_line-unrefused (tried_reply at.rules starved t ask)) refl;
+        stands = rw (trial, is) (refl, refl, stood);
+      }
+
+  starved_at : (at : Planned) (o : Option State) → at.trial ≡ o → is_some at.trial ≡ true → reply ≡ Refused ask.number NoMemory
+      → IsAnswer plan_turns at (λ next. (next.rules ≡ at.rules) × (next.state ≡ at.state) × IsCopyOf None next) number line text
+      false
+  starved_at at None trial some e = absurd (cc (trial, some))
+  starved_at at (Some t) trial some e = turn_at None at t true trial e refl
+
+  pub turn_tried : (old new : Option Book) → IsTriedOn old new ask reply → IsTrialTurn old new number line text false
+  turn_tried None (Some new) e = elim e [ ]
+  turn_tried (Some old) None tried = elim tried [ ]
+  turn_tried None None e = λ at some. starved_at at at.trial refl some e
+  turn_tried (Some old) (Some new) tried = λ at stood.
+      let answered : reply ≡ tried_reply at.rules tried.starved (state_of old) ask = rw (sym stood.0) tried.answered in
+      let reached : state_of new ≡ tried_after at.rules tried.starved (state_of old) ask = rw (sym stood.0) tried.reached in
+      turn_at (Some new) at (state_of old) tried.starved stood.1 answered (tried.rules ∙ stood.0, ap Some (sym reached))
+
+-- before the plan a line is the book's own turn
+pub turn_before : (old new : Book) (is_planned : Bool) (copy : Option Book) (number : ℕ) (line text : List ℕ) (refused : Bool)
+    → is_planned ≡ false → opens_plan line ≡ false → IsTurn book_turns (StandsIn old) (StandsIn new) number line text refused
+    → IsTurn plan_turns (StandsPlanned old is_planned copy) (StandsPlanned new is_planned copy) number line text refused
+turn_before old new true copy number line text refused live shut turn = absurd (cc)
+turn_before old new false copy number line text refused live shut turn = λ at stood.
+    let told = turn (record { rules = at.rules; state = at.state }) (record { rules = stood.rules; stands = stood.stands }) in
+    record {
+      starved = told.starved;
+      is_text = rw (stood.plan, shut) told.is_text;
+      told = rw (stood.plan, shut) told.told;
+      stands = rw (stood.plan, shut) (record { rules = told.stands.rules; stands = told.stands.stands; plan = refl });
+    }
