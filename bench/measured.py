@@ -1,4 +1,4 @@
-"""What the scripts here measure of `airbook book`, or of a program that reads the same lines."""
+"""What the scripts here measure of `airbook book` and `plan`, or of a program that reads the same lines."""
 import os
 import subprocess
 import tempfile
@@ -11,22 +11,22 @@ def book(number, start):
     return f"book {number} {start} 868300000 6 12\n"
 
 
-def started(program, given):
-    return subprocess.Popen([program, "book", "--cap", "65536"], stdin=given, stdout=subprocess.DEVNULL)
+def started(program, given, command="book"):
+    return subprocess.Popen([program, command, "--cap", "65536"], stdin=given, stdout=subprocess.DEVNULL)
 
 
-def seconds(program, lines, runs=1):
-    """The least processor seconds of so many runs over these lines."""
+def seconds(program, lines, runs=1, command="book"):
+    """The least processor seconds of so many runs of a command over these lines."""
     best = None
     with tempfile.TemporaryFile() as given:
         given.writelines(line.encode() for line in lines)
         for _ in range(runs):
             given.seek(0)
-            child = started(program, given)
+            child = started(program, given, command)
             _, status, used = os.wait4(child.pid, 0)
             child.returncode = os.waitstatus_to_exitcode(status)
             if child.returncode not in (0, 1):
-                raise SystemExit(f"{program} book failed")
+                raise SystemExit(f"{program} {command} failed")
             taken = used.ru_utime + used.ru_stime
             best = taken if best is None else min(best, taken)
     return best

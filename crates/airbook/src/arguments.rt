@@ -9,6 +9,8 @@ pub enum Task {
     Toa { rate: u8, len: u8 },
     /// The book of a gateway that keeps at most `cap` transmissions.
     Book { cap: u32 },
+    /// The same, and what that book would answer to further bookings.
+    Plan { cap: u32 },
     /// Settings of a server, and what happens there, with so many workers; with none one thread does all.
     Run { workers: u8 },
 }
@@ -21,11 +23,12 @@ pub fn program<'a>(alloc: Global) -> Result<Command<'a>, AllocError> {
             "Airtime of LoRaWAN downlinks in EU868: how long they last, and when a gateway may send them.",
         )
         .after_help(
-            "Examples:\n  airbook toa 5 12\n  airbook book < examples/two-bookings.txt\n  airbook run < examples/two-gateways.txt",
+            "Examples:\n  airbook toa 5 12\n  airbook book < examples/two-bookings.txt\n  airbook plan < examples/plan.txt\n  airbook run < examples/two-gateways.txt",
         )
         .subcommand_required(true)
         .subcommand(toa(alloc)?)?
         .subcommand(book(alloc)?)?
+        .subcommand(plan(alloc)?)?
         .subcommand(run(alloc)?)
 }
 
@@ -48,12 +51,6 @@ fn toa<'a>(alloc: Global) -> Result<Command<'a>, AllocError> {
 
 /// The arguments of `book`.
 fn book<'a>(alloc: Global) -> Result<Command<'a>, AllocError> {
-    let cap = Arg::new(alloc, "cap")
-        .help("How many transmissions the book keeps at most, 1 to 65536")
-        .long("cap")
-        .value_name("N")
-        .default_value("4096")
-        .value_parser(value_parser!(u32));
     Command::new(alloc, "book")
         .about(
             "Keeps the airtime book of one gateway. Lines of standard input: book NUMBER START FREQ DR LEN, cancel NUMBER START, tick NOW",
@@ -61,7 +58,29 @@ fn book<'a>(alloc: Global) -> Result<Command<'a>, AllocError> {
         .after_help(
             "Example:\n  $ echo book 1 10000000 868100000 5 12 | airbook book\n  ok 1 10000000 10041216\n  booked 41216\n  cancelled 0\n  retired 0\n  kept 1 41216\n  floor 0\n  busiest M 10000000 41216",
         )
-        .arg(cap)
+        .arg(cap(alloc))
+}
+
+/// The arguments of `plan`.
+fn plan<'a>(alloc: Global) -> Result<Command<'a>, AllocError> {
+    Command::new(alloc, "plan")
+        .about(
+            "Keeps the airtime book of one gateway, as book does, and tells what it would answer to the bookings that follow a line plan. They are not booked; each that would be accepted stays for the next",
+        )
+        .after_help(
+            "Example:\n  $ airbook plan < examples/plan.txt\n  ok 1 10000000 10041216\n  if no 8 Taken 10000000\n  if ok 9 10041216 10082432\n  if no 10 Taken 10000000\n  booked 41216\n  cancelled 0\n  retired 0\n  kept 1 41216\n  floor 0\n  busiest M 10000000 41216",
+        )
+        .arg(cap(alloc))
+}
+
+/// How many transmissions a book keeps at most.
+fn cap<'a>(alloc: Global) -> Arg<'a> {
+    Arg::new(alloc, "cap")
+        .help("How many transmissions the book keeps at most, 1 to 65536")
+        .long("cap")
+        .value_name("N")
+        .default_value("4096")
+        .value_parser(value_parser!(u32))
 }
 
 /// The arguments of `run`.
@@ -93,6 +112,9 @@ pub fn task_of(matches: &ArgMatches<'_>) -> Option<Task> {
         }),
         Some(("book", book)) => Some(Task::Book {
             cap: book.get_one::<u32>("cap")?,
+        }),
+        Some(("plan", plan)) => Some(Task::Plan {
+            cap: plan.get_one::<u32>("cap")?,
         }),
         Some(("run", run)) => Some(Task::Run {
             workers: run.get_one::<u8>("workers")?,

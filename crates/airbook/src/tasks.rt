@@ -1,6 +1,6 @@
 // The tasks of the program, over any runtime, and the status that each ends with.
 use crate::arguments::{Task, program, task_of};
-use airbook_text::{TextFault, book_text, run_text, toa_text};
+use airbook_text::{TextFault, book_text, plan_text, run_text, toa_text};
 use std::env::Env;
 use std::hash::RandomState;
 use std::io;
@@ -59,6 +59,7 @@ fn perform<R: AllocGlobal + Input + Print + Eprint + RandomSource + Threads + Wa
     let answered = match task {
         Task::Toa { rate, len } => toa_text(rate, len, &mut writer),
         Task::Book { cap } => book_text(rt.alloc(), cap, &mut reader, &mut writer),
+        Task::Plan { cap } => plan_text(rt.alloc(), cap, &mut reader, &mut writer),
         Task::Run { workers } => match RandomState::new(rt) {
             Ok(hasher) => run_text(rt, rt.alloc(), hasher, workers, &mut reader, &mut writer),
             Err(_) => Err(TextFault::Read),

@@ -2,7 +2,8 @@
 #![tactic(auto)]
 
 pub use book_texts::{
-    book_text, law_answers_come_first, law_ok_where_accepted, law_one_answer_a_line, toa_text,
+    book_text, law_answers_come_first, law_ok_where_accepted, law_one_answer_a_line,
+    law_plan_is_book, law_plan_tells_answers, plan_text, toa_text,
 };
 pub use run_texts::run_text;
 pub use settings_text::{
