@@ -1,0 +1,11 @@
+//! Tests of asks that are tried on a copy of a book, in a crate of their own: a crate with tests is proved twice.
+#![tactic(auto)]
+
+#[cfg(test)]
+mod alike;
+#[cfg(test)]
+mod memory;
+#[cfg(test)]
+mod trials;
+#[cfg(test)]
+mod worked;
