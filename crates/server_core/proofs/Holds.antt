@@ -1,9 +1,9 @@
 -- What the system keeps at every step.
 use Rattle.server_core.proofs.Words
-use Words.{arith, inl, inr, subst, sym, ◌∙◌, All-weaker, All, Contains, List, None, Ok, Option, Some, false, length, map, refl}
+use Words.{arith, inl, inr, subst, ◌∙◌, All-weaker, All, Contains, List, Ok, Some, false, length, map, refl}
 use Words.{slice_get, ℕ, ⊤, ◌++◌, ◌+◌, ◌<◌, ◌≡◌, ◌≤◌, ◌⊎◌, Reservation, IsOrderly, addr_of, Gathering, numbered, rewritten}
 use Words.{HeardCopy, IsWindowOf, Candidate, Job, candidate_at, Answer, Open, is_not_given, known_of, numbered-append}
-use Words.{numbered_after, rewritten-none, all_get, map_there, Device, plan_for, Gateway, World, AreSettings, SettingLists, Asked}
+use Words.{numbered_after, all_get, map_there, Device, plan_for, Gateway, World, AreSettings, SettingLists, Asked}
 use Words.{Sent, DeviceSetting, IsMember, setting_of, Given, Reply, sent_for, net, IsAsked, ask_for}
 use Rattle.server_core.proofs.Members.{apart_once}
 
@@ -218,20 +218,12 @@ module _ {X : Type 0} (P : X → Type 0) (xs : List X) where
   pub Has-append : (ys : List X) (n : ℕ) → Has P xs n → Has P (xs ++ ys) n
   Has-append ys n x = record { member = x.member; there = numbered-append n xs ys x.member x.there; is = x.is }
 
-  module _ (f : X → X) (n : ℕ) where
-    has_at : (m : ℕ) (y : X) (x : Has P xs m) → (P y → P (f y))
-        → ((n ≡ m) × (x.member ≡ y) × (numbered m (rewritten f n xs) ≡ Some (f y))) ⊎
-        (numbered m (rewritten f n xs) ≡ Some x.member) → Has P (rewritten f n xs) m
-    has_at m y x k (inl e) = record { member = f y; there = e.2; is = k (subst P e.1 x.is) }
-    has_at m y x k (inr e) = record { member = x.member; there = e; is = x.is }
-
-    has_by : (m : ℕ) (o : Option X) → numbered n xs ≡ o → ((y : X) → o ≡ Some y → P y → P (f y)) → Has P xs m
-        → Has P (rewritten f n xs) m
-    has_by m None e k x = subst (λ ys. Has P ys m) (sym (rewritten-none f n xs e)) x
-    has_by m (Some y) e k x = has_at m y x (k y refl) (numbered_after f n m xs y x.member e x.there)
-
-    pub Has-rewritten : (m : ℕ) → ((y : X) → numbered n xs ≡ Some y → P y → P (f y)) → Has P xs m → Has P (rewritten f n xs) m
-    Has-rewritten m k x = has_by m (numbered n xs) refl k x
+  pub Has-rewritten : (f : X → X) (n m : ℕ) → ((y : X) → numbered n xs ≡ Some y → P y → P (f y)) → Has P xs m
+      → Has P (rewritten f n xs) m
+  Has-rewritten f n m k x = elim (numbered_after f n m xs x.member x.there) [
+    | inl e ↦ record { member = f x.member; there = e.1; is = k x.member (rw e.0 x.there) x.is }
+    | inr e ↦ record { member = x.member; there = e; is = x.is }
+  ]
 
 module _ {settings : SettingLists} {T : Job → Type 0} {w : World} (h : Holds settings T w) where
   pub device_setting : (p : ℕ) (d : Device) → slice_get w.reg.devices p ≡ Some d → slice_get settings.devices p ≡ Some d.setting

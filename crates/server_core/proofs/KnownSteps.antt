@@ -1,10 +1,10 @@
 -- A payload is queued, a copy is heard, time passes for the gatherings, an answer is settled: what holds of the world holds then.
 use Rattle.server_core.proofs.Words
 use Words.{arith, sym, Contains-append_left, Bool, List, None, Ok, Option, Result, Some, false, if◌then◌else◌, refl, slice_get}
-use Words.{true, ℕ, ◌==◌, ◌≡◌, addr_of, Gathering, is_open_at, numbered, rewritten, place_of, with_copy, Joins, Job, Payload}
-use Words.{Ending, Answer, Settled, Decision, Join, Opening, Refuse, asked_by, copy_of, length-rewritten, Device, Register}
+use Words.{true, ℕ, ◌==◌, ◌≡◌, addr_of, Gathering, is_open_at, numbered, rewritten, with_copy, Job, Payload}
+use Words.{Ending, Answer, Settled, Decision, Join, Refuse, asked_by, copy_of, length-rewritten, Device, Register}
 use Words.{device_with, after_settling, delivered, has_carried, head_taken, sent_of, without_head, World, ids, after_queueing}
-use Words.{queue_answer, with_payload, IsDecided, decided, found_there, closing, pass_answer, SettingLists, Asked, Sent}
+use Words.{queue_answer, with_payload, decide, join_decided, open_decided, found_there, closing, pass_answer, SettingLists, Asked, Sent}
 use Words.{QueueFault, Heard1, ending_of, hear, hear_by, pass, queue, sent_for, settle}
 use Rattle.server_core.proofs.Holds.{IsGrown, Holds, IsGood, IsGoodStep, unchanged, IsOfDevice, both_good, device_setting}
 use Rattle.server_core.proofs.Written.{device_written, with_device, answer_written, Grow-rewritten, gathered_grown}
@@ -54,39 +54,31 @@ module _ {settings : SettingLists} {T : Job → Type 0} {w : World} (h : Holds s
 
 module _ {settings : SettingLists} {T : Job → Type 0} {w : World} (h : Holds settings T w) (bytes : List ℕ) (heard : Heard1)
     (arrived : ℕ) where
-  joined_good : (n : ℕ) → place_of w.reg.gathered bytes heard.gateway arrived ≡ Ok (Joins n)
-      → IsGood settings T w (hear_by w bytes heard arrived (Join n)).0
-  joined_good n p =
+  heard_good : (d : Decision) → decide (ids w) w.reg bytes heard arrived ≡ d → IsGood settings T w (hear_by w bytes heard arrived d).0
+  heard_good (Refuse fault) e = unchanged h
+  heard_good (Join n) e =
       let f : Gathering → Gathering = with_copy (copy_of heard) in
       let grown : (g : Gathering) → IsGrown g (f g) = λ g. record { bytes = refl; copies = Contains-append_left g.copies _ } in
-      rw p (gathered_grown h (rewritten f n w.reg.gathered.list) (sym (length-rewritten f n w.reg.gathered.list))
+      rw ((join_decided (ids w) w.reg bytes heard arrived n e).place)
+      (gathered_grown h (rewritten f n w.reg.gathered.list) (sym (length-rewritten f n w.reg.gathered.list))
       (Grow-rewritten f grown n w.reg.gathered.list))
-
-  opened_good : (o : Opening) → IsDecided w.reg bytes heard.gateway arrived (hearing.Open o)
-      → IsGood settings T w (hear_by w bytes heard arrived (hearing.Open o)).0
-  opened_good o d =
-      let copy = copy_of heard in
-      let g : Gathering = gathers.opening bytes copy arrived in
+  heard_good (hearing.Open o) e =
+      let d = open_decided (ids w) w.reg bytes heard arrived o e in
+      let g : Gathering = gathers.opening bytes (copy_of heard) arrived in
       let device : Device = record (o.device) { up = Some o.counter } in
-      let there = found_there (λ (x : Device). x.setting.addr == addr_of bytes) w.reg.devices (o.place, o.device) d.2 in
-      let v = with_device h o.place device in
-      let first : IsGood settings T w v = device_written h o.place o.device device there.0 refl (omega arith) in
+      let there = found_there (λ (x : Device). x.setting.addr == addr_of bytes) w.reg.devices (o.place, o.device) d.found in
+      let first : IsGood settings T w (with_device h o.place device) =
+      device_written h o.place o.device device there.0 refl (omega arith) in
       let own : IsOfDevice settings o.place g =
       record {
         setting = o.device.setting;
         served = device_setting h o.place o.device there.0;
         its_own = equal_where_tested o.device.setting.addr (addr_of bytes) there.1;
       } in
-      rw (d.0, d.1) (both_good first (uplink_gathered first.holds g (asked_by o bytes) own))
-
-  heard_good : (d : Decision) → IsDecided w.reg bytes heard.gateway arrived d
-      → IsGood settings T w (hear_by w bytes heard arrived d).0
-  heard_good (Refuse fault) d = unchanged h
-  heard_good (Join n) d = joined_good n d
-  heard_good (hearing.Open o) d = opened_good o d
+      rw (d.place, d.room) (both_good first (uplink_gathered first.holds g (asked_by o bytes) own))
 
   pub hear_good : IsGoodStep settings T w (hear w bytes heard arrived)
-  hear_good = record { good = heard_good _ (decided (ids w) w.reg bytes heard arrived); used = tt }
+  hear_good = record { good = heard_good (decide (ids w) w.reg bytes heard arrived) refl; used = tt }
 
 -- An answer is settled.
 

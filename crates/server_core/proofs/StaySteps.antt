@@ -27,7 +27,8 @@ tested_not m n t e d = grind (arith, nat_tests)
 module _ (w : World) (n : ℕ) (a : Answer) (at : numbered n w.answers ≡ Some a) where
   other_stays : (f : Answer → Answer) (m : ℕ) (x : Answer) → numbered m w.answers ≡ Some x → (m ≡ n → x ≡ a → ⊥)
       → numbered n (rewritten f m w.answers) ≡ Some a
-  other_stays f m x e d = elim (numbered_after f m n w.answers x a e at) [ inl h ↦ absurd (d h.0 (sym h.1)) | inr h ↦ h ]
+  other_stays f m x e d = elim (numbered_after f m n w.answers a at)
+      [ inl h ↦ absurd (d h.0 (some_inj (sym e ∙ ap (λ i. numbered i w.answers) h.0 ∙ at))) | inr h ↦ h ]
 
   heard_stays : (d : Decision) → numbered n (answers_after d w.answers) ≡ Some a
   heard_stays (hearing.Open o) = numbered-append n w.answers (Waiting ∷ []) a at

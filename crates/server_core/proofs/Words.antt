@@ -63,10 +63,10 @@ pub use Rattle.server_desk.specs.{declared.faults.TakeFault.TheVariants.Taken, d
 pub use Rattle.server_desk.specs.{declared.setting.DeviceSetting.DeviceSetting, declared.setting.GatewaySetting.GatewaySetting}
 pub use Rattle.server_desk.proofs.Numbers.{length-rewritten, map-rewritten, numbered-append, numbered-append_cases, numbered-here}
 pub use Rattle.server_desk.proofs.Numbers.{numbered-map, numbered_after, numbered_cases, numbered_next, rewritten-found}
-pub use Rattle.server_desk.proofs.Numbers.{rewritten-none, same_rewritten}
+pub use Rattle.server_desk.proofs.Numbers.{same_rewritten}
 pub use Rattle.server_desk.proofs.Places.{all_get, from_map, get_contains, get_set_after, get_set_cases, get_set_same, map_set}
 pub use Rattle.server_desk.proofs.Places.{map_there, some_inj, found_there}
-pub use Rattle.server_desk.proofs.Decided.{IsDecided, decided}
+pub use Rattle.server_desk.proofs.Decided.{MayJoin, MayOpen, join_decided, open_decided}
 pub use Rattle.server_core.specs.Entries.{entries, entry_at, gateway_of, gateways_after, kept_gateway, lines_for, not_taken}
 pub use Rattle.server_core.specs.Promise.{EveryInterleavingIsSafe, HaveOwnCounters, IsMember, IsOwnWindow, IsSafe, jobs_given}
 pub use Rattle.server_core.specs.Promise.{setting_of, with_given}

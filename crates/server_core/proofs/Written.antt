@@ -1,7 +1,7 @@
 -- A device, an answer, a gateway or a gathering is written anew, or an uplink is gathered.
 use Rattle.server_core.proofs.Words
 use Words.{ap, arith, inl, inr, length-append, subst, sym, ◌∙◌, List, Some, [], false, length, refl, slice_get, slice_set, ℕ}
-use Words.{◌++◌, ◌+◌, ◌∷◌, ◌≡◌, ◌≢◌, ◌≤◌, ◌⊎◌, Gathering, numbered, rewritten, Job, Answer, Open, Waiting, is_not_given, known_of}
+use Words.{◌++◌, ◌+◌, ◌∷◌, ◌≡◌, ◌≤◌, Gathering, numbered, rewritten, Job, Answer, Open, Waiting, is_not_given, known_of}
 use Words.{length-rewritten, numbered-append_cases, numbered_cases, numbered_next, get_set_after, get_set_cases, map_set}
 use Words.{some_inj, Device, Gateway, World, SettingLists, Asked, Sent, setting_of, sent_for}
 use Rattle.server_core.proofs.Holds.{IsGrown, IsOfDevice, IsAskedAt, IsJobAt, AllStand, Holds, Grow, IsGivenAt, IsGood}
@@ -14,23 +14,14 @@ module _ {settings : SettingLists} {T : Job → Type 0} {w : World} (h : Holds s
   abbrev pub with_device : ℕ → Device → World
   with_device p e = record w { reg = record (w.reg) { devices = slice_set w.reg.devices p e } }
 
-  later_by : (p q : ℕ) (d e f : Device) → e.setting ≡ d.setting → d.down ≤ e.down
-      → ((p ≡ q) × (f ≡ d) × (slice_get (slice_set w.reg.devices p e) q ≡ Some e)) ⊎
-      (slice_get (slice_set w.reg.devices p e) q ≡ Some f) → IsLater (slice_set w.reg.devices p e) q f
-  later_by p q d e f s c (inl g) =
-      record {
-        device = e;
-        there = g.2;
-        addr = ap (λ t. t.addr) (s ∙ ap (λ (x : Device). x.setting) (sym g.1));
-        counter = subst (λ (x : Device). x.down ≤ e.down) (sym g.1) c;
-      }
-  later_by p q d e f s c (inr g) = record { device = f; there = g; addr = refl; counter = omega arith }
-
   pub device_written : (p : ℕ) (d e : Device) → slice_get w.reg.devices p ≡ Some d → e.setting ≡ d.setting → d.down ≤ e.down
       → IsGood settings T w (with_device p e)
   device_written p d e g s c =
       let later : (q : ℕ) (f : Device) → slice_get w.reg.devices q ≡ Some f → IsLater (slice_set w.reg.devices p e) q f =
-      λ q f i. later_by p q d e f s c (get_set_after w.reg.devices p q d e f g i) in
+      λ q f i. elim (get_set_after w.reg.devices p q e f i) [
+        | inl o ↦ let same : f ≡ d = some_inj (sym i ∙ rw o.0 at g) in rw same (record { device = e; there = o.1; addr = ap (λ t. t.addr) s; counter = c })
+        | inr o ↦ record { device = f; there = o; addr = refl; counter = omega arith }
+      ] in
       assumption (map_set (λ x. x.setting) w.reg.devices p d e g s ∙ h.devices, later)
 
   -- an answer, which keeps what was booked for it, and of which a ticket was given
@@ -39,12 +30,6 @@ module _ {settings : SettingLists} {T : Job → Type 0} {w : World} (h : Holds s
   with_answer n new = record w { answers = rewritten (λ a. new) n w.answers }
 
   module _ (n : ℕ) (old new : Answer) (there : numbered n w.answers ≡ Some old) where
-    job_by : (m k : ℕ) (job : Job) → ((k : ℕ) (job : Job) → new ≡ Open k job → IsJobAt settings T w.reg.gathered.list n job)
-        → ((n ≡ m) × (Open k job ≡ new)) ⊎ (numbered m w.answers ≡ Some (Open k job))
-        → IsJobAt settings T w.reg.gathered.list m job
-    job_by m k job o (inl g) = subst (λ i. IsJobAt settings T w.reg.gathered.list i job) g.0 (o k job (sym g.1))
-    job_by m k job o (inr g) = h.jobs m k job g
-
     -- what holds of the old answer, and of the new one then, holds still
     has_still : (P : Answer → Type 0) → (P old → P new) → (m : ℕ) → Has P w.answers m → Has P (rewritten (λ a. new) n w.answers) m
     has_still P f m x = Has-rewritten P w.answers (λ a. new) n m (λ y e p. f (subst P (some_inj (sym e ∙ there)) p)) x
@@ -56,7 +41,8 @@ module _ {settings : SettingLists} {T : Job → Type 0} {w : World} (h : Holds s
         let answers = rewritten (λ a. new) n w.answers in
         let l = w.reg.gathered.list in
         let jobs : (m k : ℕ) (job : Job) → numbered m answers ≡ Some (Open k job) → IsJobAt settings T l m job =
-        λ m k job e. job_by m k job o (numbered_cases (λ a. new) n m w.answers old (Open k job) there e) in
+        λ m k job e. elim (numbered_cases (λ a. new) n m w.answers (Open k job) e)
+        [ inl g ↦ rw (← g.1) (o k job (sym g.3)) | inr g ↦ h.jobs m k job g ] in
         let stands = stands_on settings T T (λ x t. t) l l (λ m x y. y) w.answers answers
         (λ m x. has_still (λ a. sent_for a ≡ Some x) (s x) m) w.gateways h.stands in
         let given : (m : ℕ) → IsGivenAt w.answers m → IsGivenAt answers m =
@@ -69,16 +55,10 @@ module _ {settings : SettingLists} {T : Job → Type 0} {w : World} (h : Holds s
   with_gateway i g = record w { gateways = slice_set w.gateways i g }
 
   module _ (i : ℕ) (old new : Gateway) (there : slice_get w.gateways i ≡ Some old) where
-    set_by : (P : Gateway → Type 0) (j : ℕ) (g : Gateway) → P new
-        → ((j : ℕ) (g : Gateway) → slice_get w.gateways j ≡ Some g → P g)
-        → ((i ≡ j) × (g ≡ new)) ⊎ ((i ≢ j) × (slice_get w.gateways j ≡ Some g)) → P g
-    set_by P j g p h (inl e) = subst P (sym e.1) p
-    set_by P j g p h (inr e) = h j g e.1
-
     -- what holds of the new gateway and of all that there were holds of all that there are
     set_all : (P : Gateway → Type 0) → P new → ((j : ℕ) (g : Gateway) → slice_get w.gateways j ≡ Some g → P g) → (j : ℕ)
         (g : Gateway) → slice_get (slice_set w.gateways i new) j ≡ Some g → P g
-    set_all P p h j g e = set_by P j g p h (get_set_cases w.gateways i j new g e)
+    set_all P p h j g e = elim (get_set_cases w.gateways i j new g e) [ inl o ↦ subst P (sym o.1) p | inr o ↦ h j g o.1 ]
 
     pub gateway_written : setting_of new ≡ setting_of old → IsInOrder new → AllStand settings T w.reg.gathered.list w.answers new
         → IsGood settings T w (with_gateway i new)
@@ -124,19 +104,6 @@ module _ {settings : SettingLists} {T : Job → Type 0} {w : World} (h : Holds s
     grow : Grow w.reg.gathered.list more
     grow n x k = Has-append (IsGrown x) w.reg.gathered.list (g ∷ []) n k
 
-    asked_by : (n : ℕ) (b : Asked) → (numbered n w.reg.asked ≡ Some b) ⊎ ((n ≡ length w.reg.asked + 1) × (b ≡ a))
-        → IsAskedAt settings more n b.device
-    asked_by n b (inl e) = asked_on more grow n b e
-    asked_by n b (inr e) =
-        let l = w.reg.gathered.list in
-        rw (e.0, e.1, h.together)
-        (record { gathering = g; own = own; now = has_now more (length l + 1) g (numbered_next l g) })
-
-    waiting_by : (n k : ℕ) (job : Job) → (numbered n w.answers ≡ Some (Open k job)) ⊎
-        ((n ≡ length w.answers + 1) × (Open k job ≡ Waiting)) → IsJobAt settings T more n job
-    waiting_by n k job (inl e) = job_on settings T T (λ j t. t) w.reg.gathered.list more grow n job (h.jobs n k job e)
-    waiting_by n k job (inr e) = absurd (cc (e.1))
-
     pub uplink_gathered : IsGood settings T w with_uplink
     uplink_gathered =
         let l = w.reg.gathered.list in
@@ -145,10 +112,15 @@ module _ {settings : SettingLists} {T : Job → Type 0} {w : World} (h : Holds s
         let answered : length (w.answers ++ Waiting ∷ []) ≡ length more =
         omega (arith, length-append w.answers (Waiting ∷ []), length-append l (g ∷ []), h.answered) in
         let asked : (n : ℕ) (b : Asked) → numbered n (w.reg.asked ++ a ∷ []) ≡ Some b → IsAskedAt settings more n b.device =
-        λ n b e. asked_by n b (numbered-append_cases n w.reg.asked a b e) in
+        λ n b e. elim (numbered-append_cases n w.reg.asked a b e) [
+          | inl o ↦ asked_on more grow n b o
+          | inr o ↦ rw (o.0, o.1, h.together)
+              (record { gathering = g; own = own; now = has_now more (length l + 1) g (numbered_next l g) })
+        ] in
         let jobs : (n k : ℕ) (job : Job) → numbered n (w.answers ++ Waiting ∷ []) ≡ Some (Open k job)
         → IsJobAt settings T more n job =
-        λ n k job e. waiting_by n k job (numbered-append_cases n w.answers Waiting (Open k job) e) in
+        λ n k job e. elim (numbered-append_cases n w.answers Waiting (Open k job) e)
+        [ inl o ↦ job_on settings T T (λ j t. t) l more grow n job (h.jobs n k job o) | inr o ↦ absurd (cc (o.1)) ] in
         let stands = stands_on settings T T (λ j t. t) l more grow w.answers (w.answers ++ Waiting ∷ [])
         (λ n s q. Has-append (λ b. sent_for b ≡ Some s) w.answers (Waiting ∷ []) n q) w.gateways h.stands in
         let given : (n : ℕ) → IsGivenAt w.answers n → IsGivenAt (w.answers ++ Waiting ∷ []) n =

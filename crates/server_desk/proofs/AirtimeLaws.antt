@@ -1,9 +1,9 @@
 use Rattle.server_desk.proofs.Words
-use Words.{ℕ, ◌≡◌, ◌-◌, Bool, List, if◌then◌else◌, Option, Some, Result, Ok, Err, refl, arith, Limits, numbered, is_closed_at}
-use Words.{Job, Heard1, TakeFault, SettingLists, Register, Asked, Decision, decide, Known, NotGiven, Pending, take_answer}
-use Words.{take_known, settled_airtime, DeskView, total_of, desk_of, desk_hear, desk_take, desk_taken, known_after}
+use Words.{ℕ, ◌≡◌, ◌-◌, List, Some, Result, Ok, Err, refl, arith, Limits, numbered}
+use Words.{Job, Heard1, TakeFault, SettingLists, Register, Decision, decide, Known, NotGiven, Pending, take_answer}
+use Words.{settled_airtime, DeskView, total_of, desk_of, desk_hear, desk_take, desk_taken, known_after}
 use Rattle.server_desk.proofs.{Numbers.at_number, AirtimeSums.settled_push, AirtimeSums.settled_set}
-use Rattle.server_desk.specs.{declared.faults.TakeFault.TheVariants.NotReady, World.opening}
+use Rattle.server_desk.specs.{World.opening}
 
 -- Which calls leave the airtime of all settled answers as it is: all but `settle`.
 

@@ -1,7 +1,7 @@
 -- Sums of airtimes over gateways and answers.
 use Rattle.server_desk.proofs.Words
 use Words.{◌++◌, ℕ, ◌≡◌, ◌≢◌, ◌+◌, ◌*◌, ◌≤◌, ◌==◌, Bool, true, false, if◌then◌else◌, List, [], ◌∷◌, map, length, slice_get}
-use Words.{slice_set, get_or, All, AllPairs, Option, Some, refl, ap, ◌∙◌, subst, arith, option_map, nat_tests, All-head, All-tail}
+use Words.{slice_set, get_or, All, AllPairs, Option, Some, refl, subst, arith, option_map, nat_tests, All-head, All-tail}
 use Words.{AllPairs-head, AllPairs-tail, longest_us, Known, NotGiven, Done, Sent, own_airtime, known_airtime, answered_at}
 use Words.{answered_for, total_at, settled_limit, whole_airtime, settled_airtime, is_booked_on, AreAirtimes, raised_at, is_among}
 use Words.{raised, first_at, next_place}

@@ -7,7 +7,7 @@ use Words.{NewUplink, Heard1, Device, Asked, Register, copy_of, named_fault, ans
 use Words.{desk_hear, length-map, length-set, map-set, All-push, DeskFault, NoMemory}
 use Rattle.server_desk.proofs.DeskLemmas.{Holds, seen_reg, seen, queued_holds}
 use Rattle.server_desk.proofs.{Places.map_there, Places.some_inj, Places.found_there, Numbers.length-rewritten}
-use Rattle.server_desk.proofs.{OutLemmas.count_push, CopyLemmas.all_heard, DecisionLemmas.IsJoin, DecisionLemmas.IsNew}
+use Rattle.server_desk.proofs.{OutLemmas.count_push, CopyLemmas.all_heard, Decided.IsJoin, Decided.IsNew}
 use Rattle.uplink_gather.specs.Hearing.{opening}
 use Rattle.server_desk.specs.declared.heard.DeskHeard.{DeskHeard}
 use Rattle.uplink_gather.specs.declared.answers.Heard.TheVariants as gathers
@@ -50,12 +50,12 @@ module _ {ids : List ℕ} {reg : Register} {bytes : List ℕ} {heard : Heard1} {
     (j : IsJoin ids reg bytes heard arrived) where
   pub join_answer : answer_to (decide ids reg bytes heard arrived) reg
       ≡ desk_answer false (hear_answer reg.gathered bytes heard.gateway arrived)
-  join_answer = rw (j.decided_so, j.place) refl
+  join_answer = rw (j.decided_so, j.so.place) refl
 
   -- no gathering more, then
   joined_length : (r : Result Heard HearFault) → IfOk r (λ h. hear_answer reg.gathered bytes heard.gateway arrived ≡ Ok h)
       → length (after_hearing r reg.gathered bytes (copy_of heard) arrived).list ≡ length reg.gathered.list
-  joined_length (Ok (gathers.Opened k)) h = let e = rw j.place at h in absurd (cc (e))
+  joined_length (Ok (gathers.Opened k)) h = let e = rw j.so.place at h in absurd (cc (e))
   joined_length (Ok (gathers.Joined k copies)) h = length-rewritten (with_copy (copy_of heard)) k reg.gathered.list
   joined_length (Err fault) h = refl
 
@@ -70,7 +70,7 @@ module _ {ids : List ℕ} {reg : Register} {bytes : List ℕ} {heard : Heard1} {
         told = i.told ∙ sym (joined_length r h);
         placed = i.placed;
         servable = i.servable;
-        gathered = all_heard reg.gathered bytes (copy_of heard) arrived r h j.early i.gathered;
+        gathered = all_heard reg.gathered bytes (copy_of heard) arrived r h j.so.early i.gathered;
         engaged = i.engaged;
       }
 
@@ -79,7 +79,7 @@ module _ {A : Type 0} (ids : List ℕ) (kepts : List (KnownDevice A)) (gathered 
     {heard : Heard1} {arrived : ℕ} {new : NewUplink}
     (n : IsNew ids (seen_reg kepts gathered asked) bytes heard arrived new) where
   opened : hear_answer gathered bytes heard.gateway arrived ≡ Ok (gathers.Opened (length gathered.list + 1))
-  opened = rw (n.place, n.room) refl
+  opened = rw (n.so.place, n.so.room) refl
 
   pub open_answer : answer_to (decide ids (seen_reg kepts gathered asked) bytes heard arrived) (seen_reg kepts gathered asked)
       ≡ desk_answer new.repeat (hear_answer gathered bytes heard.gateway arrived)
@@ -90,14 +90,14 @@ module _ {A : Type 0} (ids : List ℕ) (kepts : List (KnownDevice A)) (gathered 
   there =
       rw (ap (λ (u : NewUplink). u.asked.device) n.is) at
       (found_there (λ (x : Device). x.setting.addr == addr_of bytes) (map shown kepts)
-      (n.opening.place, n.opening.device) n.found).0
+      (n.opening.place, n.opening.device) n.so.found).0
 
   pub open_within : new.asked.device < length kepts
   open_within = omega (arith, slice_get_within (map shown kepts) new.asked.device n.opening.device there, length-map kepts shown)
 
   -- and there is room for it
   pub open_room : length gathered.list < gathered.limits.max_ever
-  open_room = let room = n.room in grind (arith, nat_tests, room)
+  open_room = let room = n.so.room in grind (arith, nat_tests, room)
 
   module _ (known : List Known) (k new_kept : KnownDevice A) (at : slice_get kepts new.asked.device ≡ Some k)
       (s : shown new_kept ≡ record (shown k) { up = Some new.counter }) where
@@ -121,7 +121,7 @@ module _ {A : Type 0} (ids : List ℕ) (kepts : List (KnownDevice A)) (gathered 
           told = omega (arith, length_push known NotGiven, longer, i.told);
           placed = All-push (λ (x : Asked). x.device < length (map shown more)) asked new.asked j.placed here;
           servable = j.servable;
-          gathered = all_heard gathered bytes (copy_of heard) arrived r opened n.early i.gathered;
+          gathered = all_heard gathered bytes (copy_of heard) arrived r opened n.so.early i.gathered;
           engaged = λ p b q. count_push p asked known new.asked (i.asked ∙ sym i.told) ∙ j.engaged p b q;
         })
 

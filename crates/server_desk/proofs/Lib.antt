@@ -8,7 +8,6 @@ pub mod OutLemmas
 pub mod CopyLemmas
 pub mod DeskLemmas
 pub mod AddrLemmas
-pub mod DecisionLemmas
 pub mod HearLemmas
 pub mod TakeLemmas
 pub mod SettleLemmas

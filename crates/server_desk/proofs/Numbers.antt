@@ -1,6 +1,6 @@
 -- Members of a list by their numbers, which count from 1.
-use Rattle.server_desk.proofs.Words.{map, ℕ, zero, suc, ◌≡◌, ◌⊎◌, ◌+◌, ◌-◌, List, [], ◌∷◌, ◌++◌, length, slice_get, Option, Some}
-use Rattle.server_desk.proofs.Words.{None, refl, inl, inr, ap, ◌∙◌, subst, arith, map-set, numbered, rewritten}
+use Rattle.server_desk.proofs.Words.{map, ℕ, suc, ◌≡◌, ◌⊎◌, ◌+◌, ◌-◌, List, [], ◌∷◌, ◌++◌, length, slice_get, Some}
+use Rattle.server_desk.proofs.Words.{subst, arith, map-set, numbered, rewritten}
 use Rattle.server_desk.proofs.Places.{map_set, get_set_same, get_set_cases, get_append, get_append_cases, get_next, get_set_after}
 pub use Rattle.uplink_gather.proofs.NumberedLemmas.{length-rewritten, numbered-map, rewritten_some as rewritten-found}
 
@@ -8,9 +8,6 @@ module _ {X : Type 0} where
   -- what has a number stands one place before it
   pub at_number : (n : ℕ) (xs : List X) (x : X) → numbered n xs ≡ Some x → slice_get xs (n - 1) ≡ Some x
   at_number n xs x e = grind arith
-
-  pub rewritten-none : (f : X → X) (n : ℕ) (xs : List X) → numbered n xs ≡ None → rewritten f n xs ≡ xs
-  rewritten-none f n xs e = rw e refl
 
   -- what is written at a number is found there
   pub numbered-here : (f : X → X) (n : ℕ) (xs : List X) (x : X) → numbered n xs ≡ Some x
@@ -31,14 +28,13 @@ module _ {X : Type 0} where
       subst (λ n. numbered n (xs ++ y ∷ []) ≡ Some y) e (get_next xs y)
 
   -- a member of the list before, or after, a number was written anew
-  pub numbered_after : (f : X → X) (n m : ℕ) (xs : List X) (x z : X) → numbered n xs ≡ Some x → numbered m xs ≡ Some z
-      → ((n ≡ m) × (z ≡ x) × (numbered m (rewritten f n xs) ≡ Some (f x))) ⊎ (numbered m (rewritten f n xs) ≡ Some z)
-  numbered_after f n m xs x z e g = grind (arith, get_set_after xs)
+  pub numbered_after : (f : X → X) (n m : ℕ) (xs : List X) (z : X) → numbered m xs ≡ Some z
+      → ((n ≡ m) × (numbered m (rewritten f n xs) ≡ Some (f z))) ⊎ (numbered m (rewritten f n xs) ≡ Some z)
+  numbered_after f n m xs z e = grind (arith, get_set_after xs)
 
-  pub numbered_cases : (f : X → X) (n m : ℕ) (xs : List X) (x z : X) → numbered n xs ≡ Some x
-      → numbered m (rewritten f n xs) ≡ Some z
-      → ((n ≡ m) × (z ≡ f x)) ⊎ (numbered m xs ≡ Some z)
-  numbered_cases f n m xs x z e g = grind (arith, get_set_cases xs)
+  pub numbered_cases : (f : X → X) (n m : ℕ) (xs : List X) (z : X) → numbered m (rewritten f n xs) ≡ Some z
+      → ((x : X) × (n ≡ m) × (numbered n xs ≡ Some x) × (z ≡ f x)) ⊎ (numbered m xs ≡ Some z)
+  numbered_cases f n m xs z e = grind (arith, get_set_cases xs)
 
 module _ {X Y : Type 0} (f : X → Y) where
   -- a member that is written anew is written anew on the list of what the members look like

@@ -1,7 +1,7 @@
 -- Members of a list by their places.
 use Rattle.server_desk.proofs.Words
-use Words.{Bool, true, if◌then◌else◌, first_at, next_place, ℕ, zero, suc, ◌≡◌, ◌≢◌, ◌⊎◌, List, [], ◌∷◌, ◌++◌, map, length, All}
-use Words.{Contains, slice_get, slice_set, Option, Some, unwrap_or, refl, inl, inr, sym, ap, ◌∙◌, subst, arith, option_map}
+use Words.{Bool, true, first_at, ℕ, zero, suc, ◌≡◌, ◌≢◌, ◌⊎◌, List, [], ◌∷◌, ◌++◌, map, length, All}
+use Words.{Contains, slice_get, slice_set, Option, Some, unwrap_or, refl, sym, ap, ◌∙◌, subst, arith, option_map}
 use Words.{slice_get-map, slice_get_within, get_or_from_slice_get}
 use Rattle.std.proofs.Math.Seq.{map-set_same}
 
@@ -36,10 +36,10 @@ module _ {X : Type 0} where
   get_set_cases (x ∷ xs) i j y z e = grind (arith, get_set_cases xs)
 
   -- a member of the list before that place was written is there still, or was the one that was written anew
-  pub get_set_after : (xs : List X) (i j : ℕ) (x y z : X) → slice_get xs i ≡ Some x → slice_get xs j ≡ Some z
-      → ((i ≡ j) × (z ≡ x) × (slice_get (slice_set xs i y) j ≡ Some y)) ⊎ (slice_get (slice_set xs i y) j ≡ Some z)
-  get_set_after [] i j x y z e f = absurd (cc)
-  get_set_after (u ∷ xs) i j x y z e f = grind (arith, get_set_after xs)
+  pub get_set_after : (xs : List X) (i j : ℕ) (y z : X) → slice_get xs j ≡ Some z
+      → ((i ≡ j) × (slice_get (slice_set xs i y) j ≡ Some y)) ⊎ (slice_get (slice_set xs i y) j ≡ Some z)
+  get_set_after [] i j y z e = absurd (cc)
+  get_set_after (u ∷ xs) i j y z e = grind (arith, get_set_after xs)
 
   -- what stands at a place is a member, and what is true of all is true of it
   pub get_contains : (xs : List X) (k : ℕ) (x : X) → slice_get xs k ≡ Some x → Contains xs x

@@ -1,8 +1,8 @@
 -- An answer is settled, as the desk settles it.
 use Rattle.server_desk.proofs.Words
-use Words.{arith, ℕ, ◌≡◌, ◌-◌, Bool, true, false, ◌&&◌, if◌then◌else◌, List, slice_get, slice_set, get_or, Option, Some, refl}
-use Words.{option_map_or, sym, ap, ◌∙◌, get_or_from_slice_get, length-set, map-set, All-drop, Gatherings, numbered, Ending}
-use Words.{KnownDevice, Known, Pending, Done, Sent, is_given, Device, Asked, sent_of, has_carried, is_here, may_settle}
+use Words.{arith, ℕ, ◌≡◌, ◌-◌, Bool, true, false, if◌then◌else◌, List, slice_get, slice_set, get_or, Option, Some, refl}
+use Words.{sym, ap, ◌∙◌, get_or_from_slice_get, length-set, map-set, All-drop, Gatherings, numbered, Ending}
+use Words.{KnownDevice, Known, Pending, Done, Sent, Device, Asked, sent_of, has_carried, is_here, may_settle}
 use Words.{without_head, delivered, shown, outs, IsSendable, IsServable, desk_settled}
 use Rattle.server_desk.proofs.DeskLemmas.{seen_reg, Holds, seen, written_holds}
 use Rattle.server_desk.proofs.{TakeLemmas.number_too, TakeLemmas.out_there, Places.map_set, Places.map_there, Numbers.at_number}

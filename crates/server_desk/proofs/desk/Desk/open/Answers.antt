@@ -1,14 +1,13 @@
 use Rattle.server_desk.proofs.Words.{arith, refl, sym, ◌∙◌, slice_get_read}
 use Rattle.server_desk.proofs.AirtimeLemmas.{opened_airtimes, limits_kept}
-use Rattle.server_desk.proofs.DecisionLemmas.{is_told}
+use Rattle.server_desk.proofs.Decided.{is_new}
 use Rattle.server_desk.proofs.HearLemmas.{answered, told, was_fault, open_answer, was_told, open_within, open_room, open_holds}
 use Rattle.server_desk.proofs.HearLemmas.{open_step}
-use Rattle.server_desk.specs.declared.verdict.Verdict.TheVariants as says
 use Rattle.server_desk.proofs.desk.Desk.open.Goals as goal
 
 pub returns-in-Err-clause-answer : goal.returns-in-Err-clause-answer
 returns-in-Err-clause-answer g c =
-    let n = is_told _ _ _ _ _ (says.Open c.args.new) (rw (← c.self.view_is) at c.requires) in
+    let n = is_new _ _ _ _ _ c.args.new (rw (← c.self.view_is) at c.requires) in
     let answer = rw c.copy_of.ensures at c.hear-answer.ensures.answer in
     let fault = sym c.desk_answer.ensures ∙ c.in-Err.is in
     rw (← c.self.view_is, open_answer _ _ _ _ n) (rw fault at (answered c.args.new.repeat _ c.hear-answer.result answer))
@@ -21,12 +20,12 @@ invariant_of-self-in-Err g c =
 
 pub index_mut-requires : goal.index_mut-requires
 index_mut-requires g c =
-    let n = is_told _ _ _ _ _ (says.Open c.args.new) (rw (← c.self.view_is) at c.requires) in
+    let n = is_new _ _ _ _ _ c.args.new (rw (← c.self.view_is) at c.requires) in
     omega (arith, open_within _ _ _ _ n, c.self.inside.devices.ok.0)
 
 pub invariant_of-self-2 : goal.invariant_of-self-2
 invariant_of-self-2 g c =
-    let n = is_told _ _ _ _ _ (says.Open c.args.new) (rw (← c.self.view_is) at c.requires) in
+    let n = is_new _ _ _ _ _ c.args.new (rw (← c.self.view_is) at c.requires) in
     let hears = rw c.copy_of.ensures at c.hear-answer.ensures in
     let opened = was_told c.args.new.repeat _ c.hear-answer.result c.in-Ok-desk_answer.told
     (sym c.desk_answer.ensures ∙ c.in-Ok-desk_answer.is) hears.told in
@@ -40,14 +39,14 @@ invariant_of-self-2 g c =
 
 pub returns-clause-told : goal.returns-clause-told
 returns-clause-told g c =
-    let n = is_told _ _ _ _ _ (says.Open c.args.new) (rw (← c.self.view_is) at c.requires) in
+    let n = is_new _ _ _ _ _ c.args.new (rw (← c.self.view_is) at c.requires) in
     let heard = rw c.copy_of.ensures at c.hear-answer.ensures.told in
     let is = sym c.desk_answer.ensures ∙ c.in-Ok-desk_answer.is in
     rw (← c.self.view_is, open_answer _ _ _ _ n) (rw is at (told c.args.new.repeat _ c.hear-answer.result heard))
 
 pub returns-clause-step : goal.returns-clause-step
 returns-clause-step g c =
-    let n = is_told _ _ _ _ _ (says.Open c.args.new) (rw (← c.self.view_is) at c.requires) in
+    let n = is_new _ _ _ _ _ c.args.new (rw (← c.self.view_is) at c.requires) in
     let hears = rw c.copy_of.ensures at c.hear-answer.ensures in
     let opened = was_told c.args.new.repeat _ c.hear-answer.result c.in-Ok-desk_answer.told
     (sym c.desk_answer.ensures ∙ c.in-Ok-desk_answer.is) hears.told in
