@@ -14,7 +14,7 @@ use Rattle.server_core.specs.Steps as replies
 use Rattle.server_core.specs.declared.entry.Line.TheVariants as says
 
 module _ {X Y : Type 0} (R : X → Y → Type 0) where
-  pub zip_at : (xs : List X) (ys : List Y) (i : ℕ) (x : X) (y : Y) → AllZip R xs ys → slice_get xs i ≡ Some x
+  zip_at : (xs : List X) (ys : List Y) (i : ℕ) (x : X) (y : Y) → AllZip R xs ys → slice_get xs i ≡ Some x
       → slice_get ys i ≡ Some y → R x y
   zip_at [] ys i x y z e f = absurd (cc (e))
   zip_at (a ∷ u) [] i x y z e f = absurd z

@@ -17,16 +17,8 @@ module _ (device : Device) (job : Job) (copy : HeardCopy) (c : Candidate) (a : R
     (asked : IsAsked (ask_for job c) a) where
   takes : (c ≡ rx1_of (plan_for device.setting job.body) copy) ⊎ (c ≡ rx2_of (plan_for device.setting job.body) copy)
       → TakesRx1 device.setting copy a ⊎ TakesRx2 device.setting copy a
-  takes (inl e) = inl (record {
-    start = asked.start ∙ ap (λ (x : Candidate). x.start) e;
-    freq_hz = asked.freq_hz ∙ ap (λ (x : Candidate). x.freq_hz) e;
-    rate = asked.rate ∙ ap (λ (x : Candidate). x.rate) e;
-  })
-  takes (inr e) = inr (record {
-    start = asked.start ∙ ap (λ (x : Candidate). x.start) e;
-    freq_hz = asked.freq_hz ∙ ap (λ (x : Candidate). x.freq_hz) e;
-    rate = asked.rate ∙ ap (λ (x : Candidate). x.rate) e;
-  })
+  takes (inl e) = inl (let its = rw e at asked in record { start = its.start; freq_hz = its.freq_hz; rate = its.rate })
+  takes (inr e) = inr (let its = rw e at asked in record { start = its.start; freq_hz = its.freq_hz; rate = its.rate })
 
 module _ (settings : SettingLists) (r : Run) (safe : IsSafe settings r) where
   own_uplink : (g : Gateway) (a : Reservation) → IsOwnWindow r g a → IsOfItsUplink settings r.world.reg.gathered.list g a

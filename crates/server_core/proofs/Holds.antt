@@ -3,9 +3,8 @@ use Rattle.server_core.proofs.Words
 use Words.{arith, inl, inr, subst, ◌∙◌, All-weaker, All, Contains, List, Ok, Some, false, length, map, refl}
 use Words.{slice_get, ℕ, ⊤, ◌++◌, ◌+◌, ◌<◌, ◌≡◌, ◌≤◌, ◌⊎◌, Reservation, IsOrderly, addr_of, Gathering, numbered, rewritten}
 use Words.{HeardCopy, IsWindowOf, Candidate, Job, candidate_at, Answer, Open, is_not_given, known_of, numbered-append}
-use Words.{numbered_after, all_get, map_there, Device, plan_for, Gateway, World, AreSettings, SettingLists, Asked}
+use Words.{numbered_after, all_get, map_there, Device, plan_for, Gateway, World, SettingLists, Asked}
 use Words.{Sent, DeviceSetting, IsMember, setting_of, Given, Reply, sent_for, net, IsAsked, ask_for}
-use Rattle.server_core.proofs.Members.{apart_once}
 
 -- a member with this number, of which this holds
 pub record Has {X : Type 0} (P : X → Type 0) (xs : List X) (n : ℕ) : Type 0 where
@@ -228,23 +227,6 @@ module _ {X : Type 0} (P : X → Type 0) (xs : List X) where
 module _ {settings : SettingLists} {T : Job → Type 0} {w : World} (h : Holds settings T w) where
   pub device_setting : (p : ℕ) (d : Device) → slice_get w.reg.devices p ≡ Some d → slice_get settings.devices p ≡ Some d.setting
   device_setting p d e = subst (λ l. slice_get l p ≡ Some d.setting) h.devices (map_there (λ x. x.setting) w.reg.devices p d e)
-
-  pub gateway_setting : (i : ℕ) (g : Gateway) → slice_get w.gateways i ≡ Some g
-      → slice_get settings.gateways i ≡ Some (setting_of g)
-  gateway_setting i g e = subst (λ l. slice_get l i ≡ Some (setting_of g)) h.gateways (map_there setting_of w.gateways i g e)
-
-  -- two devices with one address, or gateways with one id, stand at one place
-  pub one_device : AreSettings settings.gateways settings.devices → (p q : ℕ) (d e : Device) → slice_get w.reg.devices p ≡ Some d
-      → slice_get w.reg.devices q ≡ Some e → d.setting.addr ≡ e.setting.addr → p ≡ q
-  one_device s p q d e f g a =
-      apart_once (λ x. x.addr) settings.devices p q d.setting e.setting s.addrs_differ (device_setting p d f)
-      (device_setting q e g) a
-
-  pub one_gateway : AreSettings settings.gateways settings.devices → (i j : ℕ) (g k : Gateway) → slice_get w.gateways i ≡ Some g
-      → slice_get w.gateways j ≡ Some k → g.id ≡ k.id → i ≡ j
-  one_gateway s i j g k e f a =
-      apart_once (λ x. x.id) settings.gateways i j (setting_of g) (setting_of k) s.ids_differ (gateway_setting i g e)
-      (gateway_setting j k f) a
 
   -- each member of a gateway stands
   pub member_stands : (i k : ℕ) (g : Gateway) (r : Reservation) → IsMember w i k g r

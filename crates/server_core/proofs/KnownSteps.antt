@@ -1,11 +1,11 @@
 -- A payload is queued, a copy is heard, time passes for the gatherings, an answer is settled: what holds of the world holds then.
 use Rattle.server_core.proofs.Words
 use Words.{arith, sym, Contains-append_left, Bool, List, None, Ok, Option, Result, Some, false, if◌then◌else◌, refl, slice_get}
-use Words.{true, ℕ, ◌==◌, ◌≡◌, addr_of, Gathering, is_open_at, numbered, rewritten, with_copy, Job, Payload}
-use Words.{Ending, Answer, Settled, Decision, Join, Refuse, asked_by, copy_of, length-rewritten, Device, Register}
-use Words.{device_with, after_settling, delivered, has_carried, head_taken, sent_of, without_head, World, ids, after_queueing}
-use Words.{queue_answer, with_payload, decide, join_decided, open_decided, found_there, closing, pass_answer, SettingLists, Asked, Sent}
-use Words.{QueueFault, Heard1, ending_of, hear, hear_by, pass, queue, sent_for, settle}
+use Words.{true, ℕ, ◌==◌, ◌≡◌, addr_of, Gathering, is_open_at, numbered, rewritten, with_copy, Job, Payload, Ending, Answer}
+use Words.{Settled, Decision, Join, Refuse, asked_by, copy_of, length-rewritten, Device, Register, device_with, after_settling}
+use Words.{delivered, has_carried, head_taken, sent_of, without_head, World, ids, after_queueing, queue_answer, with_payload}
+use Words.{decide, join_decided, open_decided, found_there, closing, pass_answer, SettingLists, Asked, Sent, QueueFault, Heard1}
+use Words.{ending_of, hear, hear_by, pass, queue, sent_for, settle}
 use Rattle.server_core.proofs.Holds.{IsGrown, Holds, IsGood, IsGoodStep, unchanged, IsOfDevice, both_good, device_setting}
 use Rattle.server_core.proofs.Written.{device_written, with_device, answer_written, Grow-rewritten, gathered_grown}
 use Rattle.server_core.proofs.Written.{uplink_gathered}
@@ -54,7 +54,8 @@ module _ {settings : SettingLists} {T : Job → Type 0} {w : World} (h : Holds s
 
 module _ {settings : SettingLists} {T : Job → Type 0} {w : World} (h : Holds settings T w) (bytes : List ℕ) (heard : Heard1)
     (arrived : ℕ) where
-  heard_good : (d : Decision) → decide (ids w) w.reg bytes heard arrived ≡ d → IsGood settings T w (hear_by w bytes heard arrived d).0
+  heard_good : (d : Decision) → decide (ids w) w.reg bytes heard arrived ≡ d
+      → IsGood settings T w (hear_by w bytes heard arrived d).0
   heard_good (Refuse fault) e = unchanged h
   heard_good (Join n) e =
       let f : Gathering → Gathering = with_copy (copy_of heard) in

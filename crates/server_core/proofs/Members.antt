@@ -1,20 +1,17 @@
 -- Members of lists that are sorted by a key, or of which no two share a key.
-use Rattle.server_core.proofs.Words.{ap, arith, sym, ◌∙◌, All-cons, All-head, All-tail, nat_tests, All, AllPairs, Bool, List}
-use Rattle.server_core.proofs.Words.{Some, [], cond, false, nat_lt, refl, slice_get, suc, true, zero, ℕ, ◌+◌, ◌==◌, ◌∷◌, ◌≡◌, ◌≢◌}
-use Rattle.server_core.proofs.Words.{◌≤◌, RisesFrom, place_by, numbered, AllPairs-head, AllPairs-tail, all_get, some_inj}
+use Rattle.server_core.proofs.Words.{arith, All-cons, All-head, All-tail, nat_tests, All, AllPairs, List}
+use Rattle.server_core.proofs.Words.{Some, [], cond, false, nat_lt, slice_get, true, ℕ, ◌+◌, ◌==◌, ◌∷◌, ◌≡◌, ◌≢◌}
+use Rattle.server_core.proofs.Words.{◌≤◌, RisesFrom, place_by, numbered, map}
+use Rattle.server_core.proofs.Words.{map_there, get_or_from_slice_get, slice_get_within}
 
 module _ {X : Type 0} (key : X → ℕ) where
   -- what holds of all members holds of all with one more in its place
-  placed_by : (P : X → Type 0) (x y : X) (ys : List X) (t : Bool) → P x → P y → All P ys → All P (place_by key x ys)
-      → All P (cond t (y ∷ place_by key x ys) (x ∷ y ∷ ys))
-  placed_by P x y ys true p q h rest = All-cons P y (place_by key x ys) q rest
-  placed_by P x y ys false p q h rest = All-cons P x (y ∷ ys) p (All-cons P y ys q h)
-
   pub All-place_by : (P : X → Type 0) (x : X) (xs : List X) → P x → All P xs → All P (place_by key x xs)
   All-place_by P x [] p h = All-cons P x [] p h
-  All-place_by P x (y ∷ ys) p h =
-      let rest = All-tail P y ys h in
-      placed_by P x y ys (nat_lt (key y) (key x)) p (All-head P y ys h) rest (All-place_by P x ys p rest)
+  All-place_by P x (y ∷ ys) p h = elim (nat_lt (key y) (key x)) as (λ t. All P (cond t (y ∷ place_by key x ys) (x ∷ y ∷ ys))) [
+    | true ↦ All-cons P y (place_by key x ys) (All-head P y ys h) (All-place_by P x ys p (All-tail P y ys h))
+    | false ↦ All-cons P x (y ∷ ys) p h
+  ]
 
   -- no two members of a rising list have one key
   rises_above : (low : ℕ) (xs : List X) (k : ℕ) (x : X) → RisesFrom key low xs → slice_get xs k ≡ Some x → low ≤ key x
@@ -26,19 +23,24 @@ module _ {X : Type 0} (key : X → ℕ) where
   rises_once low [] i j a b r e f q = absurd (cc)
   rises_once low (x ∷ xs) i j a b r e f q = grind (arith, rises_above (key x + 1) xs, rises_once (key x + 1) xs)
 
-  -- nor of a list whose keys differ
-  abbrev Differ : X → X → Type 0
-  Differ a b = key a ≢ key b
-
-  pub apart_once : (xs : List X) (i j : ℕ) (a b : X) → AllPairs (λ x y. key x ≢ key y) xs → slice_get xs i ≡ Some a
-      → slice_get xs j ≡ Some b → key a ≡ key b → i ≡ j
-  apart_once [] i j a b r e f q = absurd (cc)
-  apart_once (x ∷ xs) zero zero a b r e f q = refl
-  apart_once (x ∷ xs) zero (suc j) a b r e f q =
-      absurd (all_get (Differ x) xs j b (AllPairs-head Differ x xs r) f (ap key (some_inj e) ∙ q))
-  apart_once (x ∷ xs) (suc i) zero a b r e f q =
-      absurd (all_get (Differ x) xs i a (AllPairs-head Differ x xs r) e (ap key (some_inj f) ∙ sym q))
-  apart_once (x ∷ xs) (suc i) (suc j) a b r e f q = ap suc (apart_once xs i j a b (AllPairs-tail Differ x xs r) e f q)
+-- nor of a list whose members show different keys
+pub apart_once : {X Y : Type 0} (show : X → Y) (key : Y → ℕ) (xs : List X) (ys : List Y) → map show xs ≡ ys
+    → AllPairs (λ x y. key x ≢ key y) ys → (i j : ℕ) (a b : X) → slice_get xs i ≡ Some a → slice_get xs j ≡ Some b
+    → key (show a) ≡ key (show b) → i ≡ j
+apart_once show key xs ys e r i j a b f g q =
+    let x : slice_get ys i ≡ Some (show a) = rw (← e) (map_there show xs i a f) in
+    let y : slice_get ys j ≡ Some (show b) = rw (← e) (map_there show xs j b g) in
+    grind (
+      arith,
+      r i j (show b),
+      r j i (show a),
+      get_or_from_slice_get ys i (show a) (show a) x,
+      get_or_from_slice_get ys i (show a) (show b) x,
+      get_or_from_slice_get ys j (show b) (show a) y,
+      get_or_from_slice_get ys j (show b) (show b) y,
+      slice_get_within ys i (show a) x,
+      slice_get_within ys j (show b) y,
+    )
 
 pub equal_where_tested : (m n : ℕ) → (m == n) ≡ true → m ≡ n
 equal_where_tested m n e = grind (arith, nat_tests)

@@ -1,29 +1,16 @@
 -- A cancel of what isn't booked for its number on a gateway changes nothing there.
-use Rattle.server_core.proofs.Words.{arith, ap, subst, sym, ◌∙◌, Bool, Err, List, None, Ok, OnErr, Option, Result, Some, [], cond}
-use Rattle.server_core.proofs.Words.{false, find, if◌then◌else◌, nat_le, refl, slice_get, suc, true, ℕ, ◌==◌, ◌&&◌, ◌∷◌, ◌≡◌, ◌≢◌}
-use Rattle.server_core.proofs.Words.{Reservation, Book, is_named, remembers_cancel, CancelFault, Begun, Limits, opening, some_inj}
-use Rattle.server_core.proofs.Words.{World, AreSettings, SettingLists, Sent, IsMember, Step, run, found_or}
+use Rattle.server_core.proofs.Words.{ap, sym, ◌∙◌, Bool, Err, List, None, Ok, OnErr, Option, Result, Some}
+use Rattle.server_core.proofs.Words.{false, find, if◌then◌else◌, nat_le, refl, true, ℕ, ◌==◌, ◌≡◌, ◌≢◌}
+use Rattle.server_core.proofs.Words.{Reservation, Book, is_named, remembers_cancel, CancelFault, Begun, Limits, opening}
+use Rattle.server_core.proofs.Words.{World, AreSettings, SettingLists, Sent, IsMember, Step, run, found_or, start_of}
 use Rattle.server_core.proofs.Holds.{Holds, member_stands}
 use Rattle.server_core.proofs.{Members.equal_where_tested, BookSteps.there, BookSteps.own, Runs.opened, Runs.run_good}
+use Rattle.std.proofs.lemmas.Bool.{and_parts}
+use Rattle.std.proofs.lemmas.List.Folds.{find_at}
+use Rattle.std.specs.List.{position_or_len}
+use Rattle.resv_list.proofs.Walk.{found_passes}
 use Rattle.gateway_book.specs.Book.{airtime_answer}
 use Rattle.server_core.specs.BookCalls.{IsBookAt, IsCancel, sent_at}
-
--- a member that is found stands at a place and passes the test
-module _ {X : Type 0} (test : X → Bool) (x : X) where
-  abbrev IsThere : List X → Type 0
-  IsThere xs = (k : ℕ) × (slice_get xs k ≡ Some x) × (test x ≡ true)
-
-  there_by : (y : X) (ys : List X) (t : Bool) → test y ≡ t → cond t (Some y) (find test ys) ≡ Some x
-      → (find test ys ≡ Some x → IsThere ys) → IsThere (y ∷ ys)
-  there_by y ys true e f rest = (0, f, subst (λ z. test z ≡ true) (some_inj f) e)
-  there_by y ys false e f rest = let r = rest f in (suc r.0, r.1, r.2)
-
-  found_member : (xs : List X) → find test xs ≡ Some x → IsThere xs
-  found_member [] f = absurd (cc (f))
-  found_member (y ∷ ys) f = there_by y ys (test y) refl f (found_member ys)
-
-both : (s t : Bool) → (s && t) ≡ true → (s ≡ true) × (t ≡ true)
-both s t h = grind arith
 
 -- where nothing is found, a cancel is refused
 refused_by : (floor start : ℕ) (o : Option Reservation) (t : Bool) → ((r : Reservation) → o ≡ Some r → ⊥)
@@ -42,12 +29,14 @@ module _ {settings : SettingLists} {w : World} {T : _} (h : Holds settings T w) 
     (other : (sent : Sent) → sent_at w n ≡ Some sent → sent.gateway ≡ id → sent.start ≢ start) where
   not_named : (r : Reservation) → find (is_named n start) b.gateway.state.list ≡ Some r → ⊥
   not_named r f =
-      let found = found_member (is_named n start) r b.gateway.state.list f in
-      let named = both (r.number == n) (r.start == start) found.2 in
+      let l = b.gateway.state.list in
+      let place = position_or_len (is_named n start) l in
+      let named = and_parts (r.number == n) (r.start == start) (found_passes start_of (is_named n start) r l f) in
       let number : r.number ≡ n = equal_where_tested r.number n named.0 in
       let begins : r.start ≡ start = equal_where_tested r.start start named.1 in
-      let member : IsMember w at found.0 b.gateway r = record { gateway = (there w id at old b).0; member = found.1 } in
-      let s = member_stands h at found.0 b.gateway r member in
+      let member : IsMember w at place b.gateway r =
+      record { gateway = (there w id at old b).0; member = sym (find_at (is_named n start) l) ∙ f } in
+      let s = member_stands h at place b.gateway r member in
       let kept : sent_at w r.number ≡ Some s.sent = rw s.kept.there s.kept.is in
       other s.sent (ap (sent_at w) (sym number) ∙ kept) (s.booking.gateway ∙ own w id at old b) (s.booking.start ∙ begins)
 

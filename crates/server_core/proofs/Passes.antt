@@ -1,9 +1,9 @@
 -- Time passes for the gatherings: all that are due are closed and answered.
 use Rattle.server_core.proofs.Words
-use Words.{ap, append-nil, arith, sym, ◌∙◌, position_from, Bool, List, None, Option, Some, [], false, if◌then◌else◌, length, refl}
+use Words.{ap, append-nil, arith, sym, ◌∙◌, position_from, Bool, List, None, Some, [], false, if◌then◌else◌, length, refl}
 use Words.{slice_get, slice_set, suc, true, ℕ, ◌++◌, ◌+◌, ◌<◌, ◌∷◌, ◌≡◌, Gathering, Gatherings, close_step, is_due, is_open}
 use Words.{DeskView, desk_pass, World, closing, pass_answer, answer_steps, closing_steps, due_from, due_numbers, reached, IsAt}
-use Words.{IsBetweenCalls, Makes, Moves, Seen, pass_whole, with_step, Pass, due_of, pass_steps, run_from, step}
+use Words.{IsBetweenCalls, Makes, Moves, Seen, pass_whole, with_step, Pass, due_of, pass_steps, run_from, step, some_inj}
 use Rattle.server_core.proofs.{Calls.one_step, Calls.moves_on, Ready.heard_closed}
 use Rattle.server_core.specs.declared.event.Step.TheVariants as made
 
@@ -25,46 +25,40 @@ module _ (now : ℕ) where
   was_open : (g : Gathering) → is_due now g ≡ true → is_open g ≡ true
   was_open g e = grind arith
 
-  -- none is due, or this is the first
-  abbrev IsNextDue : ℕ → List Gathering → Option ℕ → Type 0
-  IsNextDue k l None = due_from k now l ≡ []
-  IsNextDue k l (Some m) = IsFirst k l m
-
-  later_due : (k : ℕ) (g : Gathering) (gs : List Gathering) (o : Option ℕ) → is_due now g ≡ false → IsNextDue (k + 1) gs o
-      → IsNextDue k (g ∷ gs) o
-  later_due k g gs None e r = rw e r
-  later_due k g gs (Some m) e r = record {
-    place = suc r.place;
-    gathering = r.gathering;
-    number = omega (arith, r.number);
-    there = r.there;
-    is_open = r.is_open;
-    rest = rw (e, r.rest) refl;
-  }
-
-  next_by : (k : ℕ) (g : Gathering) (gs : List Gathering) (o : Option ℕ) (t : Bool) → is_due now g ≡ t → IsNextDue (k + 1) gs o
-      → IsNextDue k (g ∷ gs) (if t then Some k else o)
-  next_by k g gs o true e r =
-      record { place = 0; gathering = g; number = omega arith; there = refl; is_open = was_open g e; rest = rw e refl }
-  next_by k g gs o false e r = later_due k g gs o e r
-
-  next_due : (k : ℕ) (l : List Gathering) → IsNextDue k l (position_from (is_due now) k l)
-  next_due k [] = refl
-  next_due k (g ∷ gs) = next_by k g gs (position_from (is_due now) (k + 1) gs) (is_due now g) refl (next_due (k + 1) gs)
-
-  pub due_none : (l : List Gathering) → due_of now l ≡ None → due_numbers now l ≡ []
-  unfolding due_of
-  due_none l e = rw e at (next_due 1 l)
+  first_by : (k : ℕ) (g : Gathering) (gs : List Gathering) (m : ℕ) (t : Bool) → is_due now g ≡ t
+      → (if t then Some k else position_from (is_due now) (k + 1) gs) ≡ Some m
+      → (position_from (is_due now) (k + 1) gs ≡ Some m → IsFirst (k + 1) gs m) → IsFirst k (g ∷ gs) m
+  first_by k g gs m true t e r =
+      let is = was_open g t in
+      rw (some_inj (sym e)) (record { place = 0; gathering = g; number = omega arith; there = refl; is_open = is; rest = rw t refl })
+  first_by k g gs m false t e r =
+      let f = r e in
+      record {
+        place = suc f.place;
+        gathering = f.gathering;
+        number = omega (arith, f.number);
+        there = f.there;
+        is_open = f.is_open;
+        rest = rw (t, f.rest) refl;
+      }
 
   closed_first : (s : Gatherings) (n : ℕ) → IsFirst 1 s.list n
       → due_numbers now s.list ≡ n ∷ due_numbers now (close_step s n).list
   closed_first s n f = grind (arith, f.number, f.there, f.is_open, f.rest)
 
+  first_due : (k : ℕ) (l : List Gathering) (m : ℕ) → position_from (is_due now) k l ≡ Some m → IsFirst k l m
+  first_due k [] m e = absurd (cc)
+  first_due k (g ∷ gs) m e = first_by k g gs m (is_due now g) refl e (first_due (k + 1) gs m)
+
+  pub due_none : (k : ℕ) (l : List Gathering) → position_from (is_due now) k l ≡ None → due_from k now l ≡ []
+  due_none k [] e = refl
+  due_none k (g ∷ gs) e = grind (arith, due_none (k + 1) gs)
+
   -- the least number that is due, and those that are due when it is closed
   pub due_some : (s : Gatherings) (n : ℕ) → due_of now s.list ≡ Some n
       → due_numbers now s.list ≡ n ∷ due_numbers now (close_step s n).list
   unfolding due_of
-  due_some s n e = closed_first s n (rw e at (next_due 1 s.list))
+  due_some s n e = closed_first s n (first_due 1 s.list n e)
 
 -- All that is due is closed and answered, one after another.
 
@@ -149,10 +143,10 @@ module _ {A : Type 0} (place now n : ℕ) (old s mid : Seen A) (d : DeskView) (c
 module _ {A : Type 0} (place now : ℕ) (old s new : Seen A) (d : DeskView) (none : None ≡ pass_answer s.desk.reg now)
     (stepped : d ≡ desk_pass s.desk now) where
   last_is : (w : World) → IsAt w s → pass_whole w now ≡ Pass now ∷ []
-  unfolding pass_steps
+  unfolding pass_steps due_of
   last_is w at =
       let due : due_numbers now w.reg.gathered.list ≡ [] =
-      ap (due_now now) (sym at.desk) ∙ due_none now s.desk.reg.gathered.list (sym none) in
+      ap (due_now now) (sym at.desk) ∙ due_none now 1 s.desk.reg.gathered.list (sym none) in
       rw due refl
 
   pub passed_done : ArePassing place now old s → new ≡ with_step (made.Pass now) (record s { desk = d })

@@ -50,7 +50,8 @@ module _ (ids : List ℕ) (copy : HeardCopy) (a : IsTrue (is_among ids copy.gate
 module _ (ids : List ℕ) (reg : Register) (bytes : List ℕ) (heard : Heard1) (arrived : ℕ) where
   heard_here : is_among ids heard.gateway ≡ true → AreHeard ids reg.gathered.list
       → AreHeard ids (hear_step reg.gathered bytes (copy_of heard) arrived).list
-  heard_here a h = heard_copy ids (copy_of heard) a reg.gathered bytes arrived (hear_answer reg.gathered bytes heard.gateway arrived) h
+  heard_here a h =
+      heard_copy ids (copy_of heard) a reg.gathered bytes arrived (hear_answer reg.gathered bytes heard.gateway arrived) h
 
   heard_by : (d : Decision) → decide ids reg bytes heard arrived ≡ d → AreHeard ids reg.gathered.list
       → AreHeard ids (hearing.after_hearing d reg bytes (copy_of heard) arrived).gathered.list

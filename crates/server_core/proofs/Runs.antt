@@ -5,11 +5,12 @@ use Words.{AllPairs, Contains, List, Ok, Some, [], map, refl, slice_get, ℕ, �
 use Words.{orderly_nil, IsLawful, addr_of, Limits, Job, candidates, from_map, get_contains, some_inj, Device, opened_device}
 use Words.{plan_for, Gateway, World, opened_gateway, opening, AreSettings, SettingLists, Sent, EveryInterleavingIsSafe}
 use Words.{HaveOwnCounters, IsMember, IsOwnWindow, IsSafe, jobs_given, setting_of, with_given, Cancel, Given, Hear, Pass, Queue}
-use Words.{Reply, Run, Settle, Step, Take, Tick, Try, run, sent_for, net, run_from, step}
+use Words.{Reply, Run, Settle, Step, Take, Tick, Try, run, sent_for, net, run_from, step, map-map, map-id}
 use Rattle.server_core.proofs.Holds.{IsKept, Stands, Holds, IsInOrder, AllStand, IsGivenAt, Follows, IsGoodStep, IsNew, UsesUp}
-use Rattle.server_core.proofs.Holds.{given_after, Holds-weaker, one_gateway, member_stands}
+use Rattle.server_core.proofs.Holds.{given_after, Holds-weaker, member_stands}
 use Rattle.server_core.proofs.KnownSteps.{queue_good, hear_good, pass_good, settle_good}
-use Rattle.server_core.proofs.{GatewaySteps.try_good, GatewaySteps.cancel_good, GatewaySteps.tick_good, Members.rises_once}
+use Rattle.server_core.proofs.GatewaySteps.{try_good, cancel_good, tick_good}
+use Rattle.server_core.proofs.Members.{rises_once, apart_once}
 use Rattle.server_core.proofs.{Members.none_numbered, TakeStep.take_good}
 
 module _ {settings : SettingLists} (are : AreSettings settings.gateways settings.devices) {T : Job → Type 0} {w : World}
@@ -21,7 +22,8 @@ module _ {settings : SettingLists} (are : AreSettings settings.gateways settings
   module _ (i j k l : ℕ) (g f : Gateway) (a b : Reservation) (m : IsMember w i k g a) (o : IsMember w j l f b) where
     place_by : g.id ≡ f.id → a.start ≡ b.start → (i ≡ j) × (k ≡ l)
     place_by d s =
-        let p : i ≡ j = one_gateway h are i j g f m.gateway o.gateway d in
+        let p : i ≡ j =
+        apart_once setting_of (λ x. x.id) w.gateways settings.gateways h.gateways are.ids_differ i j g f m.gateway o.gateway d in
         let there : slice_get w.gateways j ≡ Some g = subst (λ x. slice_get w.gateways x ≡ Some g) p m.gateway in
         let same : f ≡ g = some_inj (sym o.gateway ∙ there) in
         let other : slice_get g.state.list l ≡ Some b = subst
@@ -79,10 +81,6 @@ module _ (settings : SettingLists) (r : Run) (h : Holds settings (Contains (jobs
 
 -- What holds before the first step.
 
-map_back : {X Y : Type 0} (f : Y → X) (g : X → Y) → ((x : X) → f (g x) ≡ x) → (xs : List X) → map f (map g xs) ≡ xs
-map_back f g e [] = refl
-map_back f g e (x ∷ xs) = ap (λ y. y ∷ map f (map g xs)) (e x) ∙ ap (λ ys. x ∷ ys) (map_back f g e xs)
-
 module _ (settings : SettingLists) (T : Job → Type 0) (limits : Limits) where
   opened_at : (i : ℕ) (g : Gateway) → slice_get (map opened_gateway settings.gateways) i ≡ Some g
       → IsInOrder g × AllStand settings T [] [] g
@@ -95,8 +93,8 @@ module _ (settings : SettingLists) (T : Job → Type 0) (limits : Limits) where
   pub opened : Holds settings T (opening settings limits)
   opened =
       record {
-        gateways = map_back setting_of opened_gateway (λ s. refl) settings.gateways;
-        devices = map_back (λ d. d.setting) opened_device (λ s. refl) settings.devices;
+        gateways = map-map setting_of opened_gateway settings.gateways ∙ map-id settings.gateways;
+        devices = map-map (λ d. d.setting) opened_device settings.devices ∙ map-id settings.devices;
         in_order = λ i g e. (opened_at i g e).0;
         together = refl;
         answered = refl;

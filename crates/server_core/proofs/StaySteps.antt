@@ -1,6 +1,6 @@
 -- What is out stays that of the world through the steps of others.
 use Rattle.server_core.proofs.Words
-use Words.{arith, nat_tests, ap, sym, true≢false, ◌∙◌, AllPairs, Bool, Err, List, None, Ok, Option, Result, Some, [], false, map}
+use Words.{arith, ap, sym, true≢false, ◌∙◌, AllPairs, Bool, Err, List, None, Ok, Option, Result, Some, [], false, map}
 use Words.{option_and_then, option_map, refl, slice_get, slice_set, suc, true, zero, ℕ, ◌==◌, ◌∷◌, ◌≡◌, ◌≢◌, inl, inr, kept-nil}
 use Words.{remembers_own, Refusal, orderly_nil, AllPairs-head, AllPairs-tail, numbered, rewritten, Candidate, Job, Ending}
 use Words.{Outcome, Answer, Waiting, Open, is_given, known_of, Decision, all_get, numbered-append, numbered_after, some_inj}
@@ -11,16 +11,11 @@ use Rattle.server_core.proofs.DeskSteps.{by_option, gateway_walk, tick_walk, can
 use Rattle.server_core.proofs.DeskSteps.{desk_calls_are_steps}
 use Rattle.server_core.proofs.{TakeStep.ticket, TakeStep.still_waits, BookSteps.cancel_is, OtherCancels.other_cancel}
 use Rattle.std.specs.Cmp.{unsigned_Decides}
+use Rattle.std.proofs.lemmas.Bool.{eqb-false, ne_eqb}
 use Rattle.server_desk.specs.Register.{first_at}
 use Rattle.server_core.specs.BookCalls.{IsStubIn, sent_at}
 use Rattle.server_core.specs.Staying.{spends, gateway_asked, unused_book, OthersLeaveAlone}
 use Rattle.server_desk.specs.Hearing as hearing
-
-not_tested : (m n : ℕ) → (m == n) ≡ false → m ≢ n
-not_tested m n h = grind (arith, nat_tests)
-
-tested_not : (m n : ℕ) (t : Bool) → (m == n) ≡ t → m ≢ n → (m == n) ≡ false
-tested_not m n t e d = grind (arith, nat_tests)
 
 -- The answer of a number that is out.
 
@@ -54,9 +49,9 @@ module _ (w : World) (n : ℕ) (a : Answer) (at : numbered n w.answers ≡ Some 
   answer_stays out (Pass now) o = at
   answer_stays out (Take m) o = taken_stays out m (take_answer w.reg (known w) m) refl
   answer_stays out (Settle m) o = settle_walk w (λ x. numbered n x.0.answers ≡ Some a) m (λ f. at)
-      (λ answer ending e f told. other_stays _ m answer e (λ q same. not_tested m n o q))
+      (λ answer ending e f told. other_stays _ m answer e (λ q same. eqb-false m n o q))
   answer_stays out (Try m) o = try_walk w (λ x. numbered n x.0.answers ≡ Some a) m at
-      (λ k job c i g e f there own r q. tried_stays m k job c (i, g) e (not_tested m n o) r)
+      (λ k job c i g e f there own r q. tried_stays m k job c (i, g) e (eqb-false m n o) r)
   answer_stays out (Cancel m) o = cancel_walk w (λ x. numbered n x.0.answers ≡ Some a) m at (λ s i g e. at)
   answer_stays out (Tick id now) o = tick_walk w (λ x. numbered n x.0.answers ≡ Some a) id now at (λ i g e. at)
 
@@ -92,7 +87,7 @@ module _ (w : World) (id : ℕ) where
   other_stays_found : (i : ℕ) (g v : Gateway) → slice_get w.gateways i ≡ Some g → g.id ≢ id → v.id ≡ g.id
       → Stays (slice_set w.gateways i v)
   other_stays_found i g v e d same =
-      let t : (g.id == id) ≡ false = tested_not g.id id (g.id == id) refl d in
+      let t : (g.id == id) ≡ false = ne_eqb g.id id d in
       other_found (λ (x : Gateway). x.id == id) w.gateways i g v e t (rw same t)
 
   tried_found : (n k : ℕ) (job : Job) (c : Candidate) (i : ℕ) (g : Gateway) → slice_get w.gateways i ≡ Some g → g.id ≢ id
@@ -131,7 +126,7 @@ first_opened (x ∷ xs) zero g d e =
     rw same (ap (λ (s : GatewaySetting). Some (0, opened_gateway s)) (some_inj e))
 first_opened (x ∷ xs) (suc i) g d e =
     let other = all_get (λ b. x.id ≢ b.id) xs i g (AllPairs-head (λ a b. a.id ≢ b.id) x xs d) e in
-    let test : (x.id == g.id) ≡ false = tested_not x.id g.id (x.id == g.id) refl other in
+    let test : (x.id == g.id) ≡ false = ne_eqb x.id g.id other in
     rw (test, first_opened xs i g (AllPairs-tail (λ a b. a.id ≢ b.id) x xs d) e) refl
 
 pub others_leave_alone : OthersLeaveAlone

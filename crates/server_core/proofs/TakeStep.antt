@@ -1,12 +1,13 @@
 -- A ticket is given: what is known of its uplink, and what holds of the world then.
 use Rattle.server_core.proofs.Words
-use Words.{ap, arith, inl, inr, subst, sym, true≢false, ◌∙◌, Err, List, Ok, Result, Some, map, refl, slice_get, suc, true, zero}
+use Words.{arith, inl, inr, subst, sym, true≢false, ◌∙◌, Err, List, Ok, Result, Some, map, refl, slice_get, true}
 use Words.{ℕ, ◌≡◌, ◌≤◌, ◌⊎◌, copies_of, numbered, IsWindowOf, IsWindowOf-ranked, on_gateways_that_heard, candidates_of, Candidate}
-use Words.{Job, candidate_at, Answer, Open, Waiting, is_not_given, known_of, numbered-here, all_get, from_map, get_set_same}
+use Words.{Job, candidate_at, Answer, Open, Waiting, is_not_given, known_of, numbered-here, all_get, get_set_same}
 use Words.{some_inj, Device, Register, job_of, with_counter_given, World, known, AreSettings, SettingLists, Asked, Known}
-use Words.{TakeFault, take, take_by, take_answer}
+use Words.{TakeFault, take, take_by, take_answer, numbered-map}
 use Rattle.server_core.proofs.Holds.{IsJobAt, Holds, IsGivenAt, IsGood, IsGoodStep, IsNew, IsUsed, Holds-weaker, has_now}
-use Rattle.server_core.proofs.Holds.{unchanged, both_good, device_setting, one_device}
+use Rattle.server_core.proofs.Holds.{unchanged, both_good, device_setting}
+use Rattle.server_core.proofs.Members.{apart_once}
 use Rattle.server_core.proofs.Written.{with_device, device_written, with_answer, answer_written}
 
 -- no ticket was given for it before, and the job is made of what is known of it and of its device
@@ -26,15 +27,9 @@ unfolding take_answer
 ticket reg known n job e = grind arith
 
 -- the answer of such an uplink waits
-waits_only : (a : Answer) → is_not_given (known_of a) ≡ true → a ≡ Waiting
-waits_only a e = grind arith
-
 pub still_waits : (answers : List Answer) (n : ℕ) (k : Known) → numbered n (map known_of answers) ≡ Some k → is_not_given k ≡ true
     → numbered n answers ≡ Some Waiting
-still_waits answers zero k e t = absurd (cc (e))
-still_waits answers (suc i) k e t =
-    let a = from_map known_of answers i k e in
-    a.1 ∙ ap (λ (x : Answer). Some x) (waits_only a.0 (ap is_not_given a.2 ∙ t))
+still_waits answers n k e t = let same = numbered-map known_of n answers in grind (arith, e, t, same)
 
 -- each candidate of such a job is RX1 or RX2 of a copy of the uplink
 pub job_window : (reg : Register) (n : ℕ) (asked : Asked) (device : Device) (k : ℕ) (c : Candidate)
@@ -103,7 +98,9 @@ module _ {settings : SettingLists} (are : AreSettings settings.gateways settings
     new : IsNew w job
     new = record {
       number = not_given;
-      counter = λ p d e a. same_down p d e (one_device h are p asked.device d device e served a);
+      counter = λ p d e a. same_down p d e (
+          apart_once (λ x. x.setting) (λ x. x.addr) w.reg.devices settings.devices h.devices are.addrs_differ p
+          asked.device d device e served a);
     }
 
     used : IsUsed given job

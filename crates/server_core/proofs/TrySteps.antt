@@ -1,11 +1,12 @@
 -- The candidates of a ticket are tried on the books of their gateways.
 use Rattle.server_core.proofs.Words
 use Words.{ap, arith, subst, sym, ◌∙◌, map-append, IsSomeAnd, option_map, List, None, Option, Some, [], drop, get_or}
-use Words.{if◌then◌else◌, map, refl, slice_get, slice_set, suc, zero, ℕ, ◌++◌, ◌+◌, ◌∷◌, ◌≡◌, Book, IsAsked, refusal_of, Refusal}
+use Words.{if◌then◌else◌, map, refl, slice_get, slice_set, ℕ, ◌++◌, ◌+◌, ◌∷◌, ◌≡◌, Book, IsAsked, refusal_of, Refusal}
 use Words.{Candidate, ask_for, candidates, IsBooked, IsReceipt, IsWrong, next_of, refusal_by, answered_as, Standing, candidate_of}
 use Words.{Unanswered, Outcome, Receipt, Answer, Open, map_set, some_inj, Gateway, World, gateway_with, is_accepted, is_none}
 use Words.{step_of, up_to_first, AreBooksOf, AreHere, Seen, ids_of, with_step, Try, terms, AreTries, EndsTries, GoesOn, MovesOn}
-use Words.{HasTicketOut, IsSame, tries_from, step_lines, run_from, step}
+use Words.{HasTicketOut, IsSame, tries_from, step_lines, run_from, step, get_or_from_slice_get, slice_get_within, slice_get_cases}
+use Words.{drop_more, drop_all}
 use Rattle.server_core.proofs.BookSteps.{book_calls_are_steps, some_and, found_for, answer_is, try_is}
 use Rattle.server_core.proofs.BookCalls.{IsFound, place_of, book_found, gateway_found, books_stepped, has_place}
 use Rattle.answer_ticket.specs.Tried.{IsNext as IsRefused, IsOut as IsRefusedLast, TriedIs}
@@ -14,17 +15,13 @@ use Rattle.server_core.specs.BookCalls.{IsBookAt, IsTryStep, LeavesStub, LeavesT
 use Rattle.server_core.specs.declared.event.Step.TheVariants as made
 use Rattle.answer_ticket.specs.declared.tried.Tried.TheVariants as tried
 
-module _ {X : Type 0} where
+module _ {X : Type 0} (xs : List X) (k : ℕ) where
   -- what is left from a place on
-  drop_at : (xs : List X) (k : ℕ) (x : X) → slice_get xs k ≡ Some x → drop k xs ≡ x ∷ drop (suc k) xs
-  drop_at [] k x e = absurd (cc (e))
-  drop_at (y ∷ xs) k x e = grind (arith, drop_at xs)
+  drop_at : (x : X) → slice_get xs k ≡ Some x → drop k xs ≡ x ∷ drop (k + 1) xs
+  drop_at x e = rw (get_or_from_slice_get xs k x x e) at (drop_more xs k x (slice_get_within xs k x e))
 
-  pub drop_past : (xs : List X) (k : ℕ) → slice_get xs k ≡ None → drop k xs ≡ []
-  drop_past [] zero e = refl
-  drop_past [] (suc k) e = refl
-  drop_past (y ∷ xs) zero e = absurd (cc (e))
-  drop_past (y ∷ xs) (suc k) e = drop_past xs k e
+  drop_past : slice_get xs k ≡ None → drop k xs ≡ []
+  drop_past e = grind (arith, slice_get_cases xs k, drop_all k xs)
 
 -- the first that is accepted ends the tries
 tries_are : (w : World) (t : Standing) (c : Candidate) → candidate_of t ≡ Some c → (i : ℕ) (g : Gateway)
@@ -34,8 +31,7 @@ tries_are : (w : World) (t : Standing) (c : Candidate) → candidate_of t ≡ So
     ∷ map (λ (x : Candidate). Try t.job.number)
     (if is_none o then [] else up_to_first (is_accepted w t.job) (drop (t.at + 1) (candidates t.job)))
 tries_are w t c at i g found o e =
-    let next : suc t.at ≡ t.at + 1 = omega arith in
-    rw (drop_at (candidates t.job) t.at c at ∙ ap (λ (j : ℕ). c ∷ drop j (candidates t.job)) next, found, e) refl
+    rw (drop_at (candidates t.job) t.at c at, found, e) refl
 
 module _ {A : Type 0} (t : Standing) (old mid : Seen A) (gateway i : ℕ) (book after : Book)
     (noted : mid ≡ with_step (made.Try t.job.number) old) (f : Some i ≡ place_of gateway mid.books)

@@ -19,7 +19,8 @@ module _ {settings : SettingLists} {T : Job → Type 0} {w : World} (h : Holds s
   device_written p d e g s c =
       let later : (q : ℕ) (f : Device) → slice_get w.reg.devices q ≡ Some f → IsLater (slice_set w.reg.devices p e) q f =
       λ q f i. elim (get_set_after w.reg.devices p q e f i) [
-        | inl o ↦ let same : f ≡ d = some_inj (sym i ∙ rw o.0 at g) in rw same (record { device = e; there = o.1; addr = ap (λ t. t.addr) s; counter = c })
+        | inl o ↦ let same : f ≡ d = some_inj (sym i ∙ rw o.0 at g) in rw same
+            (record { device = e; there = o.1; addr = ap (λ t. t.addr) s; counter = c })
         | inr o ↦ record { device = f; there = o; addr = refl; counter = omega arith }
       ] in
       assumption (map_set (λ x. x.setting) w.reg.devices p d e g s ∙ h.devices, later)

@@ -1,9 +1,9 @@
 -- What is known of a copy that joins a gathering, or opens one.
 use Rattle.server_desk.proofs.Words
-use Words.{ℕ, ◌≡◌, ◌≢◌, ◌^◌, ◌≤◌, false, true, List, Option, Some, None, Result, Ok, Err, refl, sym, ap, ◌∙◌, arith, nat_tests, addr_of}
-use Words.{uplink_record, uplink_of, Joins, Opens, place_of, is_crowded, Heard1, NewUplink, Register, device_with, Decision, Refuse}
-use Words.{Join, Open, Opening, HearFault, DeskFault, decide, decide_copy, decide_place, decide_frame, copy_fault, is_last, asked_by}
-use Words.{is_among, verdict_of}
+use Words.{ℕ, ◌≡◌, ◌≢◌, ◌^◌, ◌≤◌, false, true, List, Option, Some, None, Result, Ok, Err, refl, sym, ap, ◌∙◌, arith, nat_tests}
+use Words.{addr_of, uplink_record, uplink_of, Joins, Opens, place_of, is_crowded, Heard1, NewUplink, Register, device_with}
+use Words.{Decision, Refuse, Join, Open, Opening, HearFault, DeskFault, decide, decide_copy, decide_place, decide_frame}
+use Words.{copy_fault, is_last, asked_by, is_among, verdict_of}
 use Rattle.lora_frame.specs.{declared.reading.Uplink.Uplink, declared.reading.FrameFault.FrameFault}
 use Rattle.uplink_gather.specs.declared.answers.Place.{Place}
 use Rattle.server_desk.specs.declared.verdict.Verdict.TheVariants as says
