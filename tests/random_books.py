@@ -1,0 +1,169 @@
+#!/usr/bin/env python3
+"""Compares `airbook book` with a plain list on random commands: bookings, cancellations and ticks in hours that are full.
+
+Usage: tests/random_books.py [PROGRAM [COMMANDS [SEED]]]     (the program that the gate leaves, 100,000, 1)
+
+The list is kept here by start and asked as docs/FORMATS.md says: it keeps no sum and no tree, and each answer is found by going
+over it. A quarter of the commands each is given to a book of few members in narrow hours (sub-band K), of many in wide ones (P),
+of both beside M, and to one with a small cap. Each answer that differs has a line; the last line is 'N passed, M failed', of
+the books. The status is 0 where none failed, 1 where one did, 2 where there is no program.
+"""
+import bisect
+import pathlib
+import random
+import subprocess
+import sys
+
+TOP = pathlib.Path(__file__).resolve().parent.parent
+HOUR = 3_600_000_000
+# A channel in Hz, its band, the band's limit within an hour, and two frames on it: data rate, length, time on air. All times are
+# microseconds.
+K = (863_500_000, "K", 3_600_000, [(0, 12, 991_232), (5, 12, 41_216)])
+M = (868_100_000, "M", 36_000_000, [(5, 12, 41_216), (3, 12, 144_384)])
+P = (869_525_000, "P", 360_000_000, [(0, 12, 991_232), (1, 12, 577_536)])
+# A name, the channels, the cap, and how far ahead of the floor is booked.
+BOOKS = [
+    ("narrow hours", [K], 4096, 3 * HOUR),
+    ("wide hours", [P], 65536, HOUR + HOUR // 2),
+    ("three bands", [K, M, P], 4096, 2 * HOUR),
+    ("a small cap", [M, P], 64, 4 * HOUR),
+]
+
+
+class Book:
+    """Members (start, end, number, band, airtime) by start, and what was counted."""
+
+    def __init__(self, cap):
+        self.cap, self.floor, self.members = cap, 0, []
+        self.booked = self.cancelled = self.retired = 0
+
+    def book(self, number, start, channel, airtime):
+        _, band, limit, _ = channel
+        end = start + airtime
+        if start < self.floor:
+            return f"no {number} Passed"
+        at = bisect.bisect_left(self.members, (start,))
+        for other in self.members[max(at - 1, 0):at + 1]:
+            if other[0] < end and start < other[1]:
+                return f"no {number} Taken {other[0]}"
+        over = self.overfull(start, band, limit, airtime)
+        if over is not None:
+            return f"no {number} DutyFull {band} {over[0]} {over[1]}"
+        if len(self.members) >= self.cap:
+            return f"no {number} Full"
+        self.members.insert(at, (start, end, number, band, airtime))
+        self.booked += airtime
+        return f"ok {number} {start} {end}"
+
+    def overfull(self, start, band, limit, airtime):
+        """The first hour that holds the start and would be overfull, by where it opens, and what begins in it."""
+        low = bisect.bisect_left(self.members, (start - HOUR + 1,))
+        near = [(m[0], m[4]) for m in self.members[low:bisect.bisect_left(self.members, (start + HOUR,))] if m[3] == band]
+        opens = [s for s, _ in near if s <= start]
+        if not opens or opens[-1] != start:
+            opens.append(start)
+        behind, spent, first = 0, 0, 0
+        for opening in opens:
+            while behind < len(near) and near[behind][0] < opening + HOUR:
+                spent += near[behind][1]
+                behind += 1
+            while first < len(near) and near[first][0] < opening:
+                spent -= near[first][1]
+                first += 1
+            if spent + airtime > limit:
+                return opening, spent
+        return None
+
+    def cancel(self, number, start):
+        if start <= self.floor:
+            return f"no {number} Begun"
+        at = bisect.bisect_left(self.members, (start,))
+        if at < len(self.members) and self.members[at][0] == start and self.members[at][2] == number:
+            airtime = self.members.pop(at)[4]
+            self.cancelled += airtime
+            return f"cancelled {number} {airtime}"
+        return f"no {number} NotHere"
+
+    def tick(self, now):
+        self.floor = max(self.floor, now)
+        at = bisect.bisect_left(self.members, (self.floor - HOUR,))
+        self.retired += sum(m[4] for m in self.members[:at])
+        del self.members[:at]
+        return f"floor {self.floor}"
+
+    def busiest(self, band):
+        near = [(m[0], m[4]) for m in self.members if m[3] == band]
+        best, behind, spent = None, 0, 0
+        for opening, airtime in near:
+            while behind < len(near) and near[behind][0] < opening + HOUR:
+                spent += near[behind][1]
+                behind += 1
+            if best is None or spent > best[1]:
+                best = (opening, spent)
+            spent -= airtime
+        return [f"busiest {band} {best[0]} {best[1]}"] if best else []
+
+    def report(self):
+        kept = sum(m[4] for m in self.members)
+        lines = [f"booked {self.booked}", f"cancelled {self.cancelled}", f"retired {self.retired}"]
+        lines += [f"kept {len(self.members)} {kept}", f"floor {self.floor}"]
+        return lines + [line for band in "KLMNPQ" for line in self.busiest(band)]
+
+
+def commands(chance, channels, cap, ahead, count):
+    """So many lines, with what the list answers to each; the report comes last."""
+    plain = Book(cap)
+    for number in range(count):
+        kind = chance.random()
+        member = plain.members[chance.randrange(len(plain.members))] if plain.members else None
+        if kind < 0.01:
+            now = plain.floor + chance.randrange(HOUR // 8)
+            yield f"tick {now}", plain.tick(now)
+        elif kind < 0.25 and member:
+            named = member[2] + (chance.random() < 0.1)
+            yield f"cancel {named} {member[0]}", plain.cancel(named, member[0])
+        else:
+            channel = chance.choice(channels)
+            rate, length, airtime = chance.choice(channel[3])
+            beside = member and chance.random() < 0.3
+            start = plain.floor + chance.randrange(ahead)
+            if beside:
+                start = max(member[0] + chance.choice([-HOUR, HOUR, -1, 0, member[4], HOUR - 1]), 0)
+            yield f"book {number} {start} {channel[0]} {rate} {length}", plain.book(number, start, channel, airtime)
+    yield None, plain.report()
+
+
+def compared(program, name, channels, cap, ahead, count, seed):
+    """Whether the program answers as the list does; each answer that differs has a line."""
+    told = list(commands(random.Random(seed), channels, cap, ahead, count))
+    given = "".join(line + "\n" for line, _ in told[:-1])
+    ran = subprocess.run([program, "book", "--cap", str(cap)], input=given, capture_output=True, text=True)
+    wanted = [answer for _, answer in told[:-1]] + told[-1][1]
+    written = ran.stdout.splitlines()
+    differs = [(i, w, g) for i, (w, g) in enumerate(zip(wanted, written)) if w != g]
+    for place, want, got in differs[:10]:
+        print(f"{name}, line {place + 1}: wanted '{want}', written '{got}'")
+    kinds = {}
+    for answer in wanted[:count]:
+        word = answer.split()[2] if answer.startswith("no") else answer.split()[0]
+        kinds[word] = kinds.get(word, 0) + 1
+    print(f"{name}: {count} commands, {', '.join(f'{kinds[k]} {k}' for k in sorted(kinds))}; {wanted[count + 3]}")
+    if len(wanted) != len(written):
+        print(f"{name}: {len(wanted)} lines wanted, {len(written)} written; status {ran.returncode} {ran.stderr}")
+    return not differs and len(wanted) == len(written)
+
+
+def main(words):
+    program = words[0] if words else str(TOP / "crates/airbook/out/airbook")
+    count = int(words[1]) if len(words) > 1 else 100_000
+    seed = int(words[2]) if len(words) > 2 else 1
+    if not pathlib.Path(program).is_file():
+        print(f"no program {program}: run make test, or name one", file=sys.stderr)
+        return 2
+    passed = [compared(program, *book, count // len(BOOKS), seed + i) for i, book in enumerate(BOOKS)]
+    print(f"{sum(passed)} passed, {len(passed) - sum(passed)} failed")
+    return 0 if all(passed) else 1
+
+
+if __name__ == "__main__":
+    sys.exit(main(sys.argv[1:]))
