@@ -1,6 +1,6 @@
 -- Lemmas on one line: how a command is carried out, and its answer written.
 use Rattle.std.proofs.Common.{◌≡◌, ℕ, max, true, false, Option, None, Some, Result, Ok, Err, MatchOption}
-use Rattle.std.proofs.Common.{IsOkUnless, refl, sym, ap, ◌∙◌, subst}
+use Rattle.std.proofs.Common.{IfOk, OnErr, IsOkUnless, refl, sym, ap, ◌∙◌, subst}
 use Rattle.resv_list.specs.declared.reservation.Reservation.{Reservation}
 use Rattle.resv_list.specs.Reservations.{end_of}
 use Rattle.gateway_book.specs.declared.ask.Ask.{Ask}
@@ -15,7 +15,7 @@ use Rattle.gateway_book.proofs.RememberedLaws.{remembers_cancel}
 use Rattle.gateway_book.proofs.StandingLaws.{stands_answer, stands_booked, stands_cancelled, stands_ticked}
 use Rattle.book_texts.specs.declared.command.Command.TheVariants.{Book as Booking, Cancel, Tick}
 use Rattle.book_texts.specs.declared.reply.Reply.TheVariants.{Booked, Refused, Cancelled, NotCancelled, Floor}
-use Rattle.book_texts.specs.Answering.{booking_reply, cancel_reply}
+use Rattle.book_texts.specs.Answering.{booking_reply, cancel_reply, reply_of}
 use Rattle.book_texts.specs.Progress.{IsCarriedOut}
 
 refused_by : (old : Book) (ask : Ask) (refusal : Refusal) (o : Option Refusal) → refusal_of (terms_of old) old.list ask ≡ o
@@ -44,7 +44,7 @@ refused_by old ask refusal (Some e) is h =
     }
 
 -- a booking that is refused changes nothing
-pub carried_out-refused : (old new : Book) (ask : Ask) (refusal : Refusal)
+carried_out-refused : (old new : Book) (ask : Ask) (refusal : Refusal)
     → MatchOption (refusal_of (terms_of old) old.list ask) (IsOkUnless {T = Reservation} (Err refusal) NoMemory)
     (λ e. ◌≡◌ {A = Result Reservation Refusal} (Err refusal) (Err e)) → new ≡ old
     → IsCarriedOut old new (Booking ask) (Refused ask.number refusal)
@@ -52,13 +52,13 @@ carried_out-refused old new ask refusal h same =
     let P : Book → Type 0 = λ b. IsCarriedOut old b (Booking ask) (Refused ask.number refusal) in
     subst P (sym same) (refused_by old ask refusal (refusal_of (terms_of old) old.list ask) refl h)
 
-pub accepted_none : (o : Option Refusal) (r : Reservation) → MatchOption o (IsOkUnless {T = Reservation} (Ok r) NoMemory)
+accepted_none : (o : Option Refusal) (r : Reservation) → MatchOption o (IsOkUnless {T = Reservation} (Ok r) NoMemory)
     (λ e. ◌≡◌ {A = Result Reservation Refusal} (Ok r) (Err e)) → o ≡ None
 accepted_none None r h = refl
 accepted_none (Some e) r h = absurd (cc)
 
 -- a booking that is accepted is one step
-pub carried_out-booked : (old new : Book) (ask : Ask) (r : Reservation)
+carried_out-booked : (old new : Book) (ask : Ask) (r : Reservation)
     → MatchOption (refusal_of (terms_of old) old.list ask) (IsOkUnless {T = Reservation} (Ok r) NoMemory)
     (λ e. ◌≡◌ {A = Result Reservation Refusal} (Ok r) (Err e)) → IsAsked ask r → new ≡ with_booked old r
     → IsCarriedOut old new (Booking ask) (Booked r.number r.start (end_of r))
@@ -72,6 +72,14 @@ carried_out-booked old new ask r h a is =
       reached = λ s stood. rw is (stands_booked old s stood ask r a none);
       rules = rw is refl;
     }
+
+-- a booking is one step, and told as it was answered
+pub carried_out-booking : (old new : Book) (ask : Ask) (answer : Result Reservation Refusal)
+    → MatchOption (refusal_of (terms_of old) old.list ask) (IsOkUnless answer NoMemory) (λ e. answer ≡ Err e)
+    → IfOk answer (IsAsked ask) → IfOk answer (λ r. new ≡ with_booked old r) → OnErr answer (new ≡ old)
+    → IsCarriedOut old new (Booking ask) (reply_of ask answer)
+carried_out-booking old new ask (Ok r) h a is same = carried_out-booked old new ask r h a is
+carried_out-booking old new ask (Err refusal) h a is same = carried_out-refused old new ask refusal h same
 
 -- a cancel is one step, whether or not it takes out
 pub carried_out-cancelled : (old new : Book) (number start airtime : ℕ)

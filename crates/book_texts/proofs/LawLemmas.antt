@@ -1,13 +1,13 @@
 -- Lemmas behind the laws on the output.
 use Rattle.std.proofs.Common.{◌≡◌, ◌↔◌, ℕ, suc, ◌+◌, Bool, true, false, not, List, [], ◌∷◌, ◌++◌, length, filter, cond}
-use Rattle.std.proofs.Common.{Option, None, All, map, Ok, Err, MatchOption, IsOkAnd}
+use Rattle.std.proofs.Common.{Option, None, All, map}
 use Rattle.std.proofs.Common.{Some, refl, ap, ◌∙◌, arith, length-append}
 use Rattle.text_lines.specs.Line.{is_too_long}
 use Rattle.text_lines.specs.Turns.{reached as reached_by, answers as answers_by, answers-append}
 use Rattle.text_lines.specs.Words.{words_of, is_passed_over}
 use Rattle.gateway_book.specs.declared.ask.Ask.{Ask}
 use Rattle.gateway_book.specs.declared.refusal.Refusal.{Refusal}
-use Rattle.gateway_book.specs.Answer.{Rules, IsAsked, refusal_of}
+use Rattle.gateway_book.specs.Answer.{Rules, refusal_of}
 use Rattle.gateway_book.specs.Step.{terms_at, book_step, State}
 use Rattle.book_texts.specs.declared.command.Command.{Command}
 use Rattle.book_texts.specs.declared.command.Command.TheVariants.{Book}
@@ -15,10 +15,11 @@ use Rattle.book_texts.specs.declared.command.Said.TheVariants.{Nothing, Order, M
 use Rattle.book_texts.specs.Said.{said, order_or_malformed, command_of}
 use Rattle.book_texts.specs.Reply.{reply_line}
 use Rattle.text_words.specs.Words.{is_refusal}
-use Rattle.book_texts.specs.Answering.{booking_reply, reply_to, answer_to, state_after_line}
+use Rattle.book_texts.specs.Answering.{booking_reply, reply_of, reply_to, answer_to, state_after_line}
 use Rattle.book_texts.specs.Output.{Standing, book_turns, is_starved, opened, report_at, answers, reached, output}
 use Rattle.book_texts.specs.Planning.{Planned, plan_turns, opens_plan, plan_output, unplanned, if_line}
-use Rattle.book_texts.specs.Laws.{reply_of, tried_lines}
+use Rattle.book_texts.specs.Laws.{tried_lines}
+use Rattle.book_texts.proofs.TryingLemmas.{told_answer}
 use Rattle.airtime_planner.specs.WhatIf.{Answer, AreAnswers}
 
 answered_by : (starved : Bool) (ask : Ask) (o : Option Refusal)
@@ -95,14 +96,6 @@ plan_is_book rules starved lines shut =
     let last : State = (reached_by plan_turns starved 1 (unplanned rules) lines).state in
     ap (λ l. l ++ report_at last) same.0 ∙ ap (λ s. answers rules starved 1 opened lines ++ report_at s) same.1
 
--- a booking that is tried is told its answer
-told : (ask : Ask) (o : Option Refusal) (answer : Answer)
-    → MatchOption o (IsOkAnd answer (IsAsked ask)) (λ refusal. answer ≡ Err refusal)
-    → booking_reply false o ask ≡ reply_of ask answer
-told ask None (Ok r) a = rw (a.number, a.start, a.rate, a.len) refl
-told ask None (Err refusal) a = absurd (a)
-told ask (Some refusal) answer e = rw e refl
-
 pub plan_tells_answers : (rules : Rules) (s t : State) (number : ℕ) (lines : List (List ℕ)) (asks : List Ask)
     (tried : List Answer) → map said lines ≡ map (λ ask. Order (Book ask)) asks → AreAnswers rules t asks tried
     → answers_by plan_turns [] number (record { rules = rules; state = s; trial = Some t }) lines ≡ tried_lines asks tried
@@ -116,6 +109,6 @@ plan_tells_answers rules s t number (line ∷ lines) (ask ∷ asks) (answer ∷ 
     let more : map said lines ≡ map (λ ask. Order (Book ask)) asks = cc in
     let after : Planned = record { rules = rules; state = s; trial = Some (book_step rules t ask) } in
     let rest : List (List ℕ) = answers_by plan_turns [] (number + 1) after lines in
-    rw first (ap (λ reply. if_line reply ∷ rest) (told ask (refusal_of (terms_at rules t) t.list ask) answer h.0)
+    rw first (ap (λ reply. if_line reply ∷ rest) (told_answer ask (refusal_of (terms_at rules t) t.list ask) answer h.0)
     ∙ ap (λ l. if_line (reply_of ask answer) ∷ l)
     (plan_tells_answers rules s (book_step rules t ask) (number + 1) lines asks tried more h.1))

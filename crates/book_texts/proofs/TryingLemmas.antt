@@ -1,60 +1,47 @@
 -- A booking that is tried on the copy of a book is the plan's turn.
-use Rattle.std.proofs.Common.{◌≡◌, ℕ, true, false, List, [], ◌∷◌, ◌++◌, Option, None, Some, Result, Ok, Err, MatchOption}
-use Rattle.std.proofs.Common.{IsOkUnless, is_some, refl, sym, ap, ◌∙◌, Bool}
-use Rattle.resv_list.specs.declared.reservation.Reservation.{Reservation}
-use Rattle.resv_list.specs.Reservations.{end_of}
+use Rattle.std.proofs.Common.{◌≡◌, ℕ, true, false, List, [], ◌∷◌, ◌++◌, Option, None, Some, Ok, Err, MatchOption}
+use Rattle.std.proofs.Common.{IsOkAnd, is_some, refl, sym, ap, ◌∙◌, Bool}
 use Rattle.text_lines.specs.Progress.{IsAnswer, IsTurn}
 use Rattle.text_words.specs.Words.{is_refusal}
 use Rattle.gateway_book.specs.declared.ask.Ask.{Ask}
 use Rattle.gateway_book.specs.declared.refusal.Refusal.{Refusal}
 use Rattle.gateway_book.specs.declared.refusal.Refusal.TheVariants.{NoMemory}
 use Rattle.gateway_book.specs.Answer.{IsAsked, refusal_of}
-use Rattle.gateway_book.specs.Step.{State, book_step, after_answer}
-use Rattle.gateway_book.specs.Book.{Book, terms_of, state_of, with_booked}
+use Rattle.gateway_book.specs.Step.{State, book_step}
+use Rattle.gateway_book.specs.Book.{Book, terms_of, state_of}
 use Rattle.book_texts.specs.declared.command.Command.TheVariants.{Book as Booking}
 use Rattle.book_texts.specs.declared.command.Said.TheVariants.{Order}
 use Rattle.book_texts.specs.declared.reply.Reply.{Reply}
 use Rattle.book_texts.specs.declared.reply.Reply.TheVariants.{Booked, Refused, Cancelled, NotCancelled, Floor, Bad}
 use Rattle.book_texts.specs.Said.{said}
-use Rattle.book_texts.specs.Answering.{booking_reply}
+use Rattle.book_texts.specs.Answering.{booking_reply, reply_of}
+use Rattle.airtime_planner.specs.WhatIf.{Answer, IsAnswer as IsAnswerTo}
 use Rattle.book_texts.specs.Planning.{Planned, plan_turns, opens_plan, if_line, tried_reply, tried_after}
 use Rattle.book_texts.specs.Trying.{IsTried, IsTriedOn, IsCopyOf, IsTrialTurn, StandsPlanned}
 use Rattle.book_texts.specs.Output.{book_turns}
 use Rattle.book_texts.specs.Progress.{StandsIn}
-use Rattle.book_texts.proofs.AnsweringLemmas.{accepted_none}
 
-pub tried-accepted : (old new : Book) (ask : Ask) (r : Reservation)
-    → MatchOption (refusal_of (terms_of old) old.list ask) (IsOkUnless {T = Reservation} (Ok r) NoMemory)
-    (λ e. ◌≡◌ {A = Result Reservation Refusal} (Ok r) (Err e)) → IsAsked ask r → new ≡ with_booked old r
-    → state_of new ≡ book_step old.rules (state_of old) ask → IsTried old new ask (Booked r.number r.start (end_of r))
-tried-accepted old new ask r h a is step =
-    let none = accepted_none (refusal_of (terms_of old) old.list ask) r h in
+-- a booking that is tried is told its answer
+pub told_answer : (ask : Ask) (o : Option Refusal) (answer : Answer)
+    → MatchOption o (IsOkAnd answer (IsAsked ask)) (λ refusal. answer ≡ Err refusal)
+    → booking_reply false o ask ≡ reply_of ask answer
+told_answer ask None (Ok r) a = rw (a.number, a.start, a.rate, a.len) refl
+told_answer ask None (Err refusal) a = absurd (a)
+told_answer ask (Some refusal) answer e = rw e refl
+
+pub tried-answered : (old new : Book) (ask : Ask) (answer : Answer) → IsAnswerTo old.rules (state_of old) ask answer
+    → state_of new ≡ book_step old.rules (state_of old) ask → new.rules ≡ old.rules
+    → IsTried old new ask (reply_of ask answer)
+tried-answered old new ask answer h step same =
     record {
       starved = false;
-      answered = rw (a.number, a.start, a.rate, a.len) (sym (ap (λ o. booking_reply false o ask) none));
+      answered = sym (told_answer ask (refusal_of (terms_of old) old.list ask) answer h);
       reached = step;
-      rules = rw is refl;
+      rules = same;
     }
 
-module _ (old : Book) (ask : Ask) (refusal : Refusal) where
-  refused_by : (o : Option Refusal) → refusal_of (terms_of old) old.list ask ≡ o
-      → MatchOption o (IsOkUnless {T = Reservation} (Err refusal) NoMemory)
-      (λ e. ◌≡◌ {A = Result Reservation Refusal} (Err refusal) (Err e)) → IsTried old old ask (Refused ask.number refusal)
-  refused_by None is h =
-      record { starved = true; answered = ap (λ e. Refused ask.number e) h; reached = refl; rules = refl }
-  refused_by (Some e) is h =
-      let same : refusal ≡ e = cc in
-      record {
-        starved = false;
-        answered = ap (λ e. Refused ask.number e) same ∙ sym (ap (λ o. booking_reply false o ask) is);
-        reached = sym (ap (λ o. after_answer o (state_of old) ask) is);
-        rules = refl;
-      }
-
-  pub tried-refused : (new : Book) → MatchOption (refusal_of (terms_of old) old.list ask)
-      (IsOkUnless {T = Reservation} (Err refusal) NoMemory) (λ e. ◌≡◌ {A = Result Reservation Refusal} (Err refusal) (Err e))
-      → new ≡ old → IsTried old new ask (Refused ask.number refusal)
-  tried-refused new h same = rw same (refused_by (refusal_of (terms_of old) old.list ask) refl h)
+pub tried-starved : (old new : Book) (ask : Ask) → new ≡ old → IsTried old new ask (Refused ask.number NoMemory)
+tried-starved old new ask same = record { starved = true; answered = refl; reached = ap state_of same; rules = rw same refl }
 
 -- a line that begins with `if` begins with neither `no` nor `bad`
 pub if_line-unrefused : (reply : Reply) → is_refusal (if_line reply) ≡ false

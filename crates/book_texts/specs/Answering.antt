@@ -1,4 +1,6 @@
 use Rattle.std.specs.Prelude.{ℕ, max, Bool, if◌then◌else◌, List, [], ◌∷◌, Option, Some, None, Result, Ok, Err}
+use Rattle.resv_list.specs.declared.reservation.Reservation.{Reservation}
+use Rattle.resv_list.specs.Reservations.{end_of}
 use Rattle.gateway_book.specs.declared.ask.Ask.{Ask}
 use Rattle.gateway_book.specs.declared.refusal.Refusal.{Refusal}
 use Rattle.gateway_book.specs.declared.refusal.Refusal.TheVariants.{NoMemory}
@@ -16,6 +18,11 @@ use Rattle.book_texts.specs.Reply.{reply_line}
 
 -- What one line of input does, by what is reserved when it comes. `starved` says that the book finds no memory
 -- for one more reservation then.
+
+-- what is told of a book's own answer to a booking
+abbrev pub reply_of : Ask → Result Reservation Refusal → Reply
+reply_of ask (Ok r) = Booked r.number r.start (end_of r)
+reply_of ask (Err refusal) = Refused ask.number refusal
 
 -- the answer to a booking; want of memory is the last refusal
 abbrev pub booking_reply : Bool → Option Refusal → Ask → Reply

@@ -1,4 +1,4 @@
-use Rattle.std.specs.Prelude.{◌≡◌, ◌↔◌, ℕ, Bool, false, not, List, [], ◌∷◌, ◌++◌, length, map, filter, Some, None, All, Ok, Err}
+use Rattle.std.specs.Prelude.{◌≡◌, ◌↔◌, ℕ, Bool, false, not, List, [], ◌∷◌, ◌++◌, length, map, filter, Some, None, All}
 use Rattle.text_lines.specs.Words.{is_passed_over}
 use Rattle.gateway_book.specs.declared.ask.Ask.{Ask}
 use Rattle.gateway_book.specs.Answer.{Rules, refusal_of}
@@ -6,15 +6,12 @@ use Rattle.gateway_book.specs.Step.{terms_at, State}
 use Rattle.book_texts.specs.declared.command.Command.TheVariants.{Book}
 use Rattle.book_texts.specs.Reply.{reply_line}
 use Rattle.text_words.specs.Words.{is_refusal}
-use Rattle.book_texts.specs.Answering.{reply_to}
+use Rattle.book_texts.specs.Answering.{reply_of, reply_to}
 use Rattle.book_texts.specs.Output.{answers, output}
 use Rattle.book_texts.specs.Planning.{opens_plan, plan_output, plan_turns, if_line}
 use Rattle.book_texts.specs.Said.{said}
 use Rattle.book_texts.specs.declared.command.Said.TheVariants.{Order}
-use Rattle.book_texts.specs.declared.reply.Reply.{Reply}
-use Rattle.book_texts.specs.declared.reply.Reply.TheVariants.{Booked, Refused}
 use Rattle.airtime_planner.specs.WhatIf.{Answer, AreAnswers}
-use Rattle.resv_list.specs.Reservations.{end_of}
 use Rattle.text_lines.specs.Turns.{answers as answers_by}
 
 -- Laws on the output.
@@ -43,11 +40,6 @@ abbrev pub PlanIsBook : Type 0
 PlanIsBook =
     (rules : Rules) (starved : List ℕ) (lines : List (List ℕ))
     → All (λ line. opens_plan line ≡ false) lines → plan_output rules starved lines ≡ output rules starved lines
-
--- what a booking is told
-abbrev pub reply_of : Ask → Answer → Reply
-reply_of ask (Ok r) = Booked r.number r.start (end_of r)
-reply_of ask (Err refusal) = Refused ask.number refusal
 
 -- the lines that tell the answers to bookings which are tried
 abbrev pub tried_lines : List Ask → List Answer → List (List ℕ)

@@ -2,16 +2,16 @@
 ghost use Rattle.std.specs.Prelude.{◌≡◌, [], IfOk, OnErr};
 ghost use Rattle.text_lines.specs.Progress.{IsTurn};
 ghost use Rattle.text_words.specs.Fault.{CountsReads, CountsWrites};
+ghost use Rattle.book_texts.specs.Answering.{reply_of};
 ghost use Rattle.book_texts.specs.Output.{opened, book_turns};
 ghost use Rattle.book_texts.specs.Progress.{IsCarriedOut, IsReplied, StandsIn};
-ghost use Rattle.book_texts.specs.Trying.{IsTried};
 ghost use Rattle.book_texts.specs.Promise.{AnswersAll, AnswersFront, AnswersRead, KeepsLimit, IsCap, IsSettingOf};
 
 use crate::command::{Command, Said, read_line};
 use crate::reply::Reply;
 use crate::report::put_report;
-use gateway_book::{Ask, GatewayBook};
-use resv_list::Roster;
+use gateway_book::{Ask, GatewayBook, Refusal};
+use resv_list::{Reservation, Roster};
 use resv_tree::TreeRoster;
 use std::alloc::Allocator;
 use text_lines::{ByteIn, ByteOut, CallFailed, LineAnswerer, TextLine, WriteBehind, answer_text};
@@ -124,11 +124,17 @@ fn carry_out<B: Roster>(book: &mut GatewayBook<B>, command: Command) -> Reply
 }
 
 /// Books what is asked for, and gives the answer.
-pub(crate) fn reserve<B: Roster>(book: &mut GatewayBook<B>, ask: Ask) -> Reply
-    ensures carried_out { IsCarriedOut book.old book.new (Command.Book ask) result }
-    ensures tried { IsTried book.old book.new ask result }
+fn reserve<B: Roster>(book: &mut GatewayBook<B>, ask: Ask) -> Reply
+    ensures { IsCarriedOut book.old book.new (Command.Book ask) result }
 {
-    match book.book(ask) {
+    told(ask, book.book(ask))
+}
+
+/// What is told of the answer to a booking.
+pub(crate) fn told(ask: Ask, answer: Result<Reservation, Refusal>) -> Reply
+    ensures { result ≡ reply_of ask answer }
+{
+    match answer {
         Ok(reservation) => Reply::Booked {
             number: reservation.number,
             start: reservation.start,

@@ -7,10 +7,11 @@ ghost use Rattle.book_texts.specs.Planning.{plan_output};
 ghost use Rattle.book_texts.specs.Promise.{IsCap, IsSettingOf, KeepsLimit};
 ghost use Rattle.book_texts.specs.Trying.{IsCopied, IsTriedOn, IsTrialTurn};
 
-use crate::booking::{GATEWAY, answer_line, reserve};
+use crate::booking::{GATEWAY, answer_line, told};
 use crate::command::{Command, Said, opens_plan, read_line};
 use crate::reply::Reply;
 use crate::report::put_report;
+use airtime_planner::answer_to;
 use bumpalo::Bump;
 use gateway_book::{Ask, GatewayBook, Refusal};
 use resv_list::Roster;
@@ -156,11 +157,11 @@ fn try_line<C: Roster>(
 fn try_ask<C: Roster>(copy: &mut Option<GatewayBook<C>>, ask: Ask) -> Reply
     ensures { IsTriedOn copy.old copy.new ask result }
 {
-    match copy {
-        Some(book) => reserve(book, ask),
-        None => Reply::Refused {
-            number: ask.number,
-            refusal: Refusal::NoMemory,
-        },
+    let Some(book) = copy else {
+        return told(ask, Err(Refusal::NoMemory));
+    };
+    match answer_to(book, ask) {
+        Ok(answer) => told(ask, answer),
+        Err(_) => told(ask, Err(Refusal::NoMemory)),
     }
 }
