@@ -1,9 +1,9 @@
 -- An uplink is answered: a ticket is taken, tried and settled.
 use Rattle.server_core.proofs.Words
 use Words.{ap, append-nil, arith, subst, sym, ◌∙◌, set-set, option_map_or, Contains, Err, IsOkUnless, IsTrue, List, MatchResult}
-use Words.{Ok, Option, Result, Some, [], false, refl, slice_set, ℕ, ◌-◌, ◌∷◌, ◌≡◌, ◌≢◌, Gathering, numbered, rewritten, HeardCopy}
+use Words.{Ok, Option, Result, Some, [], false, refl, ℕ, ◌-◌, ◌∷◌, ◌≡◌, ◌≢◌, Gathering, numbered, rewritten, HeardCopy}
 use Words.{Standing, Answer, Open, Waiting, is_given, DeskView, desk_settled, desk_take, desk_taken, numbered-here}
-use Words.{rewritten-found, Device, Register, sent_of, job_of, World, known, Asked, Known, Done, TakeFault, not_taken}
+use Words.{Device, Register, sent_of, job_of, World, known, Asked, Known, Done, TakeFault, not_taken}
 use Words.{answer_steps, given_steps, AreBooksOf, AreHeard, AreHere, IsAt, IsIdle, IsBetweenCalls, Makes, Moves, Seen, ids_of}
 use Words.{is_among, with_lines, with_step, After, Step, Take, take_by, IsAnswered, IsGivenTo, Line, take_answer, run_from, step}
 use Rattle.server_core.proofs.TakeStep.{IsTicket, ticket, still_waits, job_window}
@@ -12,14 +12,11 @@ use Rattle.server_desk.specs.declared.answers.Known.TheVariants.{Pending}
 use Rattle.server_core.specs.declared.event.Step.TheVariants as made
 use Rattle.server_core.specs.Steps as replies
 
--- the desk's part after a ticket was taken and settled
+-- once an answer is settled, no ticket is out again
 
--- once it is settled, no ticket is out again
 rewritten_twice : (known : List Known) (n : ℕ) (k a b : Known) → numbered n known ≡ Some k
     → rewritten (λ x. b) n (rewritten (λ x. a) n known) ≡ rewritten (λ x. b) n known
-rewritten_twice known n k a b e = rewritten-found (λ x. b) n (rewritten (λ x. a) n known) a (numbered-here (λ x. a) n known k e)
-    ∙ ap (λ (l : List Known). slice_set l (n - 1) b) (rewritten-found (λ x. a) n known k e) ∙ set-set known (n - 1) a b
-    ∙ sym (rewritten-found (λ x. b) n known k e)
+rewritten_twice known n k a b e = rw (numbered-here (λ x. a) n known k e, e) (set-set known (n - 1) a b)
 
 idle_settled : (known : List Known) (n : ℕ) (k done : Known) → IsIdle known → numbered n known ≡ Some k → is_given done ≡ false
     → IsIdle (rewritten (λ x. done) n (rewritten (λ x. Pending) n known))

@@ -3,15 +3,15 @@ use Rattle.server_core.proofs.Words
 use Words.{ap, arith, sym, ◌∙◌, IsSome, IsSomeAnd, IsTrue, option_and_then, Bool, Err, List, None, Ok, Option, Result, Some, []}
 use Words.{map, refl, slice_get, slice_set, true, ℕ, ◌+◌, ◌==◌, ◌∷◌, ◌≡◌, Reservation, Book, ticked, with_booked, book_step}
 use Words.{cancel_step, tick_step, orderly_booked, orderly_cancelled, remembers_answer, remembers_booked, remembers_cancel}
-use Words.{remembers_cancelled, remembers_ticked, IsAsked, refusal_of, CancelFault, NotHere, Refusal, numbered, rewritten}
-use Words.{Candidate, Job, ask_for, next_of, refusal_by, answered_as, Standing, candidate_of, Ending, Unanswered, Outcome, Answer}
+use Words.{remembers_cancelled, remembers_ticked, IsAsked, refusal_of, CancelFault, Refusal, numbered, rewritten}
+use Words.{Candidate, Job, ask_for, next_of, refusal_by, answered_as, Standing, candidate_of, Ending, Unanswered, Answer}
 use Words.{Booked, Open, Out, Waiting, numbered-here, is_here, Gateway, World, TakeFault, gateway_with, known, found_there, Sent}
-use Words.{IsBookOf, is_among, Cancel, Reply, Step, Take, Tick, Try, cancel_sent, ending_of, refused, sent_by, settle_as}
+use Words.{IsBookOf, is_among, Cancel, Reply, Step, Tick, Try, cancel_sent, ending_of, refused, sent_by, settle_as}
 use Words.{settle_of, take_by, terms, tried_by, take_answer, step, try_of}
 use Rattle.server_core.proofs.DeskSteps.{desk_calls_are_steps, may}
 use Rattle.server_core.proofs.{Members.equal_where_tested, TakeStep.ticket, TakeStep.still_waits}
-use Rattle.server_core.specs.BookCalls.{next_candidate, IsBookAt, IsStepAt, IsTicketIn, IsStubIn, IsTryStep, LeavesStub}
-use Rattle.server_core.specs.BookCalls.{LeavesTicket, IsTry, IsSettleStep, IsCancel, BookCallsAreSteps, sent_at}
+use Rattle.server_core.specs.BookCalls.{next_candidate, IsBookAt, IsStepAt, IsTicketIn, IsTryStep, LeavesStub}
+use Rattle.server_core.specs.BookCalls.{LeavesTicket, IsTry, IsCancel, BookCallsAreSteps, sent_at}
 use Rattle.server_desk.specs.Register.{first_at}
 use Rattle.uplink_gather.proofs.KeptLemmas.{set_same}
 use Rattle.answer_ticket.specs.{declared.tried.Tried.Tried, Tried.TriedAs}
@@ -68,19 +68,11 @@ module _ (w : World) (id at : ℕ) (old : Book) (b : IsBookAt id at w.gateways o
       stepped (Tick id now) w.answers new (replies.Ticked (Some new.floor)) v refl keeps
       (rw (b.found, is, k.remembers.floor) refl)
 
-pub tick_no_book : (w : World) (id now : ℕ) → gateway_with id w.gateways ≡ None → step w (Tick id now) ≡ (w, replies.Ticked None)
-unfolding step
-tick_no_book w id now f = rw f refl
-
 -- What is booked is cancelled.
 
 pub cancel_is : (w : World) (n : ℕ) (o : Option Sent) → sent_at w n ≡ o → step w (Cancel n) ≡ cancel_sent w n o
 unfolding step
 cancel_is w n o e = grind arith
-
-pub cancel_no_book : (w : World) (n : ℕ) (sent : Sent) → sent_at w n ≡ Some sent → gateway_with sent.gateway w.gateways ≡ None
-    → step w (Cancel n) ≡ (w, replies.Cancelled (Err NotHere))
-cancel_no_book w n sent e f = cancel_is w n (Some sent) e ∙ rw f refl
 
 -- it is the same gateway's book
 pub same_book : (n start : ℕ) (old new : Book) (r : Result ℕ CancelFault) → IsCancel n start old new r
@@ -225,15 +217,6 @@ settled_by : (w : World) (n : ℕ) (o : Option Answer) (ending : Ending) → opt
     → settle_of w n o ≡ settle_as w n (Some ending)
 settled_by w n o ending e = grind arith
 
-settle_is : (w : World) (stub : Outcome) → IsStubIn w stub → IsSettleStep w stub
-unfolding step
-settle_is w stub s =
-    record {
-      taken = may w stub.number stub.result s.told s.here;
-      desk = desk_calls_are_steps.settle w stub.number stub.result s.told s.here;
-      after = settled_by w stub.number (numbered stub.number w.answers) stub.result s.told;
-    }
-
 -- A ticket is given.
 
 taken_by : (w : World) (n : ℕ) (job : Job) (r : Result Job TakeFault) → take_answer w.reg (known w) n ≡ r
@@ -245,26 +228,25 @@ taken_by w n job (Ok given) e q =
     rw same (ap (λ (i : ℕ). numbered i (take_by w n (Ok given)).0.answers) (ap (λ (j : Job). j.number) (sym t.made))
     ∙ numbered-here (λ a. Open 0 given) n w.answers Waiting (still_waits w.answers n t.state t.stated t.waits))
 
-taken_stands : (w : World) (n : ℕ) (job : Job) → (step w (Take n)).1 ≡ replies.Given (Ok job)
-    → IsTicketIn (step w (Take n)).0 (record { job = job; at = 0 })
-unfolding step
-taken_stands w n job q = taken_by w n job (take_answer w.reg (known w) n) refl q
-
 pub book_calls_are_steps : (A : Type 0) → BookCallsAreSteps A
 unfolding step
 book_calls_are_steps A =
     record {
-      taken = taken_stands;
+      taken = λ w n job q. taken_by w n job (take_answer w.reg (known w) n) refl q;
       try_on = λ w t id at old new tried out b h.
           let x = some_and (λ c. TriedAs t c old new tried) (candidate_of t) h in
           try_of_book w t id at old new tried out b x.0 x.1 x.2;
       try_nothing = λ w n e. not_open w n (numbered n w.answers) e;
       try_nowhere = λ w n c e f. no_book w n (numbered n w.answers) c e f;
       give_up = λ w t out. record { told = rw out refl; here = refl };
-      settle = settle_is;
+      settle = λ w stub s. record {
+        taken = may w stub.number stub.result s.told s.here;
+        desk = desk_calls_are_steps.settle w stub.number stub.result s.told s.here;
+        after = settled_by w stub.number (numbered stub.number w.answers) stub.result s.told;
+      };
       cancel = cancel_at_book;
       cancel_nothing = λ w n e. cancel_is w n None e;
-      cancel_nowhere = cancel_no_book;
+      cancel_nowhere = λ w n sent e f. cancel_is w n (Some sent) e ∙ rw f refl;
       tick = λ w id at now old new b is. tick_at_book w id at old b now new is;
-      tick_nowhere = tick_no_book;
+      tick_nowhere = λ w id now f. rw f refl;
     }

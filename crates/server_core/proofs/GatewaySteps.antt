@@ -1,7 +1,7 @@
 -- Time passes for a gateway, a transmission is cancelled, a candidate is tried: what holds of the world holds then.
 use Rattle.server_core.proofs.Words
-use Words.{arith, subst, sym, ◌∙◌, All-filter, Bool, Err, List, None, Ok, Option, Result, Some, false, find, if◌then◌else◌}
-use Words.{nat_le, not, refl, slice_get, true, ℕ, ◌+◌, ◌≡◌, IsByStart, airtime_us, member_from, place, start_of, without}
+use Words.{arith, subst, sym, ◌∙◌, All-filter, Bool, Err, List, None, Ok, Option, Result, Some, find, if◌then◌else◌}
+use Words.{nat_le, not, refl, slice_get, ℕ, ◌+◌, ◌≡◌, IsByStart, airtime_us, member_from, place, start_of, without}
 use Words.{Reservation, may_join, orderly_filter, orderly_placed, after_cancel, book_step, cancel_answer, found_or, is_fit-IsFit}
 use Words.{is_named, tick_step, without_named, IsAsked, refusal_of, accepted, book_step-accepted, named_found, named_none}
 use Words.{net_named, net-place, Ask, CancelFault, Begun, Refusal, numbered, Candidate, Job, ask_for, candidate_at, Answer}
@@ -29,14 +29,10 @@ tick_good {settings} {T} {w} h id now = tick_walk w (IsGoodStep settings T w) id
 -- the member that was found is the only one at its start
 module _ (number start : ℕ) (l : List Reservation) (r : Reservation) (o : IsByStart l)
     (f : find (is_named number start) l ≡ Some r) where
-  named_by : (m : Reservation) (t : Bool) → is_named number start m ≡ t → member_from start l ≡ Some m
-      → without start l ≡ without_named l number start
-  named_by m true e i = sym (named_found number start l m true e o i).1
-  named_by m false e i = absurd (cc (f, (named_found number start l m false e o i).0))
-
   same_without : without start l ≡ without_named l number start
   same_without = by_option (λ p. without start l ≡ without_named l number start) (member_from start l)
-      (λ e. absurd (cc (f, named_none number start l e))) (λ m e. named_by m (is_named number start m) refl e)
+      (λ e. absurd (cc (f, named_none number start l e)))
+      (λ m e. let at = named_found number start l m (is_named number start m) refl o e in grind (arith, at, f))
 
 was_found : (o : Option Reservation) (t : Bool) (r : Reservation) → (if t then Err Begun else found_or o) ≡ Ok r → o ≡ Some r
 was_found o t r e = grind arith

@@ -172,25 +172,15 @@ module _ (settings : SettingLists) (T U : Job → Type 0) (more : (job : Job) �
     (grow : Grow l m) where
   pub job_on : (n : ℕ) (job : Job) → IsJobAt settings T l n job → IsJobAt settings U m n job
   job_on n job j =
-      record {
-        number = j.number;
-        given = more job j.given;
-        gathering = j.gathering;
-        own = j.own;
-        now = grow n j.gathering j.now;
-      }
+      let now = grow n j.gathering j.now in
+      record { number = j.number; given = more job j.given; gathering = j.gathering; own = j.own; now = now }
 
   -- and an answer keeps what was booked for it
   stand_on : (answers others : List Answer) → ((n : ℕ) (sent : Sent) → IsKept answers n sent → IsKept others n sent)
       → (id : ℕ) (r : Reservation) → Stands settings T l answers id r → Stands settings U m others id r
   stand_on answers others f id r s =
-      record {
-        sent = s.sent;
-        job = s.job;
-        booking = s.booking;
-        own = job_on r.number s.job s.own;
-        kept = f r.number s.sent s.kept;
-      }
+      let own = job_on r.number s.job s.own in
+      record { sent = s.sent; job = s.job; booking = s.booking; own = own; kept = f r.number s.sent s.kept }
 
   pub stands_on : (answers others : List Answer) → ((n : ℕ) (sent : Sent) → IsKept answers n sent → IsKept others n sent)
       → (gs : List Gateway) → ((i : ℕ) (g : Gateway) → slice_get gs i ≡ Some g → AllStand settings T l answers g)

@@ -30,7 +30,8 @@ module _ (now : ℕ) where
       → (position_from (is_due now) (k + 1) gs ≡ Some m → IsFirst (k + 1) gs m) → IsFirst k (g ∷ gs) m
   first_by k g gs m true t e r =
       let is = was_open g t in
-      rw (some_inj (sym e)) (record { place = 0; gathering = g; number = omega arith; there = refl; is_open = is; rest = rw t refl })
+      rw (some_inj (sym e))
+      (record { place = 0; gathering = g; number = omega arith; there = refl; is_open = is; rest = rw t refl })
   first_by k g gs m false t e r =
       let f = r e in
       record {

@@ -1,7 +1,7 @@
 -- What a server on one thread keeps at every event.
 use Rattle.server_core.proofs.Words
 use Words.{arith, inl, inr, subst, sym, Contains-push_cases, Contains, Err, IsTrue, List, Ok, Result, Some}
-use Words.{[], false, if◌then◌else◌, refl, true, ℕ, ◌++◌, ◌∷◌, ◌≡◌, ◌⊎◌}
+use Words.{[], false, if◌then◌else◌, refl, true, ℕ, ◌++◌, ◌∷◌, ◌≡◌}
 use Words.{Gathering, Gatherings, close_step, is_open_at, numbered, rewritten, hear_answer, with_copy, Joined, Opened, HearFault}
 use Words.{HeardCopy, is_given, known_after, Decision, Join, Refuse, copy_of}
 use Words.{register_after, numbered-append_cases, numbered_cases, join_decided, open_decided, Register, Known, NotGiven}
@@ -34,18 +34,18 @@ heard_closed ids s n h =
 
 -- a copy that a gateway here heard
 module _ (ids : List ℕ) (copy : HeardCopy) (a : IsTrue (is_among ids copy.gateway)) where
-  more_by : (copies : List HeardCopy) (c : HeardCopy) → ((c : HeardCopy) → Contains copies c → IsTrue (is_among ids c.gateway))
-      → Contains copies c ⊎ (copy ≡ c) → IsTrue (is_among ids c.gateway)
-  more_by copies c h (inl k) = h c k
-  more_by copies c h (inr e) = subst (λ (x : HeardCopy). IsTrue (is_among ids x.gateway)) e a
+  more_heard : (copies : List HeardCopy) → ((c : HeardCopy) → Contains copies c → IsTrue (is_among ids c.gateway))
+      → (c : HeardCopy) → Contains (copies ++ copy ∷ []) c → IsTrue (is_among ids c.gateway)
+  more_heard copies h c k = elim (Contains-push_cases copies copy c k)
+      [ inl e ↦ h c e | inr e ↦ subst (λ (x : HeardCopy). IsTrue (is_among ids x.gateway)) e a ]
 
   heard_copy : (s : Gatherings) (bytes : List ℕ) (arrived : ℕ) (r : Result Heard HearFault) → AreHeard ids s.list
       → AreHeard ids (after_hearing r s bytes copy arrived).list
   heard_copy s bytes arrived (Err fault) h = h
   heard_copy s bytes arrived (Ok (Opened n)) h = all_append (HasHeard ids) s.list h (opening bytes copy arrived)
-      (λ c k. more_by [] c (λ x e. absurd (omega (arith, e.1))) (Contains-push_cases [] copy c k))
+      (more_heard [] (λ c e. absurd (omega (arith, e.1))))
   heard_copy s bytes arrived (Ok (Joined n copies)) h = all_rewritten (HasHeard ids) s.list h (with_copy copy) n
-      (λ x q c k. more_by x.copies c (h n x q) (Contains-push_cases x.copies copy c k))
+      (λ x q. more_heard x.copies (h n x q))
 
 module _ (ids : List ℕ) (reg : Register) (bytes : List ℕ) (heard : Heard1) (arrived : ℕ) where
   heard_here : is_among ids heard.gateway ≡ true → AreHeard ids reg.gathered.list

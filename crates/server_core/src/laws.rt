@@ -50,7 +50,8 @@ pub fn law_desk_calls_are_steps()
 /// - a ticket that is tried on a gateway's book and is booked, goes on or is out is a try of its number: the same reply, the
 ///   book is that gateway's then, no other gateway and no other answer changes, and what is handed back is the ticket or the
 ///   stub of what the answer is then; where the book is another gateway's or finds no memory, ticket and book stay;
-/// - where an answer isn't open, or no book of its next gateway is there, a try answers that nothing was tried, and changes nothing;
+/// - where an answer isn't open, or no book of its next gateway is there, a try answers that nothing was tried, and changes
+///   nothing;
 /// - a stub is taken by the desk, and its settling is the step;
 /// - what is booked for a number, settled or not, is cancelled on its gateway's book as by the step, which answers that
 ///   nothing is there where nothing is booked or no such gateway is;

@@ -2,7 +2,7 @@ use Rattle.server_desk.proofs.Words
 use Words.{ℕ, ◌≡◌, ◌-◌, List, Some, Result, Ok, Err, refl, arith, Limits, numbered}
 use Words.{Job, Heard1, TakeFault, SettingLists, Register, Decision, decide, Known, NotGiven, Pending, take_answer}
 use Words.{settled_airtime, DeskView, total_of, desk_of, desk_hear, desk_take, desk_taken, known_after}
-use Rattle.server_desk.proofs.{Numbers.at_number, AirtimeSums.settled_push, AirtimeSums.settled_set}
+use Rattle.server_desk.proofs.{Numbers.at_number, AirtimeSums.sum_push, AirtimeSums.sum_set, AirtimeSums.settled_sum}
 use Rattle.server_desk.specs.{World.opening}
 
 -- Which calls leave the airtime of all settled answers as it is: all but `settle`.
@@ -12,7 +12,7 @@ pub total-opening : (settings : SettingLists) (limits : Limits) → total_of (de
 total-opening settings limits = refl
 
 heard_by : (known : List Known) (decision : Decision) → settled_airtime (known_after decision known) ≡ settled_airtime known
-heard_by known decision = grind (arith, settled_push)
+heard_by known decision = grind (arith, sum_push settled_sum)
 
 pub total-hear : (d : DeskView) (bytes : List ℕ) (heard : Heard1) (arrived : ℕ)
     → total_of (desk_hear d bytes heard arrived) ≡ total_of d
@@ -30,7 +30,7 @@ taken_by d n (Err fault) e = refl
 taken_by d n (Ok job) e =
     let found = waits d.reg d.known n job e in
     let at = at_number n d.known NotGiven found in
-    rw found (omega (arith, settled_set d.known (n - 1) NotGiven Pending at))
+    rw found (omega (arith, sum_set settled_sum d.known (n - 1) NotGiven Pending at))
 
 pub total-take : (d : DeskView) (n : ℕ) → total_of (desk_take d n) ≡ total_of d
 total-take d n = taken_by d n (take_answer d.reg d.known n) refl

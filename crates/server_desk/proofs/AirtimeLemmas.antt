@@ -6,7 +6,7 @@ use Words.{length-append, length-set, All-nil, All-map, All-push, All-set, AllPa
 use Words.{IsWithinLongest, Ending, HeardCopy, HearFault, Heard, Gatherings, after_hearing, GatewaySetting, Known, NotGiven, Done}
 use Words.{Sent, first_at, sent_of, is_here, is_booked_on, answered_at, answered_for, sent_airtime, airtime_of_ending}
 use Words.{settled_limit, whole_airtime, AreAirtimes, raised, CanRaise, kept_by}
-use Rattle.server_desk.proofs.AirtimeSums.{answered_set, answered_push, same_airtimes, answered_found, raises, answered_short}
+use Rattle.server_desk.proofs.AirtimeSums.{answered_sum, sum_set, sum_push, same_airtimes, answered_found, raises, answered_short}
 use Rattle.server_desk.proofs.Numbers.{at_number}
 use Rattle.std.proofs.lemmas.List.Kept.{AllPairs-cons}
 
@@ -36,7 +36,7 @@ module _ (ids airtimes : List ℕ) (limit : ℕ) (known : List Known) (i : AreAi
   -- where a copy opened a gathering
   pub opened_airtimes : length known < limit → AreAirtimes ids airtimes limit (known ++ NotGiven ∷ [])
   opened_airtimes h =
-      more_airtimes _ NotGiven (λ id. omega (arith, answered_push id known))
+      more_airtimes _ NotGiven (λ id. sum_push (answered_sum id) known NotGiven)
       (All-push (λ k. is_booked_on ids k ≡ true) known NotGiven i.here refl)
       (All-push (λ k. whole_airtime k ≤ longest_us) known NotGiven i.short (omega arith))
       (omega (arith, length-append known (NotGiven ∷ []), h))
@@ -44,7 +44,7 @@ module _ (ids airtimes : List ℕ) (limit : ℕ) (known : List Known) (i : AreAi
   -- where an answer that added nothing is written anew: a ticket is given, or the answer is settled
   module _ (n : ℕ) (old new : Known) (there : numbered n known ≡ Some old) (none : (id : ℕ) → known_airtime id old ≡ 0) where
     adds : (id : ℕ) → answered_at id (slice_set known (n - 1) new) ≡ answered_at id known + known_airtime id new
-    adds id = omega (arith, answered_set id known (n - 1) old new (at_number n known old there), none id)
+    adds id = omega (arith, sum_set (answered_sum id) known (n - 1) old new (at_number n known old there), none id)
 
     pub set_airtimes : is_booked_on ids new ≡ true → whole_airtime new ≤ longest_us
         → AreAirtimes ids (raised ids (kept_by (Some new)) airtimes) limit (slice_set known (n - 1) new)

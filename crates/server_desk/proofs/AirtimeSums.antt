@@ -2,36 +2,54 @@
 use Rattle.server_desk.proofs.Words
 use Words.{◌++◌, ℕ, ◌≡◌, ◌≢◌, ◌+◌, ◌*◌, ◌≤◌, ◌==◌, Bool, true, false, if◌then◌else◌, List, [], ◌∷◌, map, length, slice_get}
 use Words.{slice_set, get_or, All, AllPairs, Option, Some, refl, subst, arith, option_map, nat_tests, All-head, All-tail}
-use Words.{AllPairs-head, AllPairs-tail, longest_us, Known, NotGiven, Done, Sent, own_airtime, known_airtime, answered_at}
+use Words.{AllPairs-head, AllPairs-tail, longest_us, Known, Done, Sent, own_airtime, known_airtime, answered_at}
 use Words.{answered_for, total_at, settled_limit, whole_airtime, settled_airtime, is_booked_on, AreAirtimes, raised_at, is_among}
-use Words.{raised, first_at, next_place}
+use Words.{raised, first_at, next_place, sym, ◌∙◌}
 
--- an answer is written anew, or one more comes
-pub answered_set : (id : ℕ) (known : List Known) (i : ℕ) (old new : Known) → slice_get known i ≡ Some old
-    → answered_at id (slice_set known i new) + known_airtime id old ≡ answered_at id known + known_airtime id new
-answered_set id [] i old new e = absurd (cc)
-answered_set id (k ∷ known) i old new e = grind (arith, answered_set id known)
+-- a sum over answers: one is written anew, one more comes, none is longer than an answer may be, or each is as in another sum
+pub record IsSum (f : Known → ℕ) (sum : List Known → ℕ) : Type 0 where
+  none : sum [] ≡ 0
+  more : (k : Known) (known : List Known) → sum (k ∷ known) ≡ f k + sum known
 
-pub answered_push : (id : ℕ) (known : List Known) → answered_at id (known ++ NotGiven ∷ []) ≡ answered_at id known
-answered_push id [] = refl
-answered_push id (k ∷ known) = omega (arith, answered_push id known)
+module _ {f : Known → ℕ} {sum : List Known → ℕ} (s : IsSum f sum) where
+  pub sum_set : (known : List Known) (i : ℕ) (old new : Known) → slice_get known i ≡ Some old
+      → sum (slice_set known i new) + f old ≡ sum known + f new
+  sum_set [] i old new e = absurd (cc)
+  sum_set (k ∷ known) i old new e = grind (arith, s.more, sum_set known)
+
+  pub sum_push : (known : List Known) (k : Known) → sum (known ++ k ∷ []) ≡ sum known + f k
+  sum_push [] k = omega (arith, s.more k [], s.none)
+  sum_push (x ∷ known) k = omega (arith, s.more x known, s.more x (known ++ k ∷ []), sum_push known k)
+
+  pub sum_short : (known : List Known) → All (λ k. f k ≤ longest_us) known → sum known ≤ longest_us * length known
+  sum_short [] a = omega (arith, s.none)
+  sum_short (k ∷ known) a =
+      omega (arith, s.more k known, a 0 k (omega arith), sum_short known (All-tail (λ x. f x ≤ longest_us) k known a))
+
+  sum_same : {g : Known → ℕ} {other : List Known → ℕ} → IsSum g other → (known : List Known) → All (λ k. f k ≡ g k) known
+      → sum known ≡ other known
+  sum_same o [] a = s.none ∙ sym o.none
+  sum_same {g} o (k ∷ known) a =
+      omega (arith, s.more k known, o.more k known, a 0 k (omega arith), sum_same o known (All-tail (λ x. f x ≡ g x) k known a))
+
+-- those of one gateway, of all gateways, and of all settled answers
+pub answered_sum : (id : ℕ) → IsSum (known_airtime id) (answered_at id)
+answered_sum id = record { none = refl; more = λ k known. refl }
+
+pub settled_sum : IsSum whole_airtime settled_airtime
+settled_sum = record { none = refl; more = λ k known. refl }
+
+total_sum : (ids : List ℕ) → IsSum (λ k. total_at ids (k ∷ [])) (total_at ids)
+total_sum [] = record { none = refl; more = λ k known. refl }
+total_sum (id ∷ ids) =
+    let t = total_sum ids in
+    record { none = omega (arith, t.none); more = λ k known. omega (arith, t.more k known) }
 
 pub same_airtimes : (f h : ℕ → ℕ) → ((id : ℕ) → f id ≡ h id) → (ids : List ℕ) → map f ids ≡ map h ids
 same_airtimes f h e [] = refl
 same_airtimes f h e (id ∷ ids) = cc (e id, same_airtimes f h e ids)
 
--- the total of more answers is that of the old ones and of the one that is new
-total_more : (known more : List Known) (k : Known)
-    → ((id : ℕ) → answered_at id more ≡ answered_at id known + known_airtime id k)
-    → (ids : List ℕ) → total_at ids more ≡ total_at ids known + total_at ids (k ∷ [])
-total_more known more k e [] = refl
-total_more known more k e (id ∷ ids) = omega (arith, e id, total_more known more k e ids)
-
--- before anything was heard there is none, nor is there where nothing was sent
-total_nil : (ids : List ℕ) → total_at ids [] ≡ 0
-total_nil [] = refl
-total_nil (id ∷ ids) = omega (arith, total_nil ids)
-
+-- where nothing was sent there is none
 total_none : (ids : List ℕ) (k : Known) → ((id : ℕ) → known_airtime id k ≡ 0) → total_at ids (k ∷ []) ≡ 0
 total_none [] k e = refl
 total_none (id ∷ ids) k e = omega (arith, e id, total_none ids k e)
@@ -88,36 +106,11 @@ known_short id k = grind (arith, nat_tests)
 
 pub answered_short : (id : ℕ) (known : List Known) → All (λ k. whole_airtime k ≤ longest_us) known
     → answered_at id known ≤ longest_us * length known
-answered_short id [] a = omega arith
-answered_short id (k ∷ known) a = omega (
-  arith,
-  known_short id k,
-  All-head (λ x. whole_airtime x ≤ longest_us) k known a,
-  answered_short id known (All-tail (λ x. whole_airtime x ≤ longest_us) k known a),
-)
-
--- the airtime of all settled answers: one is written anew, one more comes, and it has its bound
-pub settled_set : (known : List Known) (i : ℕ) (old new : Known) → slice_get known i ≡ Some old
-    → settled_airtime (slice_set known i new) + whole_airtime old ≡ settled_airtime known + whole_airtime new
-settled_set [] i old new e = absurd (cc)
-settled_set (k ∷ known) i old new e = grind (arith, settled_set known)
-
-pub settled_push : (known : List Known) → settled_airtime (known ++ NotGiven ∷ []) ≡ settled_airtime known
-settled_push [] = refl
-settled_push (k ∷ known) = omega (arith, settled_push known)
-
-settled_short : (known : List Known) → All (λ k. whole_airtime k ≤ longest_us) known
-    → settled_airtime known ≤ longest_us * length known
-settled_short [] a = omega arith
-settled_short (k ∷ known) a = omega (
-  arith,
-  All-head (λ x. whole_airtime x ≤ longest_us) k known a,
-  settled_short known (All-tail (λ x. whole_airtime x ≤ longest_us) k known a),
-)
+answered_short id known a = sum_short (answered_sum id) known (λ k d l. omega (arith, a k d l, known_short id (get_or known k d)))
 
 pub within_limit : (ids airtimes : List ℕ) (limit : ℕ) (known : List Known) → AreAirtimes ids airtimes limit known
     → settled_airtime known ≤ settled_limit
-within_limit ids airtimes limit known i = omega (arith, settled_short known i.short, i.few, i.limited)
+within_limit ids airtimes limit known i = omega (arith, sum_short settled_sum known i.short, i.few, i.limited)
 
 -- where each was booked on one of the gateways, it is that of all gateways
 one_whole : (ids : List ℕ) (k : Known) → AllPairs (λ a b. a ≢ b) ids → is_booked_on ids k ≡ true
@@ -125,16 +118,7 @@ one_whole : (ids : List ℕ) (k : Known) → AllPairs (λ a b. a ≢ b) ids → 
 one_whole ids (Done (Some sent)) d here = rw here at (raises (λ id. 0) sent ids d).1
 one_whole ids k d here = total_none ids k (λ id. refl)
 
-total_whole : (ids : List ℕ) (known : List Known) → AllPairs (λ a b. a ≢ b) ids → All (λ k. is_booked_on ids k ≡ true) known
-    → total_at ids known ≡ settled_airtime known
-total_whole ids [] d a = total_nil ids
-total_whole ids (k ∷ known) d a = omega (
-  arith,
-  total_more known (k ∷ known) k (λ id. omega arith) ids,
-  one_whole ids k d (All-head (λ x. is_booked_on ids x ≡ true) k known a),
-  total_whole ids known d (All-tail (λ x. is_booked_on ids x ≡ true) k known a),
-)
-
 pub whole_told : (ids airtimes : List ℕ) (limit : ℕ) (known : List Known) → AreAirtimes ids airtimes limit known
     → total_at ids known ≡ settled_airtime known
-whole_told ids airtimes limit known i = total_whole ids known i.differ i.here
+whole_told ids airtimes limit known i =
+    sum_same (total_sum ids) settled_sum known (λ k d l. one_whole ids (get_or known k d) i.differ (i.here k d l))

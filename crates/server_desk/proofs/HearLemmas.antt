@@ -64,15 +64,9 @@ module _ {ids : List ℕ} {reg : Register} {bytes : List ℕ} {heard : Heard1} {
       → IfOk r (λ h. hear_answer reg.gathered bytes heard.gateway arrived ≡ Ok h) → IsDesk keys flags reg known
       → IsDesk keys flags (record reg { gathered = after_hearing r reg.gathered bytes (copy_of heard) arrived }) known
   join_holds keys flags known r h i =
-      record {
-        addrs = i.addrs;
-        asked = i.asked ∙ sym (joined_length r h);
-        told = i.told ∙ sym (joined_length r h);
-        placed = i.placed;
-        servable = i.servable;
-        gathered = all_heard reg.gathered bytes (copy_of heard) arrived r h j.so.early i.gathered;
-        engaged = i.engaged;
-      }
+      let same = sym (joined_length r h) in
+      let gathered = all_heard reg.gathered bytes (copy_of heard) arrived r h j.so.early i.gathered in
+      assumption (i.asked ∙ same, i.told ∙ same, gathered, i)
 
 -- a copy opens a gathering
 module _ {A : Type 0} (ids : List ℕ) (kepts : List (KnownDevice A)) (gathered : Gatherings) (asked : List Asked) {bytes : List ℕ}

@@ -51,28 +51,12 @@ IsNew-from_AllPairs key xs h k d k<n =
 -- a gateway without a fault is in range and new
 gateway_passed : (earlier : List GatewaySetting) (g : GatewaySetting) → gateway_fault earlier g ≡ None
     → IsGatewayInRange g × (list_any (λ e. e.id == g.id) earlier ≡ false)
-gateway_passed earlier g h =
-    let t : is_gateway_in_range g ≡ true = grind (arith, h) in (
-      record {
-        id = (grind (arith, nat_tests), grind (arith, nat_tests));
-        cap = (grind (arith, nat_tests), grind (arith, nat_tests));
-      },
-      grind (arith, h),
-    )
+gateway_passed earlier g h = grind (arith, nat_tests, h)
 
 -- a device without a fault is in range and new, and the channel of its RX2 lies in a sub-band
 device_passed : (earlier : List DeviceSetting) (d : DeviceSetting) → device_fault earlier d ≡ None
     → IsDeviceInRange d × (has_rx2_band d ≡ true) × (list_any (λ e. e.addr == d.addr) earlier ≡ false)
-device_passed earlier d h =
-    let t : is_device_in_range d ≡ true = grind (arith, h) in (
-      record {
-        delay = (grind (arith, nat_tests), grind (arith, nat_tests));
-        offset = (grind (arith, nat_tests), grind (arith, nat_tests));
-        down = (grind (arith, nat_tests), grind (arith, nat_tests));
-      },
-      grind (arith, h),
-      grind (arith, h),
-    )
+device_passed earlier d h = grind (arith, nat_tests, h)
 
 -- settings without a fault are what the type keeps
 pub are_settings : (gateways : List GatewaySetting) (devices : List DeviceSetting)

@@ -16,24 +16,20 @@ index_mut-requires g c =
 
 pub unreachable-requires-in-Wrong : goal.unreachable-requires-in-Wrong
 unreachable-requires-in-Wrong g c =
-    not_wrong c.args.ticket (seen c.args.self.now) (seen c.did.new.self) c.gateway.result c.in-Some.place c.index_mut.result.now
-    c.try_on.new.book (rw c.number-number.ensures.number at c.in-Ok.ensures) (rw c.deref.ensures.value at c.in-Some.ensures)
-    c.index_mut.ensures.value c.gateway.ensures.gateway c.in-Wrong.ticket c.in-Wrong.ensures
+    not_wrong _ (seen c.args.self.now) (seen c.did.new.self) _ _ _ _ (rw c.number-number.ensures.number at c.in-Ok.ensures)
+    (rw c.deref.ensures.value at c.in-Some.ensures) c.index_mut.ensures.value c.gateway.ensures.gateway _ c.in-Wrong.ensures
 
 pub returns-in-Booked : goal.returns-in-Booked
 returns-in-Booked g c =
-    booked_turn c.args.ticket (seen c.args.self.now) (seen c.did.new.self) c.gateway.result c.in-Some.place c.index_mut.result.now
-    c.try_on.new.book (rw c.number-number.ensures.number at c.in-Ok.ensures) (rw c.deref.ensures.value at c.in-Some.ensures)
-    c.index_mut.ensures.value c.requires c.in-Booked.stub c.in-Booked.receipt c.in-Booked.ensures
+    booked_turn _ (seen c.args.self.now) (seen c.did.new.self) _ _ _ _ (rw c.number-number.ensures.number at c.in-Ok.ensures)
+    (rw c.deref.ensures.value at c.in-Some.ensures) c.index_mut.ensures.value c.requires _ _ c.in-Booked.ensures
 
 pub returns-in-Next : goal.returns-in-Next
 returns-in-Next g c =
-    next_turn c.args.ticket (seen c.args.self.now) (seen c.did.new.self) c.gateway.result c.in-Some.place c.index_mut.result.now
-    c.try_on.new.book (rw c.number-number.ensures.number at c.in-Ok.ensures) (rw c.deref.ensures.value at c.in-Some.ensures)
-    c.index_mut.ensures.value c.in-Next.ticket c.in-Next.field-1 c.in-Next.ensures
+    next_turn _ (seen c.args.self.now) (seen c.did.new.self) _ _ _ _ (rw c.number-number.ensures.number at c.in-Ok.ensures)
+    (rw c.deref.ensures.value at c.in-Some.ensures) c.index_mut.ensures.value _ _ c.in-Next.ensures
 
 pub returns-in-Out : goal.returns-in-Out
 returns-in-Out g c =
-    out_turn c.args.ticket (seen c.args.self.now) (seen c.did.new.self) c.gateway.result c.in-Some.place c.index_mut.result.now
-    c.try_on.new.book (rw c.number-number.ensures.number at c.in-Ok.ensures) (rw c.deref.ensures.value at c.in-Some.ensures)
-    c.index_mut.ensures.value c.in-Out.stub c.in-Out.field-1 c.in-Out.ensures
+    out_turn _ (seen c.args.self.now) (seen c.did.new.self) _ _ _ _ (rw c.number-number.ensures.number at c.in-Ok.ensures)
+    (rw c.deref.ensures.value at c.in-Some.ensures) c.index_mut.ensures.value _ _ c.in-Out.ensures

@@ -2,7 +2,7 @@ use Rattle.server_desk.proofs.Words.{sym, arith, slice_get_within, Pending, Done
 use Rattle.server_desk.proofs.Numbers.{at_number}
 use Rattle.server_desk.proofs.TakeLemmas.{at_here}
 use Rattle.server_desk.proofs.AirtimeLemmas.{can_raise, short_ending, set_airtimes, booked_here}
-use Rattle.server_desk.proofs.AirtimeSums.{settled_set, within_limit}
+use Rattle.server_desk.proofs.AirtimeSums.{sum_set, settled_sum, within_limit}
 use Rattle.server_desk.proofs.SettleLemmas.{its_uplink, settled_holds, settled_here, is_out}
 use Rattle.server_desk.proofs.desk.Desk.end.Goals as goal
 
@@ -43,7 +43,7 @@ returns-clause-total g c =
     let out = is_out _ _ c.args.outcome.now.number c.args.outcome.now.result (rw (← c.self.view_is) at c.requires.out) in
     let at = at_number c.args.outcome.now.number c.self.inside.known.items Pending out.0 in
     rw (← c.self.view_is, c.sent_of-sent.ensures)
-    (omega (arith, settled_set c.self.inside.known.items _ Pending (Done (sent_of c.args.outcome.now.result)) at))
+    (omega (arith, sum_set settled_sum c.self.inside.known.items _ Pending (Done (sent_of c.args.outcome.now.result)) at))
 
 pub returns-clause-limit : goal.returns-clause-limit
 returns-clause-limit g c =
