@@ -40,32 +40,19 @@ was_found o t r e = grind arith
 abbrev cancelled : Gateway → Result Reservation CancelFault → ℕ → ℕ → Gateway
 cancelled g r number start = record g { state = after_cancel r g.state number start }
 
-cancelled_in_order : (g : Gateway) (number start : ℕ) (r : Reservation) → IsInOrder g
-    → find (is_named number start) g.state.list ≡ Some r → IsInOrder (cancelled g (Ok r) number start)
-cancelled_in_order g number start r o f =
-    record {
-      orderly = orderly_filter (λ m. not (is_named number start m)) g.state.list o.orderly;
-      balanced = omega (
-        arith,
-        net_named g.state.list number start r o.orderly.by_start f
-            (same_without number start g.state.list r o.orderly.by_start f),
-        o.balanced,
-      );
-    }
-
 module _ {settings : SettingLists} {T : Job → Type 0} {w : World} (h : Holds settings T w) (n : ℕ) where
   module _ (i : ℕ) (g : Gateway) (there : slice_get w.gateways i ≡ Some g) (start : ℕ) where
-    cancelled_stand : (r : Reservation) → AllStand settings T w.reg.gathered.list w.answers (cancelled g (Ok r) n start)
-    cancelled_stand r = All-filter (λ x. not (is_named n start x)) (Stands settings T w.reg.gathered.list w.answers g.id)
-        g.state.list (h.stands i g there)
-
     cancelled_by : (r : Result Reservation CancelFault) → cancel_answer g.state.floor g.state.list n start ≡ r
         → IsGood settings T w (with_gateway h i (cancelled g r n start))
     cancelled_by (Err fault) e = gateway_written h i g g there refl (h.in_order i g there) (h.stands i g there)
     cancelled_by (Ok r) e =
-        let found = was_found (find (is_named n start) g.state.list) (nat_le start g.state.floor) r e in
+        let l = g.state.list in
+        let o = h.in_order i g there in
+        let found = was_found (find (is_named n start) l) (nat_le start g.state.floor) r e in
+        let net_of = net_named l n start r o.orderly.by_start found (same_without n start l r o.orderly.by_start found) in
         gateway_written h i g (cancelled g (Ok r) n start) there refl
-        (cancelled_in_order g n start r (h.in_order i g there) found) (cancelled_stand r)
+        (record { orderly = orderly_filter (λ m. not (is_named n start m)) l o.orderly; balanced = omega (arith, net_of, o.balanced) })
+        (All-filter (λ x. not (is_named n start x)) (Stands settings T w.reg.gathered.list w.answers g.id) l (h.stands i g there))
 
   pub cancel_good : IsGoodStep settings T w (cancel w n)
   cancel_good = cancel_walk w (IsGoodStep settings T w) n (record { good = unchanged h; used = tt })

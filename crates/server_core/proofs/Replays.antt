@@ -1,10 +1,10 @@
 -- Events, one after another, from a server that has heard nothing.
 use Rattle.server_core.proofs.Words
-use Words.{ap, append-nil, append_assoc, arith, sym, ◌∙◌, drop_of_length-le, drop-cons, List, [], drop, get_or, length, map, refl}
-use Words.{suc, ℕ, ◌++◌, ◌+◌, ◌<◌, ◌∷◌, ◌≡◌, ◌≤◌, map-map, Book, orderly_nil, kept-nil, remembers_own, desk_of, Gateway, World}
-use Words.{opened_gateway, opening, AreSettings, SettingLists, GatewaySetting, entries, gateway_of, gateways_after, kept_gateway}
-use Words.{reached, schedule, step_of, usual_limits, AreBooksOf, Does, IsAt, IsOpened, IsBetweenCalls, Seen, with_lines, Step}
-use Words.{Event, event_steps, schedule_from, entries_from, run_from}
+use Words.{ap, append-nil, append_assoc, sym, ◌∙◌, drop_of_length-le, List, [], drop, get_or, length, map, refl, ℕ, ◌++◌}
+use Words.{◌+◌, ◌<◌, ◌∷◌, ◌≡◌, ◌≤◌, map-map, Book, orderly_nil, kept-nil, remembers_own, desk_of, Gateway, World, opened_gateway}
+use Words.{opening, AreSettings, SettingLists, GatewaySetting, entries, gateway_of, gateways_after, kept_gateway, reached}
+use Words.{schedule, step_of, usual_limits, AreBooksOf, Does, IsAt, IsOpened, IsBetweenCalls, Seen, with_lines, Step, Event}
+use Words.{event_steps, schedule_from, entries_from, run_from, drop_more}
 use Rattle.server_core.proofs.{Calls.reached_append, Members.none_numbered}
 use Rattle.server_core.specs.declared.event.Event.TheVariants as events
 use Rattle.server_core.specs.declared.entry.Line.TheVariants as says
@@ -70,9 +70,7 @@ module _ {A : Type 0} (settings : SettingLists) (es : List (Event A)) (i : ℕ) 
     (within : i < length es) (event : e ≡ get_or es i e)
     (does : Does i e s new) (ready : IsBetweenCalls new) where
   rest : drop i es ≡ e ∷ drop (i + 1) es
-  rest =
-      let next : suc i ≡ i + 1 = omega arith in
-      cc (drop-cons es i e within, event, next)
+  rest = rw (← event) at (drop_more es i e within)
 
   pub replaying_on : IsReplaying settings es i s → IsReplaying settings es (i + 1) new
   unfolding schedule_from entries_from
@@ -100,23 +98,17 @@ books_kept books gs z = absurd z
 
 module _ {A : Type 0} (settings : SettingLists) (es : List (Event A)) (i : ℕ) (s : Seen A) (over : length es ≤ i)
     (r : IsReplaying settings es i s) where
-  replayed_steps : map step_of s.steps ≡ schedule settings es
-  unfolding schedule_from
-  replayed_steps = rw (drop_of_length-le es over, append-nil) at r.steps
-
-  replayed_outcomes : s.outcomes ≡ entries settings es
-  unfolding entries_from
-  replayed_outcomes = rw (drop_of_length-le es over, append-nil) at r.outcomes
-
   pub replayed : record {
     steps : map step_of s.steps ≡ schedule settings es;
     outcomes : s.outcomes ≡ entries settings es;
     books : map gateway_of s.books ≡ map kept_gateway (gateways_after settings es);
   }
+  unfolding schedule_from entries_from
   replayed =
+      let steps : map step_of s.steps ≡ schedule settings es = rw (drop_of_length-le es over, append-nil) at r.steps in
       record {
-        steps = replayed_steps;
-        outcomes = replayed_outcomes;
+        steps = steps;
+        outcomes = rw (drop_of_length-le es over, append-nil) at r.outcomes;
         books = books_kept s.books r.world.gateways r.at.books ∙ ap (λ (w : World). map kept_gateway w.gateways)
-            (r.run ∙ ap (reached (opening settings usual_limits)) replayed_steps);
+            (r.run ∙ ap (reached (opening settings usual_limits)) steps);
       }

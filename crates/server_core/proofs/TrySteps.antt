@@ -2,9 +2,9 @@
 use Rattle.server_core.proofs.Words
 use Words.{ap, arith, subst, sym, ◌∙◌, map-append, IsSomeAnd, option_map, List, None, Option, Some, [], drop, get_or}
 use Words.{if◌then◌else◌, map, refl, slice_get, slice_set, ℕ, ◌++◌, ◌+◌, ◌∷◌, ◌≡◌, Book, IsAsked, refusal_of, Refusal}
-use Words.{Candidate, ask_for, candidates, IsBooked, IsReceipt, IsWrong, next_of, refusal_by, answered_as, Standing, candidate_of}
-use Words.{Unanswered, Outcome, Receipt, Answer, Open, map_set, some_inj, Gateway, World, gateway_with, is_accepted, is_none}
-use Words.{step_of, up_to_first, AreBooksOf, AreHere, Seen, ids_of, with_step, Try, terms, AreTries, EndsTries, GoesOn, MovesOn}
+use Words.{Candidate, ask_for, candidates, IsBooked, IsReceipt, IsWrong, refusal_by, answered_as, Standing, candidate_of}
+use Words.{Outcome, Receipt, Answer, Open, map_set, some_inj, Gateway, World, gateway_with, is_accepted, is_none}
+use Words.{step_of, up_to_first, AreBooksOf, AreHere, Seen, ids_of, with_step, Try, terms, AreTries, EndsTries, MovesOn}
 use Words.{HasTicketOut, IsSame, tries_from, step_lines, run_from, step, get_or_from_slice_get, slice_get_within, slice_get_cases}
 use Words.{drop_more, drop_all}
 use Rattle.server_core.proofs.BookSteps.{book_calls_are_steps, some_and, found_for, answer_is, try_is}
@@ -78,34 +78,6 @@ module _ {A : Type 0} (t : Standing) (old mid : Seen A) (gateway i : ℕ) (book 
           tries_are w t c at i found.gateway (found_for w t out.stands gateway i book found c at asked) o
           (answer_is w t out.stands gateway i book found c at asked o e)
 
-      -- another follows
-      next_goes : (refusal : Refusal) → refusal_by book t.job c ≡ Some refusal
-          → LeavesTicket w n gateway i (next_of t) after (Some refusal) → GoesOn w t old new
-      next_goes refusal e left =
-          let is = try_is w t out.stands gateway i book found c at asked (Some refusal) e in
-          record {
-            books = new_books (Open (t.at + 1) t.job) (Some refusal) left.made;
-            steps = steps_noted;
-            stands = left.stands;
-            rest = rw is (tries (Some refusal) e);
-            lines = rw left.made.after refl;
-          }
-
-      -- it was the last
-      last_ends : (refusal : Refusal) → refusal_by book t.job c ≡ Some refusal → candidate_of (next_of t) ≡ None
-          → LeavesStub w n gateway i (record { number = n; result = Unanswered refusal }) after (Some refusal)
-          → EndsTries w t old new (record { stub = record { number = n; result = Unanswered refusal }; receipt = None })
-      unfolding run_from step_lines
-      last_ends refusal e last left =
-          let none : drop (t.at + 1) (candidates t.job) ≡ [] = drop_past (candidates t.job) (t.at + 1) last in
-          let one : tries_from w t ≡ Try n ∷ [] = rw (tries (Some refusal) e, none) refl in
-          record {
-            books = rw one (new_books left.answer (Some refusal) left.made);
-            steps = rw one steps_noted;
-            told = rw one left.stands.told;
-            lines = rw (one, left.made.after) refl;
-          }
-
       booked_ends : (receipt : Receipt A) → refusal_by book t.job c ≡ None → IsReceipt t.job c receipt
           → LeavesStub w n gateway i (record { number = n; result = answered_as c }) after None
           → EndsTries w t old new (record { stub = record { number = n; result = answered_as c }; receipt = Some receipt })
@@ -127,6 +99,7 @@ module _ {A : Type 0} (t : Standing) (old mid : Seen A) (gateway i : ℕ) (book 
       let x = some_and (λ c. IsWrong t c book after ticket) (candidate_of t) h in
       x.2.other (b.own ∙ some_inj (sym own ∙ ap (option_map (λ (c : Candidate). c.gateway)) x.1))
 
+  -- another follows
   pub next_turn : (ticket : Standing) (refusal : Refusal) → TriedIs {A = A} t book after (tried.Next ticket refusal)
       → MovesOn t old new ticket
   next_turn ticket refusal h =
@@ -136,12 +109,23 @@ module _ {A : Type 0} (t : Standing) (old mid : Seen A) (gateway i : ℕ) (book 
         same = same_by (cc (e.book));
         moved = e.moved;
         follows = e.follows;
-        goes_on = λ w out. next_goes w out x.0 x.1 e.asked refusal e.refused
-            (subst (λ s. LeavesTicket w n gateway i s after (Some refusal)) e.moved (call w out (tried.Next ticket refusal) h));
+        goes_on = λ w out.
+            let is = try_is w t out.stands gateway i book (found w out) x.0 x.1 e.asked (Some refusal) e.refused in
+            let left = subst (λ s. LeavesTicket w n gateway i s after (Some refusal)) e.moved
+            (call w out (tried.Next ticket refusal) h) in
+            record {
+              books = new_books w out (Open (t.at + 1) t.job) (Some refusal) left.made;
+              steps = steps_noted;
+              stands = left.stands;
+              rest = rw is (tries w out x.0 x.1 e.asked (Some refusal) e.refused);
+              lines = rw left.made.after refl;
+            };
       }
 
+  -- it was the last
   pub out_turn : (stub : Outcome) (refusal : Refusal) → TriedIs {A = A} t book after (tried.Out stub refusal)
       → AreTries t old new (record { stub = stub; receipt = None })
+  unfolding run_from step_lines
   out_turn stub refusal h =
       let x = some_and (λ c. IsRefusedLast t c book after stub refusal) (candidate_of t) h in
       let e = x.2 in
@@ -149,8 +133,16 @@ module _ {A : Type 0} (t : Standing) (old mid : Seen A) (gateway i : ℕ) (book 
         same = same_by (cc (e.book));
         number = cc (e.ended);
         here = rw e.ended refl;
-        ends = λ w out. rw e.ended (last_ends w out x.0 x.1 e.asked refusal e.refused e.last
-            (subst (λ s. LeavesStub w n gateway i s after (Some refusal)) e.ended (call w out (tried.Out stub refusal) h)));
+        ends = λ w out.
+            let left = call w out (tried.Out stub refusal) h in
+            let none : drop (t.at + 1) (candidates t.job) ≡ [] = drop_past (candidates t.job) (t.at + 1) e.last in
+            let one : tries_from w t ≡ Try n ∷ [] = rw (tries w out x.0 x.1 e.asked (Some refusal) e.refused, none) refl in
+            record {
+              books = rw one (new_books w out left.answer (Some refusal) left.made);
+              steps = rw one steps_noted;
+              told = rw one (rw left.number at left.stands.told);
+              lines = rw (one, left.made.after, e.ended) refl;
+            };
       }
 
   pub booked_turn : AreHere (ids_of old.books) t.job → (stub : Outcome) (receipt : Receipt A)
