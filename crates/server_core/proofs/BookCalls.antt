@@ -1,11 +1,11 @@
 -- A gateway's book, by the gateway's id: time passes for it, or what was sent for an answer is cancelled.
 use Rattle.server_core.proofs.Words
-use Words.{arith, ap, sym, ◌∙◌, get_or_from_slice_get, slice_get_within, AllZip, option_map, Bool, Err, List, None, Ok, Option}
+use Words.{arith, ap, sym, ◌∙◌, AllZip, option_map, Bool, Err, List, None, Ok, Option}
 use Words.{Result, Some, [], false, get_or, length, map, refl, slice_get, slice_set, suc, true, zero, ℕ, ◌<◌, ◌==◌, ◌∷◌, ◌≡◌}
-use Words.{Book, ticked, CancelFault, NotHere, numbered, Answer, is_given, known_of, numbered-map, from_map, map_set, some_inj}
+use Words.{Book, ticked, CancelFault, NotHere, numbered, Answer, is_given, known_of, numbered-map, map_set, some_inj}
 use Words.{kept_by, Gateway, World, gateway_with, known, found_there, Sent, gateway_of, lines_for, AreBooksOf, IsAt, IsBookOf}
 use Words.{IsCancelled, IsIdle, IsBetweenCalls, Seen, cancelled_line, ids_of, is_among, with_lines, with_step, Cancel, Tick}
-use Words.{sent_for, Line, step, Reply, Step, option_and_then}
+use Words.{sent_for, Line, step, Reply, Step, option_and_then, is_placed, place_within}
 use Rattle.server_core.proofs.BookSteps.{book_calls_are_steps, same_book}
 use Rattle.server_core.proofs.{Members.equal_where_tested, DeskSteps.desk_calls_are_steps, Calls.IsDone, Calls.done}
 use Rattle.server_core.specs.BookCalls.{IsBookAt, IsStepAt, IsCancel, sent_at}
@@ -48,18 +48,12 @@ module _ (id : ℕ) (books : List Book) where
   test g = g.id == id
 
   pub book_within : (at : ℕ) → Some at ≡ place_of id books → at < length books
-  book_within at f =
-      let g = found_at (gateway_with id (map gateway_of books)) at f in
-      let b = from_map gateway_of books at g.0 (found_there test (map gateway_of books) (at, g.0) g.1).0 in
-      slice_get_within books at b.0 b.1
+  book_within at f = place_within gateway_of test books at f
 
   pub book_found : (at : ℕ) (book : Book) → Some at ≡ place_of id books → book ≡ get_or books at book → IsFound id at books book
   book_found at book f was =
-      let g = found_at (gateway_with id (map gateway_of books)) at f in
-      let there = found_there test (map gateway_of books) (at, g.0) g.1 in
-      let b = from_map gateway_of books at g.0 there.0 in
-      let same : book ≡ b.0 = was ∙ get_or_from_slice_get books at b.0 book b.1 in
-      record { there = rw same b.1; own = equal_where_tested book.id id (cc (same, b.2, there.1)) }
+      let p = is_placed gateway_of test books at book f was in
+      record { there = p.there; own = equal_where_tested book.id id p.passes }
 
 same_place : (id : ℕ) (books : List Book) (gateways : List Gateway) → AreBooksOf books gateways
     → option_map (λ p. p.0) (gateway_with id gateways) ≡ place_of id books

@@ -51,7 +51,10 @@ module _ {settings : SettingLists} {T : Job → Type 0} {w : World} (h : Holds s
         let found = was_found (find (is_named n start) l) (nat_le start g.state.floor) r e in
         let net_of = net_named l n start r o.orderly.by_start found (same_without n start l r o.orderly.by_start found) in
         gateway_written h i g (cancelled g (Ok r) n start) there refl
-        (record { orderly = orderly_filter (λ m. not (is_named n start m)) l o.orderly; balanced = omega (arith, net_of, o.balanced) })
+        (record {
+          orderly = orderly_filter (λ m. not (is_named n start m)) l o.orderly;
+          balanced = omega (arith, net_of, o.balanced);
+        })
         (All-filter (λ x. not (is_named n start x)) (Stands settings T w.reg.gathered.list w.answers g.id) l (h.stands i g there))
 
   pub cancel_good : IsGoodStep settings T w (cancel w n)

@@ -61,7 +61,7 @@ pub use Rattle.server_desk.specs.{declared.setting.GatewaySetting.GatewaySetting
 pub use Rattle.server_desk.proofs.Numbers.{length-rewritten, map-rewritten, numbered-append, numbered-append_cases, numbered-here}
 pub use Rattle.server_desk.proofs.Numbers.{numbered-map, numbered_after, numbered_cases, numbered_next, same_rewritten}
 pub use Rattle.server_desk.proofs.Places.{all_get, from_map, get_contains, get_set_after, get_set_cases, get_set_same, map_set}
-pub use Rattle.server_desk.proofs.Places.{map_there, some_inj, found_there}
+pub use Rattle.server_desk.proofs.Places.{map_there, some_inj, found_there, is_placed, place_within}
 pub use Rattle.server_desk.proofs.Decided.{join_decided, open_decided}
 pub use Rattle.server_core.specs.Promise.{EveryInterleavingIsSafe, HaveOwnCounters, IsMember, IsOwnWindow, IsSafe, jobs_given}
 pub use Rattle.server_core.specs.Promise.{setting_of, with_given}

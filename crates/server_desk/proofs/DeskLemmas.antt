@@ -1,10 +1,10 @@
 -- The devices as the desk keeps them, and as they are seen.
 use Rattle.server_desk.proofs.Words
-use Words.{Register, ℕ, ◌≡◌, ◌==◌, ◌<◌, List, map, length, slice_get, slice_set, get_or, Option, Some, None, Result, Ok, Err}
-use Words.{IfOk, OnOk, OnErr, refl, option_map, sym, ap, ◌∙◌, arith, slice_get_within, nat_tests, length-map, length-set, map-set}
+use Words.{Register, ℕ, ◌≡◌, ◌==◌, ◌<◌, List, map, length, slice_get, slice_set, get_or, Some, Result, Ok, Err}
+use Words.{IfOk, OnOk, OnErr, refl, sym, ap, ◌∙◌, arith, nat_tests, length-set, map-set}
 use Words.{All-set, All-push, Payload, KnownDevice, Known, Device, Asked, device_with, Gatherings, shown, outs, IsSendable}
-use Words.{IsServable, AreOut, IsDesk, DeskView, desk_queue, slice_get_read}
-use Rattle.server_desk.proofs.Places.{some_inj, all_get, map_set, map_there, found_there}
+use Words.{IsServable, AreOut, IsDesk, DeskView, desk_queue, Bool}
+use Rattle.server_desk.proofs.Places.{all_get, map_set, map_there, HasPlace, place_within, is_placed}
 use Rattle.server_desk.specs.Queueing.{queue_fault, queued_or, with_payload}
 use Rattle.server_desk.specs.declared.faults.QueueFault.{QueueFault}
 
@@ -20,32 +20,18 @@ Holds keys kepts gathered asked known = IsDesk keys (outs kepts) (seen_reg kepts
 
 -- the device that was found by its address, as it is kept
 module _ {A : Type 0} (kepts : List (KnownDevice A)) (addr place : ℕ) where
-  abbrev IsFound : Option (ℕ × Device) → Type 0
-  IsFound o = Some place ≡ option_map (λ found. found.0) o
+  abbrev test : Device → Bool
+  test d = d.setting.addr == addr
 
-  placed : (o : Option (ℕ × Device)) → device_with addr (map shown kepts) ≡ o → IsFound o
-      → (d : Device) × (device_with addr (map shown kepts) ≡ Some (place, d)) × (slice_get (map shown kepts) place ≡ Some d)
-  placed None e p = absurd (cc)
-  placed (Some found) e p =
-      let at : found.0 ≡ place = sym (some_inj p) in
-      let there = (found_there (λ (d : Device). d.setting.addr == addr) (map shown kepts) found e).0 in
-      (found.1, e ∙ ap (λ i. Some (i, found.1)) at, rw at at there)
+  pub found_within : HasPlace shown test place kepts → place < length kepts
+  found_within p = place_within shown test kepts place p
 
-  pub found_within : IsFound (device_with addr (map shown kepts)) → place < length kepts
-  found_within p =
-      let d = placed (device_with addr (map shown kepts)) refl p in
-      omega (arith, slice_get_within (map shown kepts) place d.0 d.2, length-map kepts shown)
+  pub found_at : (k : KnownDevice A) → k ≡ get_or kepts place k → HasPlace shown test place kepts → slice_get kepts place ≡ Some k
+  found_at k g p = (is_placed shown test kepts place k p g).there
 
-  pub found_at : (k : KnownDevice A) → k ≡ get_or kepts place k → IsFound (device_with addr (map shown kepts))
-      → slice_get kepts place ≡ Some k
-  found_at k g p = slice_get_read kepts (length kepts) place k refl (found_within p) g
-
-  pub found_kept : (k : KnownDevice A) → k ≡ get_or kepts place k → IsFound (device_with addr (map shown kepts))
+  pub found_kept : (k : KnownDevice A) → k ≡ get_or kepts place k → HasPlace shown test place kepts
       → device_with addr (map shown kepts) ≡ Some (place, shown k)
-  found_kept k g p =
-      let d = placed (device_with addr (map shown kepts)) refl p in
-      let same : d.0 ≡ shown k = some_inj (sym d.2 ∙ map_there shown kepts place k (found_at k g p)) in
-      rw same at d.1
+  found_kept k g p = (is_placed shown test kepts place k p g).found
 
 -- a device is written anew
 module _ {A : Type 0} (kepts : List (KnownDevice A)) (gathered : Gatherings) (asked : List Asked) (known : List Known) (place : ℕ)

@@ -1,8 +1,8 @@
 -- Members of a list by their places.
 use Rattle.server_desk.proofs.Words
-use Words.{Bool, true, first_at, ℕ, zero, suc, ◌≡◌, ◌≢◌, ◌⊎◌, List, [], ◌∷◌, ◌++◌, map, length, All}
-use Words.{Contains, slice_get, slice_set, Option, Some, unwrap_or, refl, sym, ap, ◌∙◌, subst, arith, option_map}
-use Words.{slice_get-map, slice_get_within, get_or_from_slice_get}
+use Words.{Bool, true, first_at, ℕ, zero, suc, ◌≡◌, ◌≢◌, ◌⊎◌, List, [], ◌∷◌, ◌++◌, map, length, All, Contains, slice_get}
+use Words.{slice_set, Option, Some, unwrap_or, refl, sym, ap, ◌∙◌, subst, arith, option_map, slice_get-map, slice_get_within}
+use Words.{get_or_from_slice_get, get_or, None, ◌<◌, slice_get_read}
 use Rattle.std.proofs.Math.Seq.{map-set_same}
 
 pub some_inj : {X : Type 0} {x y : X} → Some x ≡ Some y → x ≡ y
@@ -70,3 +70,32 @@ module _ {X : Type 0} (test : X → Bool) where
   pub found_there : (xs : List X) (p : ℕ × X) → first_at test xs ≡ Some p → IsThere xs p
   found_there [] p e = absurd (cc)
   found_there (x ∷ xs) p e = grind (arith, found_there xs)
+
+-- the same by what the members show
+module _ {X Y : Type 0} (show : X → Y) (test : Y → Bool) where
+  abbrev pub HasPlace : ℕ → List X → Type 0
+  HasPlace place xs = Some place ≡ option_map (λ found. found.0) (first_at test (map show xs))
+
+  pub place_within : (xs : List X) (place : ℕ) → HasPlace place xs → place < length xs
+  place_within [] place p = absurd (cc (p))
+  place_within (x ∷ xs) place p = grind (arith, place_within xs)
+
+  -- what is read there was found
+  pub record IsPlaced (xs : List X) (place : ℕ) (x : X) : Type 0 where
+    pub there : slice_get xs place ≡ Some x
+    pub found : first_at test (map show xs) ≡ Some (place, show x)
+    pub passes : test (show x) ≡ true
+
+  pub is_placed : (xs : List X) (place : ℕ) (x : X) → HasPlace place xs → x ≡ get_or xs place x → IsPlaced xs place x
+  is_placed xs place x p g = placed_by (first_at test (map show xs)) refl p
+    where
+      there : slice_get xs place ≡ Some x
+      there = slice_get_read xs (length xs) place x refl (place_within xs place p) g
+
+      placed_by : (o : Option (ℕ × Y)) → first_at test (map show xs) ≡ o → Some place ≡ option_map (λ found. found.0) o
+          → IsPlaced xs place x
+      placed_by None e q = absurd (cc (q))
+      placed_by (Some found) e q =
+          let f = found_there test (map show xs) found e in
+          let own : found ≡ (place, show x) = grind (arith, q, f.0, map_there show xs place x there) in
+          record { there = there; found = rw own at e; passes = rw own at f.1 }

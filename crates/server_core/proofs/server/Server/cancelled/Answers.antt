@@ -6,7 +6,7 @@ pub returns-in_default : goal.returns-in_default
 returns-in_default g c = nothing_sent c.args.number (seen c.args.self.now) _ c.requires c.in_default.ensures refl
 
 pub returns-in_default-place_of : goal.returns-in_default-place_of
-returns-in_default-place_of g c = not_here c.args.number (seen c.args.self.now) _ c.requires c.in-Some.sent c.in-Some.ensures
+returns-in_default-place_of g c = not_here c.args.number (seen c.args.self.now) _ c.requires _ c.in-Some.ensures
     (rw c.deref.ensures.value at c.in_default-place_of.ensures) refl
 
 pub index_mut-requires : goal.index_mut-requires
@@ -18,7 +18,6 @@ index_mut-requires g c =
 pub returns : goal.returns
 returns g c =
     let call = c.cancel.ensures in
-    was_cancelled c.args.number (seen c.args.self.now) _ c.requires c.in-Some.sent c.in-Some.ensures c.in-Some-place_of.at
-    c.index_mut.result.now c.cancel.new.self c.cancel.result
+    was_cancelled c.args.number (seen c.args.self.now) _ c.requires _ c.in-Some.ensures _ _ _ _
     (rw c.deref.ensures.value at c.in-Some-place_of.ensures) c.index_mut.ensures.value
     (record { answer = call.answer; cancelled = call.cancelled; step = call.step; refused = call.refused }) refl

@@ -4,8 +4,7 @@ use Rattle.server_core.proofs.server.Server.tick.Goals as goal
 
 pub returns-in_default-clause-made : goal.returns-in_default-clause-made
 returns-in_default-clause-made g c = on_ok c.told.result
-    (λ told. (not_ticked c.args.place (seen c.args.self.now) (seen c.did.new.self)
-    (seen c.told.new.self) c.args.gateway c.args.now c.in_ok-did.ensures c.requires
+    (λ told. (not_ticked _ (seen c.args.self.now) (seen c.did.new.self) (seen c.told.new.self) _ _ c.in_ok-did.ensures c.requires
     (rw c.deref.ensures.value at c.in_default.ensures) told).made)
     c.told.ensures
 
@@ -16,9 +15,7 @@ index_mut-book-requires g c =
     omega (arith, c.did.new.self.books.ok.0)
 
 pub returns : goal.returns
-returns g c = both_ok c.told-2.result (ticked_done c.args.place (seen c.args.self.now) (seen c.did.new.self)
-    (seen c.told-2.new.self) c.args.gateway c.args.now c.in_ok-did.ensures c.requires
-    c.in-Some.at c.index_mut-book.result.now c.tick.new.self c.totals-floor.result.floor
-    (rw c.deref.ensures.value at c.in-Some.ensures) c.index_mut-book.ensures.value c.tick.ensures.ticked
+returns g c = both_ok c.told-2.result (ticked_done _ (seen c.args.self.now) (seen c.did.new.self) (seen c.told-2.new.self) _ _
+    c.in_ok-did.ensures c.requires _ _ _ _ (rw c.deref.ensures.value at c.in-Some.ensures) c.index_mut-book.ensures.value c.tick.ensures.ticked
     (ap (λ (t : Totals). t.floor) c.totals-floor.ensures.totals))
     c.told-2.ensures
