@@ -40,9 +40,6 @@ tried-answered old new ask answer h step same =
       rules = same;
     }
 
-pub tried-starved : (old new : Book) (ask : Ask) → new ≡ old → IsTried old new ask (Refused ask.number NoMemory)
-tried-starved old new ask same = record { starved = true; answered = refl; reached = ap state_of same; rules = rw same refl }
-
 -- a line that begins with `if` begins with neither `no` nor `bad`
 pub if_line-unrefused : (reply : Reply) → is_refusal (if_line reply) ≡ false
 if_line-unrefused (Booked number start end) = refl
