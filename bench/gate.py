@@ -118,10 +118,13 @@ def main():
     with tempfile.TemporaryDirectory(prefix="gate-") as room:
         folder = pathlib.Path(room, "clone")
         subprocess.run(["git", "clone", "--quiet", TOP, folder], check=True)
-        subprocess.run(["git", "-C", folder, "checkout", "--quiet", subprocess.check_output(["git", "-C", TOP, "rev-parse", commit], text=True).strip()], check=True)
+        named = subprocess.check_output(["git", "-C", TOP, "rev-parse", commit], text=True).strip()
+        subprocess.run(["git", "-C", folder, "checkout", "--quiet", named], check=True)
         started = time.monotonic()
         with open(pathlib.Path(room, "said"), "w+") as said:
-            gate = subprocess.Popen(["bash", ".ci/run"], cwd=folder, stdin=subprocess.DEVNULL, stdout=said, stderr=subprocess.STDOUT)
+            gate = subprocess.Popen(
+                ["bash", ".ci/run"], cwd=folder, stdin=subprocess.DEVNULL, stdout=said, stderr=subprocess.STDOUT
+            )
             meter = Meter(gate.pid)
             while gate.poll() is None:
                 meter.look()

@@ -29,5 +29,6 @@ for uplinks in (12_500, 25_000, 50_000, 100_000):
             memory = max(memory, usage.ru_maxrss)
         each = best / uplinks
         first = first or each
-        print(f"{uplinks:7} uplinks: {best:6.2f} s, {memory / 1024:6.0f} MiB, one uplink {each / first:4.2f} of the first row; {last.decode()}")
+        told = f"{uplinks:7} uplinks: {best:6.2f} s, {memory / 1024:6.0f} MiB, one uplink {each / first:4.2f} of the first row"
+        print(f"{told}; {last.decode()}")
 P

@@ -3,10 +3,11 @@
 
 Usage: tests/clauses.py OLD [NEW]      (OLD, NEW: commits; no NEW: the working tree)
 
-A clause is a `requires`, an `ensures`, a ghost member of a trait or type, or an invariant; it is compared by the function or type
-that it belongs to, by its name and by its text, without regard to the crate and the file that it stands in and to how its lines are
-laid out. A definition of specs/ is compared in the same way. Prints a line for each that only OLD has ('-') and each that only NEW
-has ('+'). The status is 0 where no clause differs, 1 where one does; definitions, among them the lemmas of specs/, don't change it.
+A clause is a `requires`, an `ensures`, a ghost member of a trait or type, or an invariant; it is compared by the function or
+type that it belongs to, by its name and by its text, without regard to the crate and the file that it stands in and to how its
+lines are laid out. A definition of specs/ is compared in the same way. Prints a line for each that only OLD has ('-') and each
+that only NEW has ('+'). The status is 0 where no clause differs, 1 where one does; definitions, among them the lemmas of specs/,
+don't change it.
 """
 import collections
 import pathlib

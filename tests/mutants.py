@@ -3,10 +3,10 @@
 
 Usage: tests/mutants.py [CRATE ..]      (CRATE: only the edits of this crate; none: all)
 
-An edit is mutants/CRATE/NAME.edit, written as those in crates/CRATE/must-fail/ are: a line 'file: PATH', and then pairs of lines
-'old: TEXT' and 'new: TEXT'. They are tried on a clone of what is committed, as many crates at a time as there are processors. What is
-not refused, or can't be applied, has a line; the last line is 'N passed, M failed'. The status is 0 where none failed, 1 where one
-did, 2 where nothing could be run. It needs git and the toolchain's command rt.
+An edit is mutants/CRATE/NAME.edit, written as those in crates/CRATE/must-fail/ are: a line 'file: PATH', and then pairs of
+lines 'old: TEXT' and 'new: TEXT'. They are tried on a clone of what is committed, as many crates at a time as there are
+processors. What is not refused, or can't be applied, has a line; the last line is 'N passed, M failed'. The status is 0 where
+none failed, 1 where one did, 2 where nothing could be run. It needs git and the toolchain's command rt.
 """
 import concurrent.futures
 import os
@@ -22,7 +22,8 @@ REFUSED = ": refused, as it must be"
 
 def below(folder):
     """Each crate of crates.txt, with the crates of the repository that it stands on."""
-    lines = [line.split("#")[0].split(":") for line in (folder / "crates.txt").read_text().splitlines() if ":" in line.split("#")[0]]
+    plain = [line.split("#")[0] for line in (folder / "crates.txt").read_text().splitlines()]
+    lines = [line.split(":") for line in plain if ":" in line]
     named = {name.split()[0]: words.split() for name, words in lines}
     return {name: [word for word in words if word in named] for name, words in named.items()}
 
@@ -36,7 +37,8 @@ def build_below(folder, crates):
             build(other)
         if crate not in built:
             built.append(crate)
-            subprocess.run(["rt", "lib"], cwd=folder / "crates" / crate, stdin=subprocess.DEVNULL, capture_output=True, check=True)
+            place = folder / "crates" / crate
+            subprocess.run(["rt", "lib"], cwd=place, stdin=subprocess.DEVNULL, capture_output=True, check=True)
 
     for crate in crates:
         for other in stands_on[crate]:
@@ -57,7 +59,9 @@ def tried(folder, crate):
         for edit in edits:
             if f"must-fail {crate}/{edit.name}:" in line:
                 said[edit.name] = line
-    return len(edits), [said.get(edit.name, f"{crate}/{edit.name}: it was not tried: {(ran.stdout + ran.stderr)[-300:]}") for edit in edits if REFUSED not in said.get(edit.name, "")]
+    untried = f"it was not tried: {(ran.stdout + ran.stderr)[-300:]}"
+    lines = [said.get(edit.name, f"{crate}/{edit.name}: {untried}") for edit in edits]
+    return len(edits), [line for line in lines if REFUSED not in line]
 
 
 def main():

@@ -4,9 +4,10 @@
 Usage: tests/unused.py [ROOT]      (ROOT: the repository's top; none: that of this script)
 
 Prints a line for each item of a .antt file below crates/ whose name stands nowhere else in the sources, specs and proofs than in
-the item itself, and for each item of a crate's specs/ that only that crate's proofs/ name. Names are compared as text, so a name that stands for
-two things counts as used where either is. Answers, invariants and proofs of functions, whose names the checker fixes, are left
-out, and so is proofs/**/*Worked*.antt, whose lemmas are worked examples. The status is 0 where nothing is found, 1 where something is.
+the item itself, and for each item of a crate's specs/ that only that crate's proofs/ name. Names are compared as text, so a name
+that stands for two things counts as used where either is. Answers, invariants and proofs of functions, whose names the checker
+fixes, are left out, and so is proofs/**/*Worked*.antt, whose lemmas are worked examples. The status is 0 where nothing is found,
+1 where something is.
 """
 import collections
 import pathlib

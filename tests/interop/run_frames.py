@@ -66,7 +66,8 @@ def check(folder):
         if words:
             payload = bytes.fromhex(words[3].strip("-"))
             queued.setdefault(int(words[1], 16), []).append((int(words[2]), payload))
-    frames = [bytes.fromhex(line.split()[2]) for line in (folder / "stdout").read_text().splitlines() if line.startswith("frame ")]
+    lines = (folder / "stdout").read_text().splitlines()
+    frames = [bytes.fromhex(line.split()[2]) for line in lines if line.startswith("frame ")]
     wrong = 0
     for frame in frames:
         addr = struct.unpack_from("<I", frame, 1)[0]

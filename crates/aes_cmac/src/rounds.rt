@@ -73,7 +73,8 @@ pub(crate) fn last_round(v: [u32; 4], words: &[u32; 44], at: usize) -> [u32; 4]
 pub(crate) fn word_from(bytes: &[u8], at: usize) -> u32
     requires { at + 4 ≤ length bytes.now }
     ensures { word_bytes result
-        ≡ slice_index bytes.now at ∷ slice_index bytes.now (at + 1) ∷ slice_index bytes.now (at + 2) ∷ slice_index bytes.now (at + 3) ∷ [] }
+        ≡ slice_index bytes.now at ∷ slice_index bytes.now (at + 1) ∷ slice_index bytes.now (at + 2)
+        ∷ slice_index bytes.now (at + 3) ∷ [] }
 {
     u32::from_be_bytes([bytes[at], bytes[at + 1], bytes[at + 2], bytes[at + 3]])
 }

@@ -1,4 +1,5 @@
-use Rattle.std.specs.Prelude.{ℕ, ◌≡◌, ◌+◌, ◌<◌, ◌≤◌, max, nat_lt, nat_le, Bool, true, false, ◌&&◌, List, ◌∷◌, Some, None, map, find}
+use Rattle.std.specs.Prelude.{ℕ, ◌≡◌, ◌+◌, ◌<◌, ◌≤◌, max, nat_lt, nat_le, Bool, true, false, ◌&&◌, List, ◌∷◌, Some, None}
+use Rattle.std.specs.Prelude.{map, find}
 use Rattle.std.specs.Prelude.{cond, refl}
 use Rattle.std.proofs.Common.{ap, ◌∙◌, sym, arith}
 use Rattle.std.proofs.lemmas.Bool.{le-leb, lt-leb, le-ltb, lt-ltb}
@@ -73,7 +74,8 @@ pub over_later : (l : List Reservation) (band : Band) (from to most at : ℕ) (m
 over_later l band from to most at m n f h g =
     ap (find (is_over l band from to most)) n.rest
     ∙ found_not start_of (is_over l band from to most) m (rest_from start_of (m.start + 1) l)
-    (is_over-within l band from to most m (omega (arith, f, n.later)) h ∙ le-ltb most (cond (is_in band m) (spent l band m.start) 0) g)
+    (is_over-within l band from to most m (omega (arith, f, n.later)) h
+    ∙ le-ltb most (cond (is_in band m) (spent l band m.start) 0) g)
 
 -- the greatest, with one more member in front
 pub greatest-cons : (f : ℕ → ℕ) (band : Band) (r : Reservation) (rs : List Reservation) (p : Bool) → is_in band r ≡ p

@@ -97,7 +97,8 @@ impl<S: BuildHasher, A: Allocator + Copy> Gather<S, A> {
         ensures crowded { MatchBool (is_crowded self.old) (result ≡ Err HearFault.Crowded)
             (IsOkUnless result HearFault.NoMemory) }
         ensures told { IfOk result (λ heard. heard ≡ Heard.Opened (length self.old.list + 1)) }
-        ensures opened { OnOk result (self.new ≡ record self.old { list = self.old.list ++ opening bytes.now copy arrived ∷ [] }) }
+        ensures opened { OnOk result
+            (self.new ≡ record self.old { list = self.old.list ++ opening bytes.now copy arrived ∷ [] }) }
         ensures refused { OnErr result (self.new ≡ self.old) }
     {
         if self.is_crowded() {
@@ -113,7 +114,8 @@ impl<S: BuildHasher, A: Allocator + Copy> Gather<S, A> {
     fn append(&mut self, bytes: &[u8], copy: HeardCopy, arrived: u64) -> Result<u64, NoMemory>
         requires { length self.old.list < self.old.limits.max_ever }
         ensures told { IfOk result (λ n. n ≡ length self.old.list + 1) }
-        ensures opened { OnOk result (self.new ≡ record self.old { list = self.old.list ++ opening bytes.now copy arrived ∷ [] }) }
+        ensures opened { OnOk result
+            (self.new ≡ record self.old { list = self.old.list ++ opening bytes.now copy arrived ∷ [] }) }
         ensures refused { OnErr result (self.new ≡ self.old) }
     {
         let n = self.stored.len() as u64 + 1;

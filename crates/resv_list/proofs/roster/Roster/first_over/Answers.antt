@@ -57,7 +57,8 @@ loop-member-preserved g c =
           low_hour (is_in c.args.band m) (spent l c.args.band m.start) c.args.most
           (omega (arith, w.spent.ensures, w.if-spent-most.false))
       | else-holds-via-else-holds w ↦
-          other_hour (is_in c.args.band m) (spent l c.args.band m.start) c.args.most (sym c.holds.ensures.value ∙ w.if-holds.false)
+          other_hour (is_in c.args.band m) (spent l c.args.band m.start) c.args.most
+          (sym c.holds.ensures.value ∙ w.if-holds.false)
     ] in (
       sym (over_later l c.args.band c.args.from c.args.to c.args.most c.loop-member.at m next c.loop-member.invariant.1
           (omega (arith, c.if-member-to.false)) low) ∙ c.loop-member.invariant.0,

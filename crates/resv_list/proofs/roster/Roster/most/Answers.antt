@@ -36,7 +36,8 @@ loop-member-preserved g c =
     elim c.if-holds.branch [
       | then-holds w ↦
           most_with (spent l band) band l c.loop-member.most c.loop-member.at c.if-holds.most m true next
-          (sym c.holds.ensures.value ∙ w.if-holds.true) (w.most-is ∙ w.max-most.ensures ∙ ap (max c.loop-member.most) w.spent.ensures)
+          (sym c.holds.ensures.value ∙ w.if-holds.true)
+          (w.most-is ∙ w.max-most.ensures ∙ ap (max c.loop-member.most) w.spent.ensures)
           ∙ c.loop-member.invariant
       | else-holds w ↦
           most_with (spent l band) band l c.loop-member.most c.loop-member.at c.if-holds.most m false next
