@@ -54,13 +54,6 @@ module _ {A : Type 0} (place n : ℕ) (old mid : Seen A) (noted : mid ≡ with_s
     d_is : d ≡ desk_taken (Ok t.job) n old.desk
     d_is = rw (stepped, given, mid_desk) refl
 
-    taken_here : AreHere d.ids t.job
-    taken_here = rw (d_is, ← mid_desk, ← taken.made)
-        (job_here mid.desk.ids mid.desk.reg n taken.asked taken.device (rw mid_desk ready.heard))
-
-    taken_books : ids_of mid.books ≡ d.ids
-    taken_books = rw (d_is, noted) ready.books
-
     stated : numbered n old.desk.known ≡ Some taken.state
     stated = ap (λ (x : DeskView). numbered n x.known) (sym mid_desk) ∙ taken.stated
 
@@ -74,8 +67,9 @@ module _ {A : Type 0} (place n : ℕ) (old mid : Seen A) (noted : mid ≡ with_s
     may_work first =
         record {
           first = first;
-          here = taken_here;
-          books = taken_books;
+          here = rw (d_is, ← mid_desk, ← taken.made)
+              (job_here mid.desk.ids mid.desk.reg n taken.asked taken.device (rw mid_desk ready.heard));
+          books = rw (d_is, noted) ready.books;
           given = rw (d_is, number) (numbered-here (λ x. Pending) n old.desk.known taken.state stated);
         }
 

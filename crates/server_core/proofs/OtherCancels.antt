@@ -1,8 +1,8 @@
 -- A cancel of what isn't booked for its number on a gateway changes nothing there.
-use Rattle.server_core.proofs.Words.{ap, sym, ◌∙◌, Bool, Err, List, None, Ok, OnErr, Option, Result, Some}
-use Rattle.server_core.proofs.Words.{false, find, if◌then◌else◌, nat_le, refl, true, ℕ, ◌==◌, ◌≡◌, ◌≢◌}
-use Rattle.server_core.proofs.Words.{Reservation, Book, is_named, remembers_cancel, CancelFault, Begun, Limits, opening}
-use Rattle.server_core.proofs.Words.{World, AreSettings, SettingLists, Sent, IsMember, Step, run, found_or, start_of}
+use Rattle.server_core.proofs.Words.{ap, sym, ◌∙◌, Bool, Err, List, None, OnErr, Option, Result, Some, false, find}
+use Rattle.server_core.proofs.Words.{if◌then◌else◌, nat_le, refl, true, ℕ, ◌==◌, ◌≡◌, ◌≢◌, Reservation, Book, is_named}
+use Rattle.server_core.proofs.Words.{remembers_cancel, CancelFault, Begun, Limits, opening, World, AreSettings, SettingLists}
+use Rattle.server_core.proofs.Words.{Sent, IsMember, Step, run, found_or, start_of, arith}
 use Rattle.server_core.proofs.Holds.{Holds, member_stands}
 use Rattle.server_core.proofs.{Members.equal_where_tested, BookSteps.there, BookSteps.own, Runs.opened, Runs.run_good}
 use Rattle.std.proofs.lemmas.Bool.{and_parts}
@@ -21,8 +21,7 @@ refused_by floor start (Some r) false none = absurd (none r refl)
 
 same_if_refused : (r : Result ℕ CancelFault) (fault : CancelFault) (old new : Book) → r ≡ Err fault → OnErr r (new ≡ old)
     → new ≡ old
-same_if_refused (Ok airtime) fault old new e h = absurd (cc (e))
-same_if_refused (Err other) fault old new e h = h
+same_if_refused r fault old new e h = grind (arith, e, h)
 
 module _ {settings : SettingLists} {w : World} {T : _} (h : Holds settings T w) (n start id at : ℕ) (old : Book)
     (b : IsBookAt id at w.gateways old)

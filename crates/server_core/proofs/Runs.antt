@@ -20,23 +20,18 @@ module _ {settings : SettingLists} (are : AreSettings settings.gateways settings
   same_sent m n s t q a b = some_inj (sym a.is ∙ ap sent_for (some_inj (sym (rw q at a.there) ∙ b.there)) ∙ b.is)
 
   module _ (i j k l : ℕ) (g f : Gateway) (a b : Reservation) (m : IsMember w i k g a) (o : IsMember w j l f b) where
-    place_by : g.id ≡ f.id → a.start ≡ b.start → (i ≡ j) × (k ≡ l)
-    place_by d s =
-        let p : i ≡ j =
-        apart_once setting_of (λ x. x.id) w.gateways settings.gateways h.gateways are.ids_differ i j g f m.gateway o.gateway d in
-        let there : slice_get w.gateways j ≡ Some g = subst (λ x. slice_get w.gateways x ≡ Some g) p m.gateway in
-        let same : f ≡ g = some_inj (sym o.gateway ∙ there) in
-        let other : slice_get g.state.list l ≡ Some b = subst
-        (λ (x : Gateway). slice_get x.state.list l ≡ Some b) same o.member in
-        (p, rises_once start_of 0 g.state.list k l a b (h.in_order i g m.gateway).orderly.by_start m.member other s)
-
     pub once_by : a.number ≡ b.number → (i ≡ j) × (k ≡ l)
     once_by q =
         let s = member_stands h i k g a m in
         let t = member_stands h j l f b o in
-        let same = same_sent a.number b.number s.sent t.sent q s.kept t.kept in
-        place_by (sym s.booking.gateway ∙ ap (λ (x : Sent). x.gateway) same ∙ t.booking.gateway)
-        (sym s.booking.start ∙ ap (λ (x : Sent). x.start) same ∙ t.booking.start)
+        let sent = same_sent a.number b.number s.sent t.sent q s.kept t.kept in
+        let id = sym s.booking.gateway ∙ ap (λ (x : Sent). x.gateway) sent ∙ t.booking.gateway in
+        let start = sym s.booking.start ∙ ap (λ (x : Sent). x.start) sent ∙ t.booking.start in
+        let p : i ≡ j =
+        apart_once setting_of (λ x. x.id) w.gateways settings.gateways h.gateways are.ids_differ i j g f m.gateway o.gateway id in
+        let same : f ≡ g = some_inj (sym o.gateway ∙ rw p at m.gateway) in
+        let rises = (h.in_order i g m.gateway).orderly.by_start in
+        (p, rises_once start_of 0 g.state.list k l a b rises m.member (rw same at o.member) start)
 
 module _ (settings : SettingLists) (r : Run) (h : Holds settings (Contains (jobs_given r.replies)) r.world) where
   own_by : (g : Gateway) (a : Reservation) (s : Stands settings

@@ -1,11 +1,11 @@
 -- A ticket is given: what is known of its uplink, and what holds of the world then.
 use Rattle.server_core.proofs.Words
 use Words.{arith, inl, inr, subst, sym, true≢false, ◌∙◌, Err, List, Ok, Result, Some, map, refl, slice_get, true}
-use Words.{ℕ, ◌≡◌, ◌≤◌, ◌⊎◌, copies_of, numbered, IsWindowOf, IsWindowOf-ranked, on_gateways_that_heard, candidates_of, Candidate}
+use Words.{ℕ, ◌≡◌, ◌⊎◌, copies_of, numbered, IsWindowOf, IsWindowOf-ranked, on_gateways_that_heard, candidates_of, Candidate}
 use Words.{Job, candidate_at, Answer, Open, Waiting, is_not_given, known_of, numbered-here, all_get, get_set_same}
 use Words.{some_inj, Device, Register, job_of, with_counter_given, World, known, AreSettings, SettingLists, Asked, Known}
 use Words.{TakeFault, take, take_by, take_answer, numbered-map}
-use Rattle.server_core.proofs.Holds.{IsJobAt, Holds, IsGivenAt, IsGood, IsGoodStep, IsNew, IsUsed, Holds-weaker, has_now}
+use Rattle.server_core.proofs.Holds.{IsJobAt, Holds, IsGood, IsGoodStep, IsNew, IsUsed, Holds-weaker, has_now}
 use Rattle.server_core.proofs.Holds.{unchanged, both_good, device_setting}
 use Rattle.server_core.proofs.Members.{apart_once}
 use Rattle.server_core.proofs.Written.{with_device, device_written, with_answer, answer_written}
@@ -85,22 +85,14 @@ module _ {settings : SettingLists} (are : AreSettings settings.gateways settings
     given_good = both_good first (answer_written first.holds n Waiting (Open 0 job) waits (λ s q. absurd (cc (q))) refl
         (λ k j q. let same : job ≡ j = cc (q) in subst (IsJobAt settings T w.reg.gathered.list n) same job_at))
 
-    not_given : IsGivenAt w.answers n → ⊥
-    not_given g =
-        let same : g.member ≡ Waiting = some_inj (sym g.there ∙ waits) in
-        true≢false (rw same at g.is)
-
-    same_down : (p : ℕ) (d : Device) → slice_get w.reg.devices p ≡ Some d → p ≡ asked.device → d.down ≤ device.down
-    same_down p d e q =
-        let same : d ≡ device = some_inj (sym (rw q at e) ∙ served) in
-        rw same (omega arith)
-
     new : IsNew w job
     new = record {
-      number = not_given;
-      counter = λ p d e a. same_down p d e (
-          apart_once (λ x. x.setting) (λ x. x.addr) w.reg.devices settings.devices h.devices are.addrs_differ p
-          asked.device d device e served a);
+      number = λ g. let same : g.member ≡ Waiting = some_inj (sym g.there ∙ waits) in true≢false (rw same at g.is);
+      counter = λ p d e a.
+          let place = apart_once (λ x. x.setting) (λ x. x.addr) w.reg.devices settings.devices h.devices are.addrs_differ p
+          asked.device d device e served a in
+          let same : d ≡ device = some_inj (sym (rw place at e) ∙ served) in
+          rw same (omega arith);
     }
 
     used : IsUsed given job

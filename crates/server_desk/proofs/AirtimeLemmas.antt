@@ -2,13 +2,12 @@
 use Rattle.server_desk.proofs.Words
 use Words.{◌-◌, numbered, known_airtime, map-map, ℕ, ◌≡◌, ◌≢◌, ◌+◌, ◌^◌, ◌<◌, ◌≤◌, ◌==◌, true, List, [], ◌∷◌, ◌++◌, map, length}
 use Words.{slice_set, get_or, All, AllPairs, Option, Some, Result, refl, option_map, sym, ap, ◌∙◌, subst, arith, length-map}
-use Words.{length-append, length-set, All-nil, All-map, All-push, All-set, AllPairs-head, AllPairs-tail, longest_us}
+use Words.{length-append, length-set, All-nil, All-map, All-push, All-set, longest_us}
 use Words.{IsWithinLongest, Ending, HeardCopy, HearFault, Heard, Gatherings, after_hearing, GatewaySetting, Known, NotGiven, Done}
 use Words.{Sent, first_at, sent_of, is_here, is_booked_on, answered_at, answered_for, sent_airtime, airtime_of_ending}
-use Words.{settled_limit, whole_airtime, AreAirtimes, raised, CanRaise, kept_by}
+use Words.{settled_limit, whole_airtime, AreAirtimes, raised, CanRaise, kept_by, get_or-map}
 use Rattle.server_desk.proofs.AirtimeSums.{answered_sum, sum_set, sum_push, same_airtimes, answered_found, raises, answered_short}
 use Rattle.server_desk.proofs.Numbers.{at_number}
-use Rattle.std.proofs.lemmas.List.Kept.{AllPairs-cons}
 
 module _ (ids airtimes : List ℕ) (limit : ℕ) (known : List Known) (i : AreAirtimes ids airtimes limit known) where
   pub as_many : length airtimes ≡ length ids
@@ -65,12 +64,12 @@ limits_kept r s bytes copy arrived = grind arith
 -- before anything was heard
 ids_differ : (gateways : List GatewaySetting) → AllPairs (λ g h. g.id ≢ h.id) gateways
     → AllPairs (λ a b. a ≢ b) (map (λ g. g.id) gateways)
-ids_differ [] d = λ i j x l h. absurd (omega (arith, h))
-ids_differ (g ∷ gateways) d =
-    AllPairs-cons (λ a b. a ≢ b) g.id (map (λ g. g.id) gateways)
-    (All-map (λ b. g.id ≢ b) (λ (h : GatewaySetting). h.id) gateways
-    (AllPairs-head (λ (a b : GatewaySetting). a.id ≢ b.id) g gateways d))
-    (ids_differ gateways (AllPairs-tail (λ (a b : GatewaySetting). a.id ≢ b.id) g gateways d))
+ids_differ gateways d i j x i<j j<n same =
+    let none : GatewaySetting = record { id = 0; cap = 0 } in
+    let short : j < length gateways = omega (arith, length-map gateways (λ (g : GatewaySetting). g.id), j<n) in
+    let first = get_or-map (λ (g : GatewaySetting). g.id) gateways i none x (omega (arith, i<j, short)) in
+    let other = get_or-map (λ (g : GatewaySetting). g.id) gateways j none x short in
+    d i j none i<j short (sym first ∙ same ∙ other)
 
 pub first_airtimes : (gateways : List GatewaySetting) (limit : ℕ) → AllPairs (λ g h. g.id ≢ h.id) gateways → limit < 2 ^ 32
     → AreAirtimes (map (λ g. g.id) gateways) (map (λ g. 0) gateways) limit []

@@ -24,13 +24,13 @@ module _ (ids : List ℕ) (reg : Register) (bytes : List ℕ) (heard : Heard1) (
   open_by u p o e = grind arith
 
   -- a gateway here heard it by the last moment, and its gathering takes it
-  pub record MayJoin (n : ℕ) : Type 0 where
+  pub record IsToJoin (n : ℕ) : Type 0 where
     pub place : place_of reg.gathered bytes heard.gateway arrived ≡ Ok (Joins n)
     pub here : is_among ids heard.gateway ≡ true
     pub early : heard.at ≤ 2 ^ 60
 
   -- or no gathering does, there is room for one, and it is of a device
-  pub record MayOpen (o : Opening) : Type 0 where
+  pub record IsToOpen (o : Opening) : Type 0 where
     pub place : place_of reg.gathered bytes heard.gateway arrived ≡ Ok Opens
     pub room : is_crowded reg.gathered ≡ false
     pub found : device_with (addr_of bytes) reg.devices ≡ Some (o.place, o.device)
@@ -46,13 +46,13 @@ module _ (ids : List ℕ) (reg : Register) (bytes : List ℕ) (heard : Heard1) (
   read (Ok u) (Some fault) d e c n = absurd (n fault (sym e ∙ ap (decide_copy reg bytes heard arrived u) c))
   read (Ok u) None d e c n = (u, refl, sym (ap (decide_copy reg bytes heard arrived u) c) ∙ e, (right c).0, (right c).1)
 
-  pub join_decided : (n : ℕ) → decide ids reg bytes heard arrived ≡ Join n → MayJoin n
+  pub join_decided : (n : ℕ) → decide ids reg bytes heard arrived ≡ Join n → IsToJoin n
   unfolding decide
   join_decided n e =
       let g = read (uplink_of bytes) (copy_fault ids heard arrived) (Join n) e refl (λ f q. absurd (cc (q))) in
       record { place = join_by g.0 _ n g.2; here = g.3; early = g.4 }
 
-  pub open_decided : (o : Opening) → decide ids reg bytes heard arrived ≡ Open o → MayOpen o
+  pub open_decided : (o : Opening) → decide ids reg bytes heard arrived ≡ Open o → IsToOpen o
   unfolding decide
   open_decided o e =
       let g = read (uplink_of bytes) (copy_fault ids heard arrived) (Open o) e refl (λ f q. absurd (cc (q))) in
@@ -64,12 +64,12 @@ module _ (ids : List ℕ) (reg : Register) (bytes : List ℕ) (heard : Heard1) (
   pub record IsJoin : Type 0 where
     pub number : ℕ
     pub decided_so : decide ids reg bytes heard arrived ≡ Join number
-    pub so : MayJoin number
+    pub so : IsToJoin number
 
   pub record IsNew (new : NewUplink) : Type 0 where
     pub opening : Opening
     pub decided_so : decide ids reg bytes heard arrived ≡ Open opening
-    pub so : MayOpen opening
+    pub so : IsToOpen opening
     pub is : record { counter = opening.counter; repeat = is_last opening.device opening.counter; asked = asked_by opening bytes }
         ≡ new
 

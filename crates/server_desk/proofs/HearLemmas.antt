@@ -3,7 +3,7 @@ use Rattle.server_desk.proofs.Words
 use Words.{length_push, nat_tests, slice_get_within, decide, ℕ, ◌≡◌, ◌+◌, ◌<◌, ◌==◌, Bool, false, List, [], ◌∷◌, ◌++◌, map}
 use Words.{length, slice_get, slice_set, Some, Result, Ok, Err, IfOk, OnErr, MatchResult, IsOkUnless, refl, sym, ap, ◌∙◌, arith}
 use Words.{addr_of, Heard, HearFault, Gatherings, hear_answer, after_hearing, with_copy, hear_step, KnownDevice, Known, NotGiven}
-use Words.{NewUplink, Heard1, Device, Asked, Register, copy_of, named_fault, answer_to, shown, IsServable, IsDesk, desk_answer}
+use Words.{NewUplink, Heard1, Device, Asked, Register, copy_of, answer_to, shown, IsServable, IsDesk, desk_answer}
 use Words.{desk_hear, length-map, length-set, map-set, All-push, DeskFault, NoMemory}
 use Rattle.server_desk.proofs.DeskLemmas.{Holds, seen_reg, seen, queued_holds}
 use Rattle.server_desk.proofs.{Places.map_there, Places.some_inj, Places.found_there, Numbers.length-rewritten}
@@ -14,24 +14,15 @@ use Rattle.uplink_gather.specs.declared.answers.Heard.TheVariants as gathers
 use Rattle.uplink_gather.specs.declared.fault.HearFault.TheVariants as gathering
 
 -- the desk's answer follows from that of the gatherings
-memory : (repeat : Bool) (r : Result Heard HearFault) → IsOkUnless r gathering.NoMemory
-    → IsOkUnless (desk_answer repeat r) NoMemory
-memory repeat (Ok (gathers.Opened n)) h = tt
-memory repeat (Ok (gathers.Joined n copies)) h = tt
-memory repeat (Err fault) h = ap named_fault h
-
 pub answered : (repeat : Bool) (a r : Result Heard HearFault)
     → MatchResult a (λ _. IsOkUnless r gathering.NoMemory) (λ fault. r ≡ Err fault)
     → MatchResult (desk_answer repeat a) (λ _. IsOkUnless (desk_answer repeat r) NoMemory)
     (λ fault. desk_answer repeat r ≡ Err fault)
-answered repeat (Ok (gathers.Opened n)) r h = memory repeat r h
-answered repeat (Ok (gathers.Joined n copies)) r h = memory repeat r h
-answered repeat (Err fault) r h = ap (desk_answer repeat) h
+answered repeat a r h = grind (arith, h)
 
 pub told : (repeat : Bool) (a r : Result Heard HearFault) → IfOk r (λ heard. a ≡ Ok heard)
     → IfOk (desk_answer repeat r) (λ told. desk_answer repeat a ≡ Ok told)
-told repeat a (Err fault) h = tt
-told repeat a (Ok heard) h = grind (arith, h)
+told repeat a r h = grind (arith, h)
 
 -- where the desk's answer is a fault, the gathering's was one
 pub was_fault : (P : Type 0) (repeat : Bool) (r : Result Heard HearFault) (fault : DeskFault) → desk_answer repeat r ≡ Err fault

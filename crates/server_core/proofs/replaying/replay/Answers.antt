@@ -7,10 +7,8 @@ loop-place-init g c = replaying_first c.args.settings.now c.args.events.now (see
 
 pub loop-place-preserved : goal.loop-place-preserved
 loop-place-preserved g c =
-    replaying_on c.args.settings.now c.args.events.now c.loop-place.place c.index-events-place.result (seen c.loop-place.server)
-    (seen c.event.new.self) c.loop-place-test.true
-    c.index-events-place.is c.in_ok-event.ensures.done c.in_ok-event.ensures.ready c.loop-place.invariant
+    replaying_on _ _ _ _ (seen c.loop-place.server) (seen c.event.new.self) c.loop-place-test.true c.index-events-place.is
+    c.in_ok-event.ensures.done c.in_ok-event.ensures.ready c.loop-place.invariant
 
 pub returns : goal.returns
-returns g c = replayed c.args.settings.now c.args.events.now c.loop-place.place (seen c.loop-place.server)
-    c.loop-place-test.false c.loop-place.invariant
+returns g c = replayed _ _ _ (seen c.loop-place.server) c.loop-place-test.false c.loop-place.invariant

@@ -7,7 +7,5 @@ cancelled-answer-requires g c = ready_noted _ (seen c.args.self.now) (seen c.did
 
 pub returns : goal.returns
 returns g c = both_ok c.told.result
-    (cancel_done c.args.place c.args.number (seen c.args.self.now) (seen c.did.new.self) (seen c.cancelled-answer.new.self)
-    (seen c.told.new.self) c.cancelled-answer.result _ c.in_ok-did.ensures
-    c.cancelled-answer.ensures c.cancelled_line.ensures c.requires)
-    c.told.ensures
+    (cancel_done _ _ (seen c.args.self.now) (seen c.did.new.self) (seen c.cancelled-answer.new.self)
+    (seen c.told.new.self) _ _ c.in_ok-did.ensures c.cancelled-answer.ensures c.cancelled_line.ensures c.requires) c.told.ensures

@@ -17,6 +17,4 @@ index_mut-book-requires g c =
 pub returns : goal.returns
 returns g c = both_ok c.told-2.result (ticked_done _ (seen c.args.self.now) (seen c.did.new.self) (seen c.told-2.new.self) _ _
     c.in_ok-did.ensures c.requires _ _ _ _ (rw c.deref.ensures.value at c.in-Some.ensures) c.index_mut-book.ensures.value
-    c.tick.ensures.ticked
-    (ap (λ (t : Totals). t.floor) c.totals-floor.ensures.totals))
-    c.told-2.ensures
+    c.tick.ensures.ticked (ap (λ (t : Totals). t.floor) c.totals-floor.ensures.totals)) c.told-2.ensures

@@ -6,17 +6,16 @@ pub loop-ended-init : goal.loop-ended-init
 loop-ended-init g c = trying_first c.args.ticket (seen c.args.self.now)
 
 pub tried_once-requires : goal.tried_once-requires
-tried_once-requires g c =
-    here_still c.args.ticket c.loop-ended.ticket (seen c.args.self.now) (seen c.loop-ended.self) c.loop-ended.invariant c.requires
+tried_once-requires g c = here_still _ _ (seen c.args.self.now) (seen c.loop-ended.self) c.loop-ended.invariant c.requires
 
 pub returns-in-Over : goal.returns-in-Over
-returns-in-Over g c = tries_over c.args.ticket c.loop-ended.ticket (seen c.args.self.now) (seen c.loop-ended.self)
-    (seen c.tried_once.new.self) c.in-Over.ended c.loop-ended.invariant (rw c.in-Over.is at c.in_ok-ended.ensures)
+returns-in-Over g c = tries_over _ _ (seen c.args.self.now) (seen c.loop-ended.self) (seen c.tried_once.new.self) _
+    c.loop-ended.invariant (rw c.in-Over.is at c.in_ok-ended.ensures)
 
 pub loop-ended-preserved : goal.loop-ended-preserved
 loop-ended-preserved g c =
-    trying_next c.args.ticket c.loop-ended.ticket c.in-On.next (seen c.args.self.now) (seen c.loop-ended.self)
-    (seen c.tried_once.new.self) c.loop-ended.invariant (rw c.in-On.is at c.in_ok-ended.ensures)
+    trying_next _ _ _ (seen c.args.self.now) (seen c.loop-ended.self) (seen c.tried_once.new.self) c.loop-ended.invariant
+    (rw c.in-On.is at c.in_ok-ended.ensures)
 
 pub loop-ended-smaller : goal.loop-ended-smaller
 loop-ended-smaller g c = fewer_left c.loop-ended.ticket c.in-On.next (seen c.loop-ended.self) (seen c.tried_once.new.self)

@@ -4,10 +4,9 @@ use Rattle.server_core.proofs.server.Server.work.Goals as goal
 
 pub settle-requires : goal.settle-requires
 settle-requires g c =
-    may_settle_tried c.args.ticket (seen c.args.self.now) (seen c.tried.new.self) c.in_ok-ended.ended c.in_ok-ended.ensures
-    c.requires.books c.requires.given
+    may_settle_tried _ (seen c.args.self.now) (seen c.tried.new.self) _ c.in_ok-ended.ensures c.requires.books
+    c.requires.given
 
 pub returns : goal.returns
-returns g c = on_ok c.settle.result (λ settled. answered c.args.place c.args.ticket (seen c.args.self.now) (seen c.tried.new.self)
-    (seen c.settle.new.self) c.in_ok-ended.ended c.requires.first c.in_ok-ended.ensures settled)
-    c.settle.ensures
+returns g c = on_ok c.settle.result (answered _ _ (seen c.args.self.now) (seen c.tried.new.self) (seen c.settle.new.self) _
+    c.requires.first c.in_ok-ended.ensures) c.settle.ensures
