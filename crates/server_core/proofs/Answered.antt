@@ -1,11 +1,11 @@
 -- An uplink is answered: a ticket is taken, tried and settled.
 use Rattle.server_core.proofs.Words
 use Words.{ap, append-nil, arith, subst, sym, ◌∙◌, set-set, option_map_or, Contains, Err, IsOkUnless, IsTrue, List, MatchResult}
-use Words.{Ok, Option, Result, Some, [], false, refl, ℕ, ◌-◌, ◌∷◌, ◌≡◌, ◌≢◌, Gathering, numbered, rewritten, HeardCopy}
-use Words.{Standing, Answer, Open, Waiting, is_given, DeskView, desk_settled, desk_take, desk_taken, numbered-here}
-use Words.{Device, Register, sent_of, job_of, World, known, Asked, Known, Done, TakeFault, not_taken}
-use Words.{answer_steps, given_steps, AreBooksOf, AreHeard, AreHere, IsAt, IsIdle, IsBetweenCalls, Makes, Moves, Seen, ids_of}
-use Words.{is_among, with_lines, with_step, After, Step, Take, take_by, IsAnswered, IsGivenTo, Line, take_answer, run_from, step}
+use Words.{Ok, Option, Result, Some, [], false, refl, ℕ, ◌-◌, ◌∷◌, ◌≡◌, ◌≢◌, Gathering, numbered, rewritten, HeardCopy, Standing}
+use Words.{Answer, Open, Waiting, is_given, DeskView, desk_settled, desk_take, desk_taken, numbered-here, Device, Register}
+use Words.{sent_of, job_of, World, known, Asked, Known, Done, TakeFault, not_taken, answer_steps, given_steps, AreBooksOf}
+use Words.{AreHeard, AreHere, IsAt, IsIdle, IsBetweenCalls, Makes, Moves, Seen, ids_of, is_among, with_lines, with_step, After}
+use Words.{Step, Take, take_by, IsAnswered, IsGivenTo, Line, take_answer, run_from, step}
 use Rattle.server_core.proofs.TakeStep.{IsTicket, ticket, still_waits, job_window}
 use Rattle.server_core.proofs.{DeskSteps.desk_calls_are_steps, Ready.all_rewritten, Calls.one_step, Calls.moves_on}
 use Rattle.server_desk.specs.declared.answers.Known.TheVariants.{Pending}

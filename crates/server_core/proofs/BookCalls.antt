@@ -1,11 +1,11 @@
 -- A gateway's book, by the gateway's id: time passes for it, or what was sent for an answer is cancelled.
 use Rattle.server_core.proofs.Words
-use Words.{arith, ap, sym, ◌∙◌, AllZip, option_map, Bool, Err, List, None, Ok, Option}
-use Words.{Result, Some, [], false, get_or, length, map, refl, slice_get, slice_set, suc, true, zero, ℕ, ◌<◌, ◌==◌, ◌∷◌, ◌≡◌}
-use Words.{Book, ticked, CancelFault, NotHere, numbered, Answer, is_given, known_of, numbered-map, map_set, some_inj}
-use Words.{kept_by, Gateway, World, gateway_with, known, found_there, Sent, gateway_of, lines_for, AreBooksOf, IsAt, IsBookOf}
-use Words.{IsCancelled, IsIdle, IsBetweenCalls, Seen, cancelled_line, ids_of, is_among, with_lines, with_step, Cancel, Tick}
-use Words.{sent_for, Line, step, Reply, Step, option_and_then, is_placed, place_within}
+use Words.{arith, ap, sym, ◌∙◌, AllZip, option_map, Bool, Err, List, None, Ok, Option, Result, Some, [], false, get_or, length}
+use Words.{map, refl, slice_get, slice_set, suc, true, zero, ℕ, ◌<◌, ◌==◌, ◌∷◌, ◌≡◌, Book, ticked, CancelFault, NotHere, numbered}
+use Words.{Answer, is_given, known_of, numbered-map, map_set, some_inj, kept_by, Gateway, World, gateway_with, known, found_there}
+use Words.{Sent, gateway_of, lines_for, AreBooksOf, IsAt, IsBookOf, IsCancelled, IsIdle, IsBetweenCalls, Seen, cancelled_line}
+use Words.{ids_of, is_among, with_lines, with_step, Cancel, Tick, sent_for, Line, step, Reply, Step, option_and_then, is_placed}
+use Words.{place_within}
 use Rattle.server_core.proofs.BookSteps.{book_calls_are_steps, same_book}
 use Rattle.server_core.proofs.{Members.equal_where_tested, DeskSteps.desk_calls_are_steps, Calls.IsDone, Calls.done}
 use Rattle.server_core.specs.BookCalls.{IsBookAt, IsStepAt, IsCancel, sent_at}

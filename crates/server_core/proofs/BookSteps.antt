@@ -3,11 +3,11 @@ use Rattle.server_core.proofs.Words
 use Words.{ap, arith, sym, ◌∙◌, IsSome, IsSomeAnd, IsTrue, option_and_then, Bool, Err, List, None, Ok, Option, Result, Some, []}
 use Words.{map, refl, slice_get, slice_set, true, ℕ, ◌+◌, ◌==◌, ◌∷◌, ◌≡◌, Reservation, Book, ticked, with_booked, book_step}
 use Words.{cancel_step, tick_step, orderly_booked, orderly_cancelled, remembers_answer, remembers_booked, remembers_cancel}
-use Words.{remembers_cancelled, remembers_ticked, IsAsked, refusal_of, CancelFault, Refusal, numbered, rewritten}
-use Words.{Candidate, Job, ask_for, next_of, refusal_by, answered_as, Standing, candidate_of, Ending, Unanswered, Answer}
-use Words.{Booked, Open, Out, Waiting, numbered-here, is_here, Gateway, World, TakeFault, gateway_with, known, found_there, Sent}
-use Words.{IsBookOf, is_among, Cancel, Reply, Step, Tick, Try, cancel_sent, ending_of, refused, sent_by, settle_as}
-use Words.{settle_of, take_by, terms, tried_by, take_answer, step, try_of}
+use Words.{remembers_cancelled, remembers_ticked, IsAsked, refusal_of, CancelFault, Refusal, numbered, rewritten, Candidate, Job}
+use Words.{ask_for, next_of, refusal_by, answered_as, Standing, candidate_of, Ending, Unanswered, Answer, Booked, Open, Out}
+use Words.{Waiting, numbered-here, is_here, Gateway, World, TakeFault, gateway_with, known, found_there, Sent, IsBookOf, is_among}
+use Words.{Cancel, Reply, Step, Tick, Try, cancel_sent, ending_of, refused, sent_by, settle_as, settle_of, take_by, terms}
+use Words.{tried_by, take_answer, step, try_of}
 use Rattle.server_core.proofs.DeskSteps.{desk_calls_are_steps, may}
 use Rattle.server_core.proofs.{Members.equal_where_tested, TakeStep.ticket, TakeStep.still_waits}
 use Rattle.server_core.specs.BookCalls.{next_candidate, IsBookAt, IsStepAt, IsTicketIn, IsTryStep, LeavesStub}

@@ -1,14 +1,13 @@
 -- What a step comes to, and that the calls of the desk are the world's steps on its part.
 use Rattle.server_core.proofs.Words
-use Words.{arith, ap, sym, ◌∙◌, map-append, Err, List, None, Ok, Option, Result, Some}
-use Words.{[], false, map, refl, slice_get, slice_set, true, ℕ, ◌+◌, ◌==◌, ◌∷◌, ◌≡◌, State, book_step, cancel_step}
-use Words.{tick_step, refusal_of, NotHere, Refusal, numbered, Candidate, Job, ask_for, candidate_at, Ending, answer_airtime}
-use Words.{answered_at, answered_in, known_airtime, Answer, Booked, Open, Settled, known_of, desk_of, desk_settled}
-use Words.{desk_taken, known_after, Decision, register_after, map-rewritten, numbered-map, same_rewritten, map_set, some_inj}
-use Words.{after_settling, is_here, may_settle, sent_of, Gateway, World, gateway_with, ids, known, found_there}
-use Words.{Known, Done, Sent, TakeFault, After, answers_after, cancel, cancel_at, cancel_of, cancel_sent, ending_of, refused}
-use Words.{sent_by, sent_for, settle, settle_as, settle_of, take_by, terms, tick, tick_at, tried_by, try, try_candidate, try_of}
-use Words.{try_on, DeskCallsAreSteps, told, decide, take_answer, step}
+use Words.{arith, ap, sym, ◌∙◌, map-append, Err, List, None, Ok, Option, Result, Some, [], false, map, refl, slice_get, slice_set}
+use Words.{true, ℕ, ◌+◌, ◌==◌, ◌∷◌, ◌≡◌, State, book_step, cancel_step, tick_step, refusal_of, NotHere, Refusal, numbered}
+use Words.{Candidate, Job, ask_for, candidate_at, Ending, answer_airtime, answered_at, answered_in, known_airtime, Answer, Booked}
+use Words.{Open, Settled, known_of, desk_of, desk_settled, desk_taken, known_after, Decision, register_after, map-rewritten}
+use Words.{numbered-map, same_rewritten, map_set, some_inj, after_settling, is_here, may_settle, sent_of, Gateway, World}
+use Words.{gateway_with, ids, known, found_there, Known, Done, Sent, TakeFault, After, answers_after, cancel, cancel_at}
+use Words.{cancel_of, cancel_sent, ending_of, refused, sent_by, sent_for, settle, settle_as, settle_of, take_by, terms, tick}
+use Words.{tick_at, tried_by, try, try_candidate, try_of, try_on, DeskCallsAreSteps, told, decide, take_answer, step}
 use Rattle.server_core.proofs.Members.{equal_where_tested}
 use Rattle.server_desk.specs.declared.answers.Known.TheVariants.{Pending}
 use Rattle.server_core.specs.Steps as replies

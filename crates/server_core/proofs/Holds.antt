@@ -1,10 +1,10 @@
 -- What the system keeps at every step.
 use Rattle.server_core.proofs.Words
-use Words.{arith, inl, inr, subst, ◌∙◌, All-weaker, All, Contains, List, Ok, Some, false, length, map, refl}
-use Words.{slice_get, ℕ, ⊤, ◌++◌, ◌+◌, ◌<◌, ◌≡◌, ◌≤◌, ◌⊎◌, Reservation, IsOrderly, addr_of, Gathering, numbered, rewritten}
-use Words.{HeardCopy, IsWindowOf, Candidate, Job, candidate_at, Answer, Open, is_not_given, known_of, numbered-append}
-use Words.{numbered_after, all_get, map_there, Device, plan_for, Gateway, World, SettingLists, Asked}
-use Words.{Sent, DeviceSetting, IsMember, setting_of, Given, Reply, sent_for, net, IsAsked, ask_for}
+use Words.{arith, inl, inr, subst, ◌∙◌, All-weaker, All, Contains, List, Ok, Some, false, length, map, refl, slice_get, ℕ, ⊤}
+use Words.{◌++◌, ◌+◌, ◌<◌, ◌≡◌, ◌≤◌, ◌⊎◌, Reservation, IsOrderly, addr_of, Gathering, numbered, rewritten, HeardCopy, IsWindowOf}
+use Words.{Candidate, Job, candidate_at, Answer, Open, is_not_given, known_of, numbered-append, numbered_after, all_get}
+use Words.{map_there, Device, plan_for, Gateway, World, SettingLists, Asked, Sent, DeviceSetting, IsMember, setting_of, Given}
+use Words.{Reply, sent_for, net, IsAsked, ask_for}
 
 -- a member with this number, of which this holds
 pub record Has {X : Type 0} (P : X → Type 0) (xs : List X) (n : ℕ) : Type 0 where

@@ -1,8 +1,7 @@
 -- Members of lists that are sorted by a key, or of which no two share a key.
-use Rattle.server_core.proofs.Words.{arith, All-cons, All-head, All-tail, nat_tests, All, AllPairs, List}
-use Rattle.server_core.proofs.Words.{Some, [], cond, false, nat_lt, slice_get, true, ℕ, ◌+◌, ◌==◌, ◌∷◌, ◌≡◌, ◌≢◌}
-use Rattle.server_core.proofs.Words.{◌≤◌, RisesFrom, place_by, numbered, map}
-use Rattle.server_core.proofs.Words.{map_there, get_or_from_slice_get, slice_get_within}
+use Rattle.server_core.proofs.Words.{arith, All-cons, All-head, All-tail, nat_tests, All, AllPairs, List, Some, [], cond, false}
+use Rattle.server_core.proofs.Words.{nat_lt, slice_get, true, ℕ, ◌+◌, ◌==◌, ◌∷◌, ◌≡◌, ◌≢◌, ◌≤◌, RisesFrom, place_by, numbered}
+use Rattle.server_core.proofs.Words.{map, map_there, get_or_from_slice_get, slice_get_within}
 
 module _ {X : Type 0} (key : X → ℕ) where
   -- what holds of all members holds of all with one more in its place

@@ -1,8 +1,8 @@
 -- A cancel of what isn't booked for its number on a gateway changes nothing there.
-use Rattle.server_core.proofs.Words.{ap, sym, ◌∙◌, Bool, Err, List, None, OnErr, Option, Result, Some, false, find}
-use Rattle.server_core.proofs.Words.{if◌then◌else◌, nat_le, refl, true, ℕ, ◌==◌, ◌≡◌, ◌≢◌, Reservation, Book, is_named}
-use Rattle.server_core.proofs.Words.{remembers_cancel, CancelFault, Begun, Limits, opening, World, AreSettings, SettingLists}
-use Rattle.server_core.proofs.Words.{Sent, IsMember, Step, run, found_or, start_of, arith}
+use Rattle.server_core.proofs.Words.{ap, sym, ◌∙◌, Bool, Err, List, None, OnErr, Option, Result, Some, false, find, if◌then◌else◌}
+use Rattle.server_core.proofs.Words.{nat_le, refl, true, ℕ, ◌==◌, ◌≡◌, ◌≢◌, Reservation, Book, is_named, remembers_cancel}
+use Rattle.server_core.proofs.Words.{CancelFault, Begun, Limits, opening, World, AreSettings, SettingLists, Sent, IsMember, Step}
+use Rattle.server_core.proofs.Words.{run, found_or, start_of, arith}
 use Rattle.server_core.proofs.Holds.{Holds, member_stands}
 use Rattle.server_core.proofs.{Members.equal_where_tested, BookSteps.there, BookSteps.own, Runs.opened, Runs.run_good}
 use Rattle.std.proofs.lemmas.Bool.{and_parts}

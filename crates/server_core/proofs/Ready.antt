@@ -1,11 +1,10 @@
 -- What a server on one thread keeps at every event.
 use Rattle.server_core.proofs.Words
-use Words.{arith, inl, inr, subst, sym, Contains-push_cases, Contains, Err, IsTrue, List, Ok, Result, Some}
-use Words.{[], false, if◌then◌else◌, refl, true, ℕ, ◌++◌, ◌∷◌, ◌≡◌}
-use Words.{Gathering, Gatherings, close_step, is_open_at, numbered, rewritten, hear_answer, with_copy, Joined, Opened, HearFault}
-use Words.{HeardCopy, is_given, known_after, Decision, Join, Refuse, copy_of}
-use Words.{register_after, numbered-append_cases, numbered_cases, join_decided, open_decided, Register, Known, NotGiven}
-use Words.{Heard1, AreHeard, HasHeard, IsIdle, is_among, decide}
+use Words.{arith, inl, inr, subst, sym, Contains-push_cases, Contains, Err, IsTrue, List, Ok, Result, Some, [], false}
+use Words.{if◌then◌else◌, refl, true, ℕ, ◌++◌, ◌∷◌, ◌≡◌, Gathering, Gatherings, close_step, is_open_at, numbered, rewritten}
+use Words.{hear_answer, with_copy, Joined, Opened, HearFault, HeardCopy, is_given, known_after, Decision, Join, Refuse, copy_of}
+use Words.{register_after, numbered-append_cases, numbered_cases, join_decided, open_decided, Register, Known, NotGiven, Heard1}
+use Words.{AreHeard, HasHeard, IsIdle, is_among, decide}
 use Rattle.uplink_gather.specs.{declared.answers.Heard.Heard, Hearing.opening, Hearing.after_hearing, Hearing.hear_step}
 use Rattle.server_desk.specs.Hearing.{Open}
 use Rattle.server_desk.specs.Hearing as hearing

@@ -1,7 +1,7 @@
 -- Events, one after another, from a server that has heard nothing.
 use Rattle.server_core.proofs.Words
-use Words.{ap, append-nil, append_assoc, sym, ◌∙◌, drop_of_length-le, List, [], drop, get_or, length, map, refl, ℕ, ◌++◌}
-use Words.{◌+◌, ◌<◌, ◌∷◌, ◌≡◌, ◌≤◌, map-map, Book, orderly_nil, kept-nil, remembers_own, desk_of, Gateway, World, opened_gateway}
+use Words.{ap, append-nil, append_assoc, sym, ◌∙◌, drop_of_length-le, List, [], drop, get_or, length, map, refl, ℕ, ◌++◌, ◌+◌}
+use Words.{◌<◌, ◌∷◌, ◌≡◌, ◌≤◌, map-map, Book, orderly_nil, kept-nil, remembers_own, desk_of, Gateway, World, opened_gateway}
 use Words.{opening, AreSettings, SettingLists, GatewaySetting, entries, gateway_of, gateways_after, kept_gateway, reached}
 use Words.{schedule, step_of, usual_limits, AreBooksOf, Does, IsAt, IsOpened, IsBetweenCalls, Seen, with_lines, Step, Event}
 use Words.{event_steps, schedule_from, entries_from, run_from, drop_more}

@@ -1,10 +1,10 @@
 -- A ticket is given: what is known of its uplink, and what holds of the world then.
 use Rattle.server_core.proofs.Words
-use Words.{arith, inl, inr, subst, sym, true≢false, ◌∙◌, Err, List, Ok, Result, Some, map, refl, slice_get, true}
-use Words.{ℕ, ◌≡◌, ◌⊎◌, copies_of, numbered, IsWindowOf, IsWindowOf-ranked, on_gateways_that_heard, candidates_of, Candidate}
-use Words.{Job, candidate_at, Answer, Open, Waiting, is_not_given, known_of, numbered-here, all_get, get_set_same}
-use Words.{some_inj, Device, Register, job_of, with_counter_given, World, known, AreSettings, SettingLists, Asked, Known}
-use Words.{TakeFault, take, take_by, take_answer, numbered-map}
+use Words.{arith, inl, inr, subst, sym, true≢false, ◌∙◌, Err, List, Ok, Result, Some, map, refl, slice_get, true, ℕ, ◌≡◌, ◌⊎◌}
+use Words.{copies_of, numbered, IsWindowOf, IsWindowOf-ranked, on_gateways_that_heard, candidates_of, Candidate, Job}
+use Words.{candidate_at, Answer, Open, Waiting, is_not_given, known_of, numbered-here, all_get, get_set_same, some_inj, Device}
+use Words.{Register, job_of, with_counter_given, World, known, AreSettings, SettingLists, Asked, Known, TakeFault, take, take_by}
+use Words.{take_answer, numbered-map}
 use Rattle.server_core.proofs.Holds.{IsJobAt, Holds, IsGood, IsGoodStep, IsNew, IsUsed, Holds-weaker, has_now}
 use Rattle.server_core.proofs.Holds.{unchanged, both_good, device_setting}
 use Rattle.server_core.proofs.Members.{apart_once}

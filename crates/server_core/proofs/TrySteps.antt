@@ -1,12 +1,11 @@
 -- The candidates of a ticket are tried on the books of their gateways.
 use Rattle.server_core.proofs.Words
 use Words.{ap, arith, subst, sym, ◌∙◌, map-append, IsSomeAnd, option_map, List, None, Option, Some, [], drop, get_or}
-use Words.{if◌then◌else◌, map, refl, slice_get, slice_set, ℕ, ◌++◌, ◌+◌, ◌∷◌, ◌≡◌, Book, IsAsked, refusal_of, Refusal}
-use Words.{Candidate, ask_for, candidates, IsBooked, IsReceipt, IsWrong, refusal_by, answered_as, Standing, candidate_of}
-use Words.{Outcome, Receipt, Answer, Open, map_set, some_inj, Gateway, World, gateway_with, is_accepted, is_none}
-use Words.{step_of, up_to_first, AreBooksOf, AreHere, Seen, ids_of, with_step, Try, terms, AreTries, EndsTries, MovesOn}
-use Words.{HasTicketOut, IsSame, tries_from, step_lines, run_from, step, get_or_from_slice_get, slice_get_within, slice_get_cases}
-use Words.{drop_more, drop_all}
+use Words.{if◌then◌else◌, map, refl, slice_get, slice_set, ℕ, ◌++◌, ◌+◌, ◌∷◌, ◌≡◌, Book, IsAsked, refusal_of, Refusal, Candidate}
+use Words.{ask_for, candidates, IsBooked, IsReceipt, IsWrong, refusal_by, answered_as, Standing, candidate_of, Outcome, Receipt}
+use Words.{Answer, Open, map_set, some_inj, Gateway, World, gateway_with, is_accepted, is_none, step_of, up_to_first, AreBooksOf}
+use Words.{AreHere, Seen, ids_of, with_step, Try, terms, AreTries, EndsTries, MovesOn, HasTicketOut, IsSame, tries_from}
+use Words.{step_lines, run_from, step, get_or_from_slice_get, slice_get_within, slice_get_cases, drop_more, drop_all}
 use Rattle.server_core.proofs.BookSteps.{book_calls_are_steps, some_and, found_for, answer_is, try_is}
 use Rattle.server_core.proofs.BookCalls.{IsFound, place_of, book_found, gateway_found, books_stepped, has_place}
 use Rattle.answer_ticket.specs.Tried.{IsNext as IsRefused, IsOut as IsRefusedLast, TriedIs}

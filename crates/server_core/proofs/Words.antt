@@ -3,7 +3,7 @@ pub use Rattle.std.proofs.lemmas.List.Elements.{All-cons, All-filter, All-head, 
 pub use Rattle.std.proofs.lemmas.List.Elements.{Contains-append_left, Contains-append_right, Contains-push_cases}
 pub use Rattle.std.proofs.Common.{ap, append-nil, append_assoc, arith, inl, inr, length-append, subst, sym, true≢false, ◌∙◌}
 pub use Rattle.std.proofs.lemmas.Option.{get_or_from_slice_get, slice_get_cases, slice_get_within}
-pub use Rattle.std.proofs.{Math.ListN.drop_of_length-le, Math.Seq.drop-cons, lemmas.Bool.Decides.nat_tests, lemmas.List.drop_all}
+pub use Rattle.std.proofs.{Math.ListN.drop_of_length-le, lemmas.Bool.Decides.nat_tests, lemmas.List.drop_all}
 pub use Rattle.std.proofs.{lemmas.List.drop_more, lemmas.List.map-append, lemmas.List.map-id, lemmas.List.set-set}
 pub use Rattle.std.proofs.{lemmas.List.Kept.AllPairs-cons, lemmas.Simd.map-map}
 pub use Rattle.std.specs.Prelude.{All, AllPairs, Bool, Contains, Err, IfOk, IsOkUnless, IsSome, IsTrue, List, MatchResult, None}

@@ -1,7 +1,7 @@
 -- A device's place by its address.
 use Rattle.server_desk.proofs.Words
-use Words.{zero-add, ℕ, ◌≡◌, ◌+◌, nat_eq, Bool, List, [], ◌∷◌, map, position, Option, refl, option_map}
-use Words.{position_from, ◌∙◌, arith, nat_tests, Device, next_place, device_with}
+use Words.{zero-add, ℕ, ◌≡◌, ◌+◌, nat_eq, Bool, List, [], ◌∷◌, map, position, Option, refl, option_map, position_from, ◌∙◌, arith}
+use Words.{nat_tests, Device, next_place, device_with}
 use Rattle.std.proofs.lemmas.Iterator.Adapters.{position_from-zero}
 
 -- the address of a device

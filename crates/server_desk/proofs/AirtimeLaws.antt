@@ -1,7 +1,7 @@
 use Rattle.server_desk.proofs.Words
-use Words.{ℕ, ◌≡◌, ◌-◌, List, Some, Result, Ok, Err, refl, arith, Limits, numbered}
-use Words.{Job, Heard1, TakeFault, SettingLists, Register, Decision, decide, Known, NotGiven, Pending, take_answer}
-use Words.{settled_airtime, DeskView, total_of, desk_of, desk_hear, desk_take, desk_taken, known_after}
+use Words.{ℕ, ◌≡◌, ◌-◌, List, Some, Result, Ok, Err, refl, arith, Limits, numbered, Job, Heard1, TakeFault, SettingLists}
+use Words.{Register, Decision, decide, Known, NotGiven, Pending, take_answer, settled_airtime, DeskView, total_of, desk_of}
+use Words.{desk_hear, desk_take, desk_taken, known_after}
 use Rattle.server_desk.proofs.{Numbers.at_number, AirtimeSums.sum_push, AirtimeSums.sum_set, AirtimeSums.settled_sum}
 use Rattle.server_desk.specs.{World.opening}
 

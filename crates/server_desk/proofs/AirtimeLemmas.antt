@@ -2,10 +2,10 @@
 use Rattle.server_desk.proofs.Words
 use Words.{◌-◌, numbered, known_airtime, map-map, ℕ, ◌≡◌, ◌≢◌, ◌+◌, ◌^◌, ◌<◌, ◌≤◌, ◌==◌, true, List, [], ◌∷◌, ◌++◌, map, length}
 use Words.{slice_set, get_or, All, AllPairs, Option, Some, Result, refl, option_map, sym, ap, ◌∙◌, subst, arith, length-map}
-use Words.{length-append, length-set, All-nil, All-map, All-push, All-set, longest_us}
-use Words.{IsWithinLongest, Ending, HeardCopy, HearFault, Heard, Gatherings, after_hearing, GatewaySetting, Known, NotGiven, Done}
-use Words.{Sent, first_at, sent_of, is_here, is_booked_on, answered_at, answered_for, sent_airtime, airtime_of_ending}
-use Words.{settled_limit, whole_airtime, AreAirtimes, raised, CanRaise, kept_by, get_or-map}
+use Words.{length-append, length-set, All-nil, All-map, All-push, All-set, longest_us, IsWithinLongest, Ending, HeardCopy}
+use Words.{HearFault, Heard, Gatherings, after_hearing, GatewaySetting, Known, NotGiven, Done, Sent, first_at, sent_of, is_here}
+use Words.{is_booked_on, answered_at, answered_for, sent_airtime, airtime_of_ending, settled_limit, whole_airtime, AreAirtimes}
+use Words.{raised, CanRaise, kept_by, get_or-map}
 use Rattle.server_desk.proofs.AirtimeSums.{answered_sum, sum_set, sum_push, same_airtimes, answered_found, raises, answered_short}
 use Rattle.server_desk.proofs.Numbers.{at_number}
 

@@ -2,9 +2,9 @@
 use Rattle.server_desk.proofs.Words
 use Words.{◌++◌, ℕ, ◌≡◌, ◌≢◌, ◌+◌, ◌*◌, ◌≤◌, ◌==◌, Bool, true, false, if◌then◌else◌, List, [], ◌∷◌, map, length, slice_get}
 use Words.{slice_set, get_or, All, AllPairs, Option, Some, refl, subst, arith, option_map, nat_tests, All-head, All-tail}
-use Words.{AllPairs-head, AllPairs-tail, longest_us, Known, Done, Sent, own_airtime, known_airtime, answered_at}
-use Words.{answered_for, total_at, settled_limit, whole_airtime, settled_airtime, is_booked_on, AreAirtimes, raised_at, is_among}
-use Words.{raised, first_at, next_place, sym, ◌∙◌}
+use Words.{AllPairs-head, AllPairs-tail, longest_us, Known, Done, Sent, own_airtime, known_airtime, answered_at, answered_for}
+use Words.{total_at, settled_limit, whole_airtime, settled_airtime, is_booked_on, AreAirtimes, raised_at, is_among, raised}
+use Words.{first_at, next_place, sym, ◌∙◌}
 
 -- a sum over answers: one is written anew, one more comes, none is longer than an answer may be, or each is as in another sum
 pub record IsSum (f : Known → ℕ) (sum : List Known → ℕ) : Type 0 where

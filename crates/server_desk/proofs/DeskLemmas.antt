@@ -1,9 +1,8 @@
 -- The devices as the desk keeps them, and as they are seen.
 use Rattle.server_desk.proofs.Words
-use Words.{Register, ℕ, ◌≡◌, ◌==◌, ◌<◌, List, map, length, slice_get, slice_set, get_or, Some, Result, Ok, Err}
-use Words.{IfOk, OnOk, OnErr, refl, sym, ap, ◌∙◌, arith, nat_tests, length-set, map-set}
-use Words.{All-set, All-push, Payload, KnownDevice, Known, Device, Asked, device_with, Gatherings, shown, outs, IsSendable}
-use Words.{IsServable, AreOut, IsDesk, DeskView, desk_queue, Bool}
+use Words.{Register, ℕ, ◌≡◌, ◌==◌, ◌<◌, List, map, length, slice_get, slice_set, get_or, Some, Result, Ok, Err, IfOk, OnOk, OnErr}
+use Words.{refl, sym, ap, ◌∙◌, arith, nat_tests, length-set, map-set, All-set, All-push, Payload, KnownDevice, Known, Device}
+use Words.{Asked, device_with, Gatherings, shown, outs, IsSendable, IsServable, AreOut, IsDesk, DeskView, desk_queue, Bool}
 use Rattle.server_desk.proofs.Places.{all_get, map_set, map_there, HasPlace, place_within, is_placed}
 use Rattle.server_desk.specs.Queueing.{queue_fault, queued_or, with_payload}
 use Rattle.server_desk.specs.declared.faults.QueueFault.{QueueFault}

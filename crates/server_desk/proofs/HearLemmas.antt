@@ -3,8 +3,8 @@ use Rattle.server_desk.proofs.Words
 use Words.{length_push, nat_tests, slice_get_within, decide, ℕ, ◌≡◌, ◌+◌, ◌<◌, ◌==◌, Bool, false, List, [], ◌∷◌, ◌++◌, map}
 use Words.{length, slice_get, slice_set, Some, Result, Ok, Err, IfOk, OnErr, MatchResult, IsOkUnless, refl, sym, ap, ◌∙◌, arith}
 use Words.{addr_of, Heard, HearFault, Gatherings, hear_answer, after_hearing, with_copy, hear_step, KnownDevice, Known, NotGiven}
-use Words.{NewUplink, Heard1, Device, Asked, Register, copy_of, answer_to, shown, IsServable, IsDesk, desk_answer}
-use Words.{desk_hear, length-map, length-set, map-set, All-push, DeskFault, NoMemory}
+use Words.{NewUplink, Heard1, Device, Asked, Register, copy_of, answer_to, shown, IsServable, IsDesk, desk_answer, desk_hear}
+use Words.{length-map, length-set, map-set, All-push, DeskFault, NoMemory}
 use Rattle.server_desk.proofs.DeskLemmas.{Holds, seen_reg, seen, queued_holds}
 use Rattle.server_desk.proofs.{Places.map_there, Places.some_inj, Places.found_there, Numbers.length-rewritten}
 use Rattle.server_desk.proofs.{OutLemmas.count_push, CopyLemmas.all_heard, Decided.IsJoin, Decided.IsNew}

@@ -1,6 +1,6 @@
 -- Members of a list by their numbers, which count from 1.
-use Rattle.server_desk.proofs.Words.{map, ℕ, suc, ◌≡◌, ◌⊎◌, ◌+◌, ◌-◌, List, [], ◌∷◌, ◌++◌, length, slice_get, Some}
-use Rattle.server_desk.proofs.Words.{subst, arith, map-set, numbered, rewritten}
+use Rattle.server_desk.proofs.Words.{map, ℕ, suc, ◌≡◌, ◌⊎◌, ◌+◌, ◌-◌, List, [], ◌∷◌, ◌++◌, length, slice_get, Some, subst, arith}
+use Rattle.server_desk.proofs.Words.{map-set, numbered, rewritten}
 use Rattle.server_desk.proofs.Places.{map_set, get_set_same, get_set_cases, get_append, get_append_cases, get_next, get_set_after}
 pub use Rattle.uplink_gather.proofs.NumberedLemmas.{length-rewritten, numbered-map, rewritten_some as rewritten-found}
 

@@ -1,8 +1,8 @@
 -- How many tickets and stubs of a device are out.
 use Rattle.server_desk.proofs.Words
-use Words.{ℕ, ◌⊎◌, ◌≡◌, ◌≢◌, ◌+◌, nat_lt, Bool, true, false, if◌then◌else◌, List, [], ◌∷◌, ◌++◌, length, slice_get}
-use Words.{slice_set, Option, Some, refl, inl, inr, sym, ap, ◌∙◌, subst, arith, eq-eqb, nat_tests, Asked, Known, NotGiven}
-use Words.{Pending, Done, Sent, is_engaged, own_out, count_out, AreOut}
+use Words.{ℕ, ◌⊎◌, ◌≡◌, ◌≢◌, ◌+◌, nat_lt, Bool, true, false, if◌then◌else◌, List, [], ◌∷◌, ◌++◌, length, slice_get, slice_set}
+use Words.{Option, Some, refl, inl, inr, sym, ap, ◌∙◌, subst, arith, eq-eqb, nat_tests, Asked, Known, NotGiven, Pending, Done}
+use Words.{Sent, is_engaged, own_out, count_out, AreOut}
 use Rattle.server_desk.proofs.Places.{get_set_cases}
 
 abbrev as_count : Bool → ℕ

@@ -1,9 +1,9 @@
 -- An answer is settled, as the desk settles it.
 use Rattle.server_desk.proofs.Words
-use Words.{arith, ℕ, ◌≡◌, ◌-◌, Bool, true, false, if◌then◌else◌, List, slice_get, slice_set, get_or, Option, Some, refl}
-use Words.{sym, ap, ◌∙◌, get_or_from_slice_get, length-set, map-set, All-drop, Gatherings, numbered, Ending}
-use Words.{KnownDevice, Known, Pending, Done, Sent, Device, Asked, sent_of, has_carried, is_here, may_settle}
-use Words.{without_head, delivered, shown, outs, IsSendable, IsServable, desk_settled}
+use Words.{arith, ℕ, ◌≡◌, ◌-◌, Bool, true, false, if◌then◌else◌, List, slice_get, slice_set, get_or, Option, Some, refl, sym, ap}
+use Words.{◌∙◌, get_or_from_slice_get, length-set, map-set, All-drop, Gatherings, numbered, Ending, KnownDevice, Known, Pending}
+use Words.{Done, Sent, Device, Asked, sent_of, has_carried, is_here, may_settle, without_head, delivered, shown, outs, IsSendable}
+use Words.{IsServable, desk_settled}
 use Rattle.server_desk.proofs.DeskLemmas.{seen_reg, Holds, seen, written_holds}
 use Rattle.server_desk.proofs.{TakeLemmas.number_too, TakeLemmas.out_there, Places.map_set, Places.map_there, Numbers.at_number}
 use Rattle.server_desk.proofs.{OutLemmas.out_settled}

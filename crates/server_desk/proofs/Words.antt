@@ -30,7 +30,7 @@ pub use Rattle.server_desk.specs.Airtime.{is_booked_on, settled_airtime}
 pub use Rattle.server_desk.specs.Desk.{DeskView, desk_hear, desk_of, desk_queue, desk_settled, desk_take, desk_taken, known_after}
 pub use Rattle.server_desk.specs.Desk.{total_of}
 pub use Rattle.server_desk.specs.Hearing.{Decision, Join, Open, Opening, Refuse, answer_to, asked_by, copy_fault, copy_of}
-pub use Rattle.server_desk.specs.Hearing.{decide_copy, decide_frame, decide_place, is_last, named_fault}
+pub use Rattle.server_desk.specs.Hearing.{decide_copy, decide_frame, decide_place, is_last}
 pub use Rattle.server_desk.specs.Invariant.{AreOut, IsDesk, IsGathered, MayBeGiven, IsSendable, IsServable, count_out}
 pub use Rattle.server_desk.specs.Invariant.{desk_answer, outs, own_out, shown, verdict_of}
 pub use Rattle.server_desk.specs.Settings.{AreSettings, IsDeviceInRange, IsGatewayInRange, SettingLists, are_counts_in_range}

@@ -1,5 +1,5 @@
-use Rattle.server_core.proofs.Words.{map, ◌∙◌, ◌++◌, ◌∷◌, [], ap, sym, get_or, map-append}
-use Rattle.server_core.proofs.Words.{opened_gateway, gateway_of, GatewaySetting}
+use Rattle.server_core.proofs.Words.{map, ◌∙◌, ◌++◌, ◌∷◌, [], ap, sym, get_or, map-append, opened_gateway, gateway_of}
+use Rattle.server_core.proofs.Words.{GatewaySetting}
 use Rattle.std.proofs.Common.{take}
 use Rattle.std.proofs.lemmas.List.{take_more}
 use Rattle.server_core.proofs.books.books_of.Goals as goal
