@@ -13,7 +13,6 @@ use Rattle.server_core.specs.declared.event.Step.TheVariants as made
 use Rattle.server_core.specs.Steps as replies
 
 -- once an answer is settled, no ticket is out again
-
 rewritten_twice : (known : List Known) (n : ℕ) (k a b : Known) → numbered n known ≡ Some k
     → rewritten (λ x. b) n (rewritten (λ x. a) n known) ≡ rewritten (λ x. b) n known
 rewritten_twice known n k a b e = rw (numbered-here (λ x. a) n known k e, e) (set-set known (n - 1) a b)
