@@ -1,14 +1,14 @@
 use Rattle.std.specs.Prelude.{ℕ, ◌≡◌, ◌+◌, ◌/◌, ◌^◌, ◌≤◌, ◌∷◌, length, max}
 use Rattle.std.proofs.Common.{refl, arith, zero, suc, sym, ap, subst, ◌∙◌, length-append}
 use Rattle.std.proofs.Math.Nat.{one-le-pow, pow-le-pow_right, two-pow-succ}
-use Rattle.resv_tree.specs.Shape.{Shape, Leaf, Fork, entries, height_of, count_of, IsWhole}
+use Rattle.resv_tree.specs.Shape.{Shape, Leaf, Fork, members_of, height_of, count_of, IsWhole}
 
 -- The height of a whole tree against the number of its members.
 
-pub count_of-length : (t : Shape) → IsWhole t → count_of t ≡ length (entries t)
+pub count_of-length : (t : Shape) → IsWhole t → count_of t ≡ length (members_of t)
 count_of-length Leaf w = refl
 count_of-length (Fork l e r k) w =
-    omega (arith, w.2.count, count_of-length l w.0, count_of-length r w.1, length-append (entries l) (e ∷ entries r))
+    omega (arith, w.2.count, count_of-length l w.0, count_of-length r w.1, length-append (members_of l) (e.reservation ∷ members_of r))
 
 -- a tree of some height has at most so many members
 pub count_lt_pow : (t : Shape) → IsWhole t → count_of t + 1 ≤ 2 ^ height_of t

@@ -1,3 +1,6 @@
+pub mod TotalLemmas
+pub mod EntryLemmas
+pub mod OwedLemmas
 pub mod ShapeLemmas
 pub mod SplitLemmas
 pub mod TreeLemmas

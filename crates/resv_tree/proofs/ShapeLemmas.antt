@@ -1,12 +1,12 @@
 use Rattle.std.specs.Prelude.{◌≡◌, ◌*◌, ◌≤◌, Option, Some, None, Box}
-use Rattle.std.proofs.Common.{refl, arith, ap, ◌∙◌, subst}
+use Rattle.std.proofs.Common.{refl, arith, ap, ◌∙◌, subst, sym}
 use Rattle.radio_bands.specs.declared.band.Band.{Band}
 use Rattle.resv_tree.specs.declared.node.Node.{Node, Node', None', Some', out-Node, roll-Node}
 use Rattle.resv_tree.specs.declared.kept.Kept.{Kept}
-use Rattle.resv_tree.specs.Entries.{Entry}
+use Rattle.resv_tree.specs.declared.entry.Entry.{Entry}
 use Rattle.resv_tree.specs.Shape.{Shape, Leaf, Fork, shape, shape_of, entry_of, kept_of, entries, height_of, count_of, kept_sum}
 use Rattle.resv_tree.specs.Shape.{IsWhole, IsKept, TellsOf, IsBeside}
-use Rattle.resv_tree.specs.Parts.{IsMadeOf}
+use Rattle.resv_tree.specs.Parts.{IsSeenAs}
 
 -- Whole trees, and nodes as the program sees them.
 
@@ -21,15 +21,16 @@ pub count_bounds_sum : (t : Shape) (band : Band) → IsWhole t → kept_sum t ba
 count_bounds_sum Leaf band w = omega arith
 count_bounds_sum (Fork l e r k) band w = w.2.short band
 
--- a whole tree is made of its sides and its entry
-made_of-Fork : (t l r : Shape) (e : Entry) (k : Kept) → t ≡ Fork l e r k → IsWhole t → IsMadeOf t l e r
-made_of-Fork t l r e k is w =
+-- a whole tree is seen as its sides and its entry
+seen_as-Fork : (t l r : Shape) (e : Entry) (k : Kept) → t ≡ Fork l e r k → IsWhole t → IsSeenAs t l e r
+seen_as-Fork t l r e k is w =
     let f : IsWhole (Fork l e r k) = subst IsWhole is w in
-    record {
-      entries = ap entries is;
-      count = ap count_of is ∙ f.2.count;
-      height = ap height_of is ∙ f.2.height;
-      level = f.2.level;
+    subst (λ s. IsSeenAs s l e r) (sym is) record {
+      entries = refl;
+      covered = f.2.covered;
+      members = refl;
+      count = f.2.count;
+      height = f.2.height;
       left = f.0;
       right = f.1;
     }
@@ -97,13 +98,12 @@ module _ {A : Type 0} where
   right_of-roll (Some p) None e k = refl
   right_of-roll (Some p) (Some q) e k = refl
 
-  -- a whole tree is made of what its top node holds
-  pub made_of-out : (n : Node A) (l r : Option (Box (Node A) A)) (e : Entry) → l ≡ (out-Node A n).left
-      → e ≡ (out-Node A n).entry → r ≡ (out-Node A n).right → IsWhole (shape n) → IsMadeOf (shape n) (shape_of l) e (shape_of r)
-  made_of-out n l r e left entry right w = rw (left, entry, right) (made_of-Fork _ _ _ _ _ (shape-out n) w)
+  -- a whole tree is seen as what its top node holds
+  pub seen_as-out : (n : Node A) (l r : Option (Box (Node A) A)) (e : Entry) → l ≡ (out-Node A n).left
+      → e ≡ (out-Node A n).entry → r ≡ (out-Node A n).right → IsWhole (shape n) → IsSeenAs (shape n) (shape_of l) e (shape_of r)
+  seen_as-out n l r e left entry right w = rw (left, entry, right) (seen_as-Fork _ _ _ _ _ (shape-out n) w)
 
-  -- and keeps what follows from them
-  pub kept-out : (n : Node A) (l r : Option (Box (Node A) A)) (e : Entry) (k : Kept) → l ≡ (out-Node A n).left
-      → e ≡ (out-Node A n).entry → r ≡ (out-Node A n).right → k ≡ kept_of n → IsWhole (shape n)
-      → IsKept (shape_of l) e (shape_of r) k
-  kept-out n l r e k left entry right kept w = rw (left, entry, right, kept) (subst IsWhole (shape-out n) w).2
+  -- and it is what that node holds
+  pub shape-taken : (n : Node A) (l r : Option (Box (Node A) A)) (e : Entry) (k : Kept) → l ≡ (out-Node A n).left
+      → e ≡ (out-Node A n).entry → r ≡ (out-Node A n).right → k ≡ kept_of n → shape n ≡ Fork (shape_of l) e (shape_of r) k
+  shape-taken n l r e k left entry right kept = rw (left, entry, right, kept) (shape-out n)

@@ -12,28 +12,15 @@ use Rattle.resv_list.specs.Begun.{begun-cons, begun-nil}
 use Rattle.resv_list.proofs.BegunLemmas.{share_before, share_after, share_within, begun_late}
 use Rattle.resv_tree.specs.declared.sums.Sums.{Sums}
 use Rattle.resv_tree.specs.Sums.{sum_in, sum_of_all, total_in}
-use Rattle.resv_tree.specs.Shape.{Shape, Leaf, Fork, entries, kept_sum, count_of, IsWhole}
+use Rattle.resv_tree.specs.Shape.{Shape, Leaf, Fork, members_of, kept_sum, count_of, IsWhole}
 use Rattle.resv_tree.proofs.ShapeLemmas.{count_bounds_sum}
+use Rattle.resv_tree.proofs.TotalLemmas.{total_in-nil, total_in-cons, total_in-append}
 use Rattle.resv_tree.proofs.SplitLemmas.{middle_from}
 
 -- Sums of airtime.
 
-pub total_in-nil : (band : Band) → total_in band [] ≡ 0
-unfolding total_in
-total_in-nil band = refl
-
-pub total_in-cons : (band : Band) (r : Reservation) (rs : List Reservation)
-    → total_in band (r ∷ rs) ≡ airtime_in band r + total_in band rs
-unfolding total_in
-total_in-cons band r rs = refl
-
-total_in-append : (band : Band) (ls rs : List Reservation) → total_in band (ls ++ rs) ≡ total_in band ls + total_in band rs
-total_in-append band [] rs = omega (arith, total_in-nil band)
-total_in-append band (x ∷ ls) rs =
-    omega (arith, total_in-append band ls rs, total_in-cons band x ls, total_in-cons band x (ls ++ rs))
-
 -- the sum that a whole tree keeps is that of its members
-pub kept_sum-total : (t : Shape) (band : Band) → IsWhole t → kept_sum t band ≡ total_in band (entries t)
+pub kept_sum-total : (t : Shape) (band : Band) → IsWhole t → kept_sum t band ≡ total_in band (members_of t)
 kept_sum-total Leaf band w = sym (total_in-nil band)
 kept_sum-total (Fork l e r k) band w =
     omega (
@@ -41,23 +28,23 @@ kept_sum-total (Fork l e r k) band w =
       w.2.sums band,
       kept_sum-total l band w.0,
       kept_sum-total r band w.1,
-      total_in-append band (entries l) (e ∷ entries r),
-      total_in-cons band e (entries r),
+      total_in-append band (members_of l) (e.reservation ∷ members_of r),
+      total_in-cons band e.reservation (members_of r),
     )
 
 -- so its sum is that of its sides and of the one between
-pub kept_sum-parts : (t l r : Shape) (e : Reservation) (band : Band) → entries t ≡ entries l ++ e ∷ entries r → IsWhole t
+pub kept_sum-parts : (t l r : Shape) (e : Reservation) (band : Band) → members_of t ≡ members_of l ++ e ∷ members_of r → IsWhole t
     → IsWhole l → IsWhole r → kept_sum t band ≡ kept_sum l band + airtime_in band e + kept_sum r band
 kept_sum-parts t l r e band is w v u =
-    let parts : total_in band (entries t) ≡ total_in band (entries l ++ e ∷ entries r) = ap (total_in band) is in
+    let parts : total_in band (members_of t) ≡ total_in band (members_of l ++ e ∷ members_of r) = ap (total_in band) is in
     omega (
       arith,
       parts,
       kept_sum-total t band w,
       kept_sum-total l band v,
       kept_sum-total r band u,
-      total_in-append band (entries l) (e ∷ entries r),
-      total_in-cons band e (entries r),
+      total_in-append band (members_of l) (e ∷ members_of r),
+      total_in-cons band e (members_of r),
     )
 
 -- the sums of all sub-bands are the airtime of all
@@ -89,11 +76,11 @@ total_in-net (r ∷ rs) =
     )
 
 kept_sums-net : (t : Shape) → IsWhole t
-    → kept_sum t K + kept_sum t L + kept_sum t M + kept_sum t N + kept_sum t P + kept_sum t Q ≡ net (entries t)
+    → kept_sum t K + kept_sum t L + kept_sum t M + kept_sum t N + kept_sum t P + kept_sum t Q ≡ net (members_of t)
 kept_sums-net t w =
     omega (
       arith,
-      total_in-net (entries t),
+      total_in-net (members_of t),
       kept_sum-total t K w,
       kept_sum-total t L w,
       kept_sum-total t M w,
@@ -104,7 +91,7 @@ kept_sums-net t w =
 
 -- so it is of sums that are those of a whole tree
 pub sum_of_all-net : (s : Sums) (t : Shape) → IsWhole t → ((band : Band) → sum_in s band ≡ kept_sum t band)
-    → sum_of_all s ≡ net (entries t)
+    → sum_of_all s ≡ net (members_of t)
 sum_of_all-net s t w e = omega (arith, kept_sums-net t w, e K, e L, e M, e N, e P, e Q)
 
 -- and each of them is bounded

@@ -1,4 +1,5 @@
 pub mod Entries
+pub mod OwnHours
 pub mod Sums
 pub mod Shape
 pub mod Parts

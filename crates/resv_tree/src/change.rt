@@ -1,11 +1,11 @@
 ghost use Rattle.std.specs.Prelude.{◌≡◌, ◌+◌, ◌≤◌, ◌<◌, ◌∷◌, [], ◌++◌};
-ghost use Rattle.resv_list.specs.Reservations.{member_at, without};
 ghost use Rattle.resv_list.specs.Sorted.{place_by, rest_from};
-ghost use Rattle.resv_tree.specs.Entries.{key_of, IsByKey};
+ghost use Rattle.resv_tree.specs.Entries.{key_of, IsByKey, entry_at, entries_without};
 ghost use Rattle.resv_tree.specs.Shape.{shape, shape_of, entry_of, entries, IsWhole, count_of};
 
+use crate::entry::Entry;
 use crate::join::{join, join_left, join_right};
-use crate::node::{Entry, Link, Node, fork, kept, open};
+use crate::node::{Link, Node, fork, kept, open};
 use resv_list::MAX_MEMBERS;
 use std::alloc::Allocator;
 
@@ -23,7 +23,7 @@ pub(crate) fn insert<A: Allocator + Clone>(link: Link<A>, node: Box<Node<A>, A>)
         return fork(None, node, None);
     };
     let (left, top, right) = open(top);
-    if top.entry().start < node.entry().start {
+    if top.entry().reservation.start < node.entry().reservation.start {
         let old = kept(&right);
         let right = insert(right, node);
         join_right(left, top, &old, Some(right))
@@ -40,8 +40,8 @@ pub(crate) fn remove<A: Allocator + Clone>(link: Link<A>, key: u64) -> (Link<A>,
     requires whole { IsWhole (shape_of link) }
     requires by_key { IsByKey (entries (shape_of link)) }
     requires room { count_of (shape_of link) ≤ MAX_MEMBERS }
-    ensures removed { result.1 ≡ member_at key (entries (shape_of link)) }
-    ensures left { entries (shape_of result.0) ≡ without key (entries (shape_of link)) }
+    ensures removed { result.1 ≡ entry_at key (entries (shape_of link)) }
+    ensures left { entries (shape_of result.0) ≡ entries_without key (entries (shape_of link)) }
     ensures count { count_of (shape_of result.0) ≤ count_of (shape_of link) }
     ensures whole { IsWhole (shape_of result.0) }
 {
@@ -50,12 +50,12 @@ pub(crate) fn remove<A: Allocator + Clone>(link: Link<A>, key: u64) -> (Link<A>,
     };
     let (left, top, right) = open(top);
     let entry = top.entry();
-    if key < entry.start {
+    if key < entry.reservation.start {
         let old = kept(&left);
         let (left, removed) = remove(left, key);
         return (Some(join_left(left, top, &old, right)), removed);
     }
-    if entry.start < key {
+    if entry.reservation.start < key {
         let old = kept(&right);
         let (right, removed) = remove(right, key);
         return (Some(join_right(left, top, &old, right)), removed);
@@ -78,7 +78,7 @@ pub(crate) fn drop_before<A: Allocator + Clone>(link: Link<A>, key: u64) -> Link
         return None;
     };
     let (left, top, right) = open(top);
-    if top.entry().start < key {
+    if top.entry().reservation.start < key {
         return drop_before(right, key);
     }
     let old = kept(&left);

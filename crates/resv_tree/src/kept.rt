@@ -1,14 +1,19 @@
 use crate::sums::Sums;
 
 /// What a node keeps of the tree of which it is the top. The heights of its two sides stand beside its own, so that where one side
-/// becomes another one, nothing on the other side is looked at.
+/// becomes another one, they are known without a look at the other.
 #[derive(Clone, Copy)]
 pub(crate) struct Kept {
     pub(crate) height: u32,
     pub(crate) left_height: u32,
     pub(crate) right_height: u32,
     pub(crate) count: u32,
+    /// Whether it may still owe its entry and its two sides a part of their own hours: in each sub-band so much as `greatest` is above
+    /// theirs.
+    pub(crate) owes: bool,
     pub(crate) sums: Sums,
+    /// The greatest own hour of the tree's members in each sub-band, with all that this node owes.
+    pub(crate) greatest: Sums,
 }
 
 impl Kept {
@@ -18,6 +23,8 @@ impl Kept {
         left_height: 0,
         right_height: 0,
         count: 0,
+        owes: false,
         sums: Sums::NONE,
+        greatest: Sums::NONE,
     };
 }

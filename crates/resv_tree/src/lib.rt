@@ -4,10 +4,12 @@
 #![tactic(auto)]
 
 mod change;
+mod entry;
 mod join;
 mod kept;
 mod look;
 mod node;
+mod stretch;
 mod sums;
 mod tree_roster;
 

@@ -1,50 +1,52 @@
 ghost use Rattle.std.specs.Prelude.{◌≡◌, ◌≤◌, ◌+◌};
-ghost use Rattle.resv_list.specs.Reservations.{begun};
+ghost use Rattle.resv_list.specs.Reservations.{begun, start_of, IsByStart};
 ghost use Rattle.resv_list.specs.Sorted.{first_from, last_below};
-ghost use Rattle.resv_tree.specs.Entries.{key_of, IsByKey};
-ghost use Rattle.resv_tree.specs.Shape.{shape_of, entries, IsWhole, count_of};
+ghost use Rattle.resv_tree.specs.Entries.{IsByKey, first_reaching};
+ghost use Rattle.resv_tree.specs.Shape.{shape_of, members_of, entries, IsWhole, count_of, top_of};
 
-use crate::node::{Entry, Link, Parts, look, sum_in};
+use crate::entry::Entry;
+use crate::node::{Link, Parts, greatest_in, look, sum_in};
+use crate::sums::{Sums, moved};
 use radio_bands::Band;
-use resv_list::MAX_MEMBERS;
+use resv_list::{MAX_MEMBERS, Reservation};
 use std::alloc::Allocator;
 
-/// The entry with the greatest key below `key`.
+/// The member with the greatest start below `key`.
 #[tactic(auto, using(crate::proofs::TreeLemmas::looking_before))]
-pub(crate) fn before<A: Allocator + Clone>(link: &Link<A>, key: u64) -> Option<Entry>
+pub(crate) fn before<A: Allocator + Clone>(link: &Link<A>, key: u64) -> Option<Reservation>
     requires whole { IsWhole (shape_of link.now) }
-    requires by_key { IsByKey (entries (shape_of link.now)) }
-    ensures { result ≡ last_below key_of key (entries (shape_of link.now)) }
+    requires by_start { IsByStart (members_of (shape_of link.now)) }
+    ensures { result ≡ last_below start_of key (members_of (shape_of link.now)) }
 {
     let Some(node) = link else { return None };
     let Parts { left, entry, right } = look(node);
-    if entry.start >= key {
+    if entry.reservation.start >= key {
         return before(left, key);
     }
-    before(right, key).or(Some(entry))
+    before(right, key).or(Some(entry.reservation))
 }
 
-/// The entry with the least key not below `key`.
+/// The member with the least start not below `key`.
 #[tactic(auto, using(crate::proofs::TreeLemmas::looking_from))]
-pub(crate) fn from<A: Allocator + Clone>(link: &Link<A>, key: u64) -> Option<Entry>
+pub(crate) fn from<A: Allocator + Clone>(link: &Link<A>, key: u64) -> Option<Reservation>
     requires whole { IsWhole (shape_of link.now) }
-    requires by_key { IsByKey (entries (shape_of link.now)) }
-    ensures { result ≡ first_from key_of key (entries (shape_of link.now)) }
+    requires by_start { IsByStart (members_of (shape_of link.now)) }
+    ensures { result ≡ first_from start_of key (members_of (shape_of link.now)) }
 {
     let Some(node) = link else { return None };
     let Parts { left, entry, right } = look(node);
-    if entry.start < key {
+    if entry.reservation.start < key {
         return from(right, key);
     }
-    from(left, key).or(Some(entry))
+    from(left, key).or(Some(entry.reservation))
 }
 
 /// The airtime of the members of the sub-band that begin before `to`, in microseconds.
 pub(crate) fn spent_before<A: Allocator + Clone>(link: &Link<A>, band: Band, to: u64) -> u64
     requires whole { IsWhole (shape_of link.now) }
-    requires by_key { IsByKey (entries (shape_of link.now)) }
+    requires by_start { IsByStart (members_of (shape_of link.now)) }
     requires room { count_of (shape_of link.now) ≤ MAX_MEMBERS }
-    ensures { result ≡ begun band 0 to (entries (shape_of link.now)) }
+    ensures { result ≡ begun band 0 to (members_of (shape_of link.now)) }
 {
     spent_about(link, band, to, 0)
 }
@@ -59,10 +61,10 @@ pub(crate) fn spent_about<A: Allocator + Clone>(
     less: u64,
 ) -> u64
     requires whole { IsWhole (shape_of link.now) }
-    requires by_key { IsByKey (entries (shape_of link.now)) }
+    requires by_start { IsByStart (members_of (shape_of link.now)) }
     requires room { count_of (shape_of link.now) ≤ MAX_MEMBERS }
-    ensures not_more { result ≤ begun band 0 to (entries (shape_of link.now)) }
-    ensures not_less { begun band 0 to (entries (shape_of link.now)) ≤ result + less }
+    ensures not_more { result ≤ begun band 0 to (members_of (shape_of link.now)) }
+    ensures not_less { begun band 0 to (members_of (shape_of link.now)) ≤ result + less }
 {
     let all = sum_in(link, band);
     if all <= less {
@@ -70,8 +72,53 @@ pub(crate) fn spent_about<A: Allocator + Clone>(
     }
     let Some(node) = link else { return 0 };
     let Parts { left, entry, right } = look(node);
-    if entry.start >= to {
+    if entry.reservation.start >= to {
         return spent_about(left, band, to, less);
     }
     all - sum_in(right, band) + spent_about(right, band, to, less)
+}
+
+/// The first member of the sub-band, of those that begin from `from` on and before `to`, whose own hour has at least `least`. It
+/// leaves out each tree whose greatest is below that; so behind the two ends of the stretch it goes only where it finds one.
+//#[tactic(auto, using(crate::proofs::FirstLemmas::finding))]
+pub(crate) fn first_over<A: Allocator + Clone>(
+    link: &Link<A>,
+    band: Band,
+    from: u64,
+    to: u64,
+    least: u64,
+) -> Option<Reservation>
+    requires whole { IsWhole (shape_of link.now) }
+    requires by_key { IsByKey (entries (shape_of link.now)) }
+    ensures { result ≡ first_reaching band from to least (entries (shape_of link.now)) }
+{
+    let greatest = greatest_in(link, band);
+    if sum_in(link, band) == 0 || greatest < least {
+        return None;
+    }
+    let Some(node) = link else { return None };
+    let Parts { left, entry, right } = look(node);
+    let least = moved(least, top_in(left, &entry, right, band), greatest);
+    if entry.reservation.start < from {
+        return first_over(right, band, from, to, least);
+    }
+    if to <= entry.reservation.start {
+        return first_over(left, band, from, to, least);
+    }
+    let found = first_over(left, band, from, to, least);
+    if found.is_some() {
+        return found;
+    }
+    if band.holds(entry.reservation.freq_hz, entry.reservation.rate) && entry.own >= least {
+        return Some(entry.reservation);
+    }
+    first_over(right, band, from, to, least)
+}
+
+/// The greatest of an entry's own hour and of what the tops of its two sides keep, in one sub-band.
+fn top_in<A: Allocator + Clone>(left: &Link<A>, entry: &Entry, right: &Link<A>, band: Band) -> u64
+    ensures { result ≡ top_of (shape_of left.now) entry.now (shape_of right.now) band }
+{
+    let sides = greatest_in(left, band).max(greatest_in(right, band));
+    Sums::own(entry).in_band(band).max(sides)
 }

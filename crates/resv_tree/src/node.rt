@@ -1,19 +1,19 @@
-ghost use Rattle.std.specs.Prelude.{◌≡◌, ◌+◌, ◌≤◌, ◌<◌};
+ghost use Rattle.std.specs.Prelude.{◌≡◌, ◌+◌, ◌-◌, ◌≤◌, ◌<◌, ◌^◌, max};
 ghost use Rattle.radio_bands.specs.declared.band.Band.{Band as SubBand};
 ghost use Rattle.resv_tree.specs.Sums.{sum_in as sum_of};
 ghost use Rattle.resv_list.specs.Reservations.{net};
 ghost use Rattle.resv_tree.specs.Shape.{shape, shape_of, entries, entry_of, kept_of, height_of, count_of, kept_sum};
 ghost use Rattle.resv_tree.specs.Shape.{IsWhole, IsLevel, IsKept, IsBeside, TellsOf};
-ghost use Rattle.resv_tree.specs.Parts.{IsMadeOf};
+ghost use Rattle.resv_tree.specs.Shape.{Fork, greatest_of, top_of};
+ghost use Rattle.resv_tree.specs.Entries.{CanMove, Each, moved, members};
+ghost use Rattle.resv_tree.specs.Parts.{IsMadeOf, IsSeenAs, IsMoved};
 
+use crate::entry::Entry;
 use crate::kept::Kept;
 use crate::sums::Sums;
 use radio_bands::Band;
-use resv_list::{MAX_MEMBERS, Reservation};
+use resv_list::MAX_MEMBERS;
 use std::alloc::Allocator;
-
-/// What a node keeps of one member; its key is its start.
-pub(crate) type Entry = Reservation;
 
 /// A tree, or a side of one: nothing, or its node at the top.
 pub(crate) type Link<A> = Option<Box<Node<A>, A>>;
@@ -116,15 +116,22 @@ pub(crate) fn sum_in<A: Allocator + Clone>(link: &Link<A>, band: Band) -> u64
 pub(crate) fn airtime<A: Allocator + Clone>(link: &Link<A>) -> u64
     requires whole { IsWhole (shape_of link.now) }
     requires room { count_of (shape_of link.now) ≤ MAX_MEMBERS }
-    ensures { result ≡ net (entries (shape_of link.now)) }
+    ensures { result ≡ net (members (entries (shape_of link.now))) }
 {
     sums(link).total()
+}
+
+/// The greatest own hour of the tree's members of one sub-band, in microseconds; 0 where there is none.
+pub(crate) fn greatest_in<A: Allocator + Clone>(link: &Link<A>, band: Band) -> u64
+    ensures { result ≡ greatest_of (shape_of link.now) band }
+{
+    kept(link).greatest.in_band(band)
 }
 
 /// The parts of a tree, left in it.
 pub(crate) fn look<'a, A: Allocator + Clone>(node: &'a Node<A>) -> Parts<'a, A>
     requires { IsWhole (shape node.now) }
-    ensures { IsMadeOf (shape node.now) (shape_of result.left.now) result.entry (shape_of result.right.now) }
+    ensures { IsSeenAs (shape node.now) (shape_of result.left.now) result.entry (shape_of result.right.now) }
 {
     Parts {
         left: &node.left,
@@ -133,17 +140,98 @@ pub(crate) fn look<'a, A: Allocator + Clone>(node: &'a Node<A>) -> Parts<'a, A>
     }
 }
 
-/// The parts of a tree, taken out of it.
+/// The parts of a tree, taken out of it. What its top owes is handed down to them.
 pub(crate) fn open<A: Allocator + Clone>(
-    mut top: Box<Node<A>, A>,
+    top: Box<Node<A>, A>,
 ) -> (Link<A>, Box<Node<A>, A>, Link<A>)
     requires { IsWhole (shape top.value) }
     ensures made { IsMadeOf (shape top.value) (shape_of result.0) (entry_of result.1.value) (shape_of result.2) }
     ensures kept { IsKept (shape_of result.0) (entry_of result.1.value) (shape_of result.2) (kept_of result.1.value) }
 {
+    let (left, top, right) = part(top);
+    if !top.kept.owes {
+        return (left, top, right);
+    }
+    settle(left, top, right)
+}
+
+/// The parts of a tree as they stand in it.
+fn part<A: Allocator + Clone>(mut top: Box<Node<A>, A>) -> (Link<A>, Box<Node<A>, A>, Link<A>)
+    ensures { shape top.value
+        ≡ Fork (shape_of result.0) (entry_of result.1.value) (shape_of result.2) (kept_of result.1.value) }
+{
     let left = top.left.take();
     let right = top.right.take();
     (left, top, right)
+}
+
+/// Hands down to an entry and two sides what the node about them owes.
+fn settle<A: Allocator + Clone>(
+    left: Link<A>,
+    mut top: Box<Node<A>, A>,
+    right: Link<A>,
+) -> (Link<A>, Box<Node<A>, A>, Link<A>)
+    requires left { IsWhole (shape_of left) }
+    requires right { IsWhole (shape_of right) }
+    requires kept { IsKept (shape_of left) (entry_of top.value) (shape_of right) (kept_of top.value) }
+    ensures left { IsMoved (shape_of result.0) (shape_of left) (sum_of (kept_of top.value).greatest)
+        (top_of (shape_of left) (entry_of top.value) (shape_of right)) }
+    ensures entry { entry_of result.1.value ≡ moved (sum_of (kept_of top.value).greatest)
+        (top_of (shape_of left) (entry_of top.value) (shape_of right)) (entry_of top.value) }
+    ensures right { IsMoved (shape_of result.2) (shape_of right) (sum_of (kept_of top.value).greatest)
+        (top_of (shape_of left) (entry_of top.value) (shape_of right)) }
+    ensures kept { kept_of result.1.value ≡ kept_of top.value }
+{
+    let more = top.kept.greatest;
+    let less = greatest_about(&left, &top.entry, &right);
+    let left = hand(left, &more, &less);
+    let right = hand(right, &more, &less);
+    top.entry = top.entry.moved(&more, &less);
+    (left, top, right)
+}
+
+/// The node with another entry.
+pub(crate) fn with_entry<A: Allocator + Clone>(
+    mut top: Box<Node<A>, A>,
+    entry: Entry,
+) -> Box<Node<A>, A>
+    ensures { entry_of result.value ≡ entry }
+{
+    top.entry = entry;
+    top
+}
+
+/// The greatest of an entry's own hour and of what the tops of its two sides keep, in each sub-band.
+fn greatest_about<A: Allocator + Clone>(left: &Link<A>, entry: &Entry, right: &Link<A>) -> Sums
+    ensures { (band : SubBand) → sum_of result band ≡ top_of (shape_of left.now) entry.now (shape_of right.now) band }
+{
+    let sides = kept(left).greatest.greater(&kept(right).greatest);
+    Sums::own(entry).greater(&sides)
+}
+
+/// The tree in which the own hour of each member has so much more, and then so much less; only its top is written, which
+/// owes that to all below it.
+pub(crate) fn hand<A: Allocator + Clone>(link: Link<A>, more: &Sums, less: &Sums) -> Link<A>
+    requires whole { IsWhole (shape_of link) }
+    requires fits { (band : SubBand) → greatest_of (shape_of link) band - sum_of less.now band + sum_of more.now band
+        ≤ max (sum_of more.now band) (2 ^ 64 - 1) }
+    requires covered { Each (CanMove (sum_of more.now) (sum_of less.now)) (entries (shape_of link)) }
+    ensures { IsMoved (shape_of result) (shape_of link) (sum_of more.now) (sum_of less.now) }
+{
+    let Some(mut top) = link else {
+        return None;
+    };
+    let all = top.kept;
+    top.kept = Kept {
+        height: all.height,
+        left_height: all.left_height,
+        right_height: all.right_height,
+        count: all.count,
+        owes: true,
+        sums: all.sums,
+        greatest: all.greatest.moved(more, less, &all.sums),
+    };
+    Some(top)
 }
 
 /// The tree of these parts; takes no memory.
@@ -166,7 +254,9 @@ pub(crate) fn fork<A: Allocator + Clone>(
         left_height: before.height,
         right_height: behind.height,
         count: before.count + behind.count + 1,
-        sums: Sums::around(&before.sums, &entry, &behind.sums),
+        owes: false,
+        sums: Sums::around(&before.sums, &entry.reservation, &behind.sums),
+        greatest: greatest_about(&left, &entry, &right),
     };
     *top = Node {
         left,
@@ -177,8 +267,8 @@ pub(crate) fn fork<A: Allocator + Clone>(
     top
 }
 
-/// The tree of a node whose sides were taken out of it, with another left side than the one of which `old` tells; it
-/// looks at nothing to the right, and takes no memory.
+/// The tree of a node whose sides were taken out of it, with another left side than the one of which `old` tells; of
+/// the right one it looks at the top alone, and takes no memory.
 pub(crate) fn with_left<A: Allocator + Clone>(
     left: Link<A>,
     mut top: Box<Node<A>, A>,
@@ -200,7 +290,9 @@ pub(crate) fn with_left<A: Allocator + Clone>(
         left_height: new.height,
         right_height: all.right_height,
         count: all.count - old.count + new.count,
+        owes: false,
         sums: all.sums.exchanged(&old.sums, &new.sums),
+        greatest: greatest_about(&left, &entry, &right),
     };
     *top = Node {
         left,
@@ -211,7 +303,7 @@ pub(crate) fn with_left<A: Allocator + Clone>(
     top
 }
 
-/// The same with another right side; it looks at nothing to the left.
+/// The same with another right side; of the left one it looks at the top alone.
 pub(crate) fn with_right<A: Allocator + Clone>(
     left: Link<A>,
     mut top: Box<Node<A>, A>,
@@ -233,7 +325,9 @@ pub(crate) fn with_right<A: Allocator + Clone>(
         left_height: all.left_height,
         right_height: new.height,
         count: all.count - old.count + new.count,
+        owes: false,
         sums: all.sums.exchanged(&old.sums, &new.sums),
+        greatest: greatest_about(&left, &entry, &right),
     };
     *top = Node {
         left,

@@ -1,14 +1,51 @@
-ghost use Rattle.std.specs.Prelude.{◌≡◌, ◌≤◌, ◌+◌, ◌/◌, ◌^◌, [], length};
+ghost use Rattle.std.specs.Prelude.{◌≡◌, ◌≤◌, ◌<◌, ◌+◌, ◌/◌, ◌^◌, [], length, map};
+ghost use Rattle.radio_bands.specs.declared.band.Band.{Band as SubBand};
 ghost use Rattle.resv_list.specs.declared.roster.TheConstants.{MAX_MEMBERS};
 ghost use Rattle.resv_list.specs.Sorted.{RisesFrom-prop};
-ghost use Rattle.resv_list.specs.Reservations.{start_of, IsByStart};
-ghost use Rattle.resv_tree.specs.Shape.{shape_of, entries, IsWhole, IsWhole-prop, count_of};
+ghost use Rattle.resv_list.specs.Reservations.{start_of, place, IsByStart, IsFree};
+ghost use Rattle.resv_tree.specs.Entries.{IsByKey, Each};
+ghost use Rattle.resv_tree.specs.OwnHours.{own_hour, HasHours, HasHours-prop, raised, lowered, CountsIn};
+ghost use Rattle.resv_tree.specs.Shape.{shape_of, entries, members_of, IsWhole, IsWhole-prop, count_of, greatest_of};
 
-use crate::node::{Link, Node, count, height};
+use crate::entry::Entry;
+use crate::node::{Link, Node, count, greatest_in, height};
+use crate::stretch::shift;
+use crate::sums::Sums;
 use crate::{change, look, node};
 use radio_bands::Band;
-use resv_list::{Dropped, MAX_MEMBERS, Reservation, Roster, RosterFault};
+use resv_list::{Dropped, HOUR, MAX_MEMBERS, Reservation, Roster, RosterFault};
 use std::alloc::Allocator;
+
+/// The tree in which the hours before a member that is placed, and that reach it, have its airtime too.
+fn raise<A: Allocator + Clone>(root: Link<A>, member: &Reservation) -> Link<A>
+    requires whole { IsWhole (shape_of root) }
+    requires by_key { IsByKey (entries (shape_of root)) }
+    requires room { count_of (shape_of root) ≤ MAX_MEMBERS }
+    requires fits { (band : SubBand) → greatest_of (shape_of root) band < 2 ^ 63 }
+    ensures entries { entries (shape_of result) ≡ map (raised member.now) (entries (shape_of root)) }
+    ensures count { count_of (shape_of result) ≡ count_of (shape_of root) }
+    ensures whole { IsWhole (shape_of result) }
+{
+    let more = Sums::around(&Sums::NONE, member, &Sums::NONE);
+    let from = (member.start + 1).saturating_sub(HOUR);
+    shift(root, from, member.start, &more, &Sums::NONE)
+}
+
+/// The tree in which the hours before a member that was taken out have its airtime no more.
+fn lower<A: Allocator + Clone>(root: Link<A>, member: &Reservation) -> Link<A>
+    requires whole { IsWhole (shape_of root) }
+    requires by_key { IsByKey (entries (shape_of root)) }
+    requires room { count_of (shape_of root) ≤ MAX_MEMBERS }
+    requires fits { (band : SubBand) → greatest_of (shape_of root) band < 2 ^ 63 }
+    requires counted { Each (CountsIn member.now) (entries (shape_of root)) }
+    ensures entries { entries (shape_of result) ≡ map (lowered member.now) (entries (shape_of root)) }
+    ensures count { count_of (shape_of result) ≡ count_of (shape_of root) }
+    ensures whole { IsWhole (shape_of result) }
+{
+    let less = Sums::around(&Sums::NONE, member, &Sums::NONE);
+    let from = (member.start + 1).saturating_sub(HOUR);
+    shift(root, from, member.start, &Sums::NONE, &less)
+}
 
 /// Which part of a bound the ends of a stretch may count for together before `is_within` looks closer.
 const SPARE: u64 = 8;
@@ -20,8 +57,9 @@ const SPARE: u64 = 8;
 pub struct TreeRoster<A: Allocator + Clone> {
     root: Link<A>,
     alloc: A,
-    ghost by_start: { IsByStart (entries (shape_of root)) } by { RisesFrom-prop start_of 0 (entries (shape_of root)) },
+    ghost by_start: { IsByStart (members_of (shape_of root)) } by { RisesFrom-prop start_of 0 (members_of (shape_of root)) },
     ghost whole: { IsWhole (shape_of root) } by { IsWhole-prop (shape_of root) },
+    ghost hours: { HasHours (entries (shape_of root)) } by { HasHours-prop (entries (shape_of root)) },
     ghost bounded: { count_of (shape_of root) ≤ MAX_MEMBERS },
 }
 
@@ -31,6 +69,15 @@ impl<A: Allocator + Clone> TreeRoster<A> {
         ensures { ⟦<TreeRoster<A> as Roster>⟧.list result ≡ [] }
     {
         TreeRoster { root: None, alloc }
+    }
+
+    /// The airtime of the own hour that a member will have once it is placed, in microseconds.
+    fn own_hour(&self, member: &Reservation) -> u64
+        requires free { IsFree member.now.start (members_of (shape_of self.now.root)) }
+        ensures { result ≡ own_hour (place member.now (members_of (shape_of self.now.root))) member.now }
+    {
+        let band = member.band();
+        member.airtime() + self.spent(band, member.start, member.start + HOUR)
     }
 
     /// How many levels the tree has, none if it is empty; the clauses bound it by the number of members.
@@ -44,7 +91,7 @@ impl<A: Allocator + Clone> TreeRoster<A> {
 }
 
 impl<A: Allocator + Clone> Roster for TreeRoster<A> {
-    ghost list = { λ r. entries (shape_of r.root) };
+    ghost list = { λ r. members_of (shape_of r.root) };
 
     #[tactic(auto, using(crate::proofs::HeightLemmas::counts))]
     fn len(&self) -> usize {
@@ -76,11 +123,27 @@ impl<A: Allocator + Clone> Roster for TreeRoster<A> {
         self.spent(band, from, to) <= most
     }
 
+    fn first_over(&self, band: Band, from: u64, to: u64, most: u64) -> Option<Reservation> {
+        if self.most(band) <= most {
+            return None;
+        }
+        look::first_over(&self.root, band, from, to, most + 1)
+    }
+
+    fn most(&self, band: Band) -> u64 {
+        greatest_in(&self.root, band)
+    }
+
     #[tactic(auto, using(crate::proofs::TreeLemmas::staying))]
     fn remove(&mut self, start: u64) -> Option<Reservation> {
         let (root, removed) = change::remove(self.root.take(), start);
-        self.root = root;
-        removed
+        let Some(entry) = removed else {
+            self.root = root;
+            return None;
+        };
+        let member = entry.reservation;
+        self.root = lower(root, &member);
+        Some(member)
     }
 
     #[tactic(auto, using(crate::proofs::TreeLemmas::dropped))]
@@ -102,10 +165,12 @@ impl<A: Allocator + Clone> Roster for TreeRoster<A> {
             return Err((RosterFault::NoMemory, reservation));
         };
         // The node is made before the tree is touched, so that without memory the tree stays as it was.
-        let Ok(node) = Box::new(alloc, Node::apart(reservation)) else {
+        let own = self.own_hour(&reservation);
+        let Ok(node) = Box::new(alloc, Node::apart(Entry { reservation, own })) else {
             return Err((RosterFault::NoMemory, reservation));
         };
-        self.root = Some(change::insert(self.root.take(), node));
+        let root = raise(self.root.take(), &reservation);
+        self.root = Some(change::insert(root, node));
         Ok(())
     }
 

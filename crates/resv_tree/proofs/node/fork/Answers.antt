@@ -1,6 +1,7 @@
-use Rattle.std.proofs.Common.{arith, subst, sym}
-use Rattle.resv_tree.specs.Shape.{shape_of, IsWhole}
-use Rattle.resv_tree.proofs.ShapeLemmas.{count_bounds_sum, count_bounds_height, shape-roll}
+use Rattle.std.proofs.Common.{arith, ap}
+use Rattle.resv_tree.specs.Shape.{shape_of, entry_of}
+use Rattle.resv_tree.proofs.ShapeLemmas.{count_bounds_sum, count_bounds_height}
+use Rattle.resv_tree.proofs.OwedLemmas.{Counts, made-node, whole-node}
 use Rattle.resv_tree.proofs.node.fork.Goals as goal
 
 pub around-requires : goal.around-requires
@@ -26,26 +27,49 @@ returns-clause-whole g c =
     let around = c.around.ensures in
     let before = c.kept-before.ensures in
     let behind = c.kept-behind.ensures in
-    subst IsWhole (sym (shape-roll c.args.left c.args.right _ _)) (
-      c.requires.left,
-      c.requires.right,
-      record {
-        level = c.requires.level;
-        height = omega (arith, before.height, behind.height, c.max.ensures);
-        left_height = before.height;
-        right_height = behind.height;
-        count = omega (arith, before.count, behind.count);
-        sums = λ band. omega (arith, around.value band, before.sums band, behind.sums band);
-        short = λ band. omega (
-          arith,
-          before.count,
-          behind.count,
-          around.value band,
-          around.short band,
-          before.sums band,
-          behind.sums band,
-          left band c.requires.left,
-          right band c.requires.right,
-        );
-      },
-    )
+    whole-node c.args.left c.args.right _ _ c.requires.left c.requires.right c.requires.level (record {
+      height = omega (arith, before.height, behind.height, c.max.ensures);
+      left_height = before.height;
+      right_height = behind.height;
+      count = omega (arith, before.count, behind.count);
+      sums = λ band. omega (arith, around.value band, before.sums band, behind.sums band);
+      short = λ band. omega (
+        arith,
+        before.count,
+        behind.count,
+        around.value band,
+        around.short band,
+        before.sums band,
+        behind.sums band,
+        left band c.requires.left,
+        right band c.requires.right,
+      );
+      greatest = c.greatest_about.ensures;
+    })
+
+pub returns-clause-made : goal.returns-clause-made
+returns-clause-made g c =
+    let left = count_bounds_sum (shape_of c.args.left) in
+    let right = count_bounds_sum (shape_of c.args.right) in
+    let around = c.around.ensures in
+    let before = c.kept-before.ensures in
+    let behind = c.kept-behind.ensures in
+    made-node c.args.left c.args.right _ _ _ (ap entry_of c.deref.ensures) c.requires.left c.requires.right c.requires.level (record {
+      height = omega (arith, before.height, behind.height, c.max.ensures);
+      left_height = before.height;
+      right_height = behind.height;
+      count = omega (arith, before.count, behind.count);
+      sums = λ band. omega (arith, around.value band, before.sums band, behind.sums band);
+      short = λ band. omega (
+        arith,
+        before.count,
+        behind.count,
+        around.value band,
+        around.short band,
+        before.sums band,
+        behind.sums band,
+        left band c.requires.left,
+        right band c.requires.right,
+      );
+      greatest = c.greatest_about.ensures;
+    })

@@ -1,19 +1,18 @@
-use Rattle.std.proofs.Common.{ap, ◌∙◌}
-use Rattle.resv_tree.specs.declared.node.Node.{out-Node}
-use Rattle.resv_tree.specs.Shape.{entry_of, kept_of}
-use Rattle.resv_tree.proofs.ShapeLemmas.{made_of-out, kept-out, entry_of-roll, kept_of-roll, right_of-roll}
+use Rattle.std.proofs.Common.{ap}
+use Rattle.resv_tree.specs.Shape.{kept_of}
+use Rattle.resv_tree.proofs.OwedLemmas.{opened-settled, opened-made, opened-kept}
 use Rattle.resv_tree.proofs.node.open.Goals as goal
 
-pub returns : goal.returns
-returns g c =
-    let first = c.deref_mut.ensures.value in
-    let second = c.deref_mut-2.ensures.value in
-    let left = c.take-left.ensures.value ∙ ap (λ n. (out-Node _ n).left) first in
-    let entry = entry_of-roll _ _ _ _ ∙ ap entry_of second ∙ entry_of-roll _ _ _ _ ∙ ap entry_of first in
-    let right = c.take-right.ensures.value ∙ ap (λ n. (out-Node _ n).right) second ∙ right_of-roll _ _ _ _
-    ∙ ap (λ n. (out-Node _ n).right) first in
-    let kept = kept_of-roll _ _ _ _ ∙ ap kept_of second ∙ kept_of-roll _ _ _ _ ∙ ap kept_of first in
-    record {
-      made = made_of-out c.args.top.value c.take-left.result c.take-right.result _ left entry right c.requires;
-      kept = kept-out c.args.top.value c.take-left.result c.take-right.result _ _ left entry right kept c.requires;
-    }
+pub returns-then-not-deref-clause-made : goal.returns-then-not-deref-clause-made
+returns-then-not-deref-clause-made g c =
+    opened-settled _ _ _ _ _ c.part-left.ensures c.requires (cc (ap (λ n. (kept_of n).owes) c.deref.ensures, c.if-not-deref.true))
+
+pub returns-clause-made : goal.returns-clause-made
+returns-clause-made g c =
+    let s = c.settle.ensures in
+    opened-made _ _ _ _ _ _ _ _ c.part-left.ensures c.requires s.left s.entry s.right
+
+pub returns-clause-kept : goal.returns-clause-kept
+returns-clause-kept g c =
+    let s = c.settle.ensures in
+    opened-kept _ _ _ _ _ _ _ _ _ c.part-left.ensures c.requires s.left s.entry s.right s.kept

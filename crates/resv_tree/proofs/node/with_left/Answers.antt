@@ -1,9 +1,10 @@
-use Rattle.std.proofs.Common.{arith, subst, sym, ap, ◌∙◌}
+use Rattle.std.proofs.Common.{arith, ap, ◌∙◌}
 use Rattle.resv_list.specs.Reservations.{airtime_in}
 use Rattle.resv_tree.specs.Sums.{sum_in}
-use Rattle.resv_tree.specs.Shape.{shape_of, entry_of, kept_of, IsWhole}
+use Rattle.resv_tree.specs.Shape.{shape_of, entry_of, kept_of}
 use Rattle.resv_tree.proofs.SumLemmas.{airtime_in-short}
-use Rattle.resv_tree.proofs.ShapeLemmas.{count_bounds_sum, count_bounds_height, shape-roll}
+use Rattle.resv_tree.proofs.OwedLemmas.{made-node, whole-node}
+use Rattle.resv_tree.proofs.ShapeLemmas.{count_bounds_sum, count_bounds_height}
 use Rattle.resv_tree.proofs.node.with_left.Goals as goal
 
 pub exchanged-requires : goal.exchanged-requires
@@ -17,7 +18,7 @@ exchanged-requires g c =
         arith,
         ap (λ n. sum_in (kept_of n).sums band) c.deref-2.ensures,
         beside band,
-        airtime_in-short band (entry_of c.args.top.value),
+        airtime_in-short band (entry_of c.args.top.value).reservation,
         c.kept-new.ensures.sums band,
         left band c.requires.left,
         right band c.requires.right,
@@ -40,35 +41,68 @@ returns-clause-whole g c =
     let new = c.kept-new.ensures in
     let all = ap kept_of c.deref-2.ensures in
     let entry = ap entry_of c.deref.ensures in
-    subst IsWhole (sym (shape-roll c.args.left c.args.right _ _)) (
-      c.requires.left,
-      c.requires.right,
-      record {
-        level = c.requires.level;
-        height = omega (arith, c.max.ensures, c.kept-new.ensures.height, ap (λ n. (kept_of n).right_height) c.deref-2.ensures ∙ c.requires.height);
-        left_height = c.kept-new.ensures.height;
-        right_height = ap (λ n. (kept_of n).right_height) c.deref-2.ensures ∙ c.requires.height;
-        count = omega (arith, ap (λ k. k.count) all, beside.count, new.count);
-        sums = λ band. omega (
-          arith,
-          ap (λ k. sum_in k.sums band) all,
-          ap (airtime_in band) entry,
-          c.exchanged.ensures band,
-          beside.sums band,
-          new.sums band,
-        );
-        short = λ band. omega (
-          arith,
-          ap (λ k. k.count) all,
-          ap (λ k. sum_in k.sums band) all,
-          airtime_in-short band (entry_of c.args.top.value),
-          c.exchanged.ensures band,
-          beside.count,
-          beside.sums band,
-          new.count,
-          new.sums band,
-          left band c.requires.left,
-          right band c.requires.right,
-        );
-      },
-    )
+    whole-node c.args.left c.args.right _ _ c.requires.left c.requires.right c.requires.level (record {
+      height = omega (arith, c.max.ensures, ap (λ k. k.right_height) all ∙ c.requires.height, new.height);
+      left_height = new.height;
+      right_height = ap (λ k. k.right_height) all ∙ c.requires.height;
+      count = omega (arith, ap (λ k. k.count) all, beside.count, new.count);
+      sums = λ band. omega (
+        arith,
+        ap (λ k. sum_in k.sums band) all,
+        ap (λ e. airtime_in band e.reservation) entry,
+        c.exchanged.ensures band,
+        beside.sums band,
+        new.sums band,
+      );
+      short = λ band. omega (
+        arith,
+        ap (λ k. k.count) all,
+        ap (λ k. sum_in k.sums band) all,
+        airtime_in-short band (entry_of c.args.top.value).reservation,
+        c.exchanged.ensures band,
+        beside.count,
+        beside.sums band,
+        new.count,
+        new.sums band,
+        left band c.requires.left,
+        right band c.requires.right,
+      );
+      greatest = c.greatest_about.ensures;
+    })
+
+pub returns-clause-made : goal.returns-clause-made
+returns-clause-made g c =
+    let left = count_bounds_sum (shape_of c.args.left) in
+    let right = count_bounds_sum (shape_of c.args.right) in
+    let beside = c.requires.beside in
+    let new = c.kept-new.ensures in
+    let all = ap kept_of c.deref-2.ensures in
+    let entry = ap entry_of c.deref.ensures in
+    made-node c.args.left c.args.right _ _ _ entry c.requires.left c.requires.right c.requires.level (record {
+      height = omega (arith, c.max.ensures, ap (λ k. k.right_height) all ∙ c.requires.height, new.height);
+      left_height = new.height;
+      right_height = ap (λ k. k.right_height) all ∙ c.requires.height;
+      count = omega (arith, ap (λ k. k.count) all, beside.count, new.count);
+      sums = λ band. omega (
+        arith,
+        ap (λ k. sum_in k.sums band) all,
+        ap (λ e. airtime_in band e.reservation) entry,
+        c.exchanged.ensures band,
+        beside.sums band,
+        new.sums band,
+      );
+      short = λ band. omega (
+        arith,
+        ap (λ k. k.count) all,
+        ap (λ k. sum_in k.sums band) all,
+        airtime_in-short band (entry_of c.args.top.value).reservation,
+        c.exchanged.ensures band,
+        beside.count,
+        beside.sums band,
+        new.count,
+        new.sums band,
+        left band c.requires.left,
+        right band c.requires.right,
+      );
+      greatest = c.greatest_about.ensures;
+    })

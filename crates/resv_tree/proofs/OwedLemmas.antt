@@ -1,0 +1,467 @@
+use Rattle.std.specs.Prelude.{ℕ, ◌≡◌, ◌≢◌, ◌+◌, ◌-◌, ◌*◌, ◌^◌, ◌<◌, ◌≤◌, max, Bool, true, false, List, [], ◌∷◌, ◌++◌, map, cond, Option, Box}
+use Rattle.std.proofs.Common.{refl, arith, zero, suc, sym, ap, ◌∙◌, subst}
+use Rattle.radio_airtime.specs.Bounds.{airtime_of-positive}
+use Rattle.radio_bands.specs.declared.band.Band.{Band}
+use Rattle.resv_list.specs.declared.reservation.Reservation.{Reservation}
+use Rattle.resv_list.specs.Reservations.{is_in, airtime_us, airtime_in}
+use Rattle.resv_tree.specs.declared.entry.Entry.{Entry}
+use Rattle.resv_tree.specs.declared.kept.Kept.{Kept}
+use Rattle.resv_tree.specs.Entries.{Each, amount, moved, CanMove, own_in, most_own, members}
+use Rattle.resv_tree.specs.declared.sums.Sums.{Sums}
+use Rattle.resv_tree.specs.Sums.{sum_in, total_in}
+use Rattle.resv_tree.specs.Shape.{Shape, Leaf, Fork, entries, members_of, greatest_of, top_of, height_of, count_of, kept_sum}
+use Rattle.resv_tree.specs.Shape.{IsWhole, IsKept, IsLevel}
+use Rattle.resv_tree.specs.Parts.{IsMadeOf, IsMoved}
+use Rattle.resv_tree.specs.declared.node.Node.{Node, out-Node, roll-Node}
+use Rattle.resv_tree.specs.Shape.{shape, shape_of, kept_of}
+use Rattle.resv_tree.proofs.ShapeLemmas.{shape-out, shape-roll}
+use Rattle.resv_tree.proofs.EntryLemmas.{each-left, each-right, own_here}
+use Rattle.resv_tree.proofs.TotalLemmas.{total_in-cons}
+use Rattle.resv_tree.proofs.SumLemmas.{kept_sum-total}
+use Rattle.resv_tree.proofs.EntryLemmas.{Banded, banded, amount_at, own_same, each, each-with, each-of-map, map-same, map-identity}
+use Rattle.resv_tree.proofs.EntryLemmas.{map-parts, map-map, members-moved, members-parts, most-parts, most_none, most_moved, each_within}
+use Rattle.resv_tree.proofs.EntryLemmas.{each_there, own_moved}
+
+-- What a tree keeps of the own hours of its members, and what its nodes owe.
+
+-- the members of the entries are those of the tree
+pub entries-members : (t : Shape) → members (entries t) ≡ members_of t
+entries-members Leaf = refl
+entries-members (Fork l e r k) =
+    members-moved (sum_in k.greatest) (top_of l e r) (entries l ++ e ∷ entries r)
+    ∙ members-parts (entries l) e (entries r)
+    ∙ (λ i. entries-members l i ++ e.reservation ∷ entries-members r i)
+
+-- the airtime in a sub-band of the entries about a node
+parts_total : (l r : Shape) (e : Entry) (k : Kept) (band : Band) → IsWhole (Fork l e r k)
+    → total_in band (members (entries l ++ e ∷ entries r)) ≡ sum_in k.sums band
+parts_total l r e k band w =
+    ap (total_in band) (members-parts (entries l) e (entries r)
+    ∙ (λ i. entries-members l i ++ e.reservation ∷ entries-members r i))
+    ∙ sym (kept_sum-total (Fork l e r k) band w)
+
+-- nothing is kept as greatest where there is none
+pub idle_of : (t : Shape) (band : Band) → IsWhole t → kept_sum t band ≡ 0 → greatest_of t band ≡ 0
+idle_of Leaf band w h = refl
+idle_of (Fork l e r k) band w h = w.2.idle band h
+
+-- what is kept as greatest is the greatest
+pub greatest_is_most : (t : Shape) (band : Band) → IsWhole t → most_own band (entries t) ≡ greatest_of t band
+greatest_is_most Leaf band w = refl
+greatest_is_most (Fork l e r k) band w =
+    let raw = most-parts band (entries l) e (entries r) in
+    let left = greatest_is_most l band w.0 in
+    let right = greatest_is_most r band w.1 in
+    by (sum_in k.sums band) refl (omega (arith, raw, left, right))
+  where
+    by : (n : ℕ) → sum_in k.sums band ≡ n → most_own band (entries l ++ e ∷ entries r) ≡ top_of l e r band
+        → most_own band (map (moved (sum_in k.greatest) (top_of l e r)) (entries l ++ e ∷ entries r)) ≡ sum_in k.greatest band
+    by zero z m =
+        most_none band (map (moved (sum_in k.greatest) (top_of l e r)) (entries l ++ e ∷ entries r))
+        (ap (total_in band) (members-moved (sum_in k.greatest) (top_of l e r) (entries l ++ e ∷ entries r))
+        ∙ parts_total l r e k band w ∙ z)
+        ∙ sym (w.2.idle band z)
+    by (suc n) z m =
+        let all = most_moved (sum_in k.greatest) (top_of l e r) band (entries l ++ e ∷ entries r)
+        (λ q. absurd (omega (arith, q, z, parts_total l r e k band w))) in
+        omega (arith, all, m)
+
+-- no own hour is above it
+pub entries_within : (t : Shape) → IsWhole t → Each (λ e. e.own ≤ amount (greatest_of t) e.reservation) (entries t)
+entries_within t w = each_within (greatest_of t) (entries t) (λ band. omega (arith, greatest_is_most t band w))
+
+parts_within : (l r : Shape) (e : Entry) (k : Kept) → IsWhole (Fork l e r k)
+    → Each (λ x. x.own ≤ amount (top_of l e r) x.reservation) (entries l ++ e ∷ entries r)
+parts_within l r e k w =
+    each_within (top_of l e r) (entries l ++ e ∷ entries r)
+    (λ band. omega (
+      arith,
+      most-parts band (entries l) e (entries r),
+      greatest_is_most l band w.0,
+      greatest_is_most r band w.1,
+    ))
+
+-- where nothing is owed, the entries are those about the node
+moved_nowhere : (f : Band → ℕ) (e : Entry) → moved f f e ≡ e
+moved_nowhere f e = own_same e (e.own + amount f e.reservation - amount f e.reservation) e.own (omega arith)
+
+pub entries_settled : (l r : Shape) (e : Entry) (k : Kept) → ((band : Band) → sum_in k.greatest band ≡ top_of l e r band)
+    → entries (Fork l e r k) ≡ entries l ++ e ∷ entries r
+entries_settled l r e k h =
+    let same : sum_in k.greatest ≡ top_of l e r = λ i band. h band i in
+    subst (λ f. map (moved f (top_of l e r)) (entries l ++ e ∷ entries r) ≡ entries l ++ e ∷ entries r) (sym same)
+    (map-identity (moved (top_of l e r) (top_of l e r)) (entries l ++ e ∷ entries r) (moved_nowhere (top_of l e r)))
+
+pub covered_settled : (l r : Shape) (e : Entry) (f : Band → ℕ) → ((band : Band) → f band ≡ top_of l e r band)
+    → Each (CanMove f (top_of l e r)) (entries l ++ e ∷ entries r)
+covered_settled l r e f h =
+    let same : f ≡ top_of l e r = λ i band. h band i in
+    subst (λ g. Each (CanMove g (top_of l e r)) (entries l ++ e ∷ entries r)) (sym same)
+    (each (CanMove (top_of l e r) (top_of l e r)) (λ x. omega arith) (entries l ++ e ∷ entries r))
+
+-- a whole tree that owes nothing is made of its parts
+pub made_of-Fork : (l r : Shape) (e : Entry) (k : Kept) → IsWhole (Fork l e r k)
+    → ((band : Band) → sum_in k.greatest band ≡ top_of l e r band) → IsMadeOf (Fork l e r k) l e r
+made_of-Fork l r e k w h = record {
+  entries = entries_settled l r e k h;
+  count = w.2.count;
+  height = w.2.height;
+  greatest = h;
+  level = w.2.level;
+  left = w.0;
+  right = w.1;
+}
+
+-- What is handed down.
+
+-- the greatest of what has it is what the node kept
+handed_top : (l r p q : Shape) (e : Entry) (k : Kept) (band : Band) → IsWhole (Fork l e r k)
+    → IsMoved p l (sum_in k.greatest) (top_of l e r) → IsMoved q r (sum_in k.greatest) (top_of l e r)
+    → sum_in k.greatest band ≡ top_of p (moved (sum_in k.greatest) (top_of l e r) e) q band
+handed_top l r p q e k band w a b =
+    by (kept_sum l band) (kept_sum r band) (is_in band e.reservation) refl refl refl (w.2.sums band) refl
+  where
+    more : Band → ℕ
+    more = sum_in k.greatest
+
+    less : Band → ℕ
+    less = top_of l e r
+
+    by : (m n : ℕ) (t : Bool) → kept_sum l band ≡ m → kept_sum r band ≡ n → is_in band e.reservation ≡ t
+        → sum_in k.sums band ≡ kept_sum l band + cond t (airtime_us e.reservation) 0 + kept_sum r band
+        → top_of l e r band ≡ max (cond t e.own 0) (max (greatest_of l band) (greatest_of r band))
+        → sum_in k.greatest band ≡ max (cond t (moved more less e).own 0) (max (greatest_of p band) (greatest_of q band))
+    by zero zero true i j h s o = omega (
+      arith,
+      o,
+      own_moved more less band e h,
+      a.none band i,
+      idle_of l band w.0 i,
+      b.none band j,
+      idle_of r band w.1 j,
+    )
+    by zero zero false i j h s o = omega (
+      arith,
+      w.2.idle band (omega (arith, s, i, j)),
+      a.none band i,
+      b.none band j,
+    )
+    by zero (suc n) true i j h s o = omega (
+      arith,
+      o,
+      own_moved more less band e h,
+      a.none band i,
+      idle_of l band w.0 i,
+      b.some band (λ z. absurd (omega (arith, z, j))),
+    )
+    by zero (suc n) false i j h s o =
+        omega (arith, o, a.none band i, idle_of l band w.0 i, b.some band (λ z. absurd (omega (arith, z, j))))
+    by (suc m) zero true i j h s o = omega (
+      arith,
+      o,
+      own_moved more less band e h,
+      a.some band (λ z. absurd (omega (arith, z, i))),
+      b.none band j,
+      idle_of r band w.1 j,
+    )
+    by (suc m) zero false i j h s o =
+        omega (arith, o, a.some band (λ z. absurd (omega (arith, z, i))), b.none band j, idle_of r band w.1 j)
+    by (suc m) (suc n) true i j h s o = omega (
+      arith,
+      o,
+      own_moved more less band e h,
+      a.some band (λ z. absurd (omega (arith, z, i))),
+      b.some band (λ z. absurd (omega (arith, z, j))),
+    )
+    by (suc m) (suc n) false i j h s o = omega (
+      arith,
+      o,
+      a.some band (λ z. absurd (omega (arith, z, i))),
+      b.some band (λ z. absurd (omega (arith, z, j))),
+    )
+
+-- a whole tree is made of its parts, once these have what it owed
+pub made_of-handed : (l r p q : Shape) (e : Entry) (k : Kept) → IsWhole (Fork l e r k)
+    → IsMoved p l (sum_in k.greatest) (top_of l e r) → IsMoved q r (sum_in k.greatest) (top_of l e r)
+    → IsMadeOf (Fork l e r k) p (moved (sum_in k.greatest) (top_of l e r) e) q
+made_of-handed l r p q e k w a b = record {
+  entries = map-parts (moved (sum_in k.greatest) (top_of l e r)) (entries l) e (entries r)
+      ∙ (λ i. sym a.entries i ++ moved (sum_in k.greatest) (top_of l e r) e ∷ sym b.entries i);
+  count = omega (arith, w.2.count, a.count, b.count);
+  height = omega (arith, w.2.height, a.height, b.height);
+  greatest = λ band. handed_top l r p q e k band w a b;
+  level = (omega (arith, w.2.level.0, a.height, b.height), omega (arith, w.2.level.1, a.height, b.height));
+  left = a.whole;
+  right = b.whole;
+}
+
+-- and what it keeps follows from them
+pub kept-handed : (l r p q : Shape) (e : Entry) (k : Kept) → IsWhole (Fork l e r k)
+    → IsMoved p l (sum_in k.greatest) (top_of l e r) → IsMoved q r (sum_in k.greatest) (top_of l e r)
+    → IsKept p (moved (sum_in k.greatest) (top_of l e r) e) q k
+kept-handed l r p q e k w a b =
+    let top = λ (band : Band). handed_top l r p q e k band w a b in
+    record {
+      level = (omega (arith, w.2.level.0, a.height, b.height), omega (arith, w.2.level.1, a.height, b.height));
+      height = omega (arith, w.2.height, a.height, b.height);
+      left_height = omega (arith, w.2.left_height, a.height);
+      right_height = omega (arith, w.2.right_height, b.height);
+      count = omega (arith, w.2.count, a.count, b.count);
+      sums = λ band. omega (arith, w.2.sums band, a.sums band, b.sums band);
+      short = w.2.short;
+      idle = w.2.idle;
+      settled = λ o band. top band;
+      covered = covered_settled p q (moved (sum_in k.greatest) (top_of l e r) e) (sum_in k.greatest) top;
+    }
+
+-- the same of a tree that is known by its parts
+pub opened-settled : (t l r : Shape) (e : Entry) (k : Kept) → t ≡ Fork l e r k → IsWhole t → k.owes ≡ false → IsMadeOf t l e r
+opened-settled t l r e k is w o =
+    let whole : IsWhole (Fork l e r k) = subst IsWhole is w in
+    subst (λ s. IsMadeOf s l e r) (sym is) (made_of-Fork l r e k whole (whole.2.settled o))
+
+pub opened-made : (t l r p q : Shape) (e f : Entry) (k : Kept) → t ≡ Fork l e r k → IsWhole t
+    → IsMoved p l (sum_in k.greatest) (top_of l e r) → f ≡ moved (sum_in k.greatest) (top_of l e r) e
+    → IsMoved q r (sum_in k.greatest) (top_of l e r) → IsMadeOf t p f q
+opened-made t l r p q e f k is w a same b =
+    let whole : IsWhole (Fork l e r k) = subst IsWhole is w in
+    subst (λ s. IsMadeOf s p f q) (sym is) (subst (λ x. IsMadeOf (Fork l e r k) p x q) (sym same) (made_of-handed l r p q e k whole a b))
+
+pub opened-kept : (t l r p q : Shape) (e f : Entry) (k j : Kept) → t ≡ Fork l e r k → IsWhole t
+    → IsMoved p l (sum_in k.greatest) (top_of l e r) → f ≡ moved (sum_in k.greatest) (top_of l e r) e
+    → IsMoved q r (sum_in k.greatest) (top_of l e r) → j ≡ k → IsKept p f q j
+opened-kept t l r p q e f k j is w a same b kept =
+    let whole : IsWhole (Fork l e r k) = subst IsWhole is w in
+    subst (λ x. IsKept p f q x) (sym kept) (subst (λ x. IsKept p x q k) (sym same) (kept-handed l r p q e k whole a b))
+
+-- A top that owes so much more, and then so much less.
+
+-- one entry below it
+moved_twice : (g m h more less : Band → ℕ) (there : Band → ℕ) (x : Entry)
+    → ((band : Band) → there band ≢ 0 → h band ≡ g band + more band - less band)
+    → 0 < amount there x.reservation → x.own ≤ amount m x.reservation → CanMove g m x
+    → moved h m x ≡ moved more less (moved g m x)
+moved_twice g m h more less there x some is within covered =
+    let b = banded x.reservation in
+    let e = some b.band (λ z. absurd (omega (arith, z, is, amount_at there x.reservation b))) in
+    own_same x _ _ (omega (
+      arith,
+      within,
+      covered,
+      e,
+      amount_at g x.reservation b,
+      amount_at m x.reservation b,
+      amount_at h x.reservation b,
+      amount_at more x.reservation b,
+      amount_at less x.reservation b,
+    ))
+
+covered_again : (g m h more less : Band → ℕ) (there : Band → ℕ) (x : Entry)
+    → ((band : Band) → there band ≢ 0 → h band ≡ g band + more band - less band)
+    → 0 < amount there x.reservation → CanMove g m x → CanMove more less (moved g m x) → CanMove h m x
+covered_again g m h more less there x some is covered can =
+    let b = banded x.reservation in
+    let e = some b.band (λ z. absurd (omega (arith, z, is, amount_at there x.reservation b))) in
+    omega (
+      arith,
+      covered,
+      can,
+      e,
+      amount_at g x.reservation b,
+      amount_at m x.reservation b,
+      amount_at h x.reservation b,
+      amount_at more x.reservation b,
+      amount_at less x.reservation b,
+    )
+
+parts_there : (l r : Shape) (e : Entry) (k : Kept) → IsWhole (Fork l e r k)
+    → Each (λ x. 0 < amount (sum_in k.sums) x.reservation) (entries l ++ e ∷ entries r)
+parts_there l r e k w =
+    each_there (sum_in k.sums) (entries l ++ e ∷ entries r) (λ band. omega (arith, parts_total l r e k band w))
+
+-- what a top keeps that owes that
+pub record Owes (k h : Kept) (more less : Band → ℕ) : Type 0 where
+  pub height : h.height ≡ k.height
+  pub left_height : h.left_height ≡ k.left_height
+  pub right_height : h.right_height ≡ k.right_height
+  pub count : h.count ≡ k.count
+  pub owes : h.owes ≡ true
+  pub sums : (band : Band) → sum_in h.sums band ≡ sum_in k.sums band
+  pub some : (band : Band) → sum_in k.sums band ≢ 0
+      → sum_in h.greatest band ≡ sum_in k.greatest band + more band - less band
+  pub none : (band : Band) → sum_in k.sums band ≡ 0 → sum_in h.greatest band ≡ 0
+
+pub moved-owing : (l r : Shape) (e : Entry) (k h : Kept) (more less : Band → ℕ) → IsWhole (Fork l e r k) → Owes k h more less
+    → Each (CanMove more less) (entries (Fork l e r k)) → IsMoved (Fork l e r h) (Fork l e r k) more less
+moved-owing l r e k h more less w o c =
+    let g = sum_in k.greatest in
+    let m = top_of l e r in
+    let es = entries l ++ e ∷ entries r in
+    let there = parts_there l r e k w in
+    let within = parts_within l r e k w in
+    let can = each-of-map (CanMove more less) (moved g m) es c in
+    let P = λ (x : Entry). (0 < amount (sum_in k.sums) x.reservation) × CanMove g m x in
+    let both = each-with (λ x. 0 < amount (sum_in k.sums) x.reservation) (CanMove g m) P (λ x a b. (a, b)) es there w.2.covered in
+    let same = each-with (λ x. x.own ≤ amount m x.reservation) P
+    (λ x. moved (sum_in h.greatest) m x ≡ moved more less (moved g m x))
+    (λ x a b. moved_twice g m (sum_in h.greatest) more less (sum_in k.sums) x o.some b.0 a b.1) es within both in
+    let again = each-with (λ x. CanMove more less (moved g m x)) P (CanMove (sum_in h.greatest) m)
+    (λ x a b. covered_again g m (sum_in h.greatest) more less (sum_in k.sums) x o.some b.0 b.1 a) es can both in
+    record {
+      entries = map-same (moved (sum_in h.greatest) m) (λ x. moved more less (moved g m x)) es same
+          ∙ sym (map-map (moved more less) (moved g m) es);
+      count = o.count;
+      height = o.height;
+      sums = o.sums;
+      some = o.some;
+      none = o.none;
+      whole = (w.0, w.1, record {
+        level = w.2.level;
+        height = o.height ∙ w.2.height;
+        left_height = o.left_height ∙ w.2.left_height;
+        right_height = o.right_height ∙ w.2.right_height;
+        count = o.count ∙ w.2.count;
+        sums = λ band. o.sums band ∙ w.2.sums band;
+        short = λ band. omega (arith, o.sums band, o.count, w.2.short band);
+        idle = λ band z. o.none band (omega (arith, o.sums band, z));
+        settled = λ f. absurd (cc (o.owes, f));
+        covered = again;
+      });
+    }
+
+-- nothing below a leaf
+pub moved-Leaf : (more less : Band → ℕ) → IsMoved Leaf Leaf more less
+moved-Leaf more less = record {
+  entries = refl;
+  count = refl;
+  height = refl;
+  sums = λ band. refl;
+  some = λ band h. absurd (h refl);
+  none = λ band h. refl;
+  whole = tt;
+}
+
+-- A node that is made.
+
+-- where nothing is below it, its greatest is 0
+idle_top : (l r : Shape) (e : Entry) (band : Band) → IsWhole l → IsWhole r
+    → kept_sum l band + airtime_in band e.reservation + kept_sum r band ≡ 0 → top_of l e r band ≡ 0
+idle_top l r e band v w z = by (is_in band e.reservation) z
+  where
+    by : (t : Bool) → kept_sum l band + cond t (airtime_us e.reservation) 0 + kept_sum r band ≡ 0
+        → max (cond t e.own 0) (max (greatest_of l band) (greatest_of r band)) ≡ 0
+    by true s = absurd (omega (arith, s, airtime_of-positive e.reservation.rate e.reservation.len))
+    by false s = omega (arith, idle_of l band v (omega (arith, s)), idle_of r band w (omega (arith, s)))
+
+-- what it keeps of numbers
+pub record Counts (l : Shape) (e : Entry) (r : Shape) (k : Kept) : Type 0 where
+  pub height : k.height ≡ max (height_of l) (height_of r) + 1
+  pub left_height : k.left_height ≡ height_of l
+  pub right_height : k.right_height ≡ height_of r
+  pub count : k.count ≡ count_of l + count_of r + 1
+  pub sums : (band : Band) → sum_in k.sums band ≡ kept_sum l band + airtime_in band e.reservation + kept_sum r band
+  pub short : (band : Band) → sum_in k.sums band ≤ 10000000 * k.count
+  pub greatest : (band : Band) → sum_in k.greatest band ≡ top_of l e r band
+
+pub whole-Fork : (l r : Shape) (e : Entry) (k : Kept) → IsWhole l → IsWhole r → IsLevel l r → Counts l e r k
+    → IsWhole (Fork l e r k)
+whole-Fork l r e k v w level c = (v, w, record {
+  level = level;
+  height = c.height;
+  left_height = c.left_height;
+  right_height = c.right_height;
+  count = c.count;
+  sums = c.sums;
+  short = c.short;
+  idle = λ band z. c.greatest band ∙ idle_top l r e band v w (sym (c.sums band) ∙ z);
+  settled = λ o. c.greatest;
+  covered = covered_settled l r e (sum_in k.greatest) c.greatest;
+})
+
+-- What is asked where it is handed down.
+
+pub covered_left : (l r : Shape) (e : Entry) (k : Kept) (f g : Band → ℕ) → f ≡ sum_in k.greatest → g ≡ top_of l e r
+    → IsKept l e r k → Each (CanMove f g) (entries l)
+covered_left l r e k f g p q kept =
+    subst (λ h. Each (CanMove h g) (entries l)) (sym p)
+    (subst (λ h. Each (CanMove (sum_in k.greatest) h) (entries l)) (sym q)
+    (each-left (CanMove (sum_in k.greatest) (top_of l e r)) (entries l) e (entries r) kept.covered))
+
+pub covered_right : (l r : Shape) (e : Entry) (k : Kept) (f g : Band → ℕ) → f ≡ sum_in k.greatest → g ≡ top_of l e r
+    → IsKept l e r k → Each (CanMove f g) (entries r)
+covered_right l r e k f g p q kept =
+    subst (λ h. Each (CanMove h g) (entries r)) (sym p)
+    (subst (λ h. Each (CanMove (sum_in k.greatest) h) (entries r)) (sym q)
+    (each-right (CanMove (sum_in k.greatest) (top_of l e r)) (entries l) e (entries r) kept.covered).1)
+
+pub own_in_top : (l r : Shape) (e : Entry) (g : Band → ℕ) → g ≡ top_of l e r → e.own ≤ amount g e.reservation
+own_in_top l r e g q =
+    let b = banded e.reservation in
+    let top : g b.band ≡ top_of l e r b.band = ap (λ (h : Band → ℕ). h b.band) q in
+    omega (arith, amount_at g e.reservation b, own_here e b.band b.holds, top)
+
+-- what it keeps once its top is written
+abbrev pub owing : Kept → Sums → Kept
+owing k greatest =
+    record {
+      height = k.height;
+      left_height = k.left_height;
+      right_height = k.right_height;
+      count = k.count;
+      owes = true;
+      sums = k.sums;
+      greatest = greatest;
+    }
+
+owes-owing : (k : Kept) (greatest : Sums) (more less : Band → ℕ)
+    → ((band : Band) → sum_in k.sums band ≢ 0 → sum_in greatest band ≡ sum_in k.greatest band + more band - less band)
+    → ((band : Band) → sum_in k.sums band ≡ 0 → sum_in greatest band ≡ 0) → Owes k (owing k greatest) more less
+owes-owing k greatest more less some none = record {
+  height = refl;
+  left_height = refl;
+  right_height = refl;
+  count = refl;
+  owes = refl;
+  sums = λ band. refl;
+  some = some;
+  none = none;
+}
+
+module _ {A : Type 0} where
+  -- the node whose top is written
+  pub moved-node : (n m : Node A) (greatest : Sums) (t : Shape) (more less : Band → ℕ) → m ≡ n → t ≡ shape n → IsWhole t
+      → ((band : Band) → sum_in (kept_of m).sums band ≢ 0
+      → sum_in greatest band ≡ sum_in (kept_of m).greatest band + more band - less band)
+      → ((band : Band) → sum_in (kept_of m).sums band ≡ 0 → sum_in greatest band ≡ 0)
+      → Each (CanMove more less) (entries t)
+      → IsMoved (shape (roll-Node A record {
+        left = (out-Node A n).left;
+        entry = (out-Node A n).entry;
+        right = (out-Node A n).right;
+        kept = owing (kept_of m) greatest;
+      })) t more less
+  moved-node n m greatest t more less p is w some none c =
+      let h = owing (kept_of m) greatest in
+      let same = is ∙ shape-out n in
+      let new = shape-roll (out-Node A n).left (out-Node A n).right (out-Node A n).entry h in
+      let whole = subst IsWhole same w in
+      let covered = subst (λ s. Each (CanMove more less) (entries s)) same c in
+      let owes = subst (λ o. Owes (kept_of o) h more less) p (owes-owing (kept_of m) greatest more less some none) in
+      subst (λ s. IsMoved s t more less) (sym new)
+      (subst (λ s. IsMoved (Fork (shape_of (out-Node A n).left) (out-Node A n).entry (shape_of (out-Node A n).right) h) s more less)
+      (sym same) (moved-owing _ _ _ (kept_of n) h more less whole owes covered))
+
+  -- the node that is made of two sides and an entry
+  pub made-node : (l r : Option (Box (Node A) A)) (e f : Entry) (k : Kept) → e ≡ f → IsWhole (shape_of l) → IsWhole (shape_of r)
+      → IsLevel (shape_of l) (shape_of r) → Counts (shape_of l) e (shape_of r) k
+      → IsMadeOf (shape (roll-Node A record { left = l; entry = e; right = r; kept = k })) (shape_of l) f (shape_of r)
+  made-node l r e f k same v w level c =
+      subst (λ x. IsMadeOf (shape (roll-Node A record { left = l; entry = e; right = r; kept = k })) (shape_of l) x (shape_of r)) same
+      (subst (λ t. IsMadeOf t (shape_of l) e (shape_of r)) (sym (shape-roll l r e k))
+      (made_of-Fork (shape_of l) (shape_of r) e k (whole-Fork (shape_of l) (shape_of r) e k v w level c) c.greatest))
+
+  pub whole-node : (l r : Option (Box (Node A) A)) (e : Entry) (k : Kept) → IsWhole (shape_of l) → IsWhole (shape_of r)
+      → IsLevel (shape_of l) (shape_of r) → Counts (shape_of l) e (shape_of r) k
+      → IsWhole (shape (roll-Node A record { left = l; entry = e; right = r; kept = k }))
+  whole-node l r e k v w level c =
+      subst IsWhole (sym (shape-roll l r e k)) (whole-Fork (shape_of l) (shape_of r) e k v w level c)

@@ -1,0 +1,59 @@
+ghost use Rattle.std.specs.Prelude.{◌≡◌, ◌+◌, ◌≤◌, ◌<◌, ◌^◌, map};
+ghost use Rattle.radio_bands.specs.declared.band.Band.{Band as SubBand};
+ghost use Rattle.resv_tree.specs.Entries.{IsByKey, Each, moved_in, CanMoveIn};
+ghost use Rattle.resv_tree.specs.Shape.{shape_of, entries, IsWhole, count_of, height_of, greatest_of};
+ghost use Rattle.resv_tree.specs.Sums.{sum_in as sum_of};
+
+use crate::node::{Link, fork, hand, open, with_entry};
+use crate::sums::Sums;
+use resv_list::MAX_MEMBERS;
+use std::alloc::Allocator;
+
+/// The end of a stretch without one.
+const NO_END: u64 = u64::MAX;
+
+/// The tree in which the own hour of each member that begins from `from` on and before `to` has so much more, and then so much
+/// less, by its sub-band; takes no memory. Below a node of the stretch only one of its ends is left on either side, so it is
+/// two walks at most, and each tree beside them that lies within is written at its top alone.
+//#[tactic(auto, using(crate::proofs::StretchLemmas::shifting))]
+pub(crate) fn shift<A: Allocator + Clone>(
+    link: Link<A>,
+    from: u64,
+    to: u64,
+    more: &Sums,
+    less: &Sums,
+) -> Link<A>
+    requires whole { IsWhole (shape_of link) }
+    requires by_key { IsByKey (entries (shape_of link)) }
+    requires room { count_of (shape_of link) ≤ MAX_MEMBERS }
+    requires fits { (band : SubBand) → greatest_of (shape_of link) band + sum_of more.now band < 2 ^ 64 }
+    requires covered { Each (CanMoveIn from to (sum_of more.now) (sum_of less.now)) (entries (shape_of link)) }
+    ensures entries { entries (shape_of result)
+        ≡ map (moved_in from to (sum_of more.now) (sum_of less.now)) (entries (shape_of link)) }
+    ensures count { count_of (shape_of result) ≡ count_of (shape_of link) }
+    ensures height { height_of (shape_of result) ≡ height_of (shape_of link) }
+    ensures whole { IsWhole (shape_of result) }
+{
+    if from == 0 {
+        if to == NO_END {
+            return hand(link, more, less);
+        }
+    }
+    let Some(top) = link else {
+        return None;
+    };
+    let (left, top, right) = open(top);
+    let entry = top.entry();
+    if entry.reservation.start < from {
+        let right = shift(right, from, to, more, less);
+        return Some(fork(left, top, right));
+    }
+    if to <= entry.reservation.start {
+        let left = shift(left, from, to, more, less);
+        return Some(fork(left, top, right));
+    }
+    let left = shift(left, from, NO_END, more, less);
+    let right = shift(right, 0, to, more, less);
+    let top = with_entry(top, entry.moved(more, less));
+    Some(fork(left, top, right))
+}
