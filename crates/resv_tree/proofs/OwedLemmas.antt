@@ -315,18 +315,22 @@ moved-owing l r e k h more less w o c =
       sums = o.sums;
       some = o.some;
       none = o.none;
-      whole = (w.0, w.1, record {
-        level = w.2.level;
-        height = o.height ∙ w.2.height;
-        left_height = o.left_height ∙ w.2.left_height;
-        right_height = o.right_height ∙ w.2.right_height;
-        count = o.count ∙ w.2.count;
-        sums = λ band. o.sums band ∙ w.2.sums band;
-        short = λ band. omega (arith, o.sums band, o.count, w.2.short band);
-        idle = λ band z. o.none band (omega (arith, o.sums band, z));
-        settled = λ f. absurd (cc (o.owes, f));
-        covered = again;
-      });
+      whole = (
+        w.0,
+        w.1,
+        record {
+          level = w.2.level;
+          height = o.height ∙ w.2.height;
+          left_height = o.left_height ∙ w.2.left_height;
+          right_height = o.right_height ∙ w.2.right_height;
+          count = o.count ∙ w.2.count;
+          sums = λ band. o.sums band ∙ w.2.sums band;
+          short = λ band. omega (arith, o.sums band, o.count, w.2.short band);
+          idle = λ band z. o.none band (omega (arith, o.sums band, z));
+          settled = λ f. absurd (cc (o.owes, f));
+          covered = again;
+        },
+      );
     }
 
 -- nothing below a leaf
@@ -365,18 +369,22 @@ pub record Counts (l : Shape) (e : Entry) (r : Shape) (k : Kept) : Type 0 where
 
 pub whole-Fork : (l r : Shape) (e : Entry) (k : Kept) → IsWhole l → IsWhole r → IsLevel l r → Counts l e r k
     → IsWhole (Fork l e r k)
-whole-Fork l r e k v w level c = (v, w, record {
-  level = level;
-  height = c.height;
-  left_height = c.left_height;
-  right_height = c.right_height;
-  count = c.count;
-  sums = c.sums;
-  short = c.short;
-  idle = λ band z. c.greatest band ∙ idle_top l r e band v w (sym (c.sums band) ∙ z);
-  settled = λ o. c.greatest;
-  covered = covered_settled l r e (sum_in k.greatest) c.greatest;
-})
+whole-Fork l r e k v w level c = (
+  v,
+  w,
+  record {
+    level = level;
+    height = c.height;
+    left_height = c.left_height;
+    right_height = c.right_height;
+    count = c.count;
+    sums = c.sums;
+    short = c.short;
+    idle = λ band z. c.greatest band ∙ idle_top l r e band v w (sym (c.sums band) ∙ z);
+    settled = λ o. c.greatest;
+    covered = covered_settled l r e (sum_in k.greatest) c.greatest;
+  },
+)
 
 -- What is asked where it is handed down.
 

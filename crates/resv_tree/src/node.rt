@@ -4,8 +4,8 @@ ghost use Rattle.resv_tree.specs.Sums.{sum_in as sum_of};
 ghost use Rattle.resv_list.specs.Reservations.{net};
 ghost use Rattle.resv_tree.specs.Shape.{shape, shape_of, entries, entry_of, kept_of, height_of, count_of, kept_sum};
 ghost use Rattle.resv_tree.specs.Shape.{IsWhole, IsLevel, IsKept, IsBeside, TellsOf};
-ghost use Rattle.resv_tree.specs.Shape.{Fork, greatest_of, top_of};
-ghost use Rattle.resv_tree.specs.Entries.{CanMove, Each, moved, members};
+ghost use Rattle.resv_tree.specs.Shape.{Fork, members_of, greatest_of, top_of};
+ghost use Rattle.resv_tree.specs.Entries.{CanMove, Each, moved};
 ghost use Rattle.resv_tree.specs.Parts.{IsMadeOf, IsSeenAs, IsMoved};
 
 use crate::entry::Entry;
@@ -116,7 +116,7 @@ pub(crate) fn sum_in<A: Allocator + Clone>(link: &Link<A>, band: Band) -> u64
 pub(crate) fn airtime<A: Allocator + Clone>(link: &Link<A>) -> u64
     requires whole { IsWhole (shape_of link.now) }
     requires room { count_of (shape_of link.now) ≤ MAX_MEMBERS }
-    ensures { result ≡ net (members (entries (shape_of link.now))) }
+    ensures { result ≡ net (members_of (shape_of link.now)) }
 {
     sums(link).total()
 }
