@@ -1,6 +1,7 @@
 pub mod TotalLemmas
 pub mod EntryLemmas
 pub mod OwedLemmas
+pub mod StretchLemmas
 pub mod ShapeLemmas
 pub mod SplitLemmas
 pub mod TreeLemmas

@@ -6,7 +6,7 @@ use Rattle.resv_tree.specs.declared.kept.Kept.{Kept}
 use Rattle.resv_tree.specs.declared.entry.Entry.{Entry}
 use Rattle.resv_tree.specs.Shape.{Shape, Leaf, Fork, shape, shape_of, entry_of, kept_of, entries, height_of, count_of, kept_sum}
 use Rattle.resv_tree.specs.Shape.{IsWhole, IsKept, TellsOf, IsBeside}
-use Rattle.resv_tree.specs.Parts.{IsSeenAs}
+use Rattle.resv_tree.specs.Parts.{IsSeenAs, IsOwing}
 
 -- Whole trees, and nodes as the program sees them.
 
@@ -26,10 +26,20 @@ seen_as-Fork : (t l r : Shape) (e : Entry) (k : Kept) → t ≡ Fork l e r k →
 seen_as-Fork t l r e k is w =
     let f : IsWhole (Fork l e r k) = subst IsWhole is w in
     subst (λ s. IsSeenAs s l e r) (sym is) record {
-      entries = refl;
-      covered = f.2.covered;
       members = refl;
       count = f.2.count;
+      height = f.2.height;
+      left = f.0;
+      right = f.1;
+    }
+
+-- and owes them what it keeps above theirs
+owing-Fork : (t l r : Shape) (e : Entry) (k : Kept) → t ≡ Fork l e r k → IsWhole t → IsOwing t l e r
+owing-Fork t l r e k is w =
+    let f : IsWhole (Fork l e r k) = subst IsWhole is w in
+    subst (λ s. IsOwing s l e r) (sym is) record {
+      covered = f.2.covered;
+      entries = refl;
       height = f.2.height;
       left = f.0;
       right = f.1;
@@ -102,6 +112,10 @@ module _ {A : Type 0} where
   pub seen_as-out : (n : Node A) (l r : Option (Box (Node A) A)) (e : Entry) → l ≡ (out-Node A n).left
       → e ≡ (out-Node A n).entry → r ≡ (out-Node A n).right → IsWhole (shape n) → IsSeenAs (shape n) (shape_of l) e (shape_of r)
   seen_as-out n l r e left entry right w = rw (left, entry, right) (seen_as-Fork _ _ _ _ _ (shape-out n) w)
+
+  pub owing-out : (n : Node A) (l r : Option (Box (Node A) A)) (e : Entry) → l ≡ (out-Node A n).left
+      → e ≡ (out-Node A n).entry → r ≡ (out-Node A n).right → IsWhole (shape n) → IsOwing (shape n) (shape_of l) e (shape_of r)
+  owing-out n l r e left entry right w = rw (left, entry, right) (owing-Fork _ _ _ _ _ (shape-out n) w)
 
   -- and it is what that node holds
   pub shape-taken : (n : Node A) (l r : Option (Box (Node A) A)) (e : Entry) (k : Kept) → l ≡ (out-Node A n).left

@@ -16,12 +16,18 @@ pub record IsMadeOf (t l : Shape) (e : Entry) (r : Shape) : Type 0 where
   pub left : IsWhole l
   pub right : IsWhole r
 
--- the tree's top holds these sides, which are whole and level, and this entry, to which it may owe something
+-- the tree's top holds these sides, which are whole, and this entry, to which it may owe something
 pub record IsSeenAs (t l : Shape) (e : Entry) (r : Shape) : Type 0 where
-  pub covered : Each (CanMove (greatest_of t) (top_of l e r)) (entries l ++ e ∷ entries r)
-  pub entries : entries t ≡ map (moved (greatest_of t) (top_of l e r)) (entries l ++ e ∷ entries r)
   pub members : members_of t ≡ members_of l ++ e.reservation ∷ members_of r
   pub count : count_of t ≡ count_of l + count_of r + 1
+  pub height : height_of t ≡ max (height_of l) (height_of r) + 1
+  pub left : IsWhole l
+  pub right : IsWhole r
+
+-- the same with what it owes them
+pub record IsOwing (t l : Shape) (e : Entry) (r : Shape) : Type 0 where
+  pub covered : Each (CanMove (greatest_of t) (top_of l e r)) (entries l ++ e ∷ entries r)
+  pub entries : entries t ≡ map (moved (greatest_of t) (top_of l e r)) (entries l ++ e ∷ entries r)
   pub height : height_of t ≡ max (height_of l) (height_of r) + 1
   pub left : IsWhole l
   pub right : IsWhole r

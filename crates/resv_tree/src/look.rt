@@ -5,7 +5,7 @@ ghost use Rattle.resv_tree.specs.Entries.{IsByKey, first_reaching};
 ghost use Rattle.resv_tree.specs.Shape.{shape_of, members_of, entries, IsWhole, count_of, top_of};
 
 use crate::entry::Entry;
-use crate::node::{Link, Parts, greatest_in, look, sum_in};
+use crate::node::{Link, Parts, greatest_in, look, look_closer, sum_in};
 use crate::sums::{Sums, moved};
 use radio_bands::Band;
 use resv_list::{MAX_MEMBERS, Reservation};
@@ -97,7 +97,7 @@ pub(crate) fn first_over<A: Allocator + Clone>(
         return None;
     }
     let Some(node) = link else { return None };
-    let Parts { left, entry, right } = look(node);
+    let Parts { left, entry, right } = look_closer(node);
     let least = moved(least, top_in(left, &entry, right, band), greatest);
     if entry.reservation.start < from {
         return first_over(right, band, from, to, least);

@@ -6,7 +6,7 @@ ghost use Rattle.resv_tree.specs.Shape.{shape, shape_of, entries, entry_of, kept
 ghost use Rattle.resv_tree.specs.Shape.{IsWhole, IsLevel, IsKept, IsBeside, TellsOf};
 ghost use Rattle.resv_tree.specs.Shape.{Fork, members_of, greatest_of, top_of};
 ghost use Rattle.resv_tree.specs.Entries.{CanMove, Each, moved};
-ghost use Rattle.resv_tree.specs.Parts.{IsMadeOf, IsSeenAs, IsMoved};
+ghost use Rattle.resv_tree.specs.Parts.{IsMadeOf, IsSeenAs, IsOwing, IsMoved};
 
 use crate::entry::Entry;
 use crate::kept::Kept;
@@ -132,6 +132,18 @@ pub(crate) fn greatest_in<A: Allocator + Clone>(link: &Link<A>, band: Band) -> u
 pub(crate) fn look<'a, A: Allocator + Clone>(node: &'a Node<A>) -> Parts<'a, A>
     requires { IsWhole (shape node.now) }
     ensures { IsSeenAs (shape node.now) (shape_of result.left.now) result.entry (shape_of result.right.now) }
+{
+    Parts {
+        left: &node.left,
+        entry: node.entry,
+        right: &node.right,
+    }
+}
+
+/// The same with what its top owes them.
+pub(crate) fn look_closer<'a, A: Allocator + Clone>(node: &'a Node<A>) -> Parts<'a, A>
+    requires { IsWhole (shape node.now) }
+    ensures { IsOwing (shape node.now) (shape_of result.left.now) result.entry (shape_of result.right.now) }
 {
     Parts {
         left: &node.left,

@@ -1,4 +1,4 @@
-ghost use Rattle.std.specs.Prelude.{◌≡◌, ◌+◌, ◌≤◌, ◌<◌, ◌^◌, map};
+ghost use Rattle.std.specs.Prelude.{◌≡◌, ◌+◌, ◌≤◌, ◌<◌, ◌^◌, map, true};
 ghost use Rattle.radio_bands.specs.declared.band.Band.{Band as SubBand};
 ghost use Rattle.resv_tree.specs.Entries.{IsByKey, Each, moved_in, CanMoveIn};
 ghost use Rattle.resv_tree.specs.Shape.{shape_of, entries, IsWhole, count_of, height_of, greatest_of};
@@ -15,7 +15,7 @@ const NO_END: u64 = u64::MAX;
 /// The tree in which the own hour of each member that begins from `from` on and before `to` has so much more, and then so much
 /// less, by its sub-band; takes no memory. Below a node of the stretch only one of its ends is left on either side, so it is
 /// two walks at most, and each tree beside them that lies within is written at its top alone.
-//#[tactic(auto, using(crate::proofs::StretchLemmas::shifting))]
+#[tactic(auto, using(crate::proofs::StretchLemmas::shifting))]
 pub(crate) fn shift<A: Allocator + Clone>(
     link: Link<A>,
     from: u64,
@@ -34,10 +34,8 @@ pub(crate) fn shift<A: Allocator + Clone>(
     ensures height { height_of (shape_of result) ≡ height_of (shape_of link) }
     ensures whole { IsWhole (shape_of result) }
 {
-    if from == 0 {
-        if to == NO_END {
-            return hand(link, more, less);
-        }
+    if is_endless(from, to) {
+        return hand(link, more, less);
     }
     let Some(top) = link else {
         return None;
@@ -56,4 +54,12 @@ pub(crate) fn shift<A: Allocator + Clone>(
     let right = shift(right, 0, to, more, less);
     let top = with_entry(top, entry.moved(more, less));
     Some(fork(left, top, right))
+}
+
+/// Whether the stretch leaves out no moment that a member begins at.
+fn is_endless(from: u64, to: u64) -> bool
+    ensures start { result ≡ true → from ≡ 0 }
+    ensures end { result ≡ true → to ≡ 18446744073709551615 }
+{
+    from == 0 && to == NO_END
 }

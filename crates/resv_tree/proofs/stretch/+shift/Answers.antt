@@ -1,0 +1,89 @@
+use Rattle.std.proofs.Common.{rules, arith, ap, sym, subst, ◌∙◌, ◌++◌, ◌∷◌}
+use Rattle.resv_tree.specs.Entries.{key_of, moved}
+use Rattle.resv_tree.specs.Shape.{shape_of, entries, entry_of}
+use Rattle.resv_tree.specs.Parts.{IsMadeOf}
+use Rattle.resv_tree.specs.Sums.{sum_in}
+use Rattle.resv_tree.proofs.TreeLemmas.{left_by_key, right_by_key}
+use Rattle.resv_tree.proofs.StretchLemmas.{covered_right_of, covered_left_of, covered_low, covered_high, fits_left, fits_right}
+use Rattle.resv_tree.proofs.StretchLemmas.{shifted_middle}
+use Rattle.resv_tree.proofs.stretch.+shift.Goals as goal
+
+pub shift-right-requires : goal.shift-right-requires
+shift-right-requires g t c κs within =
+    let is = c.in-Some.is in
+    let made = subst (λ x. IsMadeOf (shape_of x) (shape_of c.open-left.result.0) (entry_of c.open-left.result.1.value)
+    (shape_of c.open-left.result.2)) (sym is) c.open-left.ensures.made in
+    let entry = c.entry-entry.ensures ∙ ap entry_of c.deref.ensures in
+    let more = sum_in c.args.more.now in
+    let less = sum_in c.args.less.now in
+    (
+      search (rules, made.height, c.decreases),
+      (within,
+        (made.right,
+          (right_by_key made c.requires.by_key,
+            (omega (arith, made.count, c.requires.room), (fits_right more less made c.requires.fits, covered_right_of more less c.args.from c.args.to made c.requires.covered))))),
+    )
+
+pub shift-left-requires : goal.shift-left-requires
+shift-left-requires g t c κs within =
+    let is = c.in-Some.is in
+    let made = subst (λ x. IsMadeOf (shape_of x) (shape_of c.open-left.result.0) (entry_of c.open-left.result.1.value)
+    (shape_of c.open-left.result.2)) (sym is) c.open-left.ensures.made in
+    let entry = c.entry-entry.ensures ∙ ap entry_of c.deref.ensures in
+    let more = sum_in c.args.more.now in
+    let less = sum_in c.args.less.now in
+    (
+      search (rules, made.height, c.decreases),
+      (within,
+        (made.left,
+          (left_by_key made c.requires.by_key,
+            (omega (arith, made.count, c.requires.room), (fits_left more less made c.requires.fits, covered_left_of more less c.args.from c.args.to made c.requires.covered))))),
+    )
+
+pub shift-left-requires-2 : goal.shift-left-requires-2
+shift-left-requires-2 g t c κs within =
+    let is = c.in-Some.is in
+    let made = subst (λ x. IsMadeOf (shape_of x) (shape_of c.open-left.result.0) (entry_of c.open-left.result.1.value)
+    (shape_of c.open-left.result.2)) (sym is) c.open-left.ensures.made in
+    let entry = c.entry-entry.ensures ∙ ap entry_of c.deref.ensures in
+    let more = sum_in c.args.more.now in
+    let less = sum_in c.args.less.now in
+    (
+      search (rules, made.height, c.decreases),
+      (within,
+        (made.left,
+          (left_by_key made c.requires.by_key,
+            (omega (arith, made.count, c.requires.room), (fits_left more less made c.requires.fits, covered_low more less c.args.from c.args.to made c.requires.by_key
+            (omega (arith, ap key_of entry, c.if-to-entry.false)) c.requires.covered))))),
+    )
+
+pub shift-right-requires-2 : goal.shift-right-requires-2
+shift-right-requires-2 g t c κs within =
+    let is = c.in-Some.is in
+    let made = subst (λ x. IsMadeOf (shape_of x) (shape_of c.open-left.result.0) (entry_of c.open-left.result.1.value)
+    (shape_of c.open-left.result.2)) (sym is) c.open-left.ensures.made in
+    let entry = c.entry-entry.ensures ∙ ap entry_of c.deref.ensures in
+    let more = sum_in c.args.more.now in
+    let less = sum_in c.args.less.now in
+    (
+      search (rules, made.height, c.decreases),
+      (within,
+        (made.right,
+          (right_by_key made c.requires.by_key,
+            (omega (arith, made.count, c.requires.room), (fits_right more less made c.requires.fits, covered_high more less c.args.from c.args.to made c.requires.by_key
+            (omega (arith, ap key_of entry, c.if-entry-from.false)) c.requires.covered))))),
+    )
+
+pub returns-clause-entries : goal.returns-clause-entries
+returns-clause-entries g t c =
+    let is = c.in-Some.is in
+    let made = subst (λ x. IsMadeOf (shape_of x) (shape_of c.open-left.result.0) (entry_of c.open-left.result.1.value)
+    (shape_of c.open-left.result.2)) (sym is) c.open-left.ensures.made in
+    let entry = c.entry-entry.ensures ∙ ap entry_of c.deref.ensures in
+    let more = sum_in c.args.more.now in
+    let less = sum_in c.args.less.now in
+    let placed = c.with_entry-top.ensures ∙ c.moved.ensures ∙ ap (moved more less) entry in
+    c.fork-2.ensures.made.entries
+    ∙ (λ i. c.shift-left-2.ensures.entries i ++ placed i ∷ c.shift-right-2.ensures.entries i)
+    ∙ sym (shifted_middle more less c.args.from c.args.to made c.requires.by_key
+    (omega (arith, ap key_of entry, c.if-entry-from.false)) (omega (arith, ap key_of entry, c.if-to-entry.false)))
