@@ -2,6 +2,8 @@ pub mod TotalLemmas
 pub mod EntryLemmas
 pub mod OwedLemmas
 pub mod StretchLemmas
+pub mod FirstLemmas
+pub mod HourLemmas
 pub mod ShapeLemmas
 pub mod SplitLemmas
 pub mod TreeLemmas

@@ -1,5 +1,5 @@
-ghost use Rattle.std.specs.Prelude.{◌≡◌, ◌≤◌, ◌+◌};
-ghost use Rattle.resv_list.specs.Reservations.{begun, start_of, IsByStart};
+ghost use Rattle.std.specs.Prelude.{◌≡◌, ◌≤◌, ◌+◌, ◌&&◌, nat_le};
+ghost use Rattle.resv_list.specs.Reservations.{begun, is_in, start_of, IsByStart};
 ghost use Rattle.resv_list.specs.Sorted.{first_from, last_below};
 ghost use Rattle.resv_tree.specs.Entries.{IsByKey, first_reaching};
 ghost use Rattle.resv_tree.specs.Shape.{shape_of, members_of, entries, IsWhole, count_of, top_of};
@@ -80,7 +80,6 @@ pub(crate) fn spent_about<A: Allocator + Clone>(
 
 /// The first member of the sub-band, of those that begin from `from` on and before `to`, whose own hour has at least `least`. It
 /// leaves out each tree whose greatest is below that; so behind the two ends of the stretch it goes only where it finds one.
-//#[tactic(auto, using(crate::proofs::FirstLemmas::finding))]
 pub(crate) fn first_over<A: Allocator + Clone>(
     link: &Link<A>,
     band: Band,
@@ -93,26 +92,35 @@ pub(crate) fn first_over<A: Allocator + Clone>(
     ensures { result ≡ first_reaching band from to least (entries (shape_of link.now)) }
 {
     let greatest = greatest_in(link, band);
-    if sum_in(link, band) == 0 || greatest < least {
+    if sum_in(link, band) == 0 {
+        return None;
+    }
+    if greatest < least {
         return None;
     }
     let Some(node) = link else { return None };
     let Parts { left, entry, right } = look_closer(node);
-    let least = moved(least, top_in(left, &entry, right, band), greatest);
+    let below = moved(least, top_in(left, &entry, right, band), greatest);
     if entry.reservation.start < from {
-        return first_over(right, band, from, to, least);
+        return first_over(right, band, from, to, below);
     }
     if to <= entry.reservation.start {
-        return first_over(left, band, from, to, least);
+        return first_over(left, band, from, to, below);
     }
-    let found = first_over(left, band, from, to, least);
-    if found.is_some() {
-        return found;
+    if let Some(found) = first_over(left, band, from, to, below) {
+        return Some(found);
     }
-    if band.holds(entry.reservation.freq_hz, entry.reservation.rate) && entry.own >= least {
+    if has_own(&entry, band, below) {
         return Some(entry.reservation);
     }
-    first_over(right, band, from, to, least)
+    first_over(right, band, from, to, below)
+}
+
+/// Whether it is one of the sub-band, and its own hour has at least so much.
+fn has_own(entry: &Entry, band: Band, least: u64) -> bool
+    ensures { result ≡ is_in band entry.now.reservation && nat_le least entry.now.own }
+{
+    band.holds(entry.reservation.freq_hz, entry.reservation.rate) && entry.own >= least
 }
 
 /// The greatest of an entry's own hour and of what the tops of its two sides keep, in one sub-band.

@@ -15,13 +15,18 @@ shift-right-requires g t c κs within =
     (shape_of c.open-left.result.2)) (sym is) c.open-left.ensures.made in
     let entry = c.entry-entry.ensures ∙ ap entry_of c.deref.ensures in
     let more = sum_in c.args.more.now in
-    let less = sum_in c.args.less.now in
-    (
+    let less = sum_in c.args.less.now in (
       search (rules, made.height, c.decreases),
-      (within,
-        (made.right,
-          (right_by_key made c.requires.by_key,
-            (omega (arith, made.count, c.requires.room), (fits_right more less made c.requires.fits, covered_right_of more less c.args.from c.args.to made c.requires.covered))))),
+      (
+        within,
+        (
+          made.right,
+          (
+            right_by_key made c.requires.by_key,
+            (omega (arith, made.count, c.requires.room), (fits_right more less made c.requires.fits, covered_right_of more less c.args.from c.args.to made c.requires.covered)),
+          ),
+        ),
+      ),
     )
 
 pub shift-left-requires : goal.shift-left-requires
@@ -31,13 +36,18 @@ shift-left-requires g t c κs within =
     (shape_of c.open-left.result.2)) (sym is) c.open-left.ensures.made in
     let entry = c.entry-entry.ensures ∙ ap entry_of c.deref.ensures in
     let more = sum_in c.args.more.now in
-    let less = sum_in c.args.less.now in
-    (
+    let less = sum_in c.args.less.now in (
       search (rules, made.height, c.decreases),
-      (within,
-        (made.left,
-          (left_by_key made c.requires.by_key,
-            (omega (arith, made.count, c.requires.room), (fits_left more less made c.requires.fits, covered_left_of more less c.args.from c.args.to made c.requires.covered))))),
+      (
+        within,
+        (
+          made.left,
+          (
+            left_by_key made c.requires.by_key,
+            (omega (arith, made.count, c.requires.room), (fits_left more less made c.requires.fits, covered_left_of more less c.args.from c.args.to made c.requires.covered)),
+          ),
+        ),
+      ),
     )
 
 pub shift-left-requires-2 : goal.shift-left-requires-2
@@ -47,14 +57,25 @@ shift-left-requires-2 g t c κs within =
     (shape_of c.open-left.result.2)) (sym is) c.open-left.ensures.made in
     let entry = c.entry-entry.ensures ∙ ap entry_of c.deref.ensures in
     let more = sum_in c.args.more.now in
-    let less = sum_in c.args.less.now in
-    (
+    let less = sum_in c.args.less.now in (
       search (rules, made.height, c.decreases),
-      (within,
-        (made.left,
-          (left_by_key made c.requires.by_key,
-            (omega (arith, made.count, c.requires.room), (fits_left more less made c.requires.fits, covered_low more less c.args.from c.args.to made c.requires.by_key
-            (omega (arith, ap key_of entry, c.if-to-entry.false)) c.requires.covered))))),
+      (
+        within,
+        (
+          made.left,
+          (
+            left_by_key made c.requires.by_key,
+            (
+              omega (arith, made.count, c.requires.room),
+              (
+                fits_left more less made c.requires.fits,
+                covered_low more less c.args.from c.args.to made c.requires.by_key
+                    (omega (arith, ap key_of entry, c.if-to-entry.false)) c.requires.covered,
+              ),
+            ),
+          ),
+        ),
+      ),
     )
 
 pub shift-right-requires-2 : goal.shift-right-requires-2
@@ -64,14 +85,25 @@ shift-right-requires-2 g t c κs within =
     (shape_of c.open-left.result.2)) (sym is) c.open-left.ensures.made in
     let entry = c.entry-entry.ensures ∙ ap entry_of c.deref.ensures in
     let more = sum_in c.args.more.now in
-    let less = sum_in c.args.less.now in
-    (
+    let less = sum_in c.args.less.now in (
       search (rules, made.height, c.decreases),
-      (within,
-        (made.right,
-          (right_by_key made c.requires.by_key,
-            (omega (arith, made.count, c.requires.room), (fits_right more less made c.requires.fits, covered_high more less c.args.from c.args.to made c.requires.by_key
-            (omega (arith, ap key_of entry, c.if-entry-from.false)) c.requires.covered))))),
+      (
+        within,
+        (
+          made.right,
+          (
+            right_by_key made c.requires.by_key,
+            (
+              omega (arith, made.count, c.requires.room),
+              (
+                fits_right more less made c.requires.fits,
+                covered_high more less c.args.from c.args.to made c.requires.by_key
+                    (omega (arith, ap key_of entry, c.if-entry-from.false)) c.requires.covered,
+              ),
+            ),
+          ),
+        ),
+      ),
     )
 
 pub returns-clause-entries : goal.returns-clause-entries
