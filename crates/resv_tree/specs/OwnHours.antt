@@ -15,10 +15,12 @@ own_hour l r = amount (λ band. spent l band r.start) r
 
 -- each entry has its member's own hour, in the list of all
 abbrev pub HasHours : List Entry → Type 0
-HasHours es = Each (λ e. e.own ≡ own_hour (members es) e.reservation) es
+HasHours es = Each (λ (e : Entry). e.own ≡ own_hour (members es) e.reservation) es
 
 pub HasHours-prop : (es : List Entry) → IsProp (HasHours es)
-HasHours-prop es = Each-prop (λ e. e.own ≡ own_hour (members es) e.reservation) (λ e. Coded-set coded_ℕ) es
+HasHours-prop es =
+    Each-prop (λ (e : Entry). e.own ≡ own_hour (members es) e.reservation)
+    (λ (e : Entry). Coded-set coded_ℕ e.own (own_hour (members es) e.reservation)) es
 
 -- no airtime
 abbrev pub nothing : Band → ℕ

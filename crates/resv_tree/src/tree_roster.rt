@@ -124,7 +124,7 @@ impl<A: Allocator + Clone> Roster for TreeRoster<A> {
     }
 
     fn first_over(&self, band: Band, from: u64, to: u64, most: u64) -> Option<Reservation> {
-        if self.most(band) <= most {
+        if greatest_in(&self.root, band) <= most {
             return None;
         }
         look::first_over(&self.root, band, from, to, most + 1)
