@@ -9,9 +9,12 @@ use Rattle.resv_list.specs.Hours.{starts_in, is_over, first_over, greatest, most
 use Rattle.resv_list.proofs.HourLemmas.{greatest-cons}
 use Rattle.resv_tree.specs.declared.entry.Entry.{Entry}
 use Rattle.resv_tree.specs.Entries.{key_of, Each, reaches, first_reaching, member_of, members, most_own, own_in}
-use Rattle.resv_tree.specs.OwnHours.{own_hour, HasHours}
+use Rattle.resv_tree.specs.Sums.{sum_in}
+use Rattle.resv_tree.specs.Entries.{moved_in, CanMoveIn}
+use Rattle.resv_tree.specs.OwnHours.{own_hour, HasHours, reach, airtimes, nothing, raised, lowered, CountsIn}
+use Rattle.radio_bands.specs.declared.band.Band.TheVariants.{K, L, M, N, P, Q}
 use Rattle.resv_tree.specs.Shape.{Shape, entries, members_of, greatest_of, IsWhole}
-use Rattle.resv_tree.proofs.EntryLemmas.{in_band, amount_of}
+use Rattle.resv_tree.proofs.EntryLemmas.{in_band, amount_of, each, banded, amount_at}
 use Rattle.resv_tree.proofs.OwedLemmas.{entries-members, greatest_is_most}
 use Rattle.resv_tree.proofs.FirstLemmas.{low_none}
 
@@ -89,3 +92,38 @@ pub none_over : (t : Shape) (band : Band) (from to most : ℕ) → IsWhole t →
 none_over t band from to most w h m =
     low_none t band from to (most + 1) w (omega (arith, m, greatest_is_spent t band w h))
     ∙ first_reaching-over t band from to most h
+
+-- One member more, or one less: what a tree does in a stretch against what its list does.
+
+pub none_in : (band : Band) → sum_in (record { k = 0; l = 0; m = 0; n = 0; p = 0; q = 0 }) band ≡ 0
+none_in K = refl
+none_in L = refl
+none_in M = refl
+none_in N = refl
+none_in P = refl
+none_in Q = refl
+
+pub raised_by : (r : Reservation) (from : ℕ) (more less : Band → ℕ) (es : List Entry) → from ≡ reach r.start
+    → ((band : Band) → more band ≡ airtimes r band) → ((band : Band) → less band ≡ 0)
+    → map (moved_in from r.start more less) es ≡ map (raised r) es
+raised_by r from more less es f a b =
+    λ i. map (moved_in (f i) r.start (λ band. a band i) (λ band. b band i)) es
+
+pub lowered_by : (r : Reservation) (from : ℕ) (more less : Band → ℕ) (es : List Entry) → from ≡ reach r.start
+    → ((band : Band) → more band ≡ 0) → ((band : Band) → less band ≡ airtimes r band)
+    → map (moved_in from r.start more less) es ≡ map (lowered r) es
+lowered_by r from more less es f a b =
+    λ i. map (moved_in (f i) r.start (λ band. a band i) (λ band. b band i)) es
+
+pub raise_covered : (from to : ℕ) (more less : Band → ℕ) (es : List Entry) → ((band : Band) → less band ≡ 0)
+    → Each (CanMoveIn from to more less) es
+raise_covered from to more less es b =
+    let none : less ≡ nothing = λ i band. b band i in
+    subst (λ f. Each (CanMoveIn from to more f) es) (sym none)
+    (each (CanMoveIn from to more nothing) (λ e h g. let m = banded e.reservation in omega (arith, amount_at nothing e.reservation m)) es)
+
+pub lower_covered : (r : Reservation) (from : ℕ) (more less : Band → ℕ) (es : List Entry) → from ≡ reach r.start
+    → ((band : Band) → more band ≡ 0) → ((band : Band) → less band ≡ airtimes r band) → Each (CountsIn r) es
+    → Each (CanMoveIn from r.start more less) es
+lower_covered r from more less es f a b c =
+    subst (λ x. x) (λ i. Each (CanMoveIn (sym f i) r.start (λ band. sym (a band) i) (λ band. sym (b band) i)) es) c
