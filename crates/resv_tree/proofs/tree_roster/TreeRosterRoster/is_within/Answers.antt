@@ -1,6 +1,6 @@
 use Rattle.std.proofs.Common.{arith, sym}
 use Rattle.std.proofs.lemmas.Bool.{le-leb}
-use Rattle.resv_tree.specs.Shape.{shape_of, entries}
+use Rattle.resv_tree.specs.Shape.{shape_of, members_of}
 use Rattle.resv_tree.proofs.SumLemmas.{begun_difference}
 use Rattle.resv_tree.proofs.TreeLemmas.{spent_short}
 use Rattle.resv_tree.proofs.tree_roster.TreeRosterRoster.is_within.Goals as goal
@@ -18,7 +18,7 @@ overflow_add-before_to g c =
 
 pub returns-then-saturating_sub-most : goal.returns-then-saturating_sub-most
 returns-then-saturating_sub-most g c =
-    let l = entries (shape_of c.args.self.now.root) in
+    let l = members_of (shape_of c.args.self.now.root) in
     sym (le-leb _ _ (omega (
       arith,
       c.if-saturating_sub-most.true,
