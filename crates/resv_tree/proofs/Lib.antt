@@ -11,3 +11,4 @@ pub mod NearLemmas
 pub mod SumLemmas
 pub mod HeightLemmas
 pub mod Crossing
+pub mod OwnLemmas
