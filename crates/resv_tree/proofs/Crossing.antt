@@ -10,8 +10,17 @@ use Rattle.std.specs.contracts.option.Option as Option
 use Rattle.std.specs.declared.alloc.Allocator as Allocator
 use Rattle.std.specs.declared.clone.Clone as Clone
 use Rattle.resv_tree.proofs.node.Node.TheLaws.TheKnot as knot
+use Rattle.resv_tree.specs.contracts.kept.Kept as Kept
 use Rattle.resv_tree.specs.contracts.node.Node as Node
+use Rattle.resv_tree.specs.contracts.sums.Sums as Sums
 use Rattle.resv_tree.specs.contracts.tree_roster.TreeRoster as TreeRoster
+
+-- what a node keeps in numbers
+sums : IsSend (Sums.the_field).row
+sums = search sendable depth 20
+
+kept : IsSend (Kept.the_field).row
+kept = search (sendable, sums) depth 20
 
 module _ (A : RattleType) (g : Allocator.Ghosts A.Denot) (sent : IsSend A) (frees : Frees g g.dealloc_token) where
   link : (T : RattleType) → IsSend T → IsSend (Option.the_row (Box.the_row T A g))
@@ -19,7 +28,7 @@ module _ (A : RattleType) (g : Allocator.Ghosts A.Denot) (sent : IsSend A) (free
 
   node : IsSend (Node.the_row A g)
   node = as_row_send (Node.the_field A g)
-      (knot.send-Node A g link (search sendable depth 20) (search sendable depth 20))
+      (knot.send-Node A g link (search sendable depth 20) kept)
 
   -- its root, and its allocator
   pub roster_send : (c : Clone.Ghosts A.Denot) → IsSend (TreeRoster.the_row A c g)

@@ -1,5 +1,4 @@
 use Rattle.std.proofs.Common.{rules, arith, ap, sym, subst, ◌∙◌, ◌+◌, ◌-◌}
-use Rattle.resv_tree.specs.Entries.{key_of}
 use Rattle.resv_tree.specs.Shape.{shape, shape_of}
 use Rattle.resv_tree.specs.Parts.{IsOwing}
 use Rattle.resv_tree.proofs.FirstLemmas.{idle_none, low_none, owing_left, owing_right, over_right, over_left, over_found, over_here, over_later}

@@ -1,7 +1,7 @@
 use Rattle.std.proofs.Common.{arith, ap}
 use Rattle.resv_tree.specs.Shape.{shape_of, entry_of}
 use Rattle.resv_tree.proofs.ShapeLemmas.{count_bounds_sum, count_bounds_height}
-use Rattle.resv_tree.proofs.OwedLemmas.{Counts, made-node, whole-node}
+use Rattle.resv_tree.proofs.OwedLemmas.{made-node, whole-node}
 use Rattle.resv_tree.proofs.node.fork.Goals as goal
 
 pub around-requires : goal.around-requires

@@ -1,6 +1,4 @@
-use Rattle.std.specs.Prelude.{ℕ, ◌≡◌}
-use Rattle.std.proofs.Common.{ap, arith, subst, sym, ◌∙◌}
-use Rattle.radio_bands.specs.declared.band.Band.{Band}
+use Rattle.std.proofs.Common.{ap, arith, sym, ◌∙◌}
 use Rattle.resv_tree.specs.Sums.{sum_in}
 use Rattle.resv_tree.specs.Shape.{shape_of, entry_of, kept_of, top_of}
 use Rattle.resv_tree.proofs.OwedLemmas.{covered_left, covered_right, own_in_top}

@@ -1,6 +1,6 @@
 use Rattle.std.proofs.Common.{rules, arith, ap, sym, subst, ◌∙◌, ◌++◌, ◌∷◌}
 use Rattle.resv_tree.specs.Entries.{key_of, moved}
-use Rattle.resv_tree.specs.Shape.{shape_of, entries, entry_of}
+use Rattle.resv_tree.specs.Shape.{shape_of, entry_of}
 use Rattle.resv_tree.specs.Parts.{IsMadeOf}
 use Rattle.resv_tree.specs.Sums.{sum_in}
 use Rattle.resv_tree.proofs.TreeLemmas.{left_by_key, right_by_key}
