@@ -1,5 +1,6 @@
-use Rattle.std.specs.Prelude.{ℕ, ◌≡◌, ◌+◌, ◌/◌, ◌^◌, ◌≤◌, ◌∷◌, length, max}
+use Rattle.std.specs.Prelude.{ℕ, ◌≡◌, ◌+◌, ◌/◌, ◌^◌, ◌≤◌, ◌∷◌, length, max, nat_le, Bool, true, false}
 use Rattle.std.proofs.Common.{refl, arith, zero, suc, sym, ap, subst, ◌∙◌, length-append}
+use Rattle.std.proofs.lemmas.Bool.{leb-true, leb-false}
 use Rattle.std.proofs.Math.Nat.{one-le-pow, pow-le-pow_right, two-pow-succ}
 use Rattle.resv_tree.specs.Shape.{Shape, Leaf, Fork, members_of, height_of, count_of, IsWhole}
 
@@ -41,5 +42,18 @@ pow_le_count (Fork l e r k) w =
     (omega (arith, level.0, level.1)) (omega (arith, level.0, level.1)) (pow_le_count l w.0) (pow_le_count r w.1) in
     let top : 2 ^ (k.height / 2) ≡ 2 ^ ((max (height_of l) (height_of r) + 1) / 2) = ap (λ m. 2 ^ (m / 2)) w.2.height in
     omega (arith, d, top, w.2.count)
+
+grown : (m n : ℕ) → m ≤ n → 2 ^ m ≤ 2 ^ n
+grown m n h = pow-le-pow_right (omega arith) h
+
+-- so no tree of a roster is higher than 33 levels
+pub height_is_low : (t : Shape) → IsWhole t → count_of t ≤ 65536 → height_of t ≤ 33
+height_is_low t w c = by (nat_le (height_of t) 33) refl
+  where
+    by : (b : Bool) → nat_le (height_of t) 33 ≡ b → height_of t ≤ 33
+    by true e = leb-true (height_of t) 33 e
+    by false e =
+        let high = leb-false (height_of t) 33 e in
+        absurd (omega (arith, c, grown 17 (height_of t / 2) (omega (arith, high)), pow_le_count t w))
 
 pub ruleset counts = (count_of-length, count_lt_pow, pow_le_count)

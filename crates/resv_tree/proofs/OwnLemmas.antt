@@ -113,8 +113,10 @@ members-from at (e ∷ es) = by (nat_le at (key_of e)) (members-from at es)
 same_member : (from to : ℕ) (more less : Band → ℕ) (e : Entry) → (moved_in from to more less e).reservation ≡ e.reservation
 same_member from to more less e = by (nat_le from (key_of e) && nat_lt (key_of e) to)
   where
-    by : (t : Bool) → (cond t (record { reservation = e.reservation;
-        own = e.own + amount more e.reservation - amount less e.reservation }) e).reservation ≡ e.reservation
+    by : (t : Bool) → (cond t (record {
+      reservation = e.reservation;
+      own = e.own + amount more e.reservation - amount less e.reservation;
+    }) e).reservation ≡ e.reservation
     by true = refl
     by false = refl
 
@@ -186,8 +188,10 @@ raised_hour : (l m : List Reservation) (r : Reservation) (e : Entry)
 raised_hour l m r e more n own = go (banded e.reservation)
   where
     by : (b : Banded e.reservation) (t : Bool) → share b.band (key_of e) (key_of e + hour) r ≡ cond t (airtime_in b.band r) 0
-        → (cond t (record { reservation = e.reservation;
-        own = e.own + amount (airtimes r) e.reservation - amount nothing e.reservation }) e).own ≡ own_hour m e.reservation
+        → (cond t (record {
+          reservation = e.reservation;
+          own = e.own + amount (airtimes r) e.reservation - amount nothing e.reservation;
+        }) e).own ≡ own_hour m e.reservation
     by b true s = omega (
       arith,
       own,
@@ -206,6 +210,7 @@ raised_hour l m r e more n own = go (banded e.reservation)
       amount_at (λ c. spent l c (key_of e)) e.reservation b,
       amount_at (λ c. spent m c (key_of e)) e.reservation b,
     )
+
     go : Banded e.reservation → (raised r e).own ≡ own_hour m e.reservation
     go b = by b (nat_le (reach r.start) (key_of e) && nat_lt (key_of e) r.start) (share_hour b.band (key_of e) r n)
 
@@ -215,8 +220,10 @@ lowered_hour : (l m : List Reservation) (r : Reservation) (e : Entry)
 lowered_hour l m r e less n own = go (banded e.reservation)
   where
     by : (b : Banded e.reservation) (t : Bool) → share b.band (key_of e) (key_of e + hour) r ≡ cond t (airtime_in b.band r) 0
-        → (cond t (record { reservation = e.reservation;
-        own = e.own + amount nothing e.reservation - amount (airtimes r) e.reservation }) e).own ≡ own_hour m e.reservation
+        → (cond t (record {
+          reservation = e.reservation;
+          own = e.own + amount nothing e.reservation - amount (airtimes r) e.reservation;
+        }) e).own ≡ own_hour m e.reservation
     by b true s = omega (
       arith,
       own,
@@ -235,6 +242,7 @@ lowered_hour l m r e less n own = go (banded e.reservation)
       amount_at (λ c. spent l c (key_of e)) e.reservation b,
       amount_at (λ c. spent m c (key_of e)) e.reservation b,
     )
+
     go : Banded e.reservation → (lowered r e).own ≡ own_hour m e.reservation
     go b = by b (nat_le (reach r.start) (key_of e) && nat_lt (key_of e) r.start) (share_hour b.band (key_of e) r n)
 

@@ -5,7 +5,8 @@ ghost use Rattle.resv_tree.specs.Shape.{shape, shape_of, entry_of, entries, IsWh
 
 use crate::entry::Entry;
 use crate::join::{join, join_left, join_right};
-use crate::node::{Link, Node, fork, kept, open};
+use crate::node::{Link, Node, fork, open};
+use crate::told::kept;
 use resv_list::MAX_MEMBERS;
 use std::alloc::Allocator;
 

@@ -3,7 +3,8 @@ ghost use Rattle.resv_tree.specs.Shape.{shape, shape_of, entry_of, kept_of, IsWh
 ghost use Rattle.resv_tree.specs.Parts.{IsMadeOf, IsJoined};
 
 use crate::kept::Kept;
-use crate::node::{Link, Node, fork, height, open, with_left, with_right};
+use crate::node::{Link, Node, fork, open, with_left, with_right};
+use crate::told::height;
 use resv_list::MAX_MEMBERS;
 use std::alloc::Allocator;
 
@@ -48,7 +49,7 @@ pub(crate) fn join_left<A: Allocator + Clone>(
     requires room { count_of (shape_of left) + count_of (shape_of right) < MAX_MEMBERS }
     ensures { IsJoined (shape result.value) (shape_of left) (entry_of top.value) (shape_of right) }
 {
-    if are_level(height(&left), top.kept().right_height) {
+    if are_level(height(&left), top.kept().right_height as u32) {
         return with_left(left, top, old, right);
     }
     join(left, top, right)
@@ -68,7 +69,7 @@ pub(crate) fn join_right<A: Allocator + Clone>(
     requires room { count_of (shape_of left) + count_of (shape_of right) < MAX_MEMBERS }
     ensures { IsJoined (shape result.value) (shape_of left) (entry_of top.value) (shape_of right) }
 {
-    if are_level(top.kept().left_height, height(&right)) {
+    if are_level(top.kept().left_height as u32, height(&right)) {
         return with_right(left, top, old, right);
     }
     join(left, top, right)

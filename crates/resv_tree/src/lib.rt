@@ -11,6 +11,7 @@ mod look;
 mod node;
 mod stretch;
 mod sums;
+mod told;
 mod tree_roster;
 
 pub use tree_roster::TreeRoster;

@@ -5,8 +5,9 @@ ghost use Rattle.resv_tree.specs.Entries.{IsByKey, first_reaching};
 ghost use Rattle.resv_tree.specs.Shape.{shape_of, members_of, entries, IsWhole, count_of, top_of};
 
 use crate::entry::Entry;
-use crate::node::{Link, Parts, greatest_in, look, look_closer, sum_in};
+use crate::node::{Link, Parts, look, look_closer};
 use crate::sums::{Sums, moved};
+use crate::told::{greatest_in, sum_in};
 use radio_bands::Band;
 use resv_list::{MAX_MEMBERS, Reservation};
 use std::alloc::Allocator;

@@ -1,17 +1,16 @@
 ghost use Rattle.std.specs.Prelude.{◌≡◌, ◌+◌, ◌-◌, ◌≤◌, ◌<◌, ◌^◌, max};
 ghost use Rattle.radio_bands.specs.declared.band.Band.{Band as SubBand};
 ghost use Rattle.resv_tree.specs.Sums.{sum_in as sum_of};
-ghost use Rattle.resv_list.specs.Reservations.{net};
-ghost use Rattle.resv_tree.specs.Shape.{shape, shape_of, entries, entry_of, kept_of, height_of, count_of, kept_sum};
-ghost use Rattle.resv_tree.specs.Shape.{IsWhole, IsLevel, IsKept, IsBeside, TellsOf};
-ghost use Rattle.resv_tree.specs.Shape.{Fork, members_of, greatest_of, top_of};
+ghost use Rattle.resv_tree.specs.Shape.{shape, shape_of, entries, entry_of, kept_of, height_of, count_of};
+ghost use Rattle.resv_tree.specs.Shape.{IsWhole, IsLevel, IsKept, IsBeside};
+ghost use Rattle.resv_tree.specs.Shape.{Fork, greatest_of, top_of};
 ghost use Rattle.resv_tree.specs.Entries.{CanMove, Each, moved};
 ghost use Rattle.resv_tree.specs.Parts.{IsMadeOf, IsSeenAs, IsOwing, IsMoved};
 
 use crate::entry::Entry;
 use crate::kept::Kept;
 use crate::sums::Sums;
-use radio_bands::Band;
+use crate::told::kept;
 use resv_list::MAX_MEMBERS;
 use std::alloc::Allocator;
 
@@ -25,7 +24,7 @@ pub(crate) struct Node<A: Allocator + Clone> {
     left: Link<A>,
     entry: Entry,
     right: Link<A>,
-    kept: Kept,
+    pub(crate) kept: Kept,
 }
 
 /// The parts of a node behind a reference.
@@ -61,71 +60,6 @@ impl<A: Allocator + Clone> Node<A> {
     {
         self.kept
     }
-}
-
-/// What the top of the tree keeps.
-pub(crate) fn kept<A: Allocator + Clone>(link: &Link<A>) -> Kept
-    ensures { TellsOf result (shape_of link.now) }
-{
-    match link {
-        None => Kept::NONE,
-        Some(node) => node.kept,
-    }
-}
-
-/// How many levels the tree has.
-pub(crate) fn height<A: Allocator + Clone>(link: &Link<A>) -> u32
-    ensures value { result ≡ height_of (shape_of link.now) }
-    ensures bounded { IsWhole (shape_of link.now) → result ≤ count_of (shape_of link.now) }
-{
-    match link {
-        None => 0,
-        Some(node) => node.kept.height,
-    }
-}
-
-/// How many members the tree has.
-pub(crate) fn count<A: Allocator + Clone>(link: &Link<A>) -> usize
-    ensures { result ≡ count_of (shape_of link.now) }
-{
-    match link {
-        None => 0,
-        Some(node) => node.kept.count as usize,
-    }
-}
-
-/// The airtime of the tree's members in each sub-band.
-pub(crate) fn sums<A: Allocator + Clone>(link: &Link<A>) -> Sums
-    ensures { (band : SubBand) → sum_of result band ≡ kept_sum (shape_of link.now) band }
-{
-    match link {
-        None => Sums::NONE,
-        Some(node) => node.kept.sums,
-    }
-}
-
-/// The airtime of the tree's members in one sub-band.
-pub(crate) fn sum_in<A: Allocator + Clone>(link: &Link<A>, band: Band) -> u64
-    ensures { result ≡ kept_sum (shape_of link.now) band }
-{
-    sums(link).in_band(band)
-}
-
-/// The airtime of the tree's members, in microseconds.
-#[tactic(auto, using(crate::proofs::SumLemmas::totals))]
-pub(crate) fn airtime<A: Allocator + Clone>(link: &Link<A>) -> u64
-    requires whole { IsWhole (shape_of link.now) }
-    requires room { count_of (shape_of link.now) ≤ MAX_MEMBERS }
-    ensures { result ≡ net (members_of (shape_of link.now)) }
-{
-    sums(link).total()
-}
-
-/// The greatest own hour of the tree's members of one sub-band, in microseconds; 0 where there is none.
-pub(crate) fn greatest_in<A: Allocator + Clone>(link: &Link<A>, band: Band) -> u64
-    ensures { result ≡ greatest_of (shape_of link.now) band }
-{
-    kept(link).greatest.in_band(band)
 }
 
 /// The parts of a tree, left in it.

@@ -8,10 +8,11 @@ ghost use Rattle.resv_tree.specs.OwnHours.{own_hour, HasHours, HasHours-prop, ra
 ghost use Rattle.resv_tree.specs.Shape.{shape_of, entries, members_of, IsWhole, IsWhole-prop, count_of, greatest_of};
 
 use crate::entry::Entry;
-use crate::node::{Link, Node, count, greatest_in, height};
+use crate::node::{Link, Node};
 use crate::stretch::shift;
 use crate::sums::Sums;
-use crate::{change, look, node};
+use crate::told::{count, greatest_in, height};
+use crate::{change, look, told};
 use radio_bands::Band;
 use resv_list::{Dropped, HOUR, MAX_MEMBERS, Reservation, Roster, RosterFault};
 use std::alloc::Allocator;
@@ -148,11 +149,11 @@ impl<A: Allocator + Clone> Roster for TreeRoster<A> {
 
     #[tactic(auto, using(crate::proofs::TreeLemmas::dropped))]
     fn drop_before(&mut self, start: u64) -> Dropped {
-        let (members, airtime) = (count(&self.root), node::airtime(&self.root));
+        let (members, airtime) = (count(&self.root), told::airtime(&self.root));
         self.root = change::drop_before(self.root.take(), start);
         Dropped {
             count: members - count(&self.root),
-            airtime: airtime - node::airtime(&self.root),
+            airtime: airtime - told::airtime(&self.root),
         }
     }
 

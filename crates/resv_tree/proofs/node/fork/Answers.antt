@@ -1,6 +1,7 @@
 use Rattle.std.proofs.Common.{arith, ap}
 use Rattle.resv_tree.specs.Shape.{shape_of, entry_of}
-use Rattle.resv_tree.proofs.ShapeLemmas.{count_bounds_sum, count_bounds_height}
+use Rattle.resv_tree.proofs.ShapeLemmas.{count_bounds_sum}
+use Rattle.resv_tree.proofs.HeightLemmas.{height_is_low}
 use Rattle.resv_tree.proofs.OwedLemmas.{made-node, whole-node}
 use Rattle.resv_tree.proofs.node.fork.Goals as goal
 
@@ -16,8 +17,8 @@ around-requires g c =
 
 pub overflow_add-kept : goal.overflow_add-kept
 overflow_add-kept g c =
-    let left = count_bounds_height (shape_of c.args.left) c.requires.left in
-    let right = count_bounds_height (shape_of c.args.right) c.requires.right in
+    let left = height_is_low (shape_of c.args.left) c.requires.left (omega (arith, c.requires.room)) in
+    let right = height_is_low (shape_of c.args.right) c.requires.right (omega (arith, c.requires.room)) in
     omega (arith, left, right, c.kept-before.ensures.height, c.kept-behind.ensures.height, c.max.ensures)
 
 pub returns-clause-whole : goal.returns-clause-whole

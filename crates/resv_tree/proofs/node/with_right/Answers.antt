@@ -4,7 +4,8 @@ use Rattle.resv_tree.specs.Sums.{sum_in}
 use Rattle.resv_tree.specs.Shape.{shape_of, entry_of, kept_of}
 use Rattle.resv_tree.proofs.SumLemmas.{airtime_in-short}
 use Rattle.resv_tree.proofs.OwedLemmas.{made-node, whole-node}
-use Rattle.resv_tree.proofs.ShapeLemmas.{count_bounds_sum, count_bounds_height}
+use Rattle.resv_tree.proofs.ShapeLemmas.{count_bounds_sum}
+use Rattle.resv_tree.proofs.HeightLemmas.{height_is_low}
 use Rattle.resv_tree.proofs.node.with_right.Goals as goal
 
 pub exchanged-requires : goal.exchanged-requires
@@ -28,8 +29,8 @@ exchanged-requires g c =
 
 pub overflow_add-kept : goal.overflow_add-kept
 overflow_add-kept g c =
-    let left = count_bounds_height (shape_of c.args.left) c.requires.left in
-    let right = count_bounds_height (shape_of c.args.right) c.requires.right in
+    let left = height_is_low (shape_of c.args.left) c.requires.left (omega (arith, c.requires.room)) in
+    let right = height_is_low (shape_of c.args.right) c.requires.right (omega (arith, c.requires.room)) in
     let kept = ap (λ n. (kept_of n).left_height) c.deref-2.ensures in
     omega (arith, left, right, kept, c.requires.height, c.kept-new.ensures.height, c.requires.room, c.max.ensures)
 

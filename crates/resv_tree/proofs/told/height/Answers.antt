@@ -1,7 +1,7 @@
 use Rattle.std.proofs.Common.{arith, ap, sym, ◌∙◌}
 use Rattle.resv_tree.specs.Shape.{shape, shape_of, height_of}
 use Rattle.resv_tree.proofs.ShapeLemmas.{count_bounds_height, shape-out}
-use Rattle.resv_tree.proofs.node.height.Goals as goal
+use Rattle.resv_tree.proofs.told.height.Goals as goal
 
 pub returns-in-Some-clause-bounded : goal.returns-in-Some-clause-bounded
 returns-in-Some-clause-bounded g c = λ w.

@@ -1,0 +1,78 @@
+// What is told of a tree by what its top keeps, so that no other node is looked at.
+ghost use Rattle.std.specs.Prelude.{◌≡◌, ◌≤◌};
+ghost use Rattle.radio_bands.specs.declared.band.Band.{Band as SubBand};
+ghost use Rattle.resv_list.specs.Reservations.{net};
+ghost use Rattle.resv_tree.specs.Sums.{sum_in as sum_of};
+ghost use Rattle.resv_tree.specs.Shape.{shape_of, height_of, count_of, kept_sum, greatest_of, members_of, IsWhole, TellsOf};
+
+use crate::kept::Kept;
+use crate::node::Link;
+use crate::sums::Sums;
+use radio_bands::Band;
+use resv_list::MAX_MEMBERS;
+use std::alloc::Allocator;
+
+/// What the top of the tree keeps.
+pub(crate) fn kept<A: Allocator + Clone>(link: &Link<A>) -> Kept
+    ensures { TellsOf result (shape_of link.now) }
+{
+    match link {
+        None => Kept::NONE,
+        Some(node) => node.kept,
+    }
+}
+
+/// How many levels the tree has.
+pub(crate) fn height<A: Allocator + Clone>(link: &Link<A>) -> u32
+    ensures value { result ≡ height_of (shape_of link.now) }
+    ensures bounded { IsWhole (shape_of link.now) → result ≤ count_of (shape_of link.now) }
+{
+    match link {
+        None => 0,
+        Some(node) => node.kept.height as u32,
+    }
+}
+
+/// How many members the tree has.
+pub(crate) fn count<A: Allocator + Clone>(link: &Link<A>) -> usize
+    ensures { result ≡ count_of (shape_of link.now) }
+{
+    match link {
+        None => 0,
+        Some(node) => node.kept.count as usize,
+    }
+}
+
+/// The airtime of the tree's members in each sub-band.
+pub(crate) fn sums<A: Allocator + Clone>(link: &Link<A>) -> Sums
+    ensures { (band : SubBand) → sum_of result band ≡ kept_sum (shape_of link.now) band }
+{
+    match link {
+        None => Sums::NONE,
+        Some(node) => node.kept.sums,
+    }
+}
+
+/// The airtime of the tree's members in one sub-band.
+pub(crate) fn sum_in<A: Allocator + Clone>(link: &Link<A>, band: Band) -> u64
+    ensures { result ≡ kept_sum (shape_of link.now) band }
+{
+    sums(link).in_band(band)
+}
+
+/// The airtime of the tree's members, in microseconds.
+#[tactic(auto, using(crate::proofs::SumLemmas::totals))]
+pub(crate) fn airtime<A: Allocator + Clone>(link: &Link<A>) -> u64
+    requires whole { IsWhole (shape_of link.now) }
+    requires room { count_of (shape_of link.now) ≤ MAX_MEMBERS }
+    ensures { result ≡ net (members_of (shape_of link.now)) }
+{
+    sums(link).total()
+}
+
+/// The greatest own hour of the tree's members of one sub-band, in microseconds; 0 where there is none.
+pub(crate) fn greatest_in<A: Allocator + Clone>(link: &Link<A>, band: Band) -> u64
+    ensures { result ≡ greatest_of (shape_of link.now) band }
+{
+    kept(link).greatest.in_band(band)
+}
