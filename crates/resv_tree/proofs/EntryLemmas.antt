@@ -1,4 +1,5 @@
-use Rattle.std.specs.Prelude.{ℕ, ◌≡◌, ◌≢◌, ◌+◌, ◌-◌, ◌<◌, ◌≤◌, max, Bool, true, false, List, [], ◌∷◌, ◌++◌, Option, Some, None, map, cond}
+use Rattle.std.specs.Prelude.{ℕ, ◌≡◌, ◌≢◌, ◌+◌, ◌-◌, ◌<◌, ◌≤◌, max, Bool, true, false, List, [], ◌∷◌, ◌++◌, Option, Some, None}
+use Rattle.std.specs.Prelude.{map, cond}
 use Rattle.std.specs.Prelude.{is_some}
 use Rattle.std.proofs.Common.{refl, arith, zero, suc, sym, ap, ◌∙◌, subst}
 use Rattle.radio_airtime.specs.Bounds.{airtime_of-positive}
@@ -95,7 +96,8 @@ pub members-moved : (more less : Band → ℕ) (es : List Entry) → members (ma
 members-moved more less [] = refl
 members-moved more less (e ∷ es) = ap (λ (rs : List Reservation). e.reservation ∷ rs) (members-moved more less es)
 
-pub members-parts : (ls : List Entry) (e : Entry) (rs : List Entry) → members (ls ++ e ∷ rs) ≡ members ls ++ e.reservation ∷ members rs
+pub members-parts : (ls : List Entry) (e : Entry) (rs : List Entry) → members (ls ++ e ∷ rs)
+    ≡ members ls ++ e.reservation ∷ members rs
 members-parts [] e rs = refl
 members-parts (x ∷ ls) e rs = ap (λ (ms : List Reservation). x.reservation ∷ ms) (members-parts ls e rs)
 

@@ -8,7 +8,8 @@ use Rattle.resv_list.specs.declared.reservation.Reservation.{Reservation}
 use Rattle.resv_list.specs.Reservations.{is_in, airtime_us}
 use Rattle.resv_list.specs.Sorted.{RisesFrom}
 use Rattle.resv_tree.specs.declared.entry.Entry.{Entry}
-use Rattle.resv_tree.specs.Entries.{key_of, IsByKey, Each, amount, moved, CanMove, reaches, first_reaching, member_of, members, most_own}
+use Rattle.resv_tree.specs.Entries.{key_of, IsByKey, Each, amount, moved, CanMove, reaches, first_reaching, member_of, members}
+use Rattle.resv_tree.specs.Entries.{most_own}
 use Rattle.resv_tree.specs.Sums.{total_in}
 use Rattle.resv_tree.specs.Shape.{Shape, entries, members_of, greatest_of, top_of, kept_sum, IsWhole}
 use Rattle.resv_tree.specs.Parts.{IsOwing}
@@ -142,7 +143,8 @@ asked_more p q f e es true m s u rest = rw (s ∙ u) (ap Some m)
 asked_more p q f e es false m s u rest = rw (s ∙ u) rest
 
 asked_all : (more less : Band → ℕ) (band : Band) (from to least : ℕ) (es : List Entry) → Each (CanMove more less) es
-    → first_reaching band from to least (map (moved more less) es) ≡ first_reaching band from to (least + less band - more band) es
+    → first_reaching band from to least (map (moved more less) es) ≡ first_reaching band from to
+    (least + less band - more band) es
 asked_all more less band from to least [] c = refl
 asked_all more less band from to least (e ∷ es) c =
     asked_more (reaches band from to least) (reaches band from to (least + less band - more band)) (moved more less) e es
@@ -212,12 +214,14 @@ module _ {t l r : Shape} {e : Entry} where
         → first_reaching band from to below (entries l) ≡ first_reaching band from to least (entries t)
     over_left h =
         let high = keys_above 0 (entries l) e (entries r) (raw_by_key m b) in
-        let no = each-with (λ y. key_of e + 1 ≤ key_of y) (λ y. key_of e + 1 ≤ key_of y) (λ y. reaches band from to below y ≡ false)
+        let no = each-with (λ y. key_of e + 1 ≤ key_of y) (λ y. key_of e + 1 ≤ key_of y)
+        (λ y. reaches band from to below y ≡ false)
         (λ y u v. late band from to below y (omega (arith, u, h))) (entries r) high high in
         sym (asked ∙ ap (option_map member_of) (find_first (reaches band from to below) (entries l) e (entries r)
         (late band from to below e h) no))
 
-    some_of : (o : Option Entry) (x : Reservation) → option_map member_of o ≡ Some x → find (reaches band from to below) (entries l) ≡ o
+    some_of : (o : Option Entry) (x : Reservation) → option_map member_of o ≡ Some x → find (reaches band from to below)
+        (entries l) ≡ o
         → first_reaching band from to below (entries l ++ e ∷ entries r) ≡ Some x
     some_of None x q f = absurd (cc)
     some_of (Some y) x q f =

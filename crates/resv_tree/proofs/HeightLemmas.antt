@@ -9,7 +9,14 @@ use Rattle.resv_tree.specs.Shape.{Shape, Leaf, Fork, members_of, height_of, coun
 pub count_of-length : (t : Shape) → IsWhole t → count_of t ≡ length (members_of t)
 count_of-length Leaf w = refl
 count_of-length (Fork l e r k) w =
-    omega (arith, w.2.count, count_of-length l w.0, count_of-length r w.1, length-append (members_of l) (e.reservation ∷ members_of r))
+    omega (
+      arith,
+      w.2.count,
+      count_of-length l w.0,
+      count_of-length r w.1,
+      length-append (members_of l)
+          (e.reservation ∷ members_of r),
+    )
 
 -- a tree of some height has at most so many members
 pub count_lt_pow : (t : Shape) → IsWhole t → count_of t + 1 ≤ 2 ^ height_of t

@@ -29,7 +29,8 @@ most_of_all : (l : List Reservation) (band : Band) (es : List Entry) → Each (�
     → most_own band es ≡ greatest (map (spent l band) (starts_in (members es) band))
 most_of_all l band [] h = refl
 most_of_all l band (e ∷ es) h =
-    by (is_in band e.reservation) refl (greatest-cons (spent l band) band e.reservation (members es) (is_in band e.reservation) refl)
+    by (is_in band e.reservation) refl (greatest-cons (spent l band) band e.reservation (members es)
+    (is_in band e.reservation) refl)
     (most_of_all l band es h.1)
   where
     by : (t : Bool) → is_in band e.reservation ≡ t
@@ -59,7 +60,8 @@ over_one : (l : List Reservation) (band : Band) (from to most : ℕ) (e : Entry)
 over_one l band from to most e h = by (is_in band e.reservation) refl
   where
     by : (t : Bool) → is_in band e.reservation ≡ t
-        → (t && nat_le from e.reservation.start && nat_lt e.reservation.start to && nat_lt most (spent l band e.reservation.start))
+        → (t && nat_le from e.reservation.start && nat_lt e.reservation.start to && nat_lt most
+        (spent l band e.reservation.start))
         ≡ (t && nat_le from (key_of e) && nat_lt (key_of e) to && nat_le (most + 1) e.own)
     by true i =
         ap (λ (u : Bool). nat_le from (key_of e) && nat_lt (key_of e) to && u)
@@ -120,7 +122,8 @@ pub raise_covered : (from to : ℕ) (more less : Band → ℕ) (es : List Entry)
 raise_covered from to more less es b =
     let none : less ≡ nothing = λ i band. b band i in
     subst (λ f. Each (CanMoveIn from to more f) es) (sym none)
-    (each (CanMoveIn from to more nothing) (λ e h g. let m = banded e.reservation in omega (arith, amount_at nothing e.reservation m)) es)
+    (each (CanMoveIn from to more nothing) (λ e h g. let m = banded e.reservation in omega
+    (arith, amount_at nothing e.reservation m)) es)
 
 pub lower_covered : (r : Reservation) (from : ℕ) (more less : Band → ℕ) (es : List Entry) → from ≡ reach r.start
     → ((band : Band) → more band ≡ 0) → ((band : Band) → less band ≡ airtimes r band) → Each (CountsIn r) es

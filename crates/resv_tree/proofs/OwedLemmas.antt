@@ -1,4 +1,5 @@
-use Rattle.std.specs.Prelude.{ℕ, ◌≡◌, ◌≢◌, ◌+◌, ◌-◌, ◌*◌, ◌^◌, ◌<◌, ◌≤◌, max, Bool, true, false, List, [], ◌∷◌, ◌++◌, map, cond, Option, Box}
+use Rattle.std.specs.Prelude.{ℕ, ◌≡◌, ◌≢◌, ◌+◌, ◌-◌, ◌*◌, ◌^◌, ◌<◌, ◌≤◌, max, Bool, true, false, List, [], ◌∷◌, ◌++◌, map, cond}
+use Rattle.std.specs.Prelude.{Option, Box}
 use Rattle.std.proofs.Common.{refl, arith, zero, suc, sym, ap, ◌∙◌, subst}
 use Rattle.radio_airtime.specs.Bounds.{airtime_of-positive}
 use Rattle.radio_bands.specs.declared.band.Band.{Band}
@@ -18,8 +19,10 @@ use Rattle.resv_tree.proofs.ShapeLemmas.{shape-out, shape-roll}
 use Rattle.resv_tree.proofs.EntryLemmas.{each-left, each-right, own_here}
 use Rattle.resv_tree.proofs.TotalLemmas.{total_in-cons}
 use Rattle.resv_tree.proofs.SumLemmas.{kept_sum-total}
-use Rattle.resv_tree.proofs.EntryLemmas.{Banded, banded, amount_at, own_same, each, each-with, each-of-map, map-same, map-identity}
-use Rattle.resv_tree.proofs.EntryLemmas.{map-parts, map-map, members-moved, members-parts, most-parts, most_none, most_moved, each_within}
+use Rattle.resv_tree.proofs.EntryLemmas.{Banded, banded, amount_at, own_same, each, each-with, each-of-map, map-same}
+use Rattle.resv_tree.proofs.EntryLemmas.{map-identity}
+use Rattle.resv_tree.proofs.EntryLemmas.{map-parts, map-map, members-moved, members-parts, most-parts, most_none, most_moved}
+use Rattle.resv_tree.proofs.EntryLemmas.{each_within}
 use Rattle.resv_tree.proofs.EntryLemmas.{each_there, own_moved}
 
 -- What a tree keeps of the own hours of its members, and what its nodes owe.
@@ -225,7 +228,8 @@ pub opened-made : (t l r p q : Shape) (e f : Entry) (k : Kept) → t ≡ Fork l 
     → IsMoved q r (sum_in k.greatest) (top_of l e r) → IsMadeOf t p f q
 opened-made t l r p q e f k is w a same b =
     let whole : IsWhole (Fork l e r k) = subst IsWhole is w in
-    subst (λ s. IsMadeOf s p f q) (sym is) (subst (λ x. IsMadeOf (Fork l e r k) p x q) (sym same) (made_of-handed l r p q e k whole a b))
+    subst (λ s. IsMadeOf s p f q) (sym is) (subst (λ x. IsMadeOf (Fork l e r k) p x q) (sym same)
+    (made_of-handed l r p q e k whole a b))
 
 pub opened-kept : (t l r p q : Shape) (e f : Entry) (k j : Kept) → t ≡ Fork l e r k → IsWhole t
     → IsMoved p l (sum_in k.greatest) (top_of l e r) → f ≡ moved (sum_in k.greatest) (top_of l e r) e
@@ -456,7 +460,8 @@ module _ {A : Type 0} where
       let covered = subst (λ s. Each (CanMove more less) (entries s)) same c in
       let owes = subst (λ o. Owes (kept_of o) h more less) p (owes-owing (kept_of m) greatest more less some none) in
       subst (λ s. IsMoved s t more less) (sym new)
-      (subst (λ s. IsMoved (Fork (shape_of (out-Node A n).left) (out-Node A n).entry (shape_of (out-Node A n).right) h) s more less)
+      (subst (λ s. IsMoved (Fork (shape_of (out-Node A n).left) (out-Node A n).entry
+      (shape_of (out-Node A n).right) h) s more less)
       (sym same) (moved-owing _ _ _ (kept_of n) h more less whole owes covered))
 
   -- the node that is made of two sides and an entry
@@ -464,7 +469,8 @@ module _ {A : Type 0} where
       → IsLevel (shape_of l) (shape_of r) → Counts (shape_of l) e (shape_of r) k
       → IsMadeOf (shape (roll-Node A record { left = l; entry = e; right = r; kept = k })) (shape_of l) f (shape_of r)
   made-node l r e f k same v w level c =
-      subst (λ x. IsMadeOf (shape (roll-Node A record { left = l; entry = e; right = r; kept = k })) (shape_of l) x (shape_of r)) same
+      subst (λ x. IsMadeOf (shape (roll-Node A record { left = l; entry = e; right = r; kept = k })) (shape_of l) x
+      (shape_of r)) same
       (subst (λ t. IsMadeOf t (shape_of l) e (shape_of r)) (sym (shape-roll l r e k))
       (made_of-Fork (shape_of l) (shape_of r) e k (whole-Fork (shape_of l) (shape_of r) e k v w level c) c.greatest))
 

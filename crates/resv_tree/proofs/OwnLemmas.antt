@@ -8,7 +8,8 @@ use Rattle.radio_bands.specs.Band.{hour, band_of}
 use Rattle.resv_list.specs.declared.reservation.Reservation.{Reservation}
 use Rattle.resv_list.specs.Begun.{begun-cons, begun-nil}
 use Rattle.resv_list.specs.Sorted.{RisesFrom, place_by, rest_from}
-use Rattle.resv_list.specs.Reservations.{start_of, is_in, airtime_in, airtime_us, share, begun, spent, place, member_at, without, members_from}
+use Rattle.resv_list.specs.Reservations.{start_of, is_in, airtime_in, airtime_us, share, begun, spent, place, member_at}
+use Rattle.resv_list.specs.Reservations.{without, members_from}
 use Rattle.resv_list.specs.Reservations.{IsByStart, IsFree}
 use Rattle.resv_list.proofs.BegunLemmas.{share_before, share_after, share_within}
 use Rattle.resv_list.proofs.SortedLaws.{at_none, RisesFrom-filter}
@@ -39,11 +40,13 @@ begun-place band from to r (s ∷ ss) = begun_placed band from to r s ss (nat_lt
 pub begun-without : (band : Band) (from to at low : ℕ) (r : Reservation) (l : List Reservation) → RisesFrom start_of low l
     → member_at at l ≡ Some r → begun band from to l ≡ share band from to r + begun band from to (without at l)
 begun-without band from to at low r [] h e = absurd (cc)
-begun-without band from to at low r (x ∷ xs) h e = by (x.start == at) refl e (begun-without band from to at (x.start + 1) r xs h.1)
+begun-without band from to at low r (x ∷ xs) h e = by (x.start == at) refl e
+    (begun-without band from to at (x.start + 1) r xs h.1)
   where
     by : (t : Bool) → (x.start == at) ≡ t → cond t (Some x) (member_at at xs) ≡ Some r
         → (member_at at xs ≡ Some r → begun band from to xs ≡ share band from to r + begun band from to (without at xs))
-        → begun band from to (x ∷ xs) ≡ share band from to r + begun band from to (cond (not t) (x ∷ without at xs) (without at xs))
+        → begun band from to (x ∷ xs) ≡ share band from to r + begun band from to
+        (cond (not t) (x ∷ without at xs) (without at xs))
     by true u f rest =
         let same : x ≡ r = cc in
         let here : x.start ≡ at = grind (arith, nat_tests) in

@@ -19,7 +19,8 @@ module _ {X : Type 0} (key : X → ℕ) where
   rises_left low [] x rs r = tt
   rises_left low (y ∷ ls) x rs r = (r.0, rises_left (key y + 1) ls x rs r.1)
 
-  pub rises_behind : (low : ℕ) (ls : List X) (x : X) (rs : List X) → RisesFrom key low (ls ++ x ∷ rs) → RisesFrom key (key x + 1) rs
+  pub rises_behind : (low : ℕ) (ls : List X) (x : X) (rs : List X) → RisesFrom key low (ls ++ x ∷ rs) → RisesFrom key
+      (key x + 1) rs
   rises_behind low [] x rs r = r.1
   rises_behind low (y ∷ ls) x rs r = rises_behind (key y + 1) ls x rs r.1
 

@@ -1,4 +1,5 @@
-use Rattle.std.specs.Prelude.{ℕ, ◌≡◌, ◌+◌, ◌-◌, ◌^◌, ◌<◌, ◌≤◌, max, nat_lt, nat_le, Bool, true, false, ◌&&◌, List, [], ◌∷◌, ◌++◌, map, cond}
+use Rattle.std.specs.Prelude.{ℕ, ◌≡◌, ◌+◌, ◌-◌, ◌^◌, ◌<◌, ◌≤◌, max, nat_lt, nat_le, Bool, true, false, ◌&&◌, List, [], ◌∷◌}
+use Rattle.std.specs.Prelude.{◌++◌, map, cond}
 use Rattle.std.proofs.Common.{refl, arith, sym, ap, ◌∙◌, subst}
 use Rattle.std.proofs.lemmas.Bool.{lt-ltb, le-ltb, le-leb, lt-leb}
 use Rattle.radio_bands.specs.declared.band.Band.{Band}
@@ -8,7 +9,8 @@ use Rattle.resv_tree.specs.Entries.{key_of, IsByKey, Each, amount, moved, moved_
 use Rattle.resv_tree.specs.Shape.{Shape, entries, greatest_of, top_of}
 use Rattle.resv_tree.specs.Parts.{IsMadeOf}
 use Rattle.resv_tree.proofs.SplitLemmas.{middle_from, rises_behind}
-use Rattle.resv_tree.proofs.EntryLemmas.{each, each-with, each-left, each-right, map-same, map-identity, map-parts, Banded, banded, amount_at}
+use Rattle.resv_tree.proofs.EntryLemmas.{each, each-with, each-left, each-right, map-same, map-identity, map-parts, Banded}
+use Rattle.resv_tree.proofs.EntryLemmas.{banded, amount_at}
 use Rattle.resv_tree.proofs.OwedLemmas.{own_in_top}
 use Rattle.resv_tree.proofs.TreeLemmas.{sides}
 
@@ -117,7 +119,8 @@ module _ (more less : Band → ℕ) where
     pub covered_right_of : (from to : ℕ) → IsMadeOf t l e r → Each (CanMoveIn from to more less) (entries t)
         → Each (CanMoveIn from to more less) (entries r)
     covered_right_of from to m c =
-        (each-right (CanMoveIn from to more less) (entries l) e (entries r) (subst (Each (CanMoveIn from to more less)) m.entries c)).1
+        (each-right (CanMoveIn from to more less) (entries l) e (entries r)
+        (subst (Each (CanMoveIn from to more less)) m.entries c)).1
 
     pub covered_left_of : (from to : ℕ) → IsMadeOf t l e r → Each (CanMoveIn from to more less) (entries t)
         → Each (CanMoveIn from to more less) (entries l)

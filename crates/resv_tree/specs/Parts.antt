@@ -2,7 +2,8 @@ use Rattle.std.specs.Prelude.{ℕ, ◌≡◌, ◌+◌, ◌≤◌, max, map, ◌�
 use Rattle.radio_bands.specs.declared.band.Band.{Band}
 use Rattle.resv_tree.specs.declared.entry.Entry.{Entry}
 use Rattle.resv_tree.specs.Entries.{moved, CanMove, Each}
-use Rattle.resv_tree.specs.Shape.{Shape, entries, members_of, height_of, count_of, greatest_of, top_of, kept_sum, IsLevel, IsWhole}
+use Rattle.resv_tree.specs.Shape.{Shape, entries, members_of, height_of, count_of, greatest_of, top_of, kept_sum, IsLevel}
+use Rattle.resv_tree.specs.Shape.{IsWhole}
 
 -- What a tree is made of.
 

@@ -55,7 +55,8 @@ returns-clause-made g c =
     let around = c.around.ensures in
     let before = c.kept-before.ensures in
     let behind = c.kept-behind.ensures in
-    made-node c.args.left c.args.right _ _ _ (ap entry_of c.deref.ensures) c.requires.left c.requires.right c.requires.level (record {
+    made-node c.args.left c.args.right _ _ _ (ap entry_of c.deref.ensures) c.requires.left c.requires.right c.requires.level
+    (record {
       height = omega (arith, before.height, behind.height, c.max.ensures);
       left_height = before.height;
       right_height = behind.height;

@@ -23,7 +23,13 @@ shift-right-requires g t c κs within =
           made.right,
           (
             right_by_key made c.requires.by_key,
-            (omega (arith, made.count, c.requires.room), (fits_right more less made c.requires.fits, covered_right_of more less c.args.from c.args.to made c.requires.covered)),
+            (
+              omega (arith, made.count, c.requires.room),
+              (
+                fits_right more less made c.requires.fits,
+                covered_right_of more less c.args.from c.args.to made c.requires.covered,
+              ),
+            ),
           ),
         ),
       ),
@@ -44,7 +50,13 @@ shift-left-requires g t c κs within =
           made.left,
           (
             left_by_key made c.requires.by_key,
-            (omega (arith, made.count, c.requires.room), (fits_left more less made c.requires.fits, covered_left_of more less c.args.from c.args.to made c.requires.covered)),
+            (
+              omega (arith, made.count, c.requires.room),
+              (
+                fits_left more less made c.requires.fits,
+                covered_left_of more less c.args.from c.args.to made c.requires.covered,
+              ),
+            ),
           ),
         ),
       ),

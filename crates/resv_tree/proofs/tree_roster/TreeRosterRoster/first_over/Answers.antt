@@ -15,7 +15,13 @@ pub returns-then-greatest_in-most : goal.returns-then-greatest_in-most
 returns-then-greatest_in-most g c =
     let self = c.args.self.now in
     none_over (shape_of self.root) c.args.band c.args.from c.args.to c.args.most self.whole self.hours
-    (omega (arith, c.if-greatest_in-most.true, c.greatest_in.ensures, greatest_is_spent (shape_of self.root) c.args.band self.whole self.hours))
+    (omega (
+      arith,
+      c.if-greatest_in-most.true,
+      c.greatest_in.ensures,
+      greatest_is_spent
+          (shape_of self.root) c.args.band self.whole self.hours,
+    ))
 
 pub returns : goal.returns
 returns g c =

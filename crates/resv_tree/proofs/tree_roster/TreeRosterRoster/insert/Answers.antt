@@ -35,7 +35,14 @@ invariant_of-self g c =
       hours =
           inserted_hours root (shape_of c.raise-root.result) (shape c.insert.result.value) r _ _ made up
           c.insert.ensures.entries c.requires c.own_hour-own.ensures c.args.self.now.hours;
-      bounded = omega (arith, c.insert.ensures.count, c.raise-root.ensures.count, c.if-count-ge-MAX_MEMBERS.false, c.count.ensures, as_many);
+      bounded = omega (
+        arith,
+        c.insert.ensures.count,
+        c.raise-root.ensures.count,
+        c.if-count-ge-MAX_MEMBERS.false,
+        c.count.ensures,
+        as_many,
+      );
     }
 
 pub returns-clause-placed : goal.returns-clause-placed

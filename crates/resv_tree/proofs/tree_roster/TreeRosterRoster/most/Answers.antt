@@ -5,4 +5,5 @@ use Rattle.resv_tree.proofs.tree_roster.TreeRosterRoster.most.Goals as goal
 
 pub returns : goal.returns
 returns g c =
-    c.greatest_in.ensures ∙ greatest_is_spent (shape_of c.args.self.now.root) c.args.band c.args.self.now.whole c.args.self.now.hours
+    c.greatest_in.ensures
+    ∙ greatest_is_spent (shape_of c.args.self.now.root) c.args.band c.args.self.now.whole c.args.self.now.hours
