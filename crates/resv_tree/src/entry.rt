@@ -18,8 +18,8 @@ pub(crate) struct Entry {
 impl Entry {
     /// The entry with so much more, and then so much less, in its own hour, by its sub-band.
     pub(crate) fn moved(&self, more: &Sums, less: &Sums) -> Entry
-        requires fits { self.now.own - amount (sum_in less.now) self.now.reservation + amount
-            (sum_in more.now) self.now.reservation
+        requires fits { self.now.own - amount (sum_in less.now) self.now.reservation
+            + amount (sum_in more.now) self.now.reservation
             ≤ max (amount (sum_in more.now) self.now.reservation) (2 ^ 64 - 1) }
         ensures { result ≡ moved (sum_in more.now) (sum_in less.now) self.now }
     {
