@@ -143,7 +143,8 @@ fn toggle<R: Roster>(
     Ok(())
 }
 
-/// Random changes to a roster and to the list, and the same questions to both; the starts lie within two hours.
+/// Random changes to a roster and to the list, some of which drop what begins before a moment, and the same questions to both; the
+/// starts lie within two hours.
 fn answers_alike<R: Roster>(
     rt: &impl Abort,
     roster: &mut R,
@@ -154,6 +155,12 @@ fn answers_alike<R: Roster>(
         drawn = drawn_after(drawn);
         let (start, from) = ((drawn >> 57) * 60_000_001, (drawn >> 50) % 128 * 60_000_001);
         toggle(rt, roster, &mut members, start)?;
+        if drawn % 64 == 0 {
+            let before = members.len();
+            members.retain(|member| member.start >= from);
+            let fewer = before.saturating_sub(members.len());
+            assert_eq!(rt; roster.drop_before(from).count, fewer, "in turn {turn}");
+        }
         let band = [Band::K, Band::M, Band::P][(drawn % 3) as usize];
         let most = most_in(members.as_slice(), band);
         assert_eq!(rt; roster.most(band), most, "in turn {turn}");
