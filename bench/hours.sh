@@ -54,7 +54,8 @@ many = told("the program", program)
 if other:
     print(f"with 16,384 the program takes {many / told('the other', other):.4f} of the other's time")
 full, empty = run(program, lines(15_722)), run(program, lines(600))
-print(f"{LINES:,} lines: {full:.2f} s in hours nine tenths full, {empty:.2f} s at 600 an hour: {empty / full:.2f} of the lines a second")
+ratio = f"{empty / full:.2f} of the lines a second"
+print(f"{LINES:,} lines: {full:.2f} s in hours nine tenths full, {empty:.2f} s at 600 an hour: {ratio}")
 kept, more = books(0, spread(12_288, 49_152)), between(12_288, 16_000)
 taken = "".join(f"cancel {i} {s}\n" for i, s in enumerate(more))
 plain, booked, both = run(program, kept), run(program, kept + books(0, more)), run(program, kept + books(0, more) + taken)
