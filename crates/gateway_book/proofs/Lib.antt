@@ -16,7 +16,6 @@ pub mod BusiestLaws
 pub mod AdmittedLaws
 pub mod SoundLaws
 pub mod SightLaws
-pub mod FilledLaws
 pub mod ForgettingLaws
 pub mod PairLaws
 pub mod ForgottenSteps

@@ -16,7 +16,6 @@ use crate::cancel::named;
 use crate::duty::full_hour;
 use crate::listing::members_of;
 use crate::overlap::{ending_after, starting_before};
-use crate::trial::filled;
 use crate::{Ask, CancelFault, Refusal, Totals};
 use radio_bands::Band;
 use resv_list::{HOUR, Reservation, Roster, airtime_of};
@@ -132,7 +131,7 @@ impl<R: Roster> GatewayBook<R> {
         requires listed { IsBookList (record { cap = cap }) floor booked list.now }
         ensures { IfOk result (λ b. b ≡ trial_book id (record { cap = cap }) floor booked list.now) }
     {
-        let roster = filled(roster, list)?;
+        let roster = roster.filled(list)?;
         Ok(GatewayBook {
             roster,
             id,

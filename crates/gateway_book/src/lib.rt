@@ -11,7 +11,6 @@ mod listing;
 mod overlap;
 mod refusal;
 mod totals;
-mod trial;
 
 pub use ask::Ask;
 pub use book::{GatewayBook, MAX_CAP, NoMemory, OpenFault, TOTAL_LIMIT};

@@ -7,3 +7,4 @@ pub mod HourLemmas
 pub mod NetLemmas
 pub mod FilterLemmas
 pub mod SortLemmas
+pub mod FilledLaws

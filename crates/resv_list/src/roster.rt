@@ -1,4 +1,4 @@
-ghost use Rattle.std.specs.Prelude.{◌≡◌, ℕ, ◌≤◌, nat_le, ◌↔◌, List, length, IfErr, OnOk, OnErr, IsErrAnd};
+ghost use Rattle.std.specs.Prelude.{◌≡◌, ℕ, ◌≤◌, nat_le, ◌↔◌, List, length, [], IfOk, IfErr, OnOk, OnErr, IsErrAnd};
 ghost use Rattle.resv_list.specs.declared.reservation.Reservation.{Reservation as Member};
 ghost use Rattle.resv_list.specs.Reservations.{IsByStart, IsFree, place, member_before, member_from, member_at, without, begun};
 ghost use Rattle.resv_list.specs.Reservations.{members_before, members_from, net};
@@ -6,6 +6,7 @@ ghost use Rattle.resv_list.specs.Hours.{first_over, most_spent};
 
 use crate::Reservation;
 use radio_bands::Band;
+use std::alloc::AllocError;
 use thiserror::Error;
 
 /// The greatest number of reservations in a roster.
@@ -117,6 +118,27 @@ pub trait Roster {
         ensures full { IsErrAnd result (λ e. e.0 ≡ RosterFault.Full) ↔ (MAX_MEMBERS ≤ length (list self.old)) }
         ensures handed_back { IfErr result (λ e. e.1 ≡ reservation) }
         ensures unchanged { OnErr result (list self.new ≡ list self.old) };
+
+    /// The roster with these members, which are by start, where it has none yet; where there is no memory for all of them, it is
+    /// dropped. This body puts in one after another; a roster may be made of all at once.
+    fn filled(self, members: &[Reservation]) -> Result<Self, AllocError>
+    where
+        Self: Drop + Sized,
+        requires empty { list self ≡ [] }
+        requires by_start { IsByStart members.now }
+        requires room { length members.now ≤ MAX_MEMBERS }
+        ensures { IfOk result (λ r. list r ≡ members.now) }
+    {
+        let mut roster = self;
+        for member in members {
+            match roster.insert(*member) {
+                Ok(()) => {}
+                // It is not full: there is room for all of them.
+                Err(_) => return Err(AllocError),
+            }
+        }
+        Ok(roster)
+    }
 
     ghost by_start: { (r : Self) → IsByStart (list r) };
 }

@@ -12,3 +12,5 @@ pub mod SumLemmas
 pub mod HeightLemmas
 pub mod Crossing
 pub mod OwnLemmas
+pub mod AheadLemmas
+pub mod BuildLemmas

@@ -3,3 +3,4 @@ pub mod OwnHours
 pub mod Sums
 pub mod Shape
 pub mod Parts
+pub mod Filling

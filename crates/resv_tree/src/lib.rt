@@ -3,8 +3,10 @@
 //! so that each call costs a walk from the root down, whatever the number of members.
 #![tactic(auto)]
 
+mod build;
 mod change;
 mod entry;
+mod hours;
 mod join;
 mod kept;
 mod look;

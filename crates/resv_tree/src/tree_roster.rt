@@ -7,7 +7,9 @@ ghost use Rattle.resv_tree.specs.Entries.{IsByKey, Each};
 ghost use Rattle.resv_tree.specs.OwnHours.{own_hour, HasHours, HasHours-prop, raised, lowered, CountsIn};
 ghost use Rattle.resv_tree.specs.Shape.{shape_of, entries, members_of, IsWhole, IsWhole-prop, count_of, greatest_of};
 
+use crate::build::build;
 use crate::entry::Entry;
+use crate::hours::Hours;
 use crate::node::{Link, Node};
 use crate::stretch::shift;
 use crate::sums::Sums;
@@ -15,7 +17,7 @@ use crate::told::{count, greatest_in, height};
 use crate::{change, look, told};
 use radio_bands::Band;
 use resv_list::{Dropped, HOUR, MAX_MEMBERS, Reservation, Roster, RosterFault};
-use std::alloc::Allocator;
+use std::alloc::{AllocError, Allocator};
 
 /// The tree in which the hours before a member that is placed, and that reach it, have its airtime too.
 fn raise<A: Allocator + Clone>(root: Link<A>, member: &Reservation) -> Link<A>
@@ -173,6 +175,16 @@ impl<A: Allocator + Clone> Roster for TreeRoster<A> {
         let root = raise(self.root.take(), &reservation);
         self.root = Some(change::insert(root, node));
         Ok(())
+    }
+
+    /// The tree is made at once: one walk over the members gives each its own hour, and no two are compared.
+    fn filled(self, members: &[Reservation]) -> Result<Self, AllocError> {
+        let mut hours = Hours::of(members);
+        let root = build(&mut hours, members.len(), &self.alloc)?;
+        Ok(TreeRoster {
+            root,
+            alloc: self.alloc,
+        })
     }
 
     ghost by_start = { λ r. r.by_start };

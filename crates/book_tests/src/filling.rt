@@ -1,0 +1,92 @@
+// Rosters that are made of a list at once, beside one into which the members of that list were put one by one.
+
+use crate::roster::{drawn_after, put};
+use gateway_book::{Ask, GatewayBook};
+use radio_airtime::DataRate;
+use radio_bands::Band;
+use resv_list::{Reservation, Roster, VecRoster};
+use resv_tree::TreeRoster;
+use std::alloc::Global;
+use std::process::Abort;
+use std::test::Fail;
+
+/// An ask within four hours, in one of three sub-bands, at DR0.
+fn drawn_ask(number: u64, drawn: u64) -> Ask {
+    let freq_hz = match (drawn >> 33) % 3 {
+        0 => 863_500_000,
+        1 => 868_100_000,
+        _ => 869_525_000,
+    };
+    Ask {
+        number,
+        start: (drawn >> 40) % 14_400 * 1_000_000,
+        freq_hz,
+        rate: DataRate::Dr0,
+        len: 12 + ((drawn >> 27) % 40) as u8,
+    }
+}
+
+/// A book of what it accepts of so many random asks.
+fn drawn_book(rt: &impl Abort, alloc: Global, asks: u64) -> GatewayBook<VecRoster<Global>> {
+    let mut book = GatewayBook::new(VecRoster::new(alloc), 1, 4_096).expect(
+        rt,
+        "the cap is in range",
+    );
+    let mut drawn = asks;
+    for number in 0..asks {
+        drawn = drawn_after(drawn);
+        let _answer = book.book(drawn_ask(number, drawn));
+    }
+    book
+}
+
+/// The roster holds just these members.
+fn lists<R: Roster>(rt: &impl Abort, roster: &R, members: &[Reservation]) {
+    assert_eq!(rt; roster.len(), members.len());
+    let mut from = 0;
+    for member in members {
+        assert_eq!(rt; roster.first_from(from), Some(*member));
+        from = member.start.saturating_add(1);
+    }
+}
+
+/// The same random questions to two rosters of the same members.
+fn answers_alike<R: Roster, S: Roster>(rt: &impl Abort, one: &R, other: &S) {
+    let mut drawn = 1;
+    for turn in 0..400 {
+        drawn = drawn_after(drawn);
+        let from = (drawn >> 40) % 14_400 * 1_000_000;
+        let to = (drawn >> 20) % 16_000 * 1_000_000;
+        let band = [Band::K, Band::M, Band::P][(drawn >> 60) as usize % 3];
+        let most = one.most(band);
+        assert_eq!(rt; most, other.most(band), "in turn {turn}");
+        let spent = one.spent(band, from, to);
+        assert_eq!(rt; spent, other.spent(band, from, to), "in turn {turn}");
+        let less = most.saturating_sub((drawn >> 14) % 40 * 500_000);
+        let over = one.first_over(band, from, to, less);
+        assert_eq!(rt;
+            over,
+            other.first_over(band, from, to, less),
+            "in turn {turn}"
+        );
+    }
+}
+
+#[test]
+fn a_roster_that_is_made_at_once_is_as_one_by_one(rt: HostRuntime) -> Result<(), Fail> {
+    for asks in [0, 1, 2, 3, 4, 5, 700] {
+        let book = drawn_book(&rt, rt.alloc(), asks);
+        let members = book.list(rt.alloc())?;
+        let mut put_in = TreeRoster::new(rt.alloc());
+        for member in &members {
+            assert_eq!(&rt; put(&rt, &mut put_in, *member), Ok(()));
+        }
+        let slow = VecRoster::new(rt.alloc()).filled(&members)?;
+        let tree = TreeRoster::new(rt.alloc()).filled(&members)?;
+        lists(&rt, &slow, &members);
+        lists(&rt, &tree, &members);
+        answers_alike(&rt, &put_in, &slow);
+        answers_alike(&rt, &put_in, &tree);
+    }
+    Ok(())
+}
