@@ -1,12 +1,14 @@
 // Rosters that are made of a list at once, beside one into which the members of that list were put one by one.
+ghost use Rattle.std.specs.Prelude.{◌≡◌, ◌≤◌, [], length};
+ghost use Rattle.resv_list.specs.Reservations.{IsByStart};
 
 use crate::roster::{drawn_after, put};
 use gateway_book::{Ask, GatewayBook};
 use radio_airtime::DataRate;
 use radio_bands::Band;
-use resv_list::{Reservation, Roster, VecRoster};
+use resv_list::{MAX_MEMBERS, Reservation, Roster, VecRoster};
 use resv_tree::TreeRoster;
-use std::alloc::Global;
+use std::alloc::{AllocError, Global};
 use std::process::Abort;
 use std::test::Fail;
 
@@ -38,6 +40,17 @@ fn drawn_book(rt: &impl Abort, alloc: Global, asks: u64) -> GatewayBook<VecRoste
         let _answer = book.book(drawn_ask(number, drawn));
     }
     book
+}
+
+/// Any empty roster, filled with these members.
+fn filled<R: Roster>(roster: R, members: &[Reservation]) -> Result<R, AllocError>
+where
+    R: Drop,
+    requires empty { R.list roster ≡ [] }
+    requires by_start { IsByStart members.now }
+    requires room { length members.now ≤ MAX_MEMBERS }
+{
+    roster.filled(members)
 }
 
 /// The roster holds just these members.
@@ -81,8 +94,8 @@ fn a_roster_that_is_made_at_once_is_as_one_by_one(rt: HostRuntime) -> Result<(),
         for member in &members {
             assert_eq!(&rt; put(&rt, &mut put_in, *member), Ok(()));
         }
-        let slow = VecRoster::new(rt.alloc()).filled(&members)?;
-        let tree = TreeRoster::new(rt.alloc()).filled(&members)?;
+        let slow = filled(VecRoster::new(rt.alloc()), &members)?;
+        let tree = filled(TreeRoster::new(rt.alloc()), &members)?;
         lists(&rt, &slow, &members);
         lists(&rt, &tree, &members);
         answers_alike(&rt, &put_in, &slow);
