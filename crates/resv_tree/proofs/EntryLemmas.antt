@@ -1,7 +1,7 @@
 use Rattle.std.specs.Prelude.{ℕ, ◌≡◌, ◌≢◌, ◌+◌, ◌-◌, ◌<◌, ◌≤◌, max, Bool, true, false, List, [], ◌∷◌, ◌++◌, Option, Some, None}
 use Rattle.std.specs.Prelude.{map, cond}
 use Rattle.std.specs.Prelude.{is_some}
-use Rattle.std.proofs.Common.{refl, arith, zero, suc, sym, ap, ◌∙◌, subst}
+use Rattle.std.proofs.Common.{refl, arith, zero, suc, ap, ◌∙◌}
 use Rattle.radio_airtime.specs.Bounds.{airtime_of-positive}
 use Rattle.radio_bands.specs.declared.band.Band.{Band}
 use Rattle.radio_bands.specs.Band.{bands, band_of, lies_in}
@@ -11,7 +11,7 @@ use Rattle.resv_list.specs.Sorted.{RisesFrom}
 use Rattle.resv_list.specs.Reservations.{start_of, is_in, airtime_us, airtime_in}
 use Rattle.resv_list.proofs.Walk.{found_passes}
 use Rattle.resv_tree.specs.declared.entry.Entry.{Entry}
-use Rattle.resv_tree.specs.Entries.{Each, amount, at_band, moved, CanMove, own_in, most_own, members, member_of, key_of}
+use Rattle.resv_tree.specs.Entries.{Each, amount, at_band, moved, own_in, most_own, members, key_of}
 use Rattle.resv_tree.specs.Sums.{total_in}
 use Rattle.resv_tree.proofs.TotalLemmas.{total_in-nil, total_in-cons}
 

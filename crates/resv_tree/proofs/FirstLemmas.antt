@@ -1,4 +1,4 @@
-use Rattle.std.specs.Prelude.{ℕ, ◌≡◌, ◌+◌, ◌-◌, ◌<◌, ◌≤◌, max, nat_lt, nat_le, Bool, true, false, ◌&&◌, List, [], ◌∷◌, ◌++◌}
+use Rattle.std.specs.Prelude.{ℕ, ◌≡◌, ◌+◌, ◌-◌, ◌<◌, ◌≤◌, nat_lt, nat_le, Bool, true, false, ◌&&◌, List, [], ◌∷◌, ◌++◌}
 use Rattle.std.specs.Prelude.{Option, Some, None, map, cond, find, option_map}
 use Rattle.std.proofs.Common.{refl, arith, sym, ap, ◌∙◌, subst}
 use Rattle.std.proofs.lemmas.Bool.{lt-ltb, le-ltb, le-leb, lt-leb, leb-true, leb-false}
@@ -11,7 +11,7 @@ use Rattle.resv_tree.specs.declared.entry.Entry.{Entry}
 use Rattle.resv_tree.specs.Entries.{key_of, IsByKey, Each, amount, moved, CanMove, reaches, first_reaching, member_of, members}
 use Rattle.resv_tree.specs.Entries.{most_own}
 use Rattle.resv_tree.specs.Sums.{total_in}
-use Rattle.resv_tree.specs.Shape.{Shape, entries, members_of, greatest_of, top_of, kept_sum, IsWhole}
+use Rattle.resv_tree.specs.Shape.{Shape, entries, greatest_of, top_of, kept_sum, IsWhole}
 use Rattle.resv_tree.specs.Parts.{IsOwing}
 use Rattle.resv_tree.proofs.SplitLemmas.{rises_left, rises_right}
 use Rattle.resv_tree.proofs.TotalLemmas.{total_in-cons}

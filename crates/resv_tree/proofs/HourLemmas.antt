@@ -1,14 +1,14 @@
-use Rattle.std.specs.Prelude.{ℕ, ◌≡◌, ◌+◌, ◌-◌, ◌<◌, ◌≤◌, max, nat_lt, nat_le, Bool, true, false, ◌&&◌, List, [], ◌∷◌, ◌++◌}
-use Rattle.std.specs.Prelude.{Option, Some, None, map, cond, find, option_map}
+use Rattle.std.specs.Prelude.{ℕ, ◌≡◌, ◌+◌, ◌≤◌, max, nat_lt, nat_le, Bool, true, false, ◌&&◌, List, [], ◌∷◌}
+use Rattle.std.specs.Prelude.{Some, None, map, cond, find, option_map}
 use Rattle.std.proofs.Common.{refl, arith, sym, ap, ◌∙◌, subst}
-use Rattle.std.proofs.lemmas.Bool.{lt-ltb, le-ltb, le-leb, lt-leb, ltb-true, ltb-false}
+use Rattle.std.proofs.lemmas.Bool.{le-leb, lt-leb, ltb-true, ltb-false}
 use Rattle.radio_bands.specs.declared.band.Band.{Band}
 use Rattle.resv_list.specs.declared.reservation.Reservation.{Reservation}
 use Rattle.resv_list.specs.Reservations.{is_in, spent}
 use Rattle.resv_list.specs.Hours.{starts_in, is_over, first_over, greatest, most_spent}
 use Rattle.resv_list.proofs.HourLemmas.{greatest-cons}
 use Rattle.resv_tree.specs.declared.entry.Entry.{Entry}
-use Rattle.resv_tree.specs.Entries.{key_of, Each, reaches, first_reaching, member_of, members, most_own, own_in}
+use Rattle.resv_tree.specs.Entries.{key_of, Each, reaches, first_reaching, member_of, members, most_own}
 use Rattle.resv_tree.specs.Sums.{sum_in}
 use Rattle.resv_tree.specs.Entries.{moved_in, CanMoveIn}
 use Rattle.resv_tree.specs.OwnHours.{own_hour, HasHours, reach, airtimes, nothing, raised, lowered, CountsIn}

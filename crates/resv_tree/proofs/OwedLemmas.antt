@@ -1,13 +1,12 @@
-use Rattle.std.specs.Prelude.{ℕ, ◌≡◌, ◌≢◌, ◌+◌, ◌-◌, ◌*◌, ◌^◌, ◌<◌, ◌≤◌, max, Bool, true, false, List, [], ◌∷◌, ◌++◌, map, cond}
+use Rattle.std.specs.Prelude.{ℕ, ◌≡◌, ◌≢◌, ◌+◌, ◌-◌, ◌*◌, ◌<◌, ◌≤◌, max, Bool, true, false, ◌∷◌, ◌++◌, map, cond}
 use Rattle.std.specs.Prelude.{Option, Box}
 use Rattle.std.proofs.Common.{refl, arith, zero, suc, sym, ap, ◌∙◌, subst}
 use Rattle.radio_airtime.specs.Bounds.{airtime_of-positive}
 use Rattle.radio_bands.specs.declared.band.Band.{Band}
-use Rattle.resv_list.specs.declared.reservation.Reservation.{Reservation}
 use Rattle.resv_list.specs.Reservations.{is_in, airtime_us, airtime_in}
 use Rattle.resv_tree.specs.declared.entry.Entry.{Entry}
 use Rattle.resv_tree.specs.declared.kept.Kept.{Kept}
-use Rattle.resv_tree.specs.Entries.{Each, amount, moved, CanMove, own_in, most_own, members}
+use Rattle.resv_tree.specs.Entries.{Each, amount, moved, CanMove, most_own, members}
 use Rattle.resv_tree.specs.declared.sums.Sums.{Sums}
 use Rattle.resv_tree.specs.Sums.{sum_in, total_in}
 use Rattle.resv_tree.specs.Shape.{Shape, Leaf, Fork, entries, members_of, greatest_of, top_of, height_of, count_of, kept_sum}
@@ -17,9 +16,8 @@ use Rattle.resv_tree.specs.declared.node.Node.{Node, out-Node, roll-Node}
 use Rattle.resv_tree.specs.Shape.{shape, shape_of, kept_of}
 use Rattle.resv_tree.proofs.ShapeLemmas.{shape-out, shape-roll}
 use Rattle.resv_tree.proofs.EntryLemmas.{each-left, each-right, own_here}
-use Rattle.resv_tree.proofs.TotalLemmas.{total_in-cons}
 use Rattle.resv_tree.proofs.SumLemmas.{kept_sum-total}
-use Rattle.resv_tree.proofs.EntryLemmas.{Banded, banded, amount_at, own_same, each, each-with, each-of-map, map-same}
+use Rattle.resv_tree.proofs.EntryLemmas.{banded, amount_at, own_same, each, each-with, each-of-map, map-same}
 use Rattle.resv_tree.proofs.EntryLemmas.{map-identity}
 use Rattle.resv_tree.proofs.EntryLemmas.{map-parts, map-map, members-moved, members-parts, most-parts, most_none, most_moved}
 use Rattle.resv_tree.proofs.EntryLemmas.{each_within}

@@ -1,12 +1,12 @@
-use Rattle.std.specs.Prelude.{ℕ, ◌≡◌, ◌≢◌, ◌+◌, ◌-◌, ◌*◌, ◌^◌, ◌<◌, ◌≤◌, max, nat_lt, nat_le, ◌==◌, not, Bool, true, false, ◌&&◌}
-use Rattle.std.specs.Prelude.{List, [], ◌∷◌, Option, Some, None, map, filter, find, cond}
+use Rattle.std.specs.Prelude.{ℕ, ◌≡◌, ◌≢◌, ◌+◌, ◌-◌, ◌*◌, ◌<◌, ◌≤◌, nat_lt, nat_le, ◌==◌, not, Bool, true, false, ◌&&◌}
+use Rattle.std.specs.Prelude.{List, [], ◌∷◌, Some, None, map, filter, cond}
 use Rattle.std.proofs.Common.{refl, arith, zero, suc, sym, ap, ◌∙◌, subst}
 use Rattle.std.proofs.lemmas.Bool.{leb-true, leb-false, ltb-true, ltb-false}
 use Rattle.std.proofs.lemmas.Bool.Decides.{nat_tests}
 use Rattle.radio_bands.specs.declared.band.Band.{Band}
 use Rattle.radio_bands.specs.Band.{hour, band_of}
 use Rattle.resv_list.specs.declared.reservation.Reservation.{Reservation}
-use Rattle.resv_list.specs.Begun.{begun-cons, begun-nil}
+use Rattle.resv_list.specs.Begun.{begun-cons}
 use Rattle.resv_list.specs.Sorted.{RisesFrom, place_by, rest_from}
 use Rattle.resv_list.specs.Reservations.{start_of, is_in, airtime_in, airtime_us, share, begun, spent, place, member_at}
 use Rattle.resv_list.specs.Reservations.{without, members_from}
@@ -14,8 +14,9 @@ use Rattle.resv_list.specs.Reservations.{IsByStart, IsFree}
 use Rattle.resv_list.proofs.BegunLemmas.{share_before, share_after, share_within}
 use Rattle.resv_list.proofs.SortedLaws.{at_none, RisesFrom-filter}
 use Rattle.resv_tree.specs.declared.entry.Entry.{Entry}
-use Rattle.resv_tree.specs.Entries.{Each, key_of, IsByKey, members, moved_in, most_own, own_in, amount, entry_at, entries_without}
+use Rattle.resv_tree.specs.Entries.{Each, key_of, IsByKey, members, moved_in, most_own, amount, entry_at, entries_without}
 use Rattle.resv_tree.specs.OwnHours.{own_hour, HasHours, reach, airtimes, nothing, raised, lowered, CountsIn}
+use Rattle.resv_tree.specs.Sums.{total_in}
 use Rattle.resv_tree.specs.Shape.{Shape, entries, members_of, greatest_of, count_of, kept_sum, IsWhole}
 use Rattle.resv_tree.proofs.EntryLemmas.{Banded, each-with, each-to-map, banded, amount_at, amount_of, entry_with, rises_entries}
 use Rattle.resv_tree.proofs.OwedLemmas.{entries-members, greatest_is_most}
@@ -128,6 +129,15 @@ pub members-moved_in : (from to : ℕ) (more less : Band → ℕ) (es : List Ent
 members-moved_in from to more less [] = refl
 members-moved_in from to more less (e ∷ es) =
     λ i. same_member from to more less e i ∷ members-moved_in from to more less es i
+
+-- where own hours changed in a stretch, each sub-band's airtime is as before
+pub shifted_sums : (from to : ℕ) (more less : Band → ℕ) (t s : Shape) → IsWhole t → IsWhole s
+    → entries t ≡ map (moved_in from to more less) (entries s) → (band : Band) → kept_sum t band ≡ kept_sum s band
+shifted_sums from to more less t s w v same band =
+    kept_sum-total t band w
+    ∙ ap (total_in band)
+    (sym (entries-members t) ∙ ap members same ∙ members-moved_in from to more less (entries s) ∙ entries-members s)
+    ∙ sym (kept_sum-total s band v)
 
 pub member_found : (at : ℕ) (es : List Entry) (e : Entry) → entry_at at es ≡ Some e
     → (member_at at (members es) ≡ Some e.reservation) × (key_of e ≡ at)

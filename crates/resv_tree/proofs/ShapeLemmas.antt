@@ -4,8 +4,9 @@ use Rattle.radio_bands.specs.declared.band.Band.{Band}
 use Rattle.resv_tree.specs.declared.node.Node.{Node, Node', None', Some', out-Node, roll-Node}
 use Rattle.resv_tree.specs.declared.kept.Kept.{Kept}
 use Rattle.resv_tree.specs.declared.entry.Entry.{Entry}
-use Rattle.resv_tree.specs.Shape.{Shape, Leaf, Fork, shape, shape_of, entry_of, kept_of, entries, height_of, count_of, kept_sum}
-use Rattle.resv_tree.specs.Shape.{IsWhole, IsKept, TellsOf, IsBeside}
+use Rattle.resv_tree.specs.Shape.{Shape, Leaf, Fork, shape, shape_of, entry_of, kept_of, height_of, count_of, kept_sum}
+use Rattle.resv_tree.specs.Shape.{IsWhole, IsKept, TellsOf, IsBeside, HasSides}
+use Rattle.resv_list.specs.Reservations.{airtime_in}
 use Rattle.resv_tree.specs.Parts.{IsSeenAs, IsOwing}
 
 -- Whole trees, and nodes as the program sees them.
@@ -121,3 +122,19 @@ module _ {A : Type 0} where
   pub shape-taken : (n : Node A) (l r : Option (Box (Node A) A)) (e : Entry) (k : Kept) → l ≡ (out-Node A n).left
       → e ≡ (out-Node A n).entry → r ≡ (out-Node A n).right → k ≡ kept_of n → shape n ≡ Fork (shape_of l) e (shape_of r) k
   shape-taken n l r e k left entry right kept = rw (left, entry, right, kept) (shape-out n)
+
+-- sides that are as high as those that a node is kept of, and have as many members and as much airtime
+pub has_sides : (l r m s : Shape) (e f : Entry) (k j : Kept) → IsKept l e r k → j ≡ k → e.reservation ≡ f.reservation
+    → height_of m ≡ height_of l → count_of m ≡ count_of l → ((band : Band) → kept_sum m band ≡ kept_sum l band)
+    → height_of s ≡ height_of r → count_of s ≡ count_of r → ((band : Band) → kept_sum s band ≡ kept_sum r band)
+    → HasSides j m f s
+has_sides l r m s e f k j is same member mh mc ms sh sc ss =
+    subst (λ x. HasSides x m f s) (sym same) (record {
+      level = (omega (arith, is.level.0, mh, sh), omega (arith, is.level.1, mh, sh));
+      height = omega (arith, is.height, mh, sh);
+      left_height = is.left_height ∙ sym mh;
+      right_height = is.right_height ∙ sym sh;
+      count = omega (arith, is.count, mc, sc);
+      sums = λ band. omega (arith, is.sums band, ap (airtime_in band) member, ms band, ss band);
+      short = is.short;
+    })

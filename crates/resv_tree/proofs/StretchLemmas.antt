@@ -1,4 +1,4 @@
-use Rattle.std.specs.Prelude.{ℕ, ◌≡◌, ◌+◌, ◌-◌, ◌^◌, ◌<◌, ◌≤◌, max, nat_lt, nat_le, Bool, true, false, ◌&&◌, List, [], ◌∷◌}
+use Rattle.std.specs.Prelude.{ℕ, ◌≡◌, ◌+◌, ◌<◌, ◌≤◌, nat_lt, nat_le, Bool, true, false, ◌&&◌, List, [], ◌∷◌}
 use Rattle.std.specs.Prelude.{◌++◌, map, cond}
 use Rattle.std.proofs.Common.{refl, arith, sym, ap, ◌∙◌, subst}
 use Rattle.std.proofs.lemmas.Bool.{lt-ltb, le-ltb, le-leb, lt-leb}
@@ -9,7 +9,7 @@ use Rattle.resv_tree.specs.Entries.{key_of, IsByKey, Each, amount, moved, moved_
 use Rattle.resv_tree.specs.Shape.{Shape, entries, greatest_of, top_of}
 use Rattle.resv_tree.specs.Parts.{IsMadeOf}
 use Rattle.resv_tree.proofs.SplitLemmas.{middle_from, rises_behind}
-use Rattle.resv_tree.proofs.EntryLemmas.{each, each-with, each-left, each-right, map-same, map-identity, map-parts, Banded}
+use Rattle.resv_tree.proofs.EntryLemmas.{each, each-with, each-left, each-right, map-same, map-identity, map-parts}
 use Rattle.resv_tree.proofs.EntryLemmas.{banded, amount_at}
 use Rattle.resv_tree.proofs.OwedLemmas.{own_in_top}
 use Rattle.resv_tree.proofs.TreeLemmas.{sides}

@@ -2,7 +2,7 @@ use Rattle.std.specs.Prelude.{ℕ, ◌≡◌, ◌+◌, ◌-◌, ◌*◌, ◌<◌
 use Rattle.std.specs.Option.{option_or}
 use Rattle.std.proofs.Common.{subst, sym, ◌∙◌, ap, arith}
 use Rattle.radio_bands.specs.declared.band.Band.{Band}
-use Rattle.resv_list.specs.Reservations.{begun, start_of, place, member_at, without, IsFree, IsByStart}
+use Rattle.resv_list.specs.Reservations.{begun, start_of, place, without, IsFree, IsByStart}
 use Rattle.resv_list.specs.Reservations.{members_before, members_from, net}
 use Rattle.resv_list.proofs.NetLemmas.{net-parted, length-parted}
 use Rattle.resv_list.specs.declared.reservation.Reservation.{Reservation}

@@ -103,6 +103,16 @@ pub record IsBeside (k : Kept) (side : Shape) (e : Entry) (other : Kept) : Type 
   pub count : k.count ≡ count_of side + other.count + 1
   pub sums : (band : Band) → sum_in k.sums band ≡ kept_sum side band + airtime_in band e.reservation + sum_in other.sums band
 
+-- what is kept of a tree that has these sides and this entry, own hours aside
+pub record HasSides (k : Kept) (l : Shape) (e : Entry) (r : Shape) : Type 0 where
+  pub level : IsLevel l r
+  pub height : k.height ≡ max (height_of l) (height_of r) + 1
+  pub left_height : k.left_height ≡ height_of l
+  pub right_height : k.right_height ≡ height_of r
+  pub count : k.count ≡ count_of l + count_of r + 1
+  pub sums : (band : Band) → sum_in k.sums band ≡ kept_sum l band + airtime_in band e.reservation + kept_sum r band
+  pub short : (band : Band) → sum_in k.sums band ≤ 10000000 * k.count
+
 -- so it is at each node
 abbrev pub IsWhole : Shape → Type 0
 IsWhole Leaf = ⊤

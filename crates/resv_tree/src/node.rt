@@ -2,7 +2,7 @@ ghost use Rattle.std.specs.Prelude.{◌≡◌, ◌+◌, ◌-◌, ◌≤◌, ◌<
 ghost use Rattle.radio_bands.specs.declared.band.Band.{Band as SubBand};
 ghost use Rattle.resv_tree.specs.Sums.{sum_in as sum_of};
 ghost use Rattle.resv_tree.specs.Shape.{shape, shape_of, entries, entry_of, kept_of, height_of, count_of};
-ghost use Rattle.resv_tree.specs.Shape.{IsWhole, IsLevel, IsKept, IsBeside};
+ghost use Rattle.resv_tree.specs.Shape.{IsWhole, IsLevel, IsKept, IsBeside, HasSides};
 ghost use Rattle.resv_tree.specs.Shape.{Fork, greatest_of, top_of};
 ghost use Rattle.resv_tree.specs.Entries.{CanMove, Each, moved};
 ghost use Rattle.resv_tree.specs.Parts.{IsMadeOf, IsSeenAs, IsOwing, IsMoved};
@@ -141,7 +141,8 @@ pub(crate) fn with_entry<A: Allocator + Clone>(
     mut top: Box<Node<A>, A>,
     entry: Entry,
 ) -> Box<Node<A>, A>
-    ensures { entry_of result.value ≡ entry }
+    ensures entry { entry_of result.value ≡ entry }
+    ensures kept { kept_of result.value ≡ kept_of top.value }
 {
     top.entry = entry;
     top
@@ -202,6 +203,37 @@ pub(crate) fn fork<A: Allocator + Clone>(
         count: before.count + behind.count + 1,
         owes: false,
         sums: Sums::around(&before.sums, &entry.reservation, &behind.sums),
+        greatest: greatest_about(&left, &entry, &right),
+    };
+    *top = Node {
+        left,
+        entry,
+        right,
+        kept,
+    };
+    top
+}
+
+/// The tree of a node whose sides were taken out of it, with sides that differ in their own hours alone; takes no memory.
+pub(crate) fn with_other_hours<A: Allocator + Clone>(
+    left: Link<A>,
+    mut top: Box<Node<A>, A>,
+    right: Link<A>,
+) -> Box<Node<A>, A>
+    requires left { IsWhole (shape_of left) }
+    requires right { IsWhole (shape_of right) }
+    requires sides { HasSides (kept_of top.value) (shape_of left) (entry_of top.value) (shape_of right) }
+    ensures made { IsMadeOf (shape result.value) (shape_of left) (entry_of top.value) (shape_of right) }
+    ensures whole { IsWhole (shape result.value) }
+{
+    let (entry, all) = (top.entry, top.kept);
+    let kept = Kept {
+        height: all.height,
+        left_height: all.left_height,
+        right_height: all.right_height,
+        count: all.count,
+        owes: false,
+        sums: all.sums,
         greatest: greatest_about(&left, &entry, &right),
     };
     *top = Node {

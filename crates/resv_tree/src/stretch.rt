@@ -4,7 +4,7 @@ ghost use Rattle.resv_tree.specs.Entries.{IsByKey, Each, moved_in, CanMoveIn};
 ghost use Rattle.resv_tree.specs.Shape.{shape_of, entries, IsWhole, count_of, height_of, greatest_of};
 ghost use Rattle.resv_tree.specs.Sums.{sum_in as sum_of};
 
-use crate::node::{Link, fork, hand, open, with_entry};
+use crate::node::{Link, hand, open, with_entry, with_other_hours};
 use crate::sums::Sums;
 use resv_list::MAX_MEMBERS;
 use std::alloc::Allocator;
@@ -44,16 +44,16 @@ pub(crate) fn shift<A: Allocator + Clone>(
     let entry = top.entry();
     if entry.reservation.start < from {
         let right = shift(right, from, to, more, less);
-        return Some(fork(left, top, right));
+        return Some(with_other_hours(left, top, right));
     }
     if to <= entry.reservation.start {
         let left = shift(left, from, to, more, less);
-        return Some(fork(left, top, right));
+        return Some(with_other_hours(left, top, right));
     }
     let left = shift(left, from, NO_END, more, less);
     let right = shift(right, 0, to, more, less);
     let top = with_entry(top, entry.moved(more, less));
-    Some(fork(left, top, right))
+    Some(with_other_hours(left, top, right))
 }
 
 /// Whether the stretch leaves out no moment that a member begins at.
