@@ -1,6 +1,6 @@
 #!/bin/sh
-# What a booking costs in `airbook book`, by how many transmissions are kept: processor time, peak memory, and ratios of this
-# run.
+# What a booking costs in `airbook book`, by how many transmissions are kept: processor time, what a member takes of
+# allocated memory, and ratios of this run.
 # With OTHER=path of a second program, as one that was built on another roster, also how much faster the first one is. Where
 # there is a rustc, also against a plain ordered map of Rust's standard library (map.rs.txt). Needs python3 and the program that
 # the gate builds (or PROGRAM=path).
@@ -53,7 +53,7 @@ def told(name, path):
 
 many = told("the program", program)
 rising = run(program, kept(65_536)) - run(program, "")
-each = (memory(program, [kept(65_536)]) - memory(program, [])) * 1024 / 65_536
+each = (memory(program, [kept(65_536)], "RssAnon") - memory(program, [], "RssAnon")) * 1024 / 65_536
 print(f"65,536 rising bookings: {rising * 1000:.0f} ms, {each:.0f} bytes a member")
 if map_program:
     plain = told("a plain ordered map", map_program)

@@ -1,5 +1,6 @@
 #!/bin/sh
-# What `airbook book` costs in full hours of sub-band P: processor time and ratios of this run, and what a member takes of memory.
+# What `airbook book` costs in full hours of sub-band P: processor time and ratios of this run, and what a member takes of
+# allocated memory.
 # With OTHER=path of a second program, as one that was built on another roster, also how much faster the first one is. Needs
 # python3 and the program that the gate builds (or PROGRAM=path).
 set -eu
@@ -60,6 +61,6 @@ kept, more = books(0, spread(12_288, 49_152)), between(12_288, 16_000)
 taken = "".join(f"cancel {i} {s}\n" for i, s in enumerate(more))
 plain, booked, both = run(program, kept), run(program, kept + books(0, more)), run(program, kept + books(0, more) + taken)
 print(f"in full hours a cancel takes {(both - booked) / (booked - plain):.2f} of a booking's time")
-half, whole = (memory(program, [books(0, spread(600, count))]) for count in (32_768, 65_536))
+half, whole = (memory(program, [books(0, spread(600, count))], "RssAnon") for count in (32_768, 65_536))
 print(f"a member takes {(whole - half) * 1024 / 32_768:.0f} bytes")
 P

@@ -32,15 +32,16 @@ def seconds(program, lines, runs=1, command="book"):
     return best
 
 
-def memory(program, lines):
-    """The program's own peak memory in KiB once these lines are read, while the input is still open."""
+def memory(program, lines, what="VmHWM"):
+    """The program's peak memory in KiB once these lines are read, while the input is still open; or by another name of Linux's
+    /proc, as RssAnon: what it has allocated, without the pages of the files that it maps."""
     child = started(program, subprocess.PIPE)
     for line in lines:
         child.stdin.write(line.encode())
     child.stdin.flush()
     time.sleep(0.5)
     with open(f"/proc/{child.pid}/status") as status:
-        found = next(int(line.split()[1]) for line in status if line.startswith("VmHWM"))
+        found = next(int(line.split()[1]) for line in status if line.startswith(what))
     child.stdin.close()
     child.wait()
     return found

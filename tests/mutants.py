@@ -5,7 +5,8 @@ Usage: tests/mutants.py [CRATE ..]      (CRATE: only the edits of this crate; no
 
 An edit is mutants/CRATE/NAME.edit, written as those in crates/CRATE/must-fail/ are: a line 'file: PATH', and then pairs of
 lines 'old: TEXT' and 'new: TEXT'. They are tried on a clone of what is committed, as many crates at a time as there are
-processors. What is not refused, or can't be applied, has a line; the last line is 'N passed, M failed'. The status is 0 where
+processors, that with most edits first; what is proved here already (crates/*/out) need not be proved again for it. Each crate
+has a line, and so has what is not refused, or can't be applied; the last line is 'N passed, M failed'. The status is 0 where
 none failed, 1 where one did, 2 where nothing could be run. It needs git and the toolchain's command rt.
 """
 import concurrent.futures
@@ -26,6 +27,12 @@ def below(folder):
     lines = [line.split(":") for line in plain if ":" in line]
     named = {name.split()[0]: words.split() for name, words in lines}
     return {name: [word for word in words if word in named] for name, words in named.items()}
+
+
+def take_over(folder):
+    """Copies what the prover keeps of the crates here; it looks itself at what has changed since."""
+    for out in (TOP / "crates").glob("*/out"):
+        shutil.copytree(out, folder / "crates" / out.parent.name / "out", symlinks=True)
 
 
 def build_below(folder, crates):
@@ -73,14 +80,15 @@ def main():
         folder = pathlib.Path(room, "clone")
         subprocess.run(["git", "clone", "--quiet", TOP, folder], check=True)
         known = sorted(path.name for path in (folder / "mutants").iterdir() if path.is_dir())
-        crates = sys.argv[1:] or known
+        crates = sorted(sys.argv[1:] or known, key=lambda it: -len(list((folder / "mutants" / it).glob("*.edit"))))
         if set(crates) - set(known):
             print(f"mutants.py: no edits in mutants/ for {' '.join(sorted(set(crates) - set(known)))}", file=sys.stderr)
             return 2
+        take_over(folder)
         build_below(folder, crates)
         with concurrent.futures.ThreadPoolExecutor(len(os.sched_getaffinity(0))) as pool:
-            for count, faults in pool.map(lambda crate: tried(folder, crate), crates):
-                print("\n".join(faults), end="\n" if faults else "", flush=True)
+            for crate, count, faults in pool.map(lambda crate: (crate, *tried(folder, crate)), crates):
+                print("\n".join([f"{crate}: {count - len(faults)} of {count} refused", *faults]), flush=True)
                 passed, failed = passed + count - len(faults), failed + len(faults)
     print(f"{passed} passed, {failed} failed")
     return 1 if failed else 0

@@ -9,7 +9,8 @@ use Rattle.resv_list.specs.declared.reservation.Reservation.{Reservation}
 use Rattle.resv_list.specs.Reservations.{airtime_us, is_in, spent, place}
 use Rattle.gateway_book.specs.Duty.{full_hour}
 use Rattle.gateway_book.specs.Laws.{IsDutyAnswer}
-use Rattle.gateway_book.proofs.DutyLaws.{full_hour_answers, begun-place}
+use Rattle.resv_list.proofs.BegunLemmas.{begun-place}
+use Rattle.gateway_book.proofs.DutyLaws.{full_hour_answers}
 
 -- A reservation that overfills no hour keeps the limits of every hour.
 

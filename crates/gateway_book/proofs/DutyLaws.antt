@@ -6,7 +6,7 @@ use Rattle.std.proofs.lemmas.Bool.Decides.{nat_tests}
 use Rattle.radio_bands.specs.declared.band.Band.{Band}
 use Rattle.radio_bands.specs.Band.{hour, limit_of}
 use Rattle.resv_list.specs.declared.reservation.Reservation.{Reservation}
-use Rattle.resv_list.specs.Reservations.{start_of, airtime_us, is_in, share, begun, spent, place}
+use Rattle.resv_list.specs.Reservations.{start_of, airtime_us, is_in, spent}
 use Rattle.resv_list.specs.Begun.{begun-cons, begun-nil}
 use Rattle.gateway_book.proofs.LeastLaws.{least_is_least}
 use Rattle.resv_list.specs.Hours.{starts_in}
@@ -97,18 +97,6 @@ spent_later band t m (r ∷ rs) h o =
     let i = spent_later band t m rs h o.1 in
     let s = share_by (is_in band r) t m r.start (airtime_us r) h o.0 in
     omega (arith, begun-cons band t (t + hour) r rs, begun-cons band m (m + hour) r rs, i, s)
-
--- one more member adds its share to every stretch
-begun_placed : (band : Band) (from to : ℕ) (r s : Reservation) (ss : List Reservation) (t : Bool)
-    → begun band from to (place r ss) ≡ share band from to r + begun band from to ss
-    → begun band from to (cond t (s ∷ place r ss) (r ∷ s ∷ ss)) ≡ share band from to r + begun band from to (s ∷ ss)
-begun_placed band from to r s ss true h = omega (arith, begun-cons band from to s (place r ss), begun-cons band from to s ss, h)
-begun_placed band from to r s ss false h = begun-cons band from to r (s ∷ ss)
-
-pub begun-place : (band : Band) (from to : ℕ) (r : Reservation) (l : List Reservation)
-    → begun band from to (place r l) ≡ share band from to r + begun band from to l
-begun-place band from to r [] = begun-cons band from to r []
-begun-place band from to r (s ∷ ss) = begun_placed band from to r s ss (nat_lt s.start r.start) (begun-place band from to r ss)
 
 no_more : (t n start at_t at_n airtime limit : ℕ) → t ≤ n → n ≤ start → start < t + hour → at_t ≤ at_n
     → (nat_le n start && nat_lt start (n + hour) && nat_lt limit (at_n + airtime)) ≡ false → nat_lt limit (at_t + airtime) ≡ false

@@ -5,7 +5,7 @@ use Rattle.radio_bands.specs.declared.band.Band.{Band}
 use Rattle.resv_list.specs.declared.reservation.Reservation.{Reservation}
 use Rattle.resv_list.specs.Sorted.{IsCut, RisesFrom}
 use Rattle.resv_list.proofs.CutLemmas.{cut_rest}
-use Rattle.resv_list.specs.Reservations.{start_of, airtime_us, is_in, share, begun}
+use Rattle.resv_list.specs.Reservations.{start_of, airtime_us, is_in, share, begun, place}
 use Rattle.resv_list.specs.Begun.{begun-cons, begun-nil}
 
 -- The airtime that begins in a stretch of a list by start.
@@ -34,6 +34,18 @@ share_within band from to r h g = whole (is_in band r)
     whole : (p : Bool) → cond (p && nat_le from r.start && nat_lt r.start to) (airtime_us r) 0 ≡ cond p (airtime_us r) 0
     whole true = rw (le-leb from r.start h, lt-ltb r.start to g) refl
     whole false = refl
+
+-- one more member adds its share to every stretch
+begun_placed : (band : Band) (from to : ℕ) (r s : Reservation) (ss : List Reservation) (t : Bool)
+    → begun band from to (place r ss) ≡ share band from to r + begun band from to ss
+    → begun band from to (cond t (s ∷ place r ss) (r ∷ s ∷ ss)) ≡ share band from to r + begun band from to (s ∷ ss)
+begun_placed band from to r s ss true h = omega (arith, begun-cons band from to s (place r ss), begun-cons band from to s ss, h)
+begun_placed band from to r s ss false h = begun-cons band from to r (s ∷ ss)
+
+pub begun-place : (band : Band) (from to : ℕ) (r : Reservation) (l : List Reservation)
+    → begun band from to (place r l) ≡ share band from to r + begun band from to l
+begun-place band from to r [] = begun-cons band from to r []
+begun-place band from to r (s ∷ ss) = begun_placed band from to r s ss (nat_lt s.start r.start) (begun-place band from to r ss)
 
 -- what begins from a moment on begins behind the cut there
 pub begun-cut : (band : Band) (from to : ℕ) (l : List Reservation) (i : ℕ) → IsCut (λ r. nat_lt (start_of r) from) l i

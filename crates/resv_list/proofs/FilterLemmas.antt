@@ -50,11 +50,6 @@ module _ {X : Type 0} where
   find-stronger p q h [] = refl
   find-stronger p q h (x ∷ xs) = found_by p q x xs (q x) (p x) refl (h x) (find-stronger p q h xs)
 
-  -- what has passed a stronger test stays
-  pub filter-stays : (p q : X → Bool) → ((x : X) → q x ≡ true → p x ≡ true) → (xs : List X)
-      → filter p (filter q xs) ≡ filter q xs
-  filter-stays p q h xs = filter-swap p q xs ∙ filter-stronger q p h xs
-
   alike_by : (p q : X → Bool) (x : X) (xs : List X) (t : Bool) → q x ≡ t → p x ≡ q x → find p xs ≡ find q xs
       → find p (x ∷ xs) ≡ cond t (Some x) (find q xs)
   alike_by p q x xs true e h rest = rw (h, e) refl

@@ -11,7 +11,7 @@ use Rattle.resv_list.specs.Sorted.{RisesFrom, place_by, rest_from}
 use Rattle.resv_list.specs.Reservations.{start_of, is_in, airtime_in, airtime_us, share, begun, spent, place, member_at}
 use Rattle.resv_list.specs.Reservations.{without, members_from}
 use Rattle.resv_list.specs.Reservations.{IsByStart, IsFree}
-use Rattle.resv_list.proofs.BegunLemmas.{share_before, share_after, share_within}
+use Rattle.resv_list.proofs.BegunLemmas.{share_before, share_after, share_within, begun-place}
 use Rattle.resv_list.proofs.SortedLaws.{at_none, RisesFrom-filter}
 use Rattle.resv_tree.specs.declared.entry.Entry.{Entry}
 use Rattle.resv_tree.specs.Entries.{Each, key_of, IsByKey, members, moved_in, most_own, amount, entry_at, entries_without}
@@ -26,17 +26,6 @@ use Rattle.resv_tree.proofs.SumLemmas.{begun_difference, begun_le-total, kept_su
 -- The own hours of all members once one is placed, taken out, or dropped.
 
 -- What begins in a stretch, with one member more or less.
-
-begun_placed : (band : Band) (from to : ℕ) (r s : Reservation) (ss : List Reservation) (t : Bool)
-    → begun band from to (place r ss) ≡ share band from to r + begun band from to ss
-    → begun band from to (cond t (s ∷ place r ss) (r ∷ s ∷ ss)) ≡ share band from to r + begun band from to (s ∷ ss)
-begun_placed band from to r s ss true h = omega (arith, begun-cons band from to s (place r ss), begun-cons band from to s ss, h)
-begun_placed band from to r s ss false h = begun-cons band from to r (s ∷ ss)
-
-pub begun-place : (band : Band) (from to : ℕ) (r : Reservation) (l : List Reservation)
-    → begun band from to (place r l) ≡ share band from to r + begun band from to l
-begun-place band from to r [] = begun-cons band from to r []
-begun-place band from to r (s ∷ ss) = begun_placed band from to r s ss (nat_lt s.start r.start) (begun-place band from to r ss)
 
 pub begun-without : (band : Band) (from to at low : ℕ) (r : Reservation) (l : List Reservation) → RisesFrom start_of low l
     → member_at at l ≡ Some r → begun band from to l ≡ share band from to r + begun band from to (without at l)
