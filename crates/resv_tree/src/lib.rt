@@ -11,6 +11,7 @@ mod join;
 mod kept;
 mod look;
 mod node;
+mod owed;
 mod stretch;
 mod sums;
 mod told;

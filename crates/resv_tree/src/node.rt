@@ -1,14 +1,15 @@
-ghost use Rattle.std.specs.Prelude.{◌≡◌, ◌+◌, ◌-◌, ◌≤◌, ◌<◌, ◌^◌, max};
+ghost use Rattle.std.specs.Prelude.{◌≡◌, ◌+◌, ◌<◌};
 ghost use Rattle.radio_bands.specs.declared.band.Band.{Band as SubBand};
 ghost use Rattle.resv_tree.specs.Sums.{sum_in as sum_of};
-ghost use Rattle.resv_tree.specs.Shape.{shape, shape_of, entries, entry_of, kept_of, height_of, count_of};
+ghost use Rattle.resv_tree.specs.Shape.{shape, shape_of, entry_of, kept_of, height_of, count_of};
 ghost use Rattle.resv_tree.specs.Shape.{IsWhole, IsLevel, IsKept, IsBeside, HasSides};
-ghost use Rattle.resv_tree.specs.Shape.{Fork, greatest_of, top_of};
-ghost use Rattle.resv_tree.specs.Entries.{CanMove, Each, moved};
+ghost use Rattle.resv_tree.specs.Shape.{Fork, top_of};
+ghost use Rattle.resv_tree.specs.Entries.{moved};
 ghost use Rattle.resv_tree.specs.Parts.{IsMadeOf, IsSeenAs, IsOwing, IsMoved};
 
 use crate::entry::Entry;
 use crate::kept::Kept;
+use crate::owed::hand;
 use crate::sums::Sums;
 use crate::told::kept;
 use resv_list::MAX_MEMBERS;
@@ -154,31 +155,6 @@ fn greatest_about<A: Allocator + Clone>(left: &Link<A>, entry: &Entry, right: &L
 {
     let sides = kept(left).greatest.greater(&kept(right).greatest);
     Sums::own(entry).greater(&sides)
-}
-
-/// The tree in which the own hour of each member has so much more, and then so much less; only its top is written, which
-/// owes that to all below it.
-pub(crate) fn hand<A: Allocator + Clone>(link: Link<A>, more: &Sums, less: &Sums) -> Link<A>
-    requires whole { IsWhole (shape_of link) }
-    requires fits { (band : SubBand) → greatest_of (shape_of link) band - sum_of less.now band + sum_of more.now band
-        ≤ max (sum_of more.now band) (2 ^ 64 - 1) }
-    requires covered { Each (CanMove (sum_of more.now) (sum_of less.now)) (entries (shape_of link)) }
-    ensures { IsMoved (shape_of result) (shape_of link) (sum_of more.now) (sum_of less.now) }
-{
-    let Some(mut top) = link else {
-        return None;
-    };
-    let all = top.kept;
-    top.kept = Kept {
-        height: all.height,
-        left_height: all.left_height,
-        right_height: all.right_height,
-        count: all.count,
-        owes: true,
-        sums: all.sums,
-        greatest: all.greatest.moved(more, less, &all.sums),
-    };
-    Some(top)
 }
 
 /// The tree of these parts; takes no memory.

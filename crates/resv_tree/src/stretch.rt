@@ -4,7 +4,8 @@ ghost use Rattle.resv_tree.specs.Entries.{IsByKey, Each, moved_in, CanMoveIn};
 ghost use Rattle.resv_tree.specs.Shape.{shape_of, entries, IsWhole, count_of, height_of, greatest_of};
 ghost use Rattle.resv_tree.specs.Sums.{sum_in as sum_of};
 
-use crate::node::{Link, hand, open, with_entry, with_other_hours};
+use crate::node::{Link, open, with_entry, with_other_hours};
+use crate::owed::hand;
 use crate::sums::Sums;
 use resv_list::MAX_MEMBERS;
 use std::alloc::Allocator;

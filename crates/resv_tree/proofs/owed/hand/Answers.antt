@@ -1,7 +1,7 @@
 use Rattle.std.proofs.Common.{ap, sym, ◌∙◌}
 use Rattle.resv_tree.specs.Shape.{shape, shape_of}
 use Rattle.resv_tree.proofs.OwedLemmas.{moved-node}
-use Rattle.resv_tree.proofs.node.hand.Goals as goal
+use Rattle.resv_tree.proofs.owed.hand.Goals as goal
 
 pub returns : goal.returns
 returns g c =

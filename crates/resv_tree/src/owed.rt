@@ -1,0 +1,37 @@
+// What a node owes to what stands below it.
+ghost use Rattle.std.specs.Prelude.{◌+◌, ◌-◌, ◌≤◌, ◌^◌, max};
+ghost use Rattle.radio_bands.specs.declared.band.Band.{Band as SubBand};
+ghost use Rattle.resv_tree.specs.Entries.{CanMove, Each};
+ghost use Rattle.resv_tree.specs.Parts.{IsMoved};
+ghost use Rattle.resv_tree.specs.Shape.{shape_of, entries, IsWhole, greatest_of};
+ghost use Rattle.resv_tree.specs.Sums.{sum_in as sum_of};
+
+use crate::kept::Kept;
+use crate::node::Link;
+use crate::sums::Sums;
+use std::alloc::Allocator;
+
+/// The tree in which the own hour of each member has so much more, and then so much less; only its top is written, which
+/// owes that to all below it.
+pub(crate) fn hand<A: Allocator + Clone>(link: Link<A>, more: &Sums, less: &Sums) -> Link<A>
+    requires whole { IsWhole (shape_of link) }
+    requires fits { (band : SubBand) → greatest_of (shape_of link) band - sum_of less.now band + sum_of more.now band
+        ≤ max (sum_of more.now band) (2 ^ 64 - 1) }
+    requires covered { Each (CanMove (sum_of more.now) (sum_of less.now)) (entries (shape_of link)) }
+    ensures { IsMoved (shape_of result) (shape_of link) (sum_of more.now) (sum_of less.now) }
+{
+    let Some(mut top) = link else {
+        return None;
+    };
+    let all = top.kept;
+    top.kept = Kept {
+        height: all.height,
+        left_height: all.left_height,
+        right_height: all.right_height,
+        count: all.count,
+        owes: true,
+        sums: all.sums,
+        greatest: all.greatest.moved(more, less, &all.sums),
+    };
+    Some(top)
+}
