@@ -12,7 +12,9 @@ from measured import memory, seconds
 
 program, other = sys.argv[1:]
 HOUR, HOURS, RUNS, PAIRS, LINES, STRIDE = 3_600_000_000, 4, 3, 20_000, 200_000, 7_919
-LONG, SHORT = "869525000 0 64", "869525000 6 12"      # 2,793,472 and 20,608 us on air, of 360 s that an hour may have
+# 2,793,472, 288,768 and 20,608 us on air, of 360 s that an hour may have
+LONG, MIDDLE, SHORT = "869525000 0 64", "869525000 2 12", "869525000 6 12"
+OTHER_PAIRS = 500           # of the second program, which may walk over a whole hour for each
 
 
 def books(first, starts, what=SHORT):
@@ -32,17 +34,16 @@ def run(path, text):
     return seconds(path, [text], RUNS)
 
 
-def pair(path, in_hour, what):
+def pair(path, in_hour, what, count=PAIRS):
     """What one booking and its cancelling cost in microseconds, with so many of the band in each of four hours."""
     kept = books(0, spread(in_hour, in_hour * HOURS - 1), what)
-    pairs = "".join(f"book {i} {s} {SHORT}\ncancel {i} {s}\n" for i, s in enumerate(between(in_hour, PAIRS)))
-    return (run(path, kept + pairs) - run(path, kept)) / PAIRS * 1e6
+    pairs = "".join(f"book {i} {s} {SHORT}\ncancel {i} {s}\n" for i, s in enumerate(between(in_hour, count)))
+    return (run(path, kept + pairs) - run(path, kept)) / count * 1e6
 
 
 def told(name, path):
     few, many = pair(path, 128, LONG), pair(path, 16_384, SHORT)
     print(f"{name}: a booking and its cancelling {few:.2f} us with 128 in the hour, {many:.2f} us with 16,384 ({many / few:.2f})")
-    return many
 
 
 def lines(in_hour):
@@ -51,9 +52,10 @@ def lines(in_hour):
     return "".join((f"tick {s}\n" if i % 5_000 == 0 else "") + f"book {i} {s} {SHORT}\n" for i, s in enumerate(starts))
 
 
-many = told("the program", program)
+told("the program", program)
 if other:
-    print(f"with 16,384 the program takes {many / told('the other', other):.4f} of the other's time")
+    ours, theirs = pair(program, 1_024, MIDDLE), pair(other, 1_024, MIDDLE, OTHER_PAIRS)
+    print(f"with 1,024 in the hour {ours:.2f} us, the other {theirs:.2f} us, {theirs / ours:.0f} times as long")
 full, empty = run(program, lines(15_722)), run(program, lines(600))
 ratio = f"{empty / full:.2f} of the lines a second"
 print(f"{LINES:,} lines: {full:.2f} s in hours nine tenths full, {empty:.2f} s at 600 an hour: {ratio}")
