@@ -1,4 +1,4 @@
-use Rattle.std.specs.Prelude.{ℕ, ◌≡◌, ◌+◌, ◌-◌, ◌*◌, ◌<◌, ◌≤◌, List, [], ◌∷◌, Some, length, drop}
+use Rattle.std.specs.Prelude.{ℕ, ◌≡◌, ◌+◌, ◌-◌, ◌*◌, ◌/◌, ◌<◌, ◌≤◌, List, [], ◌∷◌, Some, length, drop}
 use Rattle.std.proofs.Common.{refl, arith, zero, suc, sym, ap, ◌∙◌, subst, length-drop, get_or, take}
 use Rattle.std.proofs.lemmas.List.{at_drop_more, take_rest}
 use Rattle.radio_bands.specs.declared.band.Band.{Band}
@@ -14,8 +14,9 @@ use Rattle.resv_tree.specs.declared.entry.Entry.{Entry}
 use Rattle.resv_tree.specs.Entries.{key_of, members, Each}
 use Rattle.resv_tree.specs.Filling.{with_hours, EndsBy, IsAhead}
 use Rattle.resv_tree.specs.OwnHours.{own_hour, HasHours}
-use Rattle.resv_tree.specs.Sums.{sum_in, total_in}
+use Rattle.resv_tree.specs.Sums.{sum_in, quarters_in, total_in}
 use Rattle.resv_tree.proofs.EntryLemmas.{banded, amount_of, amount_at, each-with}
+use Rattle.resv_tree.proofs.QuarterLemmas.{own_hour_whole}
 use Rattle.resv_tree.proofs.SumLemmas.{airtime_in-short, begun_le-total, begun_between}
 use Rattle.resv_tree.proofs.TotalLemmas.{total_in-nil, total_in-cons}
 
@@ -28,17 +29,17 @@ rises_drop key low (suc n) [] r = tt
 rises_drop key low (suc n) (x ∷ xs) r = RisesFrom-lower key low (key x + 1) (drop n xs) (omega (arith, r.0)) (rises_drop key
     (key x + 1) n xs r.1)
 
--- no member has more than ten seconds
-total_short : (band : Band) (l : List Reservation) → total_in band l ≤ 10000000 * length l
+-- no member has more than 2^22 microseconds
+total_short : (band : Band) (l : List Reservation) → total_in band l ≤ 4194304 * length l
 total_short band [] = omega (arith, total_in-nil band)
 total_short band (r ∷ rs) = omega (arith, total_in-cons band r rs, airtime_in-short band r, total_short band rs)
 
-begun_bounded : (band : Band) (to : ℕ) (l : List Reservation) → length l ≤ 65536 → begun band 0 to l ≤ 655360000000
+begun_bounded : (band : Band) (to : ℕ) (l : List Reservation) → length l ≤ 65536 → begun band 0 to l ≤ 274877906944
 begun_bounded band to l h = omega (arith, begun_le-total band to l, total_short band l)
 
 -- while there is a next one, the sums are bounded
 pub sums_bounded : (left ahead : List Reservation) (s : Sums) → 0 < length left → IsAhead left ahead s
-    → (band : Band) → sum_in s band ≤ 655360000000
+    → (band : Band) → sum_in s band ≤ 274877906944
 sums_bounded [] ahead s h w band = absurd (omega arith)
 sums_bounded (m ∷ ms) ahead s h w band =
     omega (arith, w.parted band (m.start + hour) (omega arith), begun_bounded band (m.start + hour) (m ∷ ms) w.left_room)
@@ -70,7 +71,7 @@ module _ (left ahead : List Reservation) (s t : Sums) (n : ℕ) (d : Reservation
   here : (band : Band) (to : ℕ) → m.start < to → begun band 0 to (m ∷ ms) ≡ airtime_in band m + begun band 0 to ms
   here band to h = omega (arith, begun-cons band 0 to m ms, share_within band 0 to m (omega arith) h)
 
-  pub step_bounded : (band : Band) → sum_in t band < 9223372036854775808
+  pub step_bounded : (band : Band) → sum_in t band < 549755813888
   step_bounded band = omega (arith, whole_hour band, begun_bounded band (m.start + hour) (m ∷ ms) w.left_room)
 
   pub step_covers : (band : Band) → airtime_in band m ≤ sum_in t band
@@ -86,10 +87,14 @@ module _ (left ahead : List Reservation) (s t : Sums) (n : ℕ) (d : Reservation
         amount_of (λ b. begun b m.start (m.start + hour) (m ∷ ms)) m band e,
       )
 
-  pub step_given : (band : Band) (own : ℕ) → band_of m.freq_hz m.rate ≡ Some band → own ≡ sum_in t band
+  own_of : (band : Band) (own : ℕ) → band_of m.freq_hz m.rate ≡ Some band → own ≡ quarters_in t band
+      → own_hour (m ∷ ms) m / 128 ≡ own
+  own_of band own e is = omega (arith, is, own_of_next band e)
+
+  pub step_given : (band : Band) (own : ℕ) → band_of m.freq_hz m.rate ≡ Some band → own ≡ quarters_in t band
       → with_hours left ≡ record { reservation = m; own = own } ∷ with_hours (take (length left - 1) ms)
   step_given band own e is =
-      ap with_hours split ∙ ap (λ n. record { reservation = m; own = n } ∷ with_hours ms) (sym (is ∙ own_of_next band e))
+      ap with_hours split ∙ ap (λ n. record { reservation = m; own = n } ∷ with_hours ms) (own_of band own e is)
       ∙ ap (λ l. record { reservation = m; own = own } ∷ with_hours l) (sym (take_rest left 1))
 
   -- the hours of those behind it end later
@@ -130,8 +135,8 @@ each_later low (x ∷ xs) r = (
 )
 
 -- one more in front begins in the own hour of none behind it
-one_in_front : (r : Reservation) (rs : List Reservation) (e : Entry) → r.start + 1 ≤ key_of e → e.own ≡ own_hour rs e.reservation
-    → e.own ≡ own_hour (r ∷ rs) e.reservation
+one_in_front : (r : Reservation) (rs : List Reservation) (e : Entry) → r.start + 1 ≤ key_of e → 128 * e.own ≡ own_hour rs e.reservation
+    → 128 * e.own ≡ own_hour (r ∷ rs) e.reservation
 one_in_front r rs e h own =
     let b = banded e.reservation in
     omega (
@@ -144,15 +149,15 @@ one_in_front r rs e h own =
     )
 
 hours_of_all : (low : ℕ) (l : List Reservation) → RisesFrom start_of low l
-    → Each (λ e. e.own ≡ own_hour l e.reservation) (with_hours l)
+    → Each (λ e. 128 * e.own ≡ own_hour l e.reservation) (with_hours l)
 hours_of_all low [] r = tt
 hours_of_all low (x ∷ xs) r = (
-  refl,
-  each-with (λ e. x.start + 1 ≤ key_of e) (λ e. e.own ≡ own_hour xs e.reservation)
-      (λ e. e.own ≡ own_hour (x ∷ xs) e.reservation) (one_in_front x xs) (with_hours xs) (each_later (x.start + 1) xs r.1)
+  own_hour_whole (x ∷ xs) x,
+  each-with (λ e. x.start + 1 ≤ key_of e) (λ e. 128 * e.own ≡ own_hour xs e.reservation)
+      (λ e. 128 * e.own ≡ own_hour (x ∷ xs) e.reservation) (one_in_front x xs) (with_hours xs) (each_later (x.start + 1) xs r.1)
       (hours_of_all (x.start + 1) xs r.1),
 )
 
 pub with_hours-has : (l : List Reservation) → IsByStart l → HasHours (with_hours l)
 with_hours-has l b =
-    subst (λ k. Each (λ e. e.own ≡ own_hour k e.reservation) (with_hours l)) (sym (members-with_hours l)) (hours_of_all 0 l b)
+    subst (λ k. Each (λ e. 128 * e.own ≡ own_hour k e.reservation) (with_hours l)) (sym (members-with_hours l)) (hours_of_all 0 l b)

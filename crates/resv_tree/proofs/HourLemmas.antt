@@ -1,7 +1,6 @@
-use Rattle.std.specs.Prelude.{ℕ, ◌≡◌, ◌+◌, ◌≤◌, max, nat_lt, nat_le, Bool, true, false, ◌&&◌, List, [], ◌∷◌}
+use Rattle.std.specs.Prelude.{ℕ, ◌≡◌, ◌+◌, ◌*◌, ◌/◌, ◌≤◌, max, nat_lt, nat_le, Bool, true, false, ◌&&◌, List, [], ◌∷◌}
 use Rattle.std.specs.Prelude.{Some, None, map, cond, find, option_map}
 use Rattle.std.proofs.Common.{refl, arith, sym, ap, ◌∙◌, subst}
-use Rattle.std.proofs.lemmas.Bool.{le-leb, lt-leb, ltb-true, ltb-false}
 use Rattle.radio_bands.specs.declared.band.Band.{Band}
 use Rattle.resv_list.specs.declared.reservation.Reservation.{Reservation}
 use Rattle.resv_list.specs.Reservations.{is_in, spent}
@@ -9,24 +8,23 @@ use Rattle.resv_list.specs.Hours.{starts_in, is_over, first_over, greatest, most
 use Rattle.resv_list.proofs.HourLemmas.{greatest-cons}
 use Rattle.resv_tree.specs.declared.entry.Entry.{Entry}
 use Rattle.resv_tree.specs.Entries.{key_of, Each, reaches, first_reaching, member_of, members, most_own}
-use Rattle.resv_tree.specs.Sums.{sum_in}
 use Rattle.resv_tree.specs.Entries.{moved_in, CanMoveIn}
 use Rattle.resv_tree.specs.OwnHours.{own_hour, HasHours, reach, airtimes, nothing, raised, lowered, CountsIn}
-use Rattle.radio_bands.specs.declared.band.Band.TheVariants.{K, L, M, N, P, Q}
 use Rattle.resv_tree.specs.Shape.{Shape, entries, members_of, greatest_of, IsWhole}
 use Rattle.resv_tree.proofs.EntryLemmas.{in_band, amount_of, each, banded, amount_at}
 use Rattle.resv_tree.proofs.OwedLemmas.{entries-members, greatest_is_most}
 use Rattle.resv_tree.proofs.FirstLemmas.{low_none}
+use Rattle.resv_tree.proofs.QuarterLemmas.{above}
 
 -- The own hours of all members, at the root.
 
 -- an entry's own hour where it is one of the sub-band
-own_spent : (l : List Reservation) (band : Band) (e : Entry) → e.own ≡ own_hour l e.reservation → is_in band e.reservation ≡ true
-    → e.own ≡ spent l band e.reservation.start
+own_spent : (l : List Reservation) (band : Band) (e : Entry) → 128 * e.own ≡ own_hour l e.reservation → is_in band e.reservation ≡ true
+    → 128 * e.own ≡ spent l band e.reservation.start
 own_spent l band e h i = h ∙ amount_of (λ b. spent l b e.reservation.start) e.reservation band (in_band e.reservation band i)
 
-most_of_all : (l : List Reservation) (band : Band) (es : List Entry) → Each (λ e. e.own ≡ own_hour l e.reservation) es
-    → most_own band es ≡ greatest (map (spent l band) (starts_in (members es) band))
+most_of_all : (l : List Reservation) (band : Band) (es : List Entry) → Each (λ e. 128 * e.own ≡ own_hour l e.reservation) es
+    → 128 * most_own band es ≡ greatest (map (spent l band) (starts_in (members es) band))
 most_of_all l band [] h = refl
 most_of_all l band (e ∷ es) h =
     by (is_in band e.reservation) refl (greatest-cons (spent l band) band e.reservation (members es)
@@ -36,36 +34,29 @@ most_of_all l band (e ∷ es) h =
     by : (t : Bool) → is_in band e.reservation ≡ t
         → greatest (map (spent l band) (starts_in (members (e ∷ es)) band))
         ≡ max (cond t (spent l band e.reservation.start) 0) (greatest (map (spent l band) (starts_in (members es) band)))
-        → most_own band es ≡ greatest (map (spent l band) (starts_in (members es) band))
-        → max (cond t e.own 0) (most_own band es) ≡ greatest (map (spent l band) (starts_in (members (e ∷ es)) band))
+        → 128 * most_own band es ≡ greatest (map (spent l band) (starts_in (members es) band))
+        → 128 * max (cond t e.own 0) (most_own band es) ≡ greatest (map (spent l band) (starts_in (members (e ∷ es)) band))
     by true i g rest = omega (arith, g, rest, own_spent l band e h.0 i)
     by false i g rest = omega (arith, g, rest)
 
 -- the greatest is that of the fullest hour
 pub greatest_is_spent : (t : Shape) (band : Band) → IsWhole t → HasHours (entries t)
-    → greatest_of t band ≡ most_spent (members_of t) band
+    → 128 * greatest_of t band ≡ most_spent (members_of t) band
 greatest_is_spent t band w h =
-    sym (greatest_is_most t band w) ∙ most_of_all (members (entries t)) band (entries t) h
+    sym (ap (λ n. 128 * n) (greatest_is_most t band w)) ∙ most_of_all (members (entries t)) band (entries t) h
     ∙ ap (λ (l : List Reservation). most_spent l band) (entries-members t)
 
-above : (most n : ℕ) → nat_lt most n ≡ nat_le (most + 1) n
-above most n = by (nat_lt most n) refl
-  where
-    by : (t : Bool) → nat_lt most n ≡ t → t ≡ nat_le (most + 1) n
-    by true e = sym (le-leb (most + 1) n (let h = ltb-true most n e in omega (arith, h)))
-    by false e = sym (lt-leb (most + 1) n (let h = ltb-false most n e in omega (arith, h)))
-
-over_one : (l : List Reservation) (band : Band) (from to most : ℕ) (e : Entry) → e.own ≡ own_hour l e.reservation
-    → is_over l band from to most e.reservation ≡ reaches band from to (most + 1) e
+over_one : (l : List Reservation) (band : Band) (from to most : ℕ) (e : Entry) → 128 * e.own ≡ own_hour l e.reservation
+    → is_over l band from to most e.reservation ≡ reaches band from to (most / 128 + 1) e
 over_one l band from to most e h = by (is_in band e.reservation) refl
   where
     by : (t : Bool) → is_in band e.reservation ≡ t
         → (t && nat_le from e.reservation.start && nat_lt e.reservation.start to && nat_lt most
         (spent l band e.reservation.start))
-        ≡ (t && nat_le from (key_of e) && nat_lt (key_of e) to && nat_le (most + 1) e.own)
+        ≡ (t && nat_le from (key_of e) && nat_lt (key_of e) to && nat_le (most / 128 + 1) e.own)
     by true i =
         ap (λ (u : Bool). nat_le from (key_of e) && nat_lt (key_of e) to && u)
-        (above most (spent l band e.reservation.start) ∙ ap (nat_le (most + 1)) (sym (own_spent l band e h i)))
+        (ap (nat_lt most) (sym (own_spent l band e h i)) ∙ above most e.own)
     by false i = refl
 
 over_more : (p : Reservation → Bool) (q : Entry → Bool) (e : Entry) (es : List Entry) (t : Bool) → p e.reservation ≡ q e → q e ≡ t
@@ -75,16 +66,16 @@ over_more p q e es true s u rest = rw (s ∙ u) refl
 over_more p q e es false s u rest = rw (s ∙ u) rest
 
 over_all : (l : List Reservation) (band : Band) (from to most : ℕ) (es : List Entry)
-    → Each (λ e. e.own ≡ own_hour l e.reservation) es
-    → find (is_over l band from to most) (members es) ≡ first_reaching band from to (most + 1) es
+    → Each (λ e. 128 * e.own ≡ own_hour l e.reservation) es
+    → find (is_over l band from to most) (members es) ≡ first_reaching band from to (most / 128 + 1) es
 over_all l band from to most [] h = refl
 over_all l band from to most (e ∷ es) h =
-    over_more (is_over l band from to most) (reaches band from to (most + 1)) e es (reaches band from to (most + 1) e)
+    over_more (is_over l band from to most) (reaches band from to (most / 128 + 1)) e es (reaches band from to (most / 128 + 1) e)
     (over_one l band from to most e h.0) refl (over_all l band from to most es h.1)
 
 -- the first entry that reaches more is the first member whose hour is over
 pub first_reaching-over : (t : Shape) (band : Band) (from to most : ℕ) → HasHours (entries t)
-    → first_reaching band from to (most + 1) (entries t) ≡ first_over band from to most (members_of t)
+    → first_reaching band from to (most / 128 + 1) (entries t) ≡ first_over band from to most (members_of t)
 first_reaching-over t band from to most h =
     sym (over_all (members (entries t)) band from to most (entries t) h)
     ∙ ap (first_over band from to most) (entries-members t)
@@ -92,18 +83,10 @@ first_reaching-over t band from to most h =
 pub none_over : (t : Shape) (band : Band) (from to most : ℕ) → IsWhole t → HasHours (entries t)
     → most_spent (members_of t) band ≤ most → None ≡ first_over band from to most (members_of t)
 none_over t band from to most w h m =
-    low_none t band from to (most + 1) w (omega (arith, m, greatest_is_spent t band w h))
+    low_none t band from to (most / 128 + 1) w (omega (arith, m, greatest_is_spent t band w h))
     ∙ first_reaching-over t band from to most h
 
 -- One member more, or one less: what a tree does in a stretch against what its list does.
-
-pub none_in : (band : Band) → sum_in (record { k = 0; l = 0; m = 0; n = 0; p = 0; q = 0 }) band ≡ 0
-none_in K = refl
-none_in L = refl
-none_in M = refl
-none_in N = refl
-none_in P = refl
-none_in Q = refl
 
 pub raised_by : (r : Reservation) (from : ℕ) (more less : Band → ℕ) (es : List Entry) → from ≡ reach r.start
     → ((band : Band) → more band ≡ airtimes r band) → ((band : Band) → less band ≡ 0)

@@ -1,5 +1,6 @@
 pub mod TotalLemmas
 pub mod EntryLemmas
+pub mod QuarterLemmas
 pub mod OwedLemmas
 pub mod StretchLemmas
 pub mod FirstLemmas

@@ -1,4 +1,4 @@
-use Rattle.std.specs.Prelude.{ℕ, ◌≡◌, ◌≢◌, ◌+◌, ◌-◌, ◌*◌, ◌<◌, ◌≤◌, max, Bool, true, false, ◌∷◌, ◌++◌, map, cond}
+use Rattle.std.specs.Prelude.{ℕ, ◌≡◌, ◌≢◌, ◌+◌, ◌-◌, ◌<◌, ◌≤◌, max, Bool, true, false, ◌∷◌, ◌++◌, map, cond}
 use Rattle.std.specs.Prelude.{Option, Box}
 use Rattle.std.proofs.Common.{refl, arith, zero, suc, sym, ap, ◌∙◌, subst}
 use Rattle.radio_airtime.specs.Bounds.{airtime_of-positive}
@@ -8,9 +8,9 @@ use Rattle.resv_tree.specs.declared.entry.Entry.{Entry}
 use Rattle.resv_tree.specs.declared.kept.Kept.{Kept}
 use Rattle.resv_tree.specs.Entries.{Each, amount, moved, CanMove, most_own, members}
 use Rattle.resv_tree.specs.declared.sums.Sums.{Sums}
-use Rattle.resv_tree.specs.Sums.{sum_in, total_in}
-use Rattle.resv_tree.specs.Shape.{Shape, Leaf, Fork, entries, members_of, greatest_of, top_of, height_of, count_of, kept_sum}
-use Rattle.resv_tree.specs.Shape.{IsWhole, IsKept, IsLevel}
+use Rattle.resv_tree.specs.Sums.{sum_in, quarters_in, total_in}
+use Rattle.resv_tree.specs.Shape.{Shape, Leaf, Fork, entries, members_of, greatest_of, top_of, kept_sum}
+use Rattle.resv_tree.specs.Shape.{IsWhole, IsKept, HasSides}
 use Rattle.resv_tree.specs.Parts.{IsMadeOf, IsMoved}
 use Rattle.resv_tree.specs.declared.node.Node.{Node, out-Node, roll-Node}
 use Rattle.resv_tree.specs.Shape.{shape, shape_of, kept_of}
@@ -29,7 +29,7 @@ use Rattle.resv_tree.proofs.EntryLemmas.{each_there, own_moved}
 pub entries-members : (t : Shape) → members (entries t) ≡ members_of t
 entries-members Leaf = refl
 entries-members (Fork l e r k) =
-    members-moved (sum_in k.greatest) (top_of l e r) (entries l ++ e ∷ entries r)
+    members-moved (quarters_in k.greatest) (top_of l e r) (entries l ++ e ∷ entries r)
     ∙ members-parts (entries l) e (entries r)
     ∙ (λ i. entries-members l i ++ e.reservation ∷ entries-members r i)
 
@@ -56,14 +56,14 @@ greatest_is_most (Fork l e r k) band w =
     by (sum_in k.sums band) refl (omega (arith, raw, left, right))
   where
     by : (n : ℕ) → sum_in k.sums band ≡ n → most_own band (entries l ++ e ∷ entries r) ≡ top_of l e r band
-        → most_own band (map (moved (sum_in k.greatest) (top_of l e r)) (entries l ++ e ∷ entries r)) ≡ sum_in k.greatest band
+        → most_own band (map (moved (quarters_in k.greatest) (top_of l e r)) (entries l ++ e ∷ entries r)) ≡ quarters_in k.greatest band
     by zero z m =
-        most_none band (map (moved (sum_in k.greatest) (top_of l e r)) (entries l ++ e ∷ entries r))
-        (ap (total_in band) (members-moved (sum_in k.greatest) (top_of l e r) (entries l ++ e ∷ entries r))
+        most_none band (map (moved (quarters_in k.greatest) (top_of l e r)) (entries l ++ e ∷ entries r))
+        (ap (total_in band) (members-moved (quarters_in k.greatest) (top_of l e r) (entries l ++ e ∷ entries r))
         ∙ parts_total l r e k band w ∙ z)
         ∙ sym (w.2.idle band z)
     by (suc n) z m =
-        let all = most_moved (sum_in k.greatest) (top_of l e r) band (entries l ++ e ∷ entries r)
+        let all = most_moved (quarters_in k.greatest) (top_of l e r) band (entries l ++ e ∷ entries r)
         (λ q. absurd (omega (arith, q, z, parts_total l r e k band w))) in
         omega (arith, all, m)
 
@@ -86,10 +86,10 @@ parts_within l r e k w =
 moved_nowhere : (f : Band → ℕ) (e : Entry) → moved f f e ≡ e
 moved_nowhere f e = own_same e (e.own + amount f e.reservation - amount f e.reservation) e.own (omega arith)
 
-pub entries_settled : (l r : Shape) (e : Entry) (k : Kept) → ((band : Band) → sum_in k.greatest band ≡ top_of l e r band)
+pub entries_settled : (l r : Shape) (e : Entry) (k : Kept) → ((band : Band) → quarters_in k.greatest band ≡ top_of l e r band)
     → entries (Fork l e r k) ≡ entries l ++ e ∷ entries r
 entries_settled l r e k h =
-    let same : sum_in k.greatest ≡ top_of l e r = λ i band. h band i in
+    let same : quarters_in k.greatest ≡ top_of l e r = λ i band. h band i in
     subst (λ f. map (moved f (top_of l e r)) (entries l ++ e ∷ entries r) ≡ entries l ++ e ∷ entries r) (sym same)
     (map-identity (moved (top_of l e r) (top_of l e r)) (entries l ++ e ∷ entries r) (moved_nowhere (top_of l e r)))
 
@@ -102,7 +102,7 @@ covered_settled l r e f h =
 
 -- a whole tree that owes nothing is made of its parts
 pub made_of-Fork : (l r : Shape) (e : Entry) (k : Kept) → IsWhole (Fork l e r k)
-    → ((band : Band) → sum_in k.greatest band ≡ top_of l e r band) → IsMadeOf (Fork l e r k) l e r
+    → ((band : Band) → quarters_in k.greatest band ≡ top_of l e r band) → IsMadeOf (Fork l e r k) l e r
 made_of-Fork l r e k w h = record {
   entries = entries_settled l r e k h;
   count = w.2.count;
@@ -117,13 +117,13 @@ made_of-Fork l r e k w h = record {
 
 -- the greatest of what has it is what the node kept
 handed_top : (l r p q : Shape) (e : Entry) (k : Kept) (band : Band) → IsWhole (Fork l e r k)
-    → IsMoved p l (sum_in k.greatest) (top_of l e r) → IsMoved q r (sum_in k.greatest) (top_of l e r)
-    → sum_in k.greatest band ≡ top_of p (moved (sum_in k.greatest) (top_of l e r) e) q band
+    → IsMoved p l (quarters_in k.greatest) (top_of l e r) → IsMoved q r (quarters_in k.greatest) (top_of l e r)
+    → quarters_in k.greatest band ≡ top_of p (moved (quarters_in k.greatest) (top_of l e r) e) q band
 handed_top l r p q e k band w a b =
     by (kept_sum l band) (kept_sum r band) (is_in band e.reservation) refl refl refl (w.2.sums band) refl
   where
     more : Band → ℕ
-    more = sum_in k.greatest
+    more = quarters_in k.greatest
 
     less : Band → ℕ
     less = top_of l e r
@@ -131,7 +131,7 @@ handed_top l r p q e k band w a b =
     by : (m n : ℕ) (t : Bool) → kept_sum l band ≡ m → kept_sum r band ≡ n → is_in band e.reservation ≡ t
         → sum_in k.sums band ≡ kept_sum l band + cond t (airtime_us e.reservation) 0 + kept_sum r band
         → top_of l e r band ≡ max (cond t e.own 0) (max (greatest_of l band) (greatest_of r band))
-        → sum_in k.greatest band ≡ max (cond t (moved more less e).own 0) (max (greatest_of p band) (greatest_of q band))
+        → quarters_in k.greatest band ≡ max (cond t (moved more less e).own 0) (max (greatest_of p band) (greatest_of q band))
     by zero zero true i j h s o = omega (
       arith,
       o,
@@ -183,11 +183,11 @@ handed_top l r p q e k band w a b =
 
 -- a whole tree is made of its parts, once these have what it owed
 pub made_of-handed : (l r p q : Shape) (e : Entry) (k : Kept) → IsWhole (Fork l e r k)
-    → IsMoved p l (sum_in k.greatest) (top_of l e r) → IsMoved q r (sum_in k.greatest) (top_of l e r)
-    → IsMadeOf (Fork l e r k) p (moved (sum_in k.greatest) (top_of l e r) e) q
+    → IsMoved p l (quarters_in k.greatest) (top_of l e r) → IsMoved q r (quarters_in k.greatest) (top_of l e r)
+    → IsMadeOf (Fork l e r k) p (moved (quarters_in k.greatest) (top_of l e r) e) q
 made_of-handed l r p q e k w a b = record {
-  entries = map-parts (moved (sum_in k.greatest) (top_of l e r)) (entries l) e (entries r)
-      ∙ (λ i. sym a.entries i ++ moved (sum_in k.greatest) (top_of l e r) e ∷ sym b.entries i);
+  entries = map-parts (moved (quarters_in k.greatest) (top_of l e r)) (entries l) e (entries r)
+      ∙ (λ i. sym a.entries i ++ moved (quarters_in k.greatest) (top_of l e r) e ∷ sym b.entries i);
   count = omega (arith, w.2.count, a.count, b.count);
   height = omega (arith, w.2.height, a.height, b.height);
   greatest = λ band. handed_top l r p q e k band w a b;
@@ -198,8 +198,8 @@ made_of-handed l r p q e k w a b = record {
 
 -- and what it keeps follows from them
 pub kept-handed : (l r p q : Shape) (e : Entry) (k : Kept) → IsWhole (Fork l e r k)
-    → IsMoved p l (sum_in k.greatest) (top_of l e r) → IsMoved q r (sum_in k.greatest) (top_of l e r)
-    → IsKept p (moved (sum_in k.greatest) (top_of l e r) e) q k
+    → IsMoved p l (quarters_in k.greatest) (top_of l e r) → IsMoved q r (quarters_in k.greatest) (top_of l e r)
+    → IsKept p (moved (quarters_in k.greatest) (top_of l e r) e) q k
 kept-handed l r p q e k w a b =
     let top = λ (band : Band). handed_top l r p q e k band w a b in
     record {
@@ -212,7 +212,7 @@ kept-handed l r p q e k w a b =
       short = w.2.short;
       idle = w.2.idle;
       settled = λ o band. top band;
-      covered = covered_settled p q (moved (sum_in k.greatest) (top_of l e r) e) (sum_in k.greatest) top;
+      covered = covered_settled p q (moved (quarters_in k.greatest) (top_of l e r) e) (quarters_in k.greatest) top;
     }
 
 -- the same of a tree that is known by its parts
@@ -222,16 +222,16 @@ opened-settled t l r e k is w o =
     subst (λ s. IsMadeOf s l e r) (sym is) (made_of-Fork l r e k whole (whole.2.settled o))
 
 pub opened-made : (t l r p q : Shape) (e f : Entry) (k : Kept) → t ≡ Fork l e r k → IsWhole t
-    → IsMoved p l (sum_in k.greatest) (top_of l e r) → f ≡ moved (sum_in k.greatest) (top_of l e r) e
-    → IsMoved q r (sum_in k.greatest) (top_of l e r) → IsMadeOf t p f q
+    → IsMoved p l (quarters_in k.greatest) (top_of l e r) → f ≡ moved (quarters_in k.greatest) (top_of l e r) e
+    → IsMoved q r (quarters_in k.greatest) (top_of l e r) → IsMadeOf t p f q
 opened-made t l r p q e f k is w a same b =
     let whole : IsWhole (Fork l e r k) = subst IsWhole is w in
     subst (λ s. IsMadeOf s p f q) (sym is) (subst (λ x. IsMadeOf (Fork l e r k) p x q) (sym same)
     (made_of-handed l r p q e k whole a b))
 
 pub opened-kept : (t l r p q : Shape) (e f : Entry) (k j : Kept) → t ≡ Fork l e r k → IsWhole t
-    → IsMoved p l (sum_in k.greatest) (top_of l e r) → f ≡ moved (sum_in k.greatest) (top_of l e r) e
-    → IsMoved q r (sum_in k.greatest) (top_of l e r) → j ≡ k → IsKept p f q j
+    → IsMoved p l (quarters_in k.greatest) (top_of l e r) → f ≡ moved (quarters_in k.greatest) (top_of l e r) e
+    → IsMoved q r (quarters_in k.greatest) (top_of l e r) → j ≡ k → IsKept p f q j
 opened-kept t l r p q e f k j is w a same b kept =
     let whole : IsWhole (Fork l e r k) = subst IsWhole is w in
     subst (λ x. IsKept p f q x) (sym kept) (subst (λ x. IsKept p x q k) (sym same) (kept-handed l r p q e k whole a b))
@@ -290,13 +290,13 @@ pub record Owes (k h : Kept) (more less : Band → ℕ) : Type 0 where
   pub owes : h.owes ≡ true
   pub sums : (band : Band) → sum_in h.sums band ≡ sum_in k.sums band
   pub some : (band : Band) → sum_in k.sums band ≢ 0
-      → sum_in h.greatest band ≡ sum_in k.greatest band + more band - less band
-  pub none : (band : Band) → sum_in k.sums band ≡ 0 → sum_in h.greatest band ≡ 0
+      → quarters_in h.greatest band ≡ quarters_in k.greatest band + more band - less band
+  pub none : (band : Band) → sum_in k.sums band ≡ 0 → quarters_in h.greatest band ≡ 0
 
 pub moved-owing : (l r : Shape) (e : Entry) (k h : Kept) (more less : Band → ℕ) → IsWhole (Fork l e r k) → Owes k h more less
     → Each (CanMove more less) (entries (Fork l e r k)) → IsMoved (Fork l e r h) (Fork l e r k) more less
 moved-owing l r e k h more less w o c =
-    let g = sum_in k.greatest in
+    let g = quarters_in k.greatest in
     let m = top_of l e r in
     let es = entries l ++ e ∷ entries r in
     let there = parts_there l r e k w in
@@ -305,12 +305,12 @@ moved-owing l r e k h more less w o c =
     let P = λ (x : Entry). (0 < amount (sum_in k.sums) x.reservation) × CanMove g m x in
     let both = each-with (λ x. 0 < amount (sum_in k.sums) x.reservation) (CanMove g m) P (λ x a b. (a, b)) es there w.2.covered in
     let same = each-with (λ x. x.own ≤ amount m x.reservation) P
-    (λ x. moved (sum_in h.greatest) m x ≡ moved more less (moved g m x))
-    (λ x a b. moved_twice g m (sum_in h.greatest) more less (sum_in k.sums) x o.some b.0 a b.1) es within both in
-    let again = each-with (λ x. CanMove more less (moved g m x)) P (CanMove (sum_in h.greatest) m)
-    (λ x a b. covered_again g m (sum_in h.greatest) more less (sum_in k.sums) x o.some b.0 b.1 a) es can both in
+    (λ x. moved (quarters_in h.greatest) m x ≡ moved more less (moved g m x))
+    (λ x a b. moved_twice g m (quarters_in h.greatest) more less (sum_in k.sums) x o.some b.0 a b.1) es within both in
+    let again = each-with (λ x. CanMove more less (moved g m x)) P (CanMove (quarters_in h.greatest) m)
+    (λ x a b. covered_again g m (quarters_in h.greatest) more less (sum_in k.sums) x o.some b.0 b.1 a) es can both in
     record {
-      entries = map-same (moved (sum_in h.greatest) m) (λ x. moved more less (moved g m x)) es same
+      entries = map-same (moved (quarters_in h.greatest) m) (λ x. moved more less (moved g m x)) es same
           ∙ sym (map-map (moved more less) (moved g m) es);
       count = o.count;
       height = o.height;
@@ -359,50 +359,40 @@ idle_top l r e band v w z = by (is_in band e.reservation) z
     by true s = absurd (omega (arith, s, airtime_of-positive e.reservation.rate e.reservation.len))
     by false s = omega (arith, idle_of l band v (omega (arith, s)), idle_of r band w (omega (arith, s)))
 
--- what it keeps of numbers
-pub record Counts (l : Shape) (e : Entry) (r : Shape) (k : Kept) : Type 0 where
-  pub height : k.height ≡ max (height_of l) (height_of r) + 1
-  pub left_height : k.left_height ≡ height_of l
-  pub right_height : k.right_height ≡ height_of r
-  pub count : k.count ≡ count_of l + count_of r + 1
-  pub sums : (band : Band) → sum_in k.sums band ≡ kept_sum l band + airtime_in band e.reservation + kept_sum r band
-  pub short : (band : Band) → sum_in k.sums band ≤ 10000000 * k.count
-  pub greatest : (band : Band) → sum_in k.greatest band ≡ top_of l e r band
-
-pub whole-Fork : (l r : Shape) (e : Entry) (k : Kept) → IsWhole l → IsWhole r → IsLevel l r → Counts l e r k
-    → IsWhole (Fork l e r k)
-whole-Fork l r e k v w level c = (
+pub whole-Fork : (l r : Shape) (e : Entry) (k : Kept) → IsWhole l → IsWhole r → HasSides k l e r
+    → ((band : Band) → quarters_in k.greatest band ≡ top_of l e r band) → IsWhole (Fork l e r k)
+whole-Fork l r e k v w c top = (
   v,
   w,
   record {
-    level = level;
+    level = c.level;
     height = c.height;
     left_height = c.left_height;
     right_height = c.right_height;
     count = c.count;
     sums = c.sums;
     short = c.short;
-    idle = λ band z. c.greatest band ∙ idle_top l r e band v w (sym (c.sums band) ∙ z);
-    settled = λ o. c.greatest;
-    covered = covered_settled l r e (sum_in k.greatest) c.greatest;
+    idle = λ band z. top band ∙ idle_top l r e band v w (sym (c.sums band) ∙ z);
+    settled = λ o. top;
+    covered = covered_settled l r e (quarters_in k.greatest) top;
   },
 )
 
 -- What is asked where it is handed down.
 
-pub covered_left : (l r : Shape) (e : Entry) (k : Kept) (f g : Band → ℕ) → f ≡ sum_in k.greatest → g ≡ top_of l e r
+pub covered_left : (l r : Shape) (e : Entry) (k : Kept) (f g : Band → ℕ) → f ≡ quarters_in k.greatest → g ≡ top_of l e r
     → IsKept l e r k → Each (CanMove f g) (entries l)
 covered_left l r e k f g p q kept =
     subst (λ h. Each (CanMove h g) (entries l)) (sym p)
-    (subst (λ h. Each (CanMove (sum_in k.greatest) h) (entries l)) (sym q)
-    (each-left (CanMove (sum_in k.greatest) (top_of l e r)) (entries l) e (entries r) kept.covered))
+    (subst (λ h. Each (CanMove (quarters_in k.greatest) h) (entries l)) (sym q)
+    (each-left (CanMove (quarters_in k.greatest) (top_of l e r)) (entries l) e (entries r) kept.covered))
 
-pub covered_right : (l r : Shape) (e : Entry) (k : Kept) (f g : Band → ℕ) → f ≡ sum_in k.greatest → g ≡ top_of l e r
+pub covered_right : (l r : Shape) (e : Entry) (k : Kept) (f g : Band → ℕ) → f ≡ quarters_in k.greatest → g ≡ top_of l e r
     → IsKept l e r k → Each (CanMove f g) (entries r)
 covered_right l r e k f g p q kept =
     subst (λ h. Each (CanMove h g) (entries r)) (sym p)
-    (subst (λ h. Each (CanMove (sum_in k.greatest) h) (entries r)) (sym q)
-    (each-right (CanMove (sum_in k.greatest) (top_of l e r)) (entries l) e (entries r) kept.covered).1)
+    (subst (λ h. Each (CanMove (quarters_in k.greatest) h) (entries r)) (sym q)
+    (each-right (CanMove (quarters_in k.greatest) (top_of l e r)) (entries l) e (entries r) kept.covered).1)
 
 pub own_in_top : (l r : Shape) (e : Entry) (g : Band → ℕ) → g ≡ top_of l e r → e.own ≤ amount g e.reservation
 own_in_top l r e g q =
@@ -424,8 +414,8 @@ owing k greatest =
     }
 
 owes-owing : (k : Kept) (greatest : Sums) (more less : Band → ℕ)
-    → ((band : Band) → sum_in k.sums band ≢ 0 → sum_in greatest band ≡ sum_in k.greatest band + more band - less band)
-    → ((band : Band) → sum_in k.sums band ≡ 0 → sum_in greatest band ≡ 0) → Owes k (owing k greatest) more less
+    → ((band : Band) → sum_in k.sums band ≢ 0 → quarters_in greatest band ≡ quarters_in k.greatest band + more band - less band)
+    → ((band : Band) → sum_in k.sums band ≡ 0 → quarters_in greatest band ≡ 0) → Owes k (owing k greatest) more less
 owes-owing k greatest more less some none = record {
   height = refl;
   left_height = refl;
@@ -441,8 +431,8 @@ module _ {A : Type 0} where
   -- the node whose top is written
   pub moved-node : (n m : Node A) (greatest : Sums) (t : Shape) (more less : Band → ℕ) → m ≡ n → t ≡ shape n → IsWhole t
       → ((band : Band) → sum_in (kept_of m).sums band ≢ 0
-      → sum_in greatest band ≡ sum_in (kept_of m).greatest band + more band - less band)
-      → ((band : Band) → sum_in (kept_of m).sums band ≡ 0 → sum_in greatest band ≡ 0)
+      → quarters_in greatest band ≡ quarters_in (kept_of m).greatest band + more band - less band)
+      → ((band : Band) → sum_in (kept_of m).sums band ≡ 0 → quarters_in greatest band ≡ 0)
       → Each (CanMove more less) (entries t)
       → IsMoved (shape (roll-Node A record {
         left = (out-Node A n).left;
@@ -464,16 +454,18 @@ module _ {A : Type 0} where
 
   -- the node that is made of two sides and an entry
   pub made-node : (l r : Option (Box (Node A) A)) (e f : Entry) (k : Kept) → e ≡ f → IsWhole (shape_of l) → IsWhole (shape_of r)
-      → IsLevel (shape_of l) (shape_of r) → Counts (shape_of l) e (shape_of r) k
+      → HasSides k (shape_of l) e (shape_of r)
+      → ((band : Band) → quarters_in k.greatest band ≡ top_of (shape_of l) e (shape_of r) band)
       → IsMadeOf (shape (roll-Node A record { left = l; entry = e; right = r; kept = k })) (shape_of l) f (shape_of r)
-  made-node l r e f k same v w level c =
+  made-node l r e f k same v w c top =
       subst (λ x. IsMadeOf (shape (roll-Node A record { left = l; entry = e; right = r; kept = k })) (shape_of l) x
       (shape_of r)) same
       (subst (λ t. IsMadeOf t (shape_of l) e (shape_of r)) (sym (shape-roll l r e k))
-      (made_of-Fork (shape_of l) (shape_of r) e k (whole-Fork (shape_of l) (shape_of r) e k v w level c) c.greatest))
+      (made_of-Fork (shape_of l) (shape_of r) e k (whole-Fork (shape_of l) (shape_of r) e k v w c top) top))
 
   pub whole-node : (l r : Option (Box (Node A) A)) (e : Entry) (k : Kept) → IsWhole (shape_of l) → IsWhole (shape_of r)
-      → IsLevel (shape_of l) (shape_of r) → Counts (shape_of l) e (shape_of r) k
+      → HasSides k (shape_of l) e (shape_of r)
+      → ((band : Band) → quarters_in k.greatest band ≡ top_of (shape_of l) e (shape_of r) band)
       → IsWhole (shape (roll-Node A record { left = l; entry = e; right = r; kept = k }))
-  whole-node l r e k v w level c =
-      subst IsWhole (sym (shape-roll l r e k)) (whole-Fork (shape_of l) (shape_of r) e k v w level c)
+  whole-node l r e k v w c top =
+      subst IsWhole (sym (shape-roll l r e k)) (whole-Fork (shape_of l) (shape_of r) e k v w c top)

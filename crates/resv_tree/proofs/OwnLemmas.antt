@@ -1,4 +1,4 @@
-use Rattle.std.specs.Prelude.{ℕ, ◌≡◌, ◌≢◌, ◌+◌, ◌-◌, ◌*◌, ◌<◌, ◌≤◌, nat_lt, nat_le, ◌==◌, not, Bool, true, false, ◌&&◌}
+use Rattle.std.specs.Prelude.{ℕ, ◌≡◌, ◌≢◌, ◌+◌, ◌-◌, ◌*◌, ◌≤◌, nat_lt, nat_le, ◌==◌, not, Bool, true, false, ◌&&◌}
 use Rattle.std.specs.Prelude.{List, [], ◌∷◌, Some, None, map, filter, cond}
 use Rattle.std.proofs.Common.{refl, arith, zero, suc, sym, ap, ◌∙◌, subst}
 use Rattle.std.proofs.lemmas.Bool.{leb-true, leb-false, ltb-true, ltb-false}
@@ -20,6 +20,7 @@ use Rattle.resv_tree.specs.Sums.{total_in}
 use Rattle.resv_tree.specs.Shape.{Shape, entries, members_of, greatest_of, count_of, kept_sum, IsWhole}
 use Rattle.resv_tree.proofs.EntryLemmas.{Banded, each-with, each-to-map, banded, amount_at, amount_of, entry_with, rises_entries}
 use Rattle.resv_tree.proofs.OwedLemmas.{entries-members, greatest_is_most}
+use Rattle.resv_tree.proofs.QuarterLemmas.{airtime_in-whole}
 use Rattle.resv_tree.proofs.ShapeLemmas.{count_bounds_sum}
 use Rattle.resv_tree.proofs.SumLemmas.{begun_difference, begun_le-total, kept_sum-total}
 
@@ -186,11 +187,11 @@ each_free at (e ∷ es) n = (n zero 0 (omega arith), each_free at es (λ k d l. 
 
 raised_hour : (l m : List Reservation) (r : Reservation) (e : Entry)
     → ((band : Band) (from to : ℕ) → begun band from to m ≡ share band from to r + begun band from to l) → key_of e ≢ r.start
-    → e.own ≡ own_hour l e.reservation → (raised r e).own ≡ own_hour m e.reservation
+    → 128 * e.own ≡ own_hour l e.reservation → 128 * (raised r e).own ≡ own_hour m e.reservation
 raised_hour l m r e more n own = go (banded e.reservation)
   where
     by : (b : Banded e.reservation) (t : Bool) → share b.band (key_of e) (key_of e + hour) r ≡ cond t (airtime_in b.band r) 0
-        → (cond t (record {
+        → 128 * (cond t (record {
           reservation = e.reservation;
           own = e.own + amount (airtimes r) e.reservation - amount nothing e.reservation;
         }) e).own ≡ own_hour m e.reservation
@@ -199,6 +200,7 @@ raised_hour l m r e more n own = go (banded e.reservation)
       own,
       s,
       more b.band (key_of e) (key_of e + hour),
+      airtime_in-whole b.band r,
       amount_at (airtimes r) e.reservation b,
       amount_at nothing e.reservation b,
       amount_at (λ c. spent l c (key_of e)) e.reservation b,
@@ -213,16 +215,16 @@ raised_hour l m r e more n own = go (banded e.reservation)
       amount_at (λ c. spent m c (key_of e)) e.reservation b,
     )
 
-    go : Banded e.reservation → (raised r e).own ≡ own_hour m e.reservation
+    go : Banded e.reservation → 128 * (raised r e).own ≡ own_hour m e.reservation
     go b = by b (nat_le (reach r.start) (key_of e) && nat_lt (key_of e) r.start) (share_hour b.band (key_of e) r n)
 
 lowered_hour : (l m : List Reservation) (r : Reservation) (e : Entry)
     → ((band : Band) (from to : ℕ) → begun band from to l ≡ share band from to r + begun band from to m) → key_of e ≢ r.start
-    → e.own ≡ own_hour l e.reservation → (lowered r e).own ≡ own_hour m e.reservation
+    → 128 * e.own ≡ own_hour l e.reservation → 128 * (lowered r e).own ≡ own_hour m e.reservation
 lowered_hour l m r e less n own = go (banded e.reservation)
   where
     by : (b : Banded e.reservation) (t : Bool) → share b.band (key_of e) (key_of e + hour) r ≡ cond t (airtime_in b.band r) 0
-        → (cond t (record {
+        → 128 * (cond t (record {
           reservation = e.reservation;
           own = e.own + amount nothing e.reservation - amount (airtimes r) e.reservation;
         }) e).own ≡ own_hour m e.reservation
@@ -231,6 +233,7 @@ lowered_hour l m r e less n own = go (banded e.reservation)
       own,
       s,
       less b.band (key_of e) (key_of e + hour),
+      airtime_in-whole b.band r,
       amount_at (airtimes r) e.reservation b,
       amount_at nothing e.reservation b,
       amount_at (λ c. spent l c (key_of e)) e.reservation b,
@@ -245,13 +248,13 @@ lowered_hour l m r e less n own = go (banded e.reservation)
       amount_at (λ c. spent m c (key_of e)) e.reservation b,
     )
 
-    go : Banded e.reservation → (lowered r e).own ≡ own_hour m e.reservation
+    go : Banded e.reservation → 128 * (lowered r e).own ≡ own_hour m e.reservation
     go b = by b (nat_le (reach r.start) (key_of e) && nat_lt (key_of e) r.start) (share_hour b.band (key_of e) r n)
 
 -- what is to be taken is there
 counted_hour : (l m : List Reservation) (r : Reservation) (e : Entry)
     → ((band : Band) (from to : ℕ) → begun band from to l ≡ share band from to r + begun band from to m) → key_of e ≢ r.start
-    → e.own ≡ own_hour l e.reservation → CountsIn r e
+    → 128 * e.own ≡ own_hour l e.reservation → CountsIn r e
 counted_hour l m r e less n own = λ low high.
     let b = banded e.reservation in
     let s : share b.band (key_of e) (key_of e + hour) r ≡ airtime_in b.band r =
@@ -261,13 +264,14 @@ counted_hour l m r e less n own = λ low high.
       own,
       s,
       less b.band (key_of e) (key_of e + hour),
+      airtime_in-whole b.band r,
       amount_at (airtimes r) e.reservation b,
       amount_at nothing e.reservation b,
       amount_at (λ c. spent l c (key_of e)) e.reservation b,
     )
 
-dropped_hour : (l : List Reservation) (at : ℕ) (e : Entry) → at ≤ key_of e → e.own ≡ own_hour l e.reservation
-    → e.own ≡ own_hour (members_from at l) e.reservation
+dropped_hour : (l : List Reservation) (at : ℕ) (e : Entry) → at ≤ key_of e → 128 * e.own ≡ own_hour l e.reservation
+    → 128 * e.own ≡ own_hour (members_from at l) e.reservation
 dropped_hour l at e h own =
     let b = banded e.reservation in
     omega (
@@ -281,13 +285,13 @@ dropped_hour l at e h own =
 -- The own hours of all.
 
 abbrev HasHoursOf : List Reservation → Entry → Type 0
-HasHoursOf l e = e.own ≡ own_hour l e.reservation
+HasHoursOf l e = 128 * e.own ≡ own_hour l e.reservation
 
 hours_with : (l : List Reservation) (es : List Entry) → members es ≡ l → Each (HasHoursOf l) es → HasHours es
 hours_with l es same h = subst (λ m. Each (HasHoursOf m) es) (sym same) h
 
 pub placed_hours : (r : Reservation) (own : ℕ) (es : List Entry) → IsFree r.start (members es)
-    → own ≡ own_hour (place r (members es)) r → HasHours es
+    → 128 * own ≡ own_hour (place r (members es)) r → HasHours es
     → HasHours (place_by key_of (entry_with r own) (map (raised r) es))
 placed_hours r own es free o h =
     let l = members es in
@@ -365,7 +369,7 @@ most_bounded band n (e ∷ es) h = omega (arith, one (is_in band e.reservation),
 
 -- what begins in a stretch is bounded by the count
 pub begun_short : (t : Shape) (band : Band) (from to : ℕ) → IsWhole t
-    → begun band from to (members_of t) ≤ 10000000 * count_of t
+    → begun band from to (members_of t) ≤ 4194304 * count_of t
 begun_short t band from to w =
     omega (
       arith,
@@ -375,7 +379,7 @@ begun_short t band from to w =
       count_bounds_sum t band w,
     )
 
-hours_bounded : (t : Shape) (n : ℕ) → IsWhole t → 10000000 * count_of t ≤ n → (es : List Entry)
+hours_bounded : (t : Shape) (n : ℕ) → IsWhole t → 4194304 * count_of t ≤ 128 * n → (es : List Entry)
     → Each (HasHoursOf (members_of t)) es → Each (λ e. e.own ≤ n) es
 hours_bounded t n w c [] h = tt
 hours_bounded t n w c (e ∷ es) h =
@@ -391,15 +395,15 @@ hours_bounded t n w c (e ∷ es) h =
     )
 
 pub all_bounded : (t : Shape) → IsWhole t → HasHours (entries t) → count_of t ≤ 65536
-    → Each (λ e. e.own ≤ 655360000000) (entries t)
+    → Each (λ e. e.own ≤ 2147483648) (entries t)
 all_bounded t w h c =
-    hours_bounded t 655360000000 w (omega (arith, c)) (entries t)
+    hours_bounded t 2147483648 w (omega (arith, c)) (entries t)
     (subst (λ l. Each (HasHoursOf l) (entries t)) (entries-members t) h)
 
-greatest_bounded : (t : Shape) → IsWhole t → Each (λ e. e.own ≤ 655360000000) (entries t) → (band : Band)
-    → greatest_of t band < 9223372036854775808
+greatest_bounded : (t : Shape) → IsWhole t → Each (λ e. e.own ≤ 2147483648) (entries t) → (band : Band)
+    → greatest_of t band ≤ 2147483648
 greatest_bounded t w h band =
-    omega (arith, greatest_is_most t band w, most_bounded band 655360000000 (entries t) h)
+    omega (arith, greatest_is_most t band w, most_bounded band 2147483648 (entries t) h)
 
 -- The calls.
 
@@ -407,7 +411,7 @@ pub root_by_key : (s : Shape) → IsByStart (members_of s) → IsByKey (entries 
 root_by_key s b = rises_entries 0 (entries s) (subst IsByStart (sym (entries-members s)) b)
 
 pub root_fits : (s : Shape) → IsWhole s → HasHours (entries s) → count_of s ≤ 65536 → (band : Band)
-    → greatest_of s band < 9223372036854775808
+    → greatest_of s band ≤ 2147483648
 root_fits s w h c = greatest_bounded s w (all_bounded s w h c)
 
 raised_members : (s u : Shape) (r : Reservation) → entries u ≡ map (raised r) (entries s) → members (entries u) ≡ members_of s
@@ -425,13 +429,13 @@ module _ (s u t : Shape) (r : Reservation) (x : Entry) (own : ℕ) (is : x ≡ e
       sym (entries-members t) ∙ ap members insert ∙ members-place x (entries u)
       ∙ ap (λ (y : Entry). place y.reservation (members (entries u))) is ∙ ap (place r) (raised_members s u r raise)
 
-  pub inserted_hours : IsFree r.start (members_of s) → own ≡ own_hour (place r (members_of s)) r → HasHours (entries s)
+  pub inserted_hours : IsFree r.start (members_of s) → 128 * own ≡ own_hour (place r (members_of s)) r → HasHours (entries s)
       → HasHours (entries t)
   inserted_hours free o h =
       let all = entries-members s in
       subst HasHours (sym (insert ∙ ap (place_by key_of x) raise ∙ ap (λ y. place_by key_of y (map (raised r) (entries s))) is))
       (placed_hours r own (entries s) (subst (IsFree r.start) (sym all) free)
-      (subst (λ l. own ≡ own_hour (place r l) r) (sym all) o) h)
+      (subst (λ l. 128 * own ≡ own_hour (place r l) r) (sym all) o) h)
 
 missing_same : (at : ℕ) (es : List Entry) → entry_at at es ≡ None → entries_without at es ≡ es
 missing_same at [] h = refl
@@ -451,10 +455,10 @@ module _ (s t : Shape) (at : ℕ) (b : IsByStart (members_of s)) (left : entries
   left_by_start = subst IsByStart (sym left_members) (RisesFrom-filter start_of _ 0 (members_of s) b)
 
   pub left_fits : IsWhole s → HasHours (entries s) → count_of s ≤ 65536 → IsWhole t → (band : Band)
-      → greatest_of t band < 9223372036854775808
+      → greatest_of t band ≤ 2147483648
   left_fits w h c v =
-      greatest_bounded t v (subst (Each (λ e. e.own ≤ 655360000000)) (sym left)
-      (each-filter (λ e. e.own ≤ 655360000000) (λ e. not (key_of e == at)) (entries s) (all_bounded s w h c)))
+      greatest_bounded t v (subst (Each (λ e. e.own ≤ 2147483648)) (sym left)
+      (each-filter (λ e. e.own ≤ 2147483648) (λ e. not (key_of e == at)) (entries s) (all_bounded s w h c)))
 
   pub missing_hours : entry_at at (entries s) ≡ None → HasHours (entries s) → HasHours (entries t)
   missing_hours f h = subst HasHours (sym (left ∙ missing_same at (entries s) f)) h

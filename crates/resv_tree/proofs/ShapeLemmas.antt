@@ -18,7 +18,7 @@ count_bounds_height (Fork l e r k) w =
     omega (arith, count_bounds_height l w.0, count_bounds_height r w.1, w.2.height, w.2.count)
 
 -- a sum is bounded by the count
-pub count_bounds_sum : (t : Shape) (band : Band) → IsWhole t → kept_sum t band ≤ 10000000 * count_of t
+pub count_bounds_sum : (t : Shape) (band : Band) → IsWhole t → kept_sum t band ≤ 4194304 * count_of t
 count_bounds_sum Leaf band w = omega arith
 count_bounds_sum (Fork l e r k) band w = w.2.short band
 

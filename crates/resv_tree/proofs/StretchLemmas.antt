@@ -141,8 +141,8 @@ module _ (more less : Band → ℕ) where
         (λ y u v f k. v (omega (arith, u, h)) k) (entries r)
         (keys_above 0 (entries l) e (entries r) (subst IsByKey m.entries b)) (covered_right_of from to m c)
 
-    pub own_fits : IsMadeOf t l e r → ((band : Band) → greatest_of t band + more band < 18446744073709551616)
-        → e.own + amount more e.reservation < 18446744073709551616
+    pub own_fits : IsMadeOf t l e r → ((band : Band) → greatest_of t band + more band < 4294967296)
+        → e.own + amount more e.reservation < 4294967296
     own_fits m h =
         let b = banded e.reservation in
         let own = own_in_top l r e (top_of l e r) refl in
@@ -155,12 +155,12 @@ module _ (more less : Band → ℕ) where
           amount_at (top_of l e r) e.reservation b,
         )
 
-    pub fits_left : IsMadeOf t l e r → ((band : Band) → greatest_of t band + more band < 18446744073709551616)
-        → (band : Band) → greatest_of l band + more band < 18446744073709551616
+    pub fits_left : IsMadeOf t l e r → ((band : Band) → greatest_of t band + more band < 4294967296)
+        → (band : Band) → greatest_of l band + more band < 4294967296
     fits_left m h band = omega (arith, m.greatest band, h band)
 
-    pub fits_right : IsMadeOf t l e r → ((band : Band) → greatest_of t band + more band < 18446744073709551616)
-        → (band : Band) → greatest_of r band + more band < 18446744073709551616
+    pub fits_right : IsMadeOf t l e r → ((band : Band) → greatest_of t band + more band < 4294967296)
+        → (band : Band) → greatest_of r band + more band < 4294967296
     fits_right m h band = omega (arith, m.greatest band, h band)
 
 pub ruleset shifting = (

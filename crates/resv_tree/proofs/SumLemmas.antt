@@ -1,7 +1,6 @@
-use Rattle.std.specs.Prelude.{ℕ, ◌≡◌, ◌+◌, ◌-◌, ◌^◌, ◌<◌, ◌≤◌, nat_lt, nat_le, Bool, true, false, ◌&&◌, List, [], ◌∷◌, ◌++◌, cond}
+use Rattle.std.specs.Prelude.{ℕ, ◌≡◌, ◌+◌, ◌-◌, ◌<◌, ◌≤◌, nat_lt, nat_le, Bool, true, false, ◌&&◌, List, [], ◌∷◌, ◌++◌, cond}
 use Rattle.std.proofs.Common.{refl, arith, ap, ◌∙◌, sym}
 use Rattle.std.proofs.lemmas.Bool.{le-leb, ltb-true, ltb-false}
-use Rattle.radio_airtime.specs.Bounds.{airtime_of-short}
 use Rattle.radio_bands.specs.declared.band.Band.{Band}
 use Rattle.radio_bands.specs.declared.band.Band.TheVariants.{K, L, M, N, P, Q}
 use Rattle.resv_list.specs.declared.reservation.Reservation.{Reservation}
@@ -12,8 +11,8 @@ use Rattle.resv_list.specs.Begun.{begun-cons, begun-nil}
 use Rattle.resv_list.proofs.BegunLemmas.{share_before, share_after, share_within, begun_late}
 use Rattle.resv_tree.specs.declared.sums.Sums.{Sums}
 use Rattle.resv_tree.specs.Sums.{sum_in, sum_of_all, total_in}
-use Rattle.resv_tree.specs.Shape.{Shape, Leaf, Fork, members_of, kept_sum, count_of, IsWhole}
-use Rattle.resv_tree.proofs.ShapeLemmas.{count_bounds_sum}
+use Rattle.resv_tree.specs.Shape.{Shape, Leaf, Fork, members_of, kept_sum, IsWhole}
+use Rattle.resv_tree.proofs.QuarterLemmas.{airtime_of-below}
 use Rattle.resv_tree.proofs.TotalLemmas.{total_in-nil, total_in-cons, total_in-append}
 use Rattle.resv_tree.proofs.SplitLemmas.{middle_from}
 
@@ -94,19 +93,14 @@ pub sum_of_all-net : (s : Sums) (t : Shape) → IsWhole t → ((band : Band) →
     → sum_of_all s ≡ net (members_of t)
 sum_of_all-net s t w e = omega (arith, kept_sums-net t w, e K, e L, e M, e N, e P, e Q)
 
--- and each of them is bounded
-pub sum_bounded : (s : Sums) (t : Shape) → IsWhole t → ((band : Band) → sum_in s band ≡ kept_sum t band)
-    → count_of t ≤ 65536 → (band : Band) → sum_in s band < 2 ^ 60
-sum_bounded s t w e h band = omega (arith, e band, count_bounds_sum t band w)
+pub ruleset totals = (sum_of_all-net)
 
-pub ruleset totals = (sum_of_all-net, sum_bounded)
-
--- no transmission is longer than ten seconds
-pub airtime_in-short : (band : Band) (r : Reservation) → airtime_in band r < 10000000
+-- no transmission is longer
+pub airtime_in-short : (band : Band) (r : Reservation) → airtime_in band r < 4194304
 airtime_in-short band r = by (is_in band r)
   where
-    by : (t : Bool) → cond t (airtime_us r) 0 < 10000000
-    by true = airtime_of-short r.rate r.len r.fit.sized
+    by : (t : Bool) → cond t (airtime_us r) 0 < 4194304
+    by true = airtime_of-below r.rate r.len r.fit.sized
     by false = omega arith
 
 -- what begins before a moment is no more than all

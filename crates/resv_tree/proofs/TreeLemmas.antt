@@ -110,7 +110,7 @@ pub spent_in_all : (t : Shape) (band : Band) (to : ℕ) → IsWhole t → begun 
 spent_in_all t band to w = omega (arith, kept_sum-total t band w, begun_le-total band to (members_of t))
 
 -- what begins before a moment is bounded by the count
-pub spent_short : (t : Shape) (band : Band) (to : ℕ) → IsWhole t → begun band 0 to (members_of t) ≤ 10000000 * count_of t
+pub spent_short : (t : Shape) (band : Band) (to : ℕ) → IsWhole t → begun band 0 to (members_of t) ≤ 4194304 * count_of t
 spent_short t band to w =
     omega (arith, count_bounds_sum t band w, kept_sum-total t band w, begun_le-total band to (members_of t))
 

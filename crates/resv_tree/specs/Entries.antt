@@ -34,7 +34,7 @@ entry_at key es = find (λ e. key_of e == key) es
 abbrev pub entries_without : ℕ → List Entry → List Entry
 entries_without key es = filter (λ e. not (key_of e == key)) es
 
--- Amounts by sub-bands, of which a member takes that of its own.
+-- Amounts by sub-bands, of which a member takes that of its own; own hours are in quarters of the shortest symbol.
 
 abbrev pub at_band : (Band → ℕ) → Option Band → ℕ
 at_band f None = 0

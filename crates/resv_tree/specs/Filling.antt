@@ -1,8 +1,9 @@
-use Rattle.std.specs.Prelude.{ℕ, ◌≡◌, ◌+◌, ◌*◌, ◌^◌, ◌≤◌, max, List, [], ◌∷◌, ◌++◌, length}
+use Rattle.std.specs.Prelude.{ℕ, ◌≡◌, ◌+◌, ◌*◌, ◌/◌, ◌^◌, ◌≤◌, max, List, [], ◌∷◌, ◌++◌, length}
 use Rattle.std.specs.Coded.{le_prop, Coded-set, coded_ℕ}
 use Rattle.radio_bands.specs.declared.band.Band.{Band}
 use Rattle.radio_bands.specs.Band.{hour}
 use Rattle.resv_list.specs.declared.reservation.Reservation.{Reservation}
+use Rattle.resv_list.specs.declared.roster.TheConstants.{MAX_MEMBERS}
 use Rattle.resv_list.specs.Sorted.{RisesFrom-prop}
 use Rattle.resv_list.specs.Reservations.{start_of, begun, IsByStart}
 use Rattle.resv_tree.specs.declared.entry.Entry.{Entry}
@@ -16,7 +17,7 @@ use Rattle.resv_tree.specs.Sums.{sum_in}
 -- each member with its own hour: in a list by start all that begins in it stands from the member on
 abbrev pub with_hours : List Reservation → List Entry
 with_hours [] = []
-with_hours (r ∷ rs) = record { reservation = r; own = own_hour (r ∷ rs) r } ∷ with_hours rs
+with_hours (r ∷ rs) = record { reservation = r; own = own_hour (r ∷ rs) r / 128 } ∷ with_hours rs
 
 -- there is a first one of some members, and the hour that it opens ends by a moment
 abbrev pub EndsBy : ℕ → List Reservation → Type 0
@@ -28,8 +29,8 @@ EndsBy to (r ∷ rs) = r.start + hour ≤ to
 pub record IsAhead (left ahead : List Reservation) (s : Sums) : Type 0 where
   pub left_by_start : IsByStart left
   pub ahead_by_start : IsByStart ahead
-  pub left_room : length left ≤ 65536
-  pub ahead_room : length ahead ≤ 65536
+  pub left_room : length left ≤ MAX_MEMBERS
+  pub ahead_room : length ahead ≤ MAX_MEMBERS
   pub parted : (band : Band) (to : ℕ) → EndsBy to left → begun band 0 to left ≡ sum_in s band + begun band 0 to ahead
 
 pub IsAhead-prop : (left ahead : List Reservation) (s : Sums) → IsProp (IsAhead left ahead s)

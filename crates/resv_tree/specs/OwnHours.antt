@@ -1,4 +1,4 @@
-use Rattle.std.specs.Prelude.{ℕ, ◌≡◌, ◌+◌, ◌-◌, List}
+use Rattle.std.specs.Prelude.{ℕ, ◌≡◌, ◌+◌, ◌-◌, ◌*◌, ◌/◌, List}
 use Rattle.std.specs.Coded.{Coded-set, coded_ℕ}
 use Rattle.radio_bands.specs.declared.band.Band.{Band}
 use Rattle.radio_bands.specs.Band.{hour}
@@ -13,22 +13,22 @@ use Rattle.resv_tree.specs.Entries.{amount, members, moved_in, CanMoveIn, Each, 
 abbrev pub own_hour : List Reservation → Reservation → ℕ
 own_hour l r = amount (λ band. spent l band r.start) r
 
--- each entry has its member's own hour, in the list of all
+-- each entry has its member's own hour, in the list of all, in quarters of the shortest symbol
 abbrev pub HasHours : List Entry → Type 0
-HasHours es = Each (λ (e : Entry). e.own ≡ own_hour (members es) e.reservation) es
+HasHours es = Each (λ (e : Entry). 128 * e.own ≡ own_hour (members es) e.reservation) es
 
 pub HasHours-prop : (es : List Entry) → IsProp (HasHours es)
 HasHours-prop es =
-    Each-prop (λ (e : Entry). e.own ≡ own_hour (members es) e.reservation)
-    (λ (e : Entry). Coded-set coded_ℕ e.own (own_hour (members es) e.reservation)) es
+    Each-prop (λ (e : Entry). 128 * e.own ≡ own_hour (members es) e.reservation)
+    (λ (e : Entry). Coded-set coded_ℕ (128 * e.own) (own_hour (members es) e.reservation)) es
 
 -- no airtime
 abbrev pub nothing : Band → ℕ
 nothing band = 0
 
--- the airtime of one member, by sub-bands
+-- the airtime of one member by sub-bands, in quarters of the shortest symbol
 abbrev pub airtimes : Reservation → Band → ℕ
-airtimes r band = airtime_in band r
+airtimes r band = airtime_in band r / 128
 
 -- from where on an hour that opens reaches a moment
 abbrev pub reach : ℕ → ℕ

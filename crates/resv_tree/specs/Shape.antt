@@ -7,7 +7,7 @@ use Rattle.resv_tree.specs.declared.node.Node.{Node, Node', Held-Node-left, None
 use Rattle.resv_tree.specs.declared.kept.Kept.{Kept}
 use Rattle.resv_tree.specs.declared.entry.Entry.{Entry}
 use Rattle.resv_tree.specs.Entries.{moved, CanMove, own_in, Each, Each-prop}
-use Rattle.resv_tree.specs.Sums.{sum_in}
+use Rattle.resv_tree.specs.Sums.{sum_in, quarters_in}
 
 -- Trees without their boxes, and what holds of them.
 
@@ -34,10 +34,10 @@ shape_of (Some b) = shape b.value
 abbrev pub entry_of : {A : Type 0} → Node A → Entry
 entry_of n = (out-Node _ n).entry
 
--- the greatest own hour that is kept for a sub-band; of nothing 0
+-- the greatest own hour that is kept for a sub-band, in quarters of the shortest symbol; of nothing 0
 abbrev pub greatest_of : Shape → Band → ℕ
 greatest_of Leaf band = 0
-greatest_of (Fork l e r k) band = sum_in k.greatest band
+greatest_of (Fork l e r k) band = quarters_in k.greatest band
 
 -- the greatest of an entry's own hour and of what the sides about it keep
 abbrev pub top_of : Shape → Entry → Shape → Band → ℕ
@@ -47,7 +47,7 @@ top_of l e r band = max (own_in band e) (max (greatest_of l band) (greatest_of r
 -- stands below them
 abbrev pub entries : Shape → List Entry
 entries Leaf = []
-entries (Fork l e r k) = map (moved (sum_in k.greatest) (top_of l e r)) (entries l ++ e ∷ entries r)
+entries (Fork l e r k) = map (moved (quarters_in k.greatest) (top_of l e r)) (entries l ++ e ∷ entries r)
 
 -- the members from left to right
 abbrev pub members_of : Shape → List Reservation
@@ -64,7 +64,7 @@ abbrev pub count_of : Shape → ℕ
 count_of Leaf = 0
 count_of (Fork l e r k) = k.count
 
--- the sum that is kept for a sub-band; of nothing 0
+-- the sum that is kept for a sub-band, in microseconds; of nothing 0
 abbrev pub kept_sum : Shape → Band → ℕ
 kept_sum Leaf band = 0
 kept_sum (Fork l e r k) band = sum_in k.sums band
@@ -77,8 +77,8 @@ kept_of n = (out-Node _ n).kept
 abbrev pub IsLevel : Shape → Shape → Type 0
 IsLevel l r = (height_of l ≤ height_of r + 1) × (height_of r ≤ height_of l + 1)
 
--- the sides are level, and what the node keeps follows from what they keep; each sum has room for ten seconds a member, which is
--- longer than any transmission. What it owes can be handed down, and is nothing where it isn't said that it owes.
+-- the sides are level, and what the node keeps follows from what they keep; each sum has room for 2^22 microseconds a
+-- member, which is longer than any transmission. What it owes can be handed down, and is nothing where it isn't said that it owes.
 pub record IsKept (l : Shape) (e : Entry) (r : Shape) (k : Kept) : Type 0 where
   pub level : IsLevel l r
   pub height : k.height ≡ max (height_of l) (height_of r) + 1
@@ -86,17 +86,17 @@ pub record IsKept (l : Shape) (e : Entry) (r : Shape) (k : Kept) : Type 0 where
   pub right_height : k.right_height ≡ height_of r
   pub count : k.count ≡ count_of l + count_of r + 1
   pub sums : (band : Band) → sum_in k.sums band ≡ kept_sum l band + airtime_in band e.reservation + kept_sum r band
-  pub short : (band : Band) → sum_in k.sums band ≤ 10000000 * k.count
-  pub idle : (band : Band) → sum_in k.sums band ≡ 0 → sum_in k.greatest band ≡ 0
-  pub settled : k.owes ≡ false → (band : Band) → sum_in k.greatest band ≡ top_of l e r band
-  pub covered : Each (CanMove (sum_in k.greatest) (top_of l e r)) (entries l ++ e ∷ entries r)
+  pub short : (band : Band) → sum_in k.sums band ≤ 4194304 * k.count
+  pub idle : (band : Band) → sum_in k.sums band ≡ 0 → quarters_in k.greatest band ≡ 0
+  pub settled : k.owes ≡ false → (band : Band) → quarters_in k.greatest band ≡ top_of l e r band
+  pub covered : Each (CanMove (quarters_in k.greatest) (top_of l e r)) (entries l ++ e ∷ entries r)
 
 -- what is told of a tree is what its top keeps, or of nothing
 pub record TellsOf (k : Kept) (t : Shape) : Type 0 where
   pub height : k.height ≡ height_of t
   pub count : k.count ≡ count_of t
   pub sums : (band : Band) → sum_in k.sums band ≡ kept_sum t band
-  pub greatest : (band : Band) → sum_in k.greatest band ≡ greatest_of t band
+  pub greatest : (band : Band) → quarters_in k.greatest band ≡ greatest_of t band
 
 -- what is kept of a tree that has this side, this entry, and a further side of which `other` tells
 pub record IsBeside (k : Kept) (side : Shape) (e : Entry) (other : Kept) : Type 0 where
@@ -111,7 +111,7 @@ pub record HasSides (k : Kept) (l : Shape) (e : Entry) (r : Shape) : Type 0 wher
   pub right_height : k.right_height ≡ height_of r
   pub count : k.count ≡ count_of l + count_of r + 1
   pub sums : (band : Band) → sum_in k.sums band ≡ kept_sum l band + airtime_in band e.reservation + kept_sum r band
-  pub short : (band : Band) → sum_in k.sums band ≤ 10000000 * k.count
+  pub short : (band : Band) → sum_in k.sums band ≤ 4194304 * k.count
 
 -- so it is at each node
 abbrev pub IsWhole : Shape → Type 0
@@ -123,7 +123,7 @@ IsKept-prop l e r k =
     hlevel (
       le_prop,
       Coded-set coded_ℕ,
-      Each-prop (CanMove (sum_in k.greatest) (top_of l e r)) (λ x. le_prop) (entries l ++ e ∷ entries r),
+      Each-prop (CanMove (quarters_in k.greatest) (top_of l e r)) (λ x. le_prop) (entries l ++ e ∷ entries r),
     )
 
 pub IsWhole-prop : (t : Shape) → IsProp (IsWhole t)

@@ -1,4 +1,4 @@
-use Rattle.std.specs.Prelude.{ℕ, ◌+◌, List, [], ◌∷◌}
+use Rattle.std.specs.Prelude.{ℕ, ◌+◌, ◌*◌, List, [], ◌∷◌}
 use Rattle.radio_bands.specs.declared.band.Band.{Band}
 use Rattle.radio_bands.specs.declared.band.Band.TheVariants.{K, L, M, N, P, Q}
 use Rattle.resv_list.specs.declared.reservation.Reservation.{Reservation}
@@ -7,18 +7,22 @@ use Rattle.resv_tree.specs.declared.sums.Sums.{Sums}
 
 -- Airtime by sub-bands.
 
--- the sum that is kept for a sub-band
-abbrev pub sum_in : Sums → Band → ℕ
-sum_in s K = s.k
-sum_in s L = s.l
-sum_in s M = s.m
-sum_in s N = s.n
-sum_in s P = s.p
-sum_in s Q = s.q
+-- what is kept for a sub-band, in quarters of the shortest symbol
+abbrev pub quarters_in : Sums → Band → ℕ
+quarters_in s K = s.k
+quarters_in s L = s.l
+quarters_in s M = s.m
+quarters_in s N = s.n
+quarters_in s P = s.p
+quarters_in s Q = s.q
 
--- the sum of all sub-bands
+-- the same in microseconds
+abbrev pub sum_in : Sums → Band → ℕ
+sum_in s band = 128 * quarters_in s band
+
+-- the sum of all sub-bands in microseconds
 abbrev pub sum_of_all : Sums → ℕ
-sum_of_all s = s.k + s.l + s.m + s.n + s.p + s.q
+sum_of_all s = 128 * (s.k + s.l + s.m + s.n + s.p + s.q)
 
 -- the airtime of the members of the sub-band
 unfoldable pub total_in : Band → List Reservation → ℕ

@@ -1,6 +1,7 @@
 // The hours of members that are walked over in order.
-ghost use Rattle.std.specs.Prelude.{◌≡◌, ◌+◌, ◌≤◌, ◌<◌, ◌^◌, ◌∷◌, ℕ, length, drop};
+ghost use Rattle.std.specs.Prelude.{◌≡◌, ◌+◌, ◌*◌, ◌≤◌, ◌<◌, ◌^◌, ◌∷◌, ℕ, length, drop};
 ghost use Rattle.radio_bands.specs.declared.band.Band.{Band as SubBand};
+ghost use Rattle.resv_list.specs.declared.roster.TheConstants.{MAX_MEMBERS};
 ghost use Rattle.resv_list.specs.Reservations.{IsByStart, airtime_in, begun};
 ghost use Rattle.resv_tree.specs.Filling.{with_hours, IsAhead, IsAhead-prop};
 ghost use Rattle.resv_tree.specs.Sums.{sum_in as sum_of};
@@ -45,7 +46,7 @@ impl<'a> Hours<'a> {
     {
         let member = self.left[0];
         let (count, sums) = taken_in(self.ahead, &self.sums, member.start + HOUR);
-        let own = sums.in_band(member.band());
+        let own = sums.quarters(member.band());
         self.left = &self.left[1..];
         self.ahead = &self.ahead[count..];
         self.sums = taken_out(&sums, &member);
@@ -60,7 +61,7 @@ impl<'a> Hours<'a> {
 fn taken_in(members: &[Reservation], sums: &Sums, to: u64) -> (usize, Sums)
     requires by_start { IsByStart members.now }
     requires room { length members.now ≤ MAX_MEMBERS }
-    requires fits { (band : SubBand) → sum_of sums.now band ≤ 655360000000 }
+    requires fits { (band : SubBand) → sum_of sums.now band ≤ 2 ^ 22 * MAX_MEMBERS }
     ensures within { result.0 ≤ length members.now }
     ensures all { (band : SubBand) → begun band 0 to (drop result.0 members.now) ≡ 0 }
     ensures sums { (band : SubBand) (end : ℕ) → to ≤ end
@@ -82,7 +83,7 @@ fn taken_in(members: &[Reservation], sums: &Sums, to: u64) -> (usize, Sums)
 /// The sums without the member's airtime.
 fn taken_out(sums: &Sums, member: &Reservation) -> Sums
     requires covers { (band : SubBand) → airtime_in band member.now ≤ sum_of sums.now band }
-    requires fits { (band : SubBand) → sum_of sums.now band < 2 ^ 63 }
+    requires fits { (band : SubBand) → sum_of sums.now band < 2 ^ 39 }
     ensures { (band : SubBand) → sum_of result band + airtime_in band member.now ≡ sum_of sums.now band }
 {
     sums.exchanged(&Sums::around(&Sums::NONE, member, &Sums::NONE), &Sums::NONE)

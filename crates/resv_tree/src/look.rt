@@ -79,14 +79,15 @@ pub(crate) fn spent_about<A: Allocator + Clone>(
     all - sum_in(right, band) + spent_about(right, band, to, less)
 }
 
-/// The first member of the sub-band, of those that begin from `from` on and before `to`, whose own hour has at least `least`. It
-/// leaves out each tree whose greatest is below that; so behind the two ends of the stretch it goes only where it finds one.
+/// The first member of the sub-band, of those that begin from `from` on and before `to`, whose own hour has at least `least`
+/// quarters of the shortest symbol. It leaves out each tree whose greatest is below that; so behind the two ends of the stretch
+/// it goes only where it finds one.
 pub(crate) fn first_over<A: Allocator + Clone>(
     link: &Link<A>,
     band: Band,
     from: u64,
     to: u64,
-    least: u64,
+    least: u32,
 ) -> Option<Reservation>
     requires whole { IsWhole (shape_of link.now) }
     requires by_key { IsByKey (entries (shape_of link.now)) }
@@ -118,16 +119,16 @@ pub(crate) fn first_over<A: Allocator + Clone>(
 }
 
 /// Whether it is one of the sub-band, and its own hour has at least so much.
-fn has_own(entry: &Entry, band: Band, least: u64) -> bool
+fn has_own(entry: &Entry, band: Band, least: u32) -> bool
     ensures { result ≡ is_in band entry.now.reservation && nat_le least entry.now.own }
 {
     band.holds(entry.reservation.freq_hz, entry.reservation.rate) && entry.own >= least
 }
 
 /// The greatest of an entry's own hour and of what the tops of its two sides keep, in one sub-band.
-fn top_in<A: Allocator + Clone>(left: &Link<A>, entry: &Entry, right: &Link<A>, band: Band) -> u64
+fn top_in<A: Allocator + Clone>(left: &Link<A>, entry: &Entry, right: &Link<A>, band: Band) -> u32
     ensures { result ≡ top_of (shape_of left.now) entry.now (shape_of right.now) band }
 {
     let sides = greatest_in(left, band).max(greatest_in(right, band));
-    Sums::own(entry).in_band(band).max(sides)
+    Sums::own_in(entry, band).max(sides)
 }

@@ -1,6 +1,6 @@
 ghost use Rattle.std.specs.Prelude.{◌≡◌, ◌+◌, ◌<◌};
 ghost use Rattle.radio_bands.specs.declared.band.Band.{Band as SubBand};
-ghost use Rattle.resv_tree.specs.Sums.{sum_in as sum_of};
+ghost use Rattle.resv_tree.specs.Sums.{quarters_in};
 ghost use Rattle.resv_tree.specs.Shape.{shape, shape_of, entry_of, kept_of, height_of, count_of};
 ghost use Rattle.resv_tree.specs.Shape.{IsWhole, IsLevel, IsKept, IsBeside, HasSides};
 ghost use Rattle.resv_tree.specs.Shape.{Fork, top_of};
@@ -121,11 +121,11 @@ fn settle<A: Allocator + Clone>(
     requires left { IsWhole (shape_of left) }
     requires right { IsWhole (shape_of right) }
     requires kept { IsKept (shape_of left) (entry_of top.value) (shape_of right) (kept_of top.value) }
-    ensures left { IsMoved (shape_of result.0) (shape_of left) (sum_of (kept_of top.value).greatest)
+    ensures left { IsMoved (shape_of result.0) (shape_of left) (quarters_in (kept_of top.value).greatest)
         (top_of (shape_of left) (entry_of top.value) (shape_of right)) }
-    ensures entry { entry_of result.1.value ≡ moved (sum_of (kept_of top.value).greatest)
+    ensures entry { entry_of result.1.value ≡ moved (quarters_in (kept_of top.value).greatest)
         (top_of (shape_of left) (entry_of top.value) (shape_of right)) (entry_of top.value) }
-    ensures right { IsMoved (shape_of result.2) (shape_of right) (sum_of (kept_of top.value).greatest)
+    ensures right { IsMoved (shape_of result.2) (shape_of right) (quarters_in (kept_of top.value).greatest)
         (top_of (shape_of left) (entry_of top.value) (shape_of right)) }
     ensures kept { kept_of result.1.value ≡ kept_of top.value }
 {
@@ -151,7 +151,7 @@ pub(crate) fn with_entry<A: Allocator + Clone>(
 
 /// The greatest of an entry's own hour and of what the tops of its two sides keep, in each sub-band.
 fn greatest_about<A: Allocator + Clone>(left: &Link<A>, entry: &Entry, right: &Link<A>) -> Sums
-    ensures { (band : SubBand) → sum_of result band ≡ top_of (shape_of left.now) entry.now (shape_of right.now) band }
+    ensures { (band : SubBand) → quarters_in result band ≡ top_of (shape_of left.now) entry.now (shape_of right.now) band }
 {
     let sides = kept(left).greatest.greater(&kept(right).greatest);
     Sums::own(entry).greater(&sides)

@@ -4,7 +4,7 @@ ghost use Rattle.radio_bands.specs.declared.band.Band.{Band as SubBand};
 ghost use Rattle.resv_tree.specs.Entries.{CanMove, Each};
 ghost use Rattle.resv_tree.specs.Parts.{IsMoved};
 ghost use Rattle.resv_tree.specs.Shape.{shape_of, entries, IsWhole, greatest_of};
-ghost use Rattle.resv_tree.specs.Sums.{sum_in as sum_of};
+ghost use Rattle.resv_tree.specs.Sums.{quarters_in};
 
 use crate::kept::Kept;
 use crate::node::Link;
@@ -15,10 +15,10 @@ use std::alloc::Allocator;
 /// owes that to all below it.
 pub(crate) fn hand<A: Allocator + Clone>(link: Link<A>, more: &Sums, less: &Sums) -> Link<A>
     requires whole { IsWhole (shape_of link) }
-    requires fits { (band : SubBand) → greatest_of (shape_of link) band - sum_of less.now band + sum_of more.now band
-        ≤ max (sum_of more.now band) (2 ^ 64 - 1) }
-    requires covered { Each (CanMove (sum_of more.now) (sum_of less.now)) (entries (shape_of link)) }
-    ensures { IsMoved (shape_of result) (shape_of link) (sum_of more.now) (sum_of less.now) }
+    requires fits { (band : SubBand) → greatest_of (shape_of link) band - quarters_in less.now band + quarters_in more.now band
+        ≤ max (quarters_in more.now band) (2 ^ 32 - 1) }
+    requires covered { Each (CanMove (quarters_in more.now) (quarters_in less.now)) (entries (shape_of link)) }
+    ensures { IsMoved (shape_of result) (shape_of link) (quarters_in more.now) (quarters_in less.now) }
 {
     let Some(mut top) = link else {
         return None;

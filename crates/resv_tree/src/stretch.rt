@@ -2,7 +2,7 @@ ghost use Rattle.std.specs.Prelude.{◌≡◌, ◌+◌, ◌≤◌, ◌<◌, ◌^
 ghost use Rattle.radio_bands.specs.declared.band.Band.{Band as SubBand};
 ghost use Rattle.resv_tree.specs.Entries.{IsByKey, Each, moved_in, CanMoveIn};
 ghost use Rattle.resv_tree.specs.Shape.{shape_of, entries, IsWhole, count_of, height_of, greatest_of};
-ghost use Rattle.resv_tree.specs.Sums.{sum_in as sum_of};
+ghost use Rattle.resv_tree.specs.Sums.{quarters_in};
 
 use crate::node::{Link, open, with_entry, with_other_hours};
 use crate::owed::hand;
@@ -27,10 +27,10 @@ pub(crate) fn shift<A: Allocator + Clone>(
     requires whole { IsWhole (shape_of link) }
     requires by_key { IsByKey (entries (shape_of link)) }
     requires room { count_of (shape_of link) ≤ MAX_MEMBERS }
-    requires fits { (band : SubBand) → greatest_of (shape_of link) band + sum_of more.now band < 2 ^ 64 }
-    requires covered { Each (CanMoveIn from to (sum_of more.now) (sum_of less.now)) (entries (shape_of link)) }
+    requires fits { (band : SubBand) → greatest_of (shape_of link) band + quarters_in more.now band < 2 ^ 32 }
+    requires covered { Each (CanMoveIn from to (quarters_in more.now) (quarters_in less.now)) (entries (shape_of link)) }
     ensures entries { entries (shape_of result)
-        ≡ map (moved_in from to (sum_of more.now) (sum_of less.now)) (entries (shape_of link)) }
+        ≡ map (moved_in from to (quarters_in more.now) (quarters_in less.now)) (entries (shape_of link)) }
     ensures count { count_of (shape_of result) ≡ count_of (shape_of link) }
     ensures height { height_of (shape_of result) ≡ height_of (shape_of link) }
     ensures whole { IsWhole (shape_of result) }

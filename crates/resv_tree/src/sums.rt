@@ -1,4 +1,4 @@
-ghost use Rattle.std.specs.Prelude.{◌≡◌, ◌+◌, ◌-◌, ◌≤◌, ◌<◌, ◌^◌, ◌≢◌, max};
+ghost use Rattle.std.specs.Prelude.{◌≡◌, ◌+◌, ◌-◌, ◌*◌, ◌≤◌, ◌<◌, ◌^◌, ◌≢◌, max};
 ghost use Rattle.radio_bands.specs.declared.band.Band.{Band as SubBand};
 ghost use Rattle.resv_list.specs.Reservations.{airtime_in};
 ghost use Rattle.resv_tree.specs.Entries.{own_in};
@@ -7,19 +7,23 @@ use crate::entry::Entry;
 use radio_bands::Band;
 use resv_list::Reservation;
 
-/// The airtime of some members in each sub-band, in microseconds.
+/// A quarter of the shortest symbol, in microseconds. A time on air is a whole number of them at each data rate: every symbol is
+/// the shortest one a whole number of times, and the preamble ends with a quarter of a symbol.
+pub(crate) const QUARTER_US: u64 = 128;
+
+/// The airtime of some members in each sub-band, in quarters of the shortest symbol, so that 65,536 members have room.
 #[derive(Clone, Copy)]
 pub(crate) struct Sums {
-    k: u64,
-    l: u64,
-    m: u64,
-    n: u64,
-    p: u64,
-    q: u64,
+    k: u32,
+    l: u32,
+    m: u32,
+    n: u32,
+    p: u32,
+    q: u32,
 }
 
 impl Sums {
-    ghost use Rattle.resv_tree.specs.Sums.{sum_in, sum_of_all};
+    ghost use Rattle.resv_tree.specs.Sums.{sum_in, quarters_in, sum_of_all};
 
     /// The sums of no member.
     pub(crate) const NONE: Sums = Sums {
@@ -31,9 +35,16 @@ impl Sums {
         q: 0,
     };
 
-    /// The airtime in the sub-band.
+    /// The airtime in the sub-band, in microseconds.
     pub(crate) fn in_band(&self, band: Band) -> u64
         ensures { result ≡ sum_in self.now band }
+    {
+        QUARTER_US * self.quarters(band) as u64
+    }
+
+    /// The same in quarters.
+    pub(crate) fn quarters(&self, band: Band) -> u32
+        ensures { result ≡ quarters_in self.now band }
     {
         match band {
             Band::K => self.k,
@@ -45,20 +56,20 @@ impl Sums {
         }
     }
 
-    /// The airtime in all sub-bands.
+    /// The airtime in all sub-bands, in microseconds.
     pub(crate) fn total(&self) -> u64
-        requires { (band : SubBand) → sum_in self.now band < 2 ^ 60 }
         ensures { result ≡ sum_of_all self.now }
     {
-        self.k + self.l + self.m + self.n + self.p + self.q
+        let first = self.k as u64 + self.l as u64 + self.m as u64;
+        QUARTER_US * (first + self.n as u64 + self.p as u64 + self.q as u64)
     }
 
     /// The sums of two sides and the member between them.
     pub(crate) fn around(left: &Sums, entry: &Reservation, right: &Sums) -> Sums
-        requires fits { (band : SubBand) → sum_in left.now band + sum_in right.now band < 2 ^ 63 }
+        requires fits { (band : SubBand) → sum_in left.now band + sum_in right.now band + 2 ^ 22 ≤ 2 ^ 39 }
         ensures value { (band : SubBand) → sum_in result band
             ≡ sum_in left.now band + airtime_in band entry.now + sum_in right.now band }
-        ensures short { (band : SubBand) → airtime_in band entry.now < 10000000 }
+        ensures short { (band : SubBand) → airtime_in band entry.now < 2 ^ 22 }
     {
         Sums {
             k: left.with(entry, right, Band::K),
@@ -71,18 +82,19 @@ impl Sums {
     }
 
     /// The same in one sub-band.
-    fn with(&self, entry: &Reservation, right: &Sums, band: Band) -> u64
-        requires fits { sum_in self.now band + sum_in right.now band < 2 ^ 63 }
-        ensures value { result ≡ sum_in self.now band + airtime_in band entry.now + sum_in right.now band }
-        ensures short { airtime_in band entry.now < 10000000 }
+    fn with(&self, entry: &Reservation, right: &Sums, band: Band) -> u32
+        requires fits { sum_in self.now band + sum_in right.now band + 2 ^ 22 ≤ 2 ^ 39 }
+        ensures value { 128 * result ≡ sum_in self.now band + airtime_in band entry.now + sum_in right.now band }
+        ensures short { airtime_in band entry.now < 2 ^ 22 }
     {
-        self.in_band(band) + entry.airtime_in(band) + right.in_band(band)
+        let airtime = (entry.airtime_in(band) / QUARTER_US) as u32;
+        self.quarters(band) + airtime + right.quarters(band)
     }
 
     /// These sums, of which `old` is a part, with `new` in place of that part.
     pub(crate) fn exchanged(&self, old: &Sums, new: &Sums) -> Sums
         requires covers { (band : SubBand) → sum_in old.now band ≤ sum_in self.now band }
-        requires fits { (band : SubBand) → sum_in self.now band + sum_in new.now band < 2 ^ 63 + sum_in old.now band }
+        requires fits { (band : SubBand) → sum_in self.now band + sum_in new.now band < 2 ^ 39 + sum_in old.now band }
         ensures { (band : SubBand) → sum_in result band ≡ sum_in self.now band - sum_in old.now band + sum_in new.now band }
     {
         Sums {
@@ -96,17 +108,17 @@ impl Sums {
     }
 
     /// The same in one sub-band.
-    fn exchanged_in(&self, old: &Sums, new: &Sums, band: Band) -> u64
+    fn exchanged_in(&self, old: &Sums, new: &Sums, band: Band) -> u32
         requires covers { sum_in old.now band ≤ sum_in self.now band }
-        requires fits { sum_in self.now band + sum_in new.now band < 2 ^ 63 + sum_in old.now band }
-        ensures { result ≡ sum_in self.now band - sum_in old.now band + sum_in new.now band }
+        requires fits { sum_in self.now band + sum_in new.now band < 2 ^ 39 + sum_in old.now band }
+        ensures { 128 * result ≡ sum_in self.now band - sum_in old.now band + sum_in new.now band }
     {
-        self.in_band(band) - old.in_band(band) + new.in_band(band)
+        self.quarters(band) - old.quarters(band) + new.quarters(band)
     }
 
     /// The airtime of the entry's own hour in its own sub-band, and 0 in each other one.
     pub(crate) fn own(entry: &Entry) -> Sums
-        ensures { (band : SubBand) → sum_in result band ≡ own_in band entry.now }
+        ensures { (band : SubBand) → quarters_in result band ≡ own_in band entry.now }
     {
         Sums {
             k: Self::own_in(entry, Band::K),
@@ -119,7 +131,7 @@ impl Sums {
     }
 
     /// The same in one sub-band.
-    fn own_in(entry: &Entry, band: Band) -> u64
+    pub(crate) fn own_in(entry: &Entry, band: Band) -> u32
         ensures { result ≡ own_in band entry.now }
     {
         if band.holds(entry.reservation.freq_hz, entry.reservation.rate) {
@@ -131,7 +143,7 @@ impl Sums {
 
     /// The greater ones.
     pub(crate) fn greater(&self, other: &Sums) -> Sums
-        ensures { (band : SubBand) → sum_in result band ≡ max (sum_in self.now band) (sum_in other.now band) }
+        ensures { (band : SubBand) → quarters_in result band ≡ max (quarters_in self.now band) (quarters_in other.now band) }
     {
         Sums {
             k: self.k.max(other.k),
@@ -145,11 +157,11 @@ impl Sums {
 
     /// So much more, and then so much less, in each sub-band in which there is something.
     pub(crate) fn moved(&self, more: &Sums, less: &Sums, there: &Sums) -> Sums
-        requires fits { (band : SubBand) → sum_in self.now band - sum_in less.now band + sum_in more.now band
-            ≤ max (sum_in more.now band) (2 ^ 64 - 1) }
+        requires fits { (band : SubBand) → quarters_in self.now band - quarters_in less.now band + quarters_in more.now band
+            ≤ max (quarters_in more.now band) (2 ^ 32 - 1) }
         ensures some { (band : SubBand) → sum_in there.now band ≢ 0
-            → sum_in result band ≡ sum_in self.now band + sum_in more.now band - sum_in less.now band }
-        ensures none { (band : SubBand) → sum_in there.now band ≡ 0 → sum_in result band ≡ 0 }
+            → quarters_in result band ≡ quarters_in self.now band + quarters_in more.now band - quarters_in less.now band }
+        ensures none { (band : SubBand) → sum_in there.now band ≡ 0 → quarters_in result band ≡ 0 }
     {
         Sums {
             k: self.moved_in(more, less, there, Band::K),
@@ -162,23 +174,27 @@ impl Sums {
     }
 
     /// The same in one sub-band.
-    fn moved_in(&self, more: &Sums, less: &Sums, there: &Sums, band: Band) -> u64
-        requires fits { sum_in self.now band - sum_in less.now band + sum_in more.now band
-            ≤ max (sum_in more.now band) (2 ^ 64 - 1) }
+    fn moved_in(&self, more: &Sums, less: &Sums, there: &Sums, band: Band) -> u32
+        requires fits { quarters_in self.now band - quarters_in less.now band + quarters_in more.now band
+            ≤ max (quarters_in more.now band) (2 ^ 32 - 1) }
         ensures some { sum_in there.now band ≢ 0
-            → result ≡ sum_in self.now band + sum_in more.now band - sum_in less.now band }
+            → result ≡ quarters_in self.now band + quarters_in more.now band - quarters_in less.now band }
         ensures none { sum_in there.now band ≡ 0 → result ≡ 0 }
     {
         if there.in_band(band) == 0 {
             return 0;
         }
-        moved(self.in_band(band), more.in_band(band), less.in_band(band))
+        moved(
+            self.quarters(band),
+            more.quarters(band),
+            less.quarters(band),
+        )
     }
 }
 
 /// So much more, and then so much less; the sum itself need not fit.
-pub(crate) fn moved(amount: u64, more: u64, less: u64) -> u64
-    requires fits { amount - less + more ≤ max more (2 ^ 64 - 1) }
+pub(crate) fn moved(amount: u32, more: u32, less: u32) -> u32
+    requires fits { amount - less + more ≤ max more (2 ^ 32 - 1) }
     ensures { result ≡ amount + more - less }
 {
     if more >= less {

@@ -9,7 +9,6 @@ use crate::kept::Kept;
 use crate::node::Link;
 use crate::sums::Sums;
 use radio_bands::Band;
-use resv_list::MAX_MEMBERS;
 use std::alloc::Allocator;
 
 /// What the top of the tree keeps.
@@ -53,7 +52,7 @@ pub(crate) fn sums<A: Allocator + Clone>(link: &Link<A>) -> Sums
     }
 }
 
-/// The airtime of the tree's members in one sub-band.
+/// The airtime of the tree's members in one sub-band, in microseconds.
 pub(crate) fn sum_in<A: Allocator + Clone>(link: &Link<A>, band: Band) -> u64
     ensures { result ≡ kept_sum (shape_of link.now) band }
 {
@@ -64,15 +63,14 @@ pub(crate) fn sum_in<A: Allocator + Clone>(link: &Link<A>, band: Band) -> u64
 #[tactic(auto, using(crate::proofs::SumLemmas::totals))]
 pub(crate) fn airtime<A: Allocator + Clone>(link: &Link<A>) -> u64
     requires whole { IsWhole (shape_of link.now) }
-    requires room { count_of (shape_of link.now) ≤ MAX_MEMBERS }
     ensures { result ≡ net (members_of (shape_of link.now)) }
 {
     sums(link).total()
 }
 
-/// The greatest own hour of the tree's members of one sub-band, in microseconds; 0 where there is none.
-pub(crate) fn greatest_in<A: Allocator + Clone>(link: &Link<A>, band: Band) -> u64
+/// The greatest own hour of the tree's members of one sub-band, in quarters of the shortest symbol; 0 where there is none.
+pub(crate) fn greatest_in<A: Allocator + Clone>(link: &Link<A>, band: Band) -> u32
     ensures { result ≡ greatest_of (shape_of link.now) band }
 {
-    kept(link).greatest.in_band(band)
+    kept(link).greatest.quarters(band)
 }

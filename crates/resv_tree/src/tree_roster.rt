@@ -1,4 +1,4 @@
-ghost use Rattle.std.specs.Prelude.{◌≡◌, ◌≤◌, ◌<◌, ◌+◌, ◌/◌, ◌^◌, [], length, map};
+ghost use Rattle.std.specs.Prelude.{◌≡◌, ◌≤◌, ◌<◌, ◌+◌, ◌*◌, ◌/◌, ◌^◌, [], length, map};
 ghost use Rattle.radio_bands.specs.declared.band.Band.{Band as SubBand};
 ghost use Rattle.resv_list.specs.declared.roster.TheConstants.{MAX_MEMBERS};
 ghost use Rattle.resv_list.specs.Sorted.{RisesFrom-prop};
@@ -12,7 +12,7 @@ use crate::entry::Entry;
 use crate::hours::Hours;
 use crate::node::{Link, Node};
 use crate::stretch::shift;
-use crate::sums::Sums;
+use crate::sums::{QUARTER_US, Sums};
 use crate::told::{count, greatest_in, height};
 use crate::{change, look, told};
 use radio_bands::Band;
@@ -24,7 +24,7 @@ fn raise<A: Allocator + Clone>(root: Link<A>, member: &Reservation) -> Link<A>
     requires whole { IsWhole (shape_of root) }
     requires by_key { IsByKey (entries (shape_of root)) }
     requires room { count_of (shape_of root) ≤ MAX_MEMBERS }
-    requires fits { (band : SubBand) → greatest_of (shape_of root) band < 2 ^ 63 }
+    requires fits { (band : SubBand) → greatest_of (shape_of root) band ≤ 2 ^ 31 }
     ensures entries { entries (shape_of result) ≡ map (raised member.now) (entries (shape_of root)) }
     ensures count { count_of (shape_of result) ≡ count_of (shape_of root) }
     ensures whole { IsWhole (shape_of result) }
@@ -39,7 +39,7 @@ fn lower<A: Allocator + Clone>(root: Link<A>, member: &Reservation) -> Link<A>
     requires whole { IsWhole (shape_of root) }
     requires by_key { IsByKey (entries (shape_of root)) }
     requires room { count_of (shape_of root) ≤ MAX_MEMBERS }
-    requires fits { (band : SubBand) → greatest_of (shape_of root) band < 2 ^ 63 }
+    requires fits { (band : SubBand) → greatest_of (shape_of root) band ≤ 2 ^ 31 }
     requires counted { Each (CountsIn member.now) (entries (shape_of root)) }
     ensures entries { entries (shape_of result) ≡ map (lowered member.now) (entries (shape_of root)) }
     ensures count { count_of (shape_of result) ≡ count_of (shape_of root) }
@@ -53,9 +53,9 @@ fn lower<A: Allocator + Clone>(root: Link<A>, member: &Reservation) -> Link<A>
 /// Which part of a bound the ends of a stretch may count for together before `is_within` looks closer.
 const SPARE: u64 = 8;
 
-/// A roster in a balanced tree: each call takes a walk from the root down, `insert` also the memory of one node, and
-/// `drop_before` gives back that of each member that it drops. It is
-/// dropped side by side, as deep as the tree is high: 33 levels at most, so no number of members exhausts the stack.
+/// A roster in a balanced tree: each call but `filled` takes a few walks from the root down. `insert` takes the memory of one
+/// node and `filled` that of one a member; `drop_before` gives back that of each member that it drops. It is dropped side by
+/// side, as deep as the tree is high: 33 levels at most, so no number of members exhausts the stack.
 #[derive(Drop)]
 pub struct TreeRoster<A: Allocator + Clone> {
     root: Link<A>,
@@ -74,13 +74,14 @@ impl<A: Allocator + Clone> TreeRoster<A> {
         TreeRoster { root: None, alloc }
     }
 
-    /// The airtime of the own hour that a member will have once it is placed, in microseconds.
-    fn own_hour(&self, member: &Reservation) -> u64
+    /// The airtime of the own hour that a member will have once it is placed, in quarters of the shortest symbol.
+    fn own_hour(&self, member: &Reservation) -> u32
         requires free { IsFree member.now.start (members_of (shape_of self.now.root)) }
-        ensures { result ≡ own_hour (place member.now (members_of (shape_of self.now.root))) member.now }
+        ensures { 128 * result ≡ own_hour (place member.now (members_of (shape_of self.now.root))) member.now }
     {
         let band = member.band();
-        member.airtime() + self.spent(band, member.start, member.start + HOUR)
+        let own = member.airtime() + self.spent(band, member.start, member.start + HOUR);
+        (own / QUARTER_US) as u32
     }
 
     /// How many levels the tree has, none if it is empty; the clauses bound it by the number of members.
@@ -127,14 +128,15 @@ impl<A: Allocator + Clone> Roster for TreeRoster<A> {
     }
 
     fn first_over(&self, band: Band, from: u64, to: u64, most: u64) -> Option<Reservation> {
-        if greatest_in(&self.root, band) <= most {
+        let whole = most / QUARTER_US;
+        if greatest_in(&self.root, band) as u64 <= whole {
             return None;
         }
-        look::first_over(&self.root, band, from, to, most + 1)
+        look::first_over(&self.root, band, from, to, whole as u32 + 1)
     }
 
     fn most(&self, band: Band) -> u64 {
-        greatest_in(&self.root, band)
+        QUARTER_US * greatest_in(&self.root, band) as u64
     }
 
     #[tactic(auto, using(crate::proofs::TreeLemmas::staying))]
@@ -177,7 +179,7 @@ impl<A: Allocator + Clone> Roster for TreeRoster<A> {
         Ok(())
     }
 
-    /// The tree is made at once: one walk over the members gives each its own hour, and no two are compared.
+    /// The tree is made at once: one walk over the members gives each its own hour, and no place in the tree is looked for.
     fn filled(self, members: &[Reservation]) -> Result<Self, AllocError> {
         let mut hours = Hours::of(members);
         let root = build(&mut hours, members.len(), &self.alloc)?;

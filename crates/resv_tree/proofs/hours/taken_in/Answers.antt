@@ -3,7 +3,7 @@ use Rattle.std.proofs.lemmas.List.{at_drop_more, at_drop_all}
 use Rattle.resv_list.specs.Reservations.{begun}
 use Rattle.resv_list.specs.Begun.{begun-cons, begun-nil}
 use Rattle.resv_list.proofs.BegunLemmas.{share_within, begun_behind}
-use Rattle.resv_tree.proofs.HourLemmas.{none_in}
+use Rattle.resv_tree.proofs.QuarterLemmas.{no_quarters}
 use Rattle.resv_tree.proofs.hours.taken_in.Goals as goal
 
 pub returns-then-member-to-clause-all : goal.returns-then-member-to-clause-all
@@ -19,7 +19,7 @@ loop-member-preserved c =
     let i = c.loop-member.member-index in
     let around = c.around-taken.ensures in (
       omega (arith, c.loop-member.invariant.0),
-      λ band. omega (arith, around.value band, around.short band, none_in band, c.loop-member.invariant.1 band),
+      λ band. omega (arith, around.value band, around.short band, no_quarters band, c.loop-member.invariant.1 band),
       λ band end h.
           let more : begun band 0 end (drop i l) ≡ begun band 0 end (m ∷ drop (i + 1) l) =
           at_drop_more (begun band 0 end) l i m c.loop-member-test.true
@@ -31,7 +31,7 @@ loop-member-preserved c =
             whole,
             begun-cons band 0 end m (drop (i + 1) l),
             around.value band,
-            none_in band,
+            no_quarters band,
             c.loop-member.invariant.2 band end h,
           ),
     )

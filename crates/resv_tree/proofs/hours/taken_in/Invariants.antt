@@ -6,7 +6,7 @@ use Rattle.resv_tree.proofs.hours.taken_in.Given as goal
 
 abbrev pub invariant-loop-member : goal.invariant-loop-member
 invariant-loop-member l =
-    (l.count ≡ l.member-index) × ((band : Band) → sum_in l.taken band ≤ 655360000000 + 10000000 * l.member-index)
+    (l.count ≡ l.member-index) × ((band : Band) → sum_in l.taken band ≤ 274877906944 + 4194304 * l.member-index)
     × ((band : Band) (end : ℕ) → l.to ≤ end
     → sum_in l.taken band + begun band 0 end (drop l.member-index l.members)
     ≡ sum_in l.sums band + begun band 0 end l.members)

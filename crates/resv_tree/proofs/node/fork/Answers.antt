@@ -28,7 +28,8 @@ returns-clause-whole g c =
     let around = c.around.ensures in
     let before = c.kept-before.ensures in
     let behind = c.kept-behind.ensures in
-    whole-node c.args.left c.args.right _ _ c.requires.left c.requires.right c.requires.level (record {
+    whole-node c.args.left c.args.right _ _ c.requires.left c.requires.right (record {
+      level = c.requires.level;
       height = omega (arith, before.height, behind.height, c.max.ensures);
       left_height = before.height;
       right_height = behind.height;
@@ -45,8 +46,7 @@ returns-clause-whole g c =
         left band c.requires.left,
         right band c.requires.right,
       );
-      greatest = c.greatest_about.ensures;
-    })
+    }) c.greatest_about.ensures
 
 pub returns-clause-made : goal.returns-clause-made
 returns-clause-made g c =
@@ -55,8 +55,9 @@ returns-clause-made g c =
     let around = c.around.ensures in
     let before = c.kept-before.ensures in
     let behind = c.kept-behind.ensures in
-    made-node c.args.left c.args.right _ _ _ (ap entry_of c.deref.ensures) c.requires.left c.requires.right c.requires.level
+    made-node c.args.left c.args.right _ _ _ (ap entry_of c.deref.ensures) c.requires.left c.requires.right
     (record {
+      level = c.requires.level;
       height = omega (arith, before.height, behind.height, c.max.ensures);
       left_height = before.height;
       right_height = behind.height;
@@ -73,5 +74,4 @@ returns-clause-made g c =
         left band c.requires.left,
         right band c.requires.right,
       );
-      greatest = c.greatest_about.ensures;
-    })
+    }) c.greatest_about.ensures

@@ -10,7 +10,8 @@ returns-clause-whole g c =
     let sides = c.requires.sides in
     let all = ap kept_of c.deref-2.ensures in
     let entry = ap entry_of c.deref.ensures in
-    whole-node c.args.left c.args.right _ _ c.requires.left c.requires.right sides.level (record {
+    whole-node c.args.left c.args.right _ _ c.requires.left c.requires.right (record {
+      level = sides.level;
       height = ap (λ k. k.height) all ∙ sides.height;
       left_height = ap (λ k. k.left_height) all ∙ sides.left_height;
       right_height = ap (λ k. k.right_height) all ∙ sides.right_height;
@@ -22,15 +23,15 @@ returns-clause-whole g c =
         sides.sums band,
       );
       short = λ band. omega (arith, ap (λ k. k.count) all, ap (λ k. sum_in k.sums band) all, sides.short band);
-      greatest = c.greatest_about.ensures;
-    })
+    }) c.greatest_about.ensures
 
 pub returns-clause-made : goal.returns-clause-made
 returns-clause-made g c =
     let sides = c.requires.sides in
     let all = ap kept_of c.deref-2.ensures in
     let entry = ap entry_of c.deref.ensures in
-    made-node c.args.left c.args.right _ _ _ entry c.requires.left c.requires.right sides.level (record {
+    made-node c.args.left c.args.right _ _ _ entry c.requires.left c.requires.right (record {
+      level = sides.level;
       height = ap (λ k. k.height) all ∙ sides.height;
       left_height = ap (λ k. k.left_height) all ∙ sides.left_height;
       right_height = ap (λ k. k.right_height) all ∙ sides.right_height;
@@ -42,5 +43,4 @@ returns-clause-made g c =
         sides.sums band,
       );
       short = λ band. omega (arith, ap (λ k. k.count) all, ap (λ k. sum_in k.sums band) all, sides.short band);
-      greatest = c.greatest_about.ensures;
-    })
+    }) c.greatest_about.ensures

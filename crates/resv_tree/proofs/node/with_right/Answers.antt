@@ -42,7 +42,8 @@ returns-clause-whole g c =
     let new = c.kept-new.ensures in
     let all = ap kept_of c.deref-2.ensures in
     let entry = ap entry_of c.deref.ensures in
-    whole-node c.args.left c.args.right _ _ c.requires.left c.requires.right c.requires.level (record {
+    whole-node c.args.left c.args.right _ _ c.requires.left c.requires.right (record {
+      level = c.requires.level;
       height = omega (arith, c.max.ensures, ap (λ k. k.left_height) all ∙ c.requires.height, new.height);
       right_height = new.height;
       left_height = ap (λ k. k.left_height) all ∙ c.requires.height;
@@ -68,8 +69,7 @@ returns-clause-whole g c =
         left band c.requires.left,
         right band c.requires.right,
       );
-      greatest = c.greatest_about.ensures;
-    })
+    }) c.greatest_about.ensures
 
 pub returns-clause-made : goal.returns-clause-made
 returns-clause-made g c =
@@ -79,7 +79,8 @@ returns-clause-made g c =
     let new = c.kept-new.ensures in
     let all = ap kept_of c.deref-2.ensures in
     let entry = ap entry_of c.deref.ensures in
-    made-node c.args.left c.args.right _ _ _ entry c.requires.left c.requires.right c.requires.level (record {
+    made-node c.args.left c.args.right _ _ _ entry c.requires.left c.requires.right (record {
+      level = c.requires.level;
       height = omega (arith, c.max.ensures, ap (λ k. k.left_height) all ∙ c.requires.height, new.height);
       right_height = new.height;
       left_height = ap (λ k. k.left_height) all ∙ c.requires.height;
@@ -105,5 +106,4 @@ returns-clause-made g c =
         left band c.requires.left,
         right band c.requires.right,
       );
-      greatest = c.greatest_about.ensures;
-    })
+    }) c.greatest_about.ensures

@@ -2,7 +2,7 @@ use Rattle.std.proofs.Common.{rules, arith, refl, ap, sym, subst, ◌∙◌, ◌
 use Rattle.resv_tree.specs.Entries.{key_of, member_of, moved}
 use Rattle.resv_tree.specs.Shape.{shape_of, entry_of}
 use Rattle.resv_tree.specs.Parts.{IsMadeOf}
-use Rattle.resv_tree.specs.Sums.{sum_in}
+use Rattle.resv_tree.specs.Sums.{quarters_in}
 use Rattle.resv_tree.proofs.TreeLemmas.{left_by_key, right_by_key}
 use Rattle.resv_tree.proofs.StretchLemmas.{covered_right_of, covered_left_of, covered_low, covered_high, fits_left, fits_right}
 use Rattle.resv_tree.proofs.StretchLemmas.{shifted_middle}
@@ -16,8 +16,8 @@ shift-right-requires g t c κs within =
     let made = subst (λ x. IsMadeOf (shape_of x) (shape_of c.open-left.result.0) (entry_of c.open-left.result.1.value)
     (shape_of c.open-left.result.2)) (sym is) c.open-left.ensures.made in
     let entry = c.entry-entry.ensures ∙ ap entry_of c.deref.ensures in
-    let more = sum_in c.args.more.now in
-    let less = sum_in c.args.less.now in (
+    let more = quarters_in c.args.more.now in
+    let less = quarters_in c.args.less.now in (
       search (rules, made.height, c.decreases),
       (
         within,
@@ -43,8 +43,8 @@ shift-left-requires g t c κs within =
     let made = subst (λ x. IsMadeOf (shape_of x) (shape_of c.open-left.result.0) (entry_of c.open-left.result.1.value)
     (shape_of c.open-left.result.2)) (sym is) c.open-left.ensures.made in
     let entry = c.entry-entry.ensures ∙ ap entry_of c.deref.ensures in
-    let more = sum_in c.args.more.now in
-    let less = sum_in c.args.less.now in (
+    let more = quarters_in c.args.more.now in
+    let less = quarters_in c.args.less.now in (
       search (rules, made.height, c.decreases),
       (
         within,
@@ -70,8 +70,8 @@ shift-left-requires-2 g t c κs within =
     let made = subst (λ x. IsMadeOf (shape_of x) (shape_of c.open-left.result.0) (entry_of c.open-left.result.1.value)
     (shape_of c.open-left.result.2)) (sym is) c.open-left.ensures.made in
     let entry = c.entry-entry.ensures ∙ ap entry_of c.deref.ensures in
-    let more = sum_in c.args.more.now in
-    let less = sum_in c.args.less.now in (
+    let more = quarters_in c.args.more.now in
+    let less = quarters_in c.args.less.now in (
       search (rules, made.height, c.decreases),
       (
         within,
@@ -98,8 +98,8 @@ shift-right-requires-2 g t c κs within =
     let made = subst (λ x. IsMadeOf (shape_of x) (shape_of c.open-left.result.0) (entry_of c.open-left.result.1.value)
     (shape_of c.open-left.result.2)) (sym is) c.open-left.ensures.made in
     let entry = c.entry-entry.ensures ∙ ap entry_of c.deref.ensures in
-    let more = sum_in c.args.more.now in
-    let less = sum_in c.args.less.now in (
+    let more = quarters_in c.args.more.now in
+    let less = quarters_in c.args.less.now in (
       search (rules, made.height, c.decreases),
       (
         within,
@@ -148,8 +148,8 @@ with_other_hours-requires-2 g t c =
     let left = c.shift-left-2.ensures in
     let right = c.shift-right-2.ensures in
     let entry = c.entry-entry.ensures ∙ ap entry_of c.deref.ensures in
-    let more = sum_in c.args.more.now in
-    let less = sum_in c.args.less.now in
+    let more = quarters_in c.args.more.now in
+    let less = quarters_in c.args.less.now in
     let placed = c.with_entry-top.ensures.entry ∙ c.moved.ensures ∙ ap (moved more less) entry in
     record {
       left = left.whole;
@@ -166,8 +166,8 @@ returns-clause-entries g t c =
     let made = subst (λ x. IsMadeOf (shape_of x) (shape_of c.open-left.result.0) (entry_of c.open-left.result.1.value)
     (shape_of c.open-left.result.2)) (sym is) c.open-left.ensures.made in
     let entry = c.entry-entry.ensures ∙ ap entry_of c.deref.ensures in
-    let more = sum_in c.args.more.now in
-    let less = sum_in c.args.less.now in
+    let more = quarters_in c.args.more.now in
+    let less = quarters_in c.args.less.now in
     let placed = c.with_entry-top.ensures.entry ∙ c.moved.ensures ∙ ap (moved more less) entry in
     c.with_other_hours-2.ensures.made.entries
     ∙ (λ i. c.shift-left-2.ensures.entries i ++ placed i ∷ c.shift-right-2.ensures.entries i)

@@ -1,11 +1,12 @@
 use Rattle.std.proofs.Common.{arith, ◌∙◌}
-use Rattle.resv_tree.specs.Sums.{sum_in}
+use Rattle.resv_tree.specs.Sums.{quarters_in}
 use Rattle.resv_tree.specs.Shape.{shape_of, entries}
-use Rattle.resv_tree.proofs.HourLemmas.{raised_by, none_in}
+use Rattle.resv_tree.proofs.HourLemmas.{raised_by}
+use Rattle.resv_tree.proofs.QuarterLemmas.{no_quarters}
 use Rattle.resv_tree.proofs.tree_roster.raise.Goals as goal
 
 pub returns-clause-entries : goal.returns-clause-entries
 returns-clause-entries g c =
     c.shift.ensures.entries
-    ∙ raised_by c.args.member.now c.saturating_sub-from.result (sum_in c.around-more.result) _ (entries (shape_of c.args.root))
-    c.saturating_sub-from.ensures (λ band. omega (arith, c.around-more.ensures.value band, none_in band)) none_in
+    ∙ raised_by c.args.member.now c.saturating_sub-from.result (quarters_in c.around-more.result) _ (entries (shape_of c.args.root))
+    c.saturating_sub-from.ensures (λ band. omega (arith, c.around-more.ensures.value band, no_quarters band)) no_quarters

@@ -30,4 +30,4 @@ pub returns-clause-given : goal.returns-clause-given
 returns-clause-given c =
     step_given c.args.self.now.left.now c.args.self.now.ahead.now c.args.self.now.sums c.taken_in-count.result.1
     c.taken_in-count.result.0 c.index-self-0.result c.requires c.args.self.now.ahead_of c.taken_in-count.ensures.all
-    c.taken_in-count.ensures.sums c.band.result c.in_band-own.result c.band.ensures c.in_band-own.ensures
+    c.taken_in-count.ensures.sums c.band.result c.quarters-own.result c.band.ensures c.quarters-own.ensures

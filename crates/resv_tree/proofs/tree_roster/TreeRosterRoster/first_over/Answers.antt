@@ -11,13 +11,13 @@ first_over-requires-clause-by_key g c =
     let self = c.args.self.now in
     rises_entries 0 (entries (shape_of self.root)) (subst IsByStart (sym (entries-members (shape_of self.root))) self.by_start)
 
-pub returns-then-greatest_in-most : goal.returns-then-greatest_in-most
-returns-then-greatest_in-most g c =
+pub returns-then-greatest_in-whole : goal.returns-then-greatest_in-whole
+returns-then-greatest_in-whole g c =
     let self = c.args.self.now in
     none_over (shape_of self.root) c.args.band c.args.from c.args.to c.args.most self.whole self.hours
     (omega (
       arith,
-      c.if-greatest_in-most.true,
+      c.if-greatest_in-whole.true,
       c.greatest_in.ensures,
       greatest_is_spent
           (shape_of self.root) c.args.band self.whole self.hours,
