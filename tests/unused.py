@@ -16,7 +16,7 @@ import sys
 
 TOP = pathlib.Path(sys.argv[1] if len(sys.argv) > 1 else pathlib.Path(__file__).resolve().parent.parent)
 FIXED = {"Answers.antt", "Invariants.antt", "Proof.antt", "Lib.antt"}
-NAME = re.compile(r"[^\s(){},.;⟦⟧\[\]]+")
+NAME = re.compile(r"[^\s(){},.;:⟦⟧\[\]]+")
 SIGNED = re.compile(r"( *)(?:(?:pub|abbrev|unfoldable|opaque) )*([^\s(){},.;:]+)(?: (?:\{[^}]*\}|\([^()]*\)))* :(?:\s|$)")
 MADE = re.compile(r"( *)(?:(?:pub|abbrev) )*(?:data|record|ruleset) ([^\s(){},.;:]+)")
 

@@ -101,10 +101,6 @@ pub members-parts : (ls : List Entry) (e : Entry) (rs : List Entry) → members 
 members-parts [] e rs = refl
 members-parts (x ∷ ls) e rs = ap (λ (ms : List Reservation). x.reservation ∷ ms) (members-parts ls e rs)
 
-pub rises_members : (low : ℕ) (es : List Entry) → RisesFrom key_of low es → RisesFrom start_of low (members es)
-rises_members low [] r = tt
-rises_members low (e ∷ es) r = (r.0, rises_members (key_of e + 1) es r.1)
-
 pub rises_entries : (low : ℕ) (es : List Entry) → RisesFrom start_of low (members es) → RisesFrom key_of low es
 rises_entries low [] r = tt
 rises_entries low (e ∷ es) r = (r.0, rises_entries (key_of e + 1) es r.1)

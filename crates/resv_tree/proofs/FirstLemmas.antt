@@ -251,15 +251,3 @@ module _ {t l r : Shape} {e : Entry} where
         → (is_in band e.reservation && nat_le below e.own) ≡ false
         → first_reaching band from to below (entries r) ≡ first_reaching band from to least (entries t)
     over_later h g q i = sym (past q ∙ rw (within band from to below e h g ∙ i) refl)
-
-pub ruleset finding = (
-  idle_none,
-  low_none,
-  owing_left,
-  owing_right,
-  over_right,
-  over_left,
-  over_found,
-  over_here,
-  over_later,
-)

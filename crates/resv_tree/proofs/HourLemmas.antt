@@ -9,9 +9,9 @@ use Rattle.resv_list.proofs.HourLemmas.{greatest-cons}
 use Rattle.resv_tree.specs.declared.entry.Entry.{Entry}
 use Rattle.resv_tree.specs.Entries.{key_of, Each, reaches, first_reaching, member_of, members, most_own}
 use Rattle.resv_tree.specs.Entries.{moved_in, CanMoveIn}
-use Rattle.resv_tree.specs.OwnHours.{own_hour, HasHours, reach, airtimes, nothing, raised, lowered, CountsIn}
+use Rattle.resv_tree.specs.OwnHours.{own_hour, HasHours, reach, airtimes, raised, lowered, CountsIn}
 use Rattle.resv_tree.specs.Shape.{Shape, entries, members_of, greatest_of, IsWhole}
-use Rattle.resv_tree.proofs.EntryLemmas.{in_band, amount_of, each, banded, amount_at}
+use Rattle.resv_tree.proofs.EntryLemmas.{in_band, amount_of}
 use Rattle.resv_tree.proofs.OwedLemmas.{entries-members, greatest_is_most}
 use Rattle.resv_tree.proofs.FirstLemmas.{low_none}
 use Rattle.resv_tree.proofs.QuarterLemmas.{above}
@@ -99,14 +99,6 @@ pub lowered_by : (r : Reservation) (from : ℕ) (more less : Band → ℕ) (es :
     → map (moved_in from r.start more less) es ≡ map (lowered r) es
 lowered_by r from more less es f a b =
     λ i. map (moved_in (f i) r.start (λ band. a band i) (λ band. b band i)) es
-
-pub raise_covered : (from to : ℕ) (more less : Band → ℕ) (es : List Entry) → ((band : Band) → less band ≡ 0)
-    → Each (CanMoveIn from to more less) es
-raise_covered from to more less es b =
-    let none : less ≡ nothing = λ i band. b band i in
-    subst (λ f. Each (CanMoveIn from to more f) es) (sym none)
-    (each (CanMoveIn from to more nothing) (λ e h g. let m = banded e.reservation in omega
-    (arith, amount_at nothing e.reservation m)) es)
 
 pub lower_covered : (r : Reservation) (from : ℕ) (more less : Band → ℕ) (es : List Entry) → from ≡ reach r.start
     → ((band : Band) → more band ≡ 0) → ((band : Band) → less band ≡ airtimes r band) → Each (CountsIn r) es

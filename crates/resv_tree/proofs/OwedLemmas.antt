@@ -67,10 +67,6 @@ greatest_is_most (Fork l e r k) band w =
         (λ q. absurd (omega (arith, q, z, parts_total l r e k band w))) in
         omega (arith, all, m)
 
--- no own hour is above it
-pub entries_within : (t : Shape) → IsWhole t → Each (λ e. e.own ≤ amount (greatest_of t) e.reservation) (entries t)
-entries_within t w = each_within (greatest_of t) (entries t) (λ band. omega (arith, greatest_is_most t band w))
-
 parts_within : (l r : Shape) (e : Entry) (k : Kept) → IsWhole (Fork l e r k)
     → Each (λ x. x.own ≤ amount (top_of l e r) x.reservation) (entries l ++ e ∷ entries r)
 parts_within l r e k w =
@@ -334,18 +330,6 @@ moved-owing l r e k h more less w o c =
         },
       );
     }
-
--- nothing below a leaf
-pub moved-Leaf : (more less : Band → ℕ) → IsMoved Leaf Leaf more less
-moved-Leaf more less = record {
-  entries = refl;
-  count = refl;
-  height = refl;
-  sums = λ band. refl;
-  some = λ band h. absurd (h refl);
-  none = λ band h. refl;
-  whole = tt;
-}
 
 -- A node that is made.
 

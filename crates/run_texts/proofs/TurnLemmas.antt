@@ -14,20 +14,6 @@ use Rattle.server_workers.specs.Working.{receipts_of, outcomes_of, strays_of}
 use Rattle.run_texts.specs.declared.pass_ends.Ends.{Ends}
 use Rattle.run_texts.specs.PassEnds.{Turn, WasHandled, IsFiled, HasFiled, refused_of}
 
--- nothing was filed yet
-pub filed_none : (e : Ends) → HasFiled [] e e
-filed_none e = (
-  [],
-  refl,
-  λ k d l. absurd (omega (arith, l)),
-  record {
-    receipts = sym (append-nil e.receipts.items);
-    outcomes = sym (append-nil e.outcomes.items);
-    refused = sym (append-nil e.refused.items);
-    strays = sym (append-nil e.strays.items);
-  },
-)
-
 -- a list that has got more, one turn after others
 more : {X : Type 0} (f : Turn → List X) (turns : List Turn) (t : Turn) (old mid new : List X) → mid ≡ old ++ flat_map f turns
     → new ≡ mid ++ f t → new ≡ old ++ flat_map f (turns ++ t ∷ [])

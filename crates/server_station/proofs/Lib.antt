@@ -3,6 +3,5 @@ pub mod Numbered
 pub mod Rising
 pub mod Settled
 pub mod HandledLemmas
-pub mod ShelfLemmas
 pub mod ClosingLemmas
 pub mod Crossing
