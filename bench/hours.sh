@@ -11,7 +11,7 @@ import sys
 from measured import memory, seconds
 
 program, other = sys.argv[1:]
-HOUR, HOURS, RUNS, PAIRS, LINES, STRIDE = 3_600_000_000, 4, 3, 20_000, 200_000, 7_919
+HOUR, HOURS, RUNS, PAIRS, LINES, STRIDE = 3_600_000_000, 4, 5, 20_000, 200_000, 7_919
 # 2,793,472, 288,768 and 20,608 us on air, of 360 s that an hour may have
 LONG, MIDDLE, SHORT = "869525000 0 64", "869525000 2 12", "869525000 6 12"
 OTHER_PAIRS = 500           # of the second program, which may walk over a whole hour for each
