@@ -12,6 +12,7 @@ pub mod OverlapLaws
 pub mod DutyRow
 pub mod DutySearch
 pub mod OwnHours
+pub mod EarliestLaws
 pub mod BusiestLaws
 pub mod AdmittedLaws
 pub mod SoundLaws

@@ -1,9 +1,10 @@
-use Rattle.std.specs.Prelude.{ℕ, ◌+◌, nat_lt, nat_le, Bool, ◌&&◌, List, ◌∷◌, Option, filter}
+use Rattle.std.specs.Prelude.{ℕ, ◌+◌, nat_lt, nat_le, Bool, ◌&&◌, List, ◌∷◌, Option, Some, filter, if◌then◌else◌}
+use Rattle.std.specs.Option.{option_map}
 use Rattle.radio_bands.specs.declared.band.Band.{Band}
 use Rattle.radio_bands.specs.Band.{hour, limit_of}
 use Rattle.resv_list.specs.declared.reservation.Reservation.{Reservation}
 use Rattle.resv_list.specs.Reservations.{is_in, spent}
-use Rattle.resv_list.specs.Hours.{starts_in}
+use Rattle.resv_list.specs.Hours.{starts_in, first_over}
 use Rattle.gateway_book.specs.declared.duty.FullHour.{FullHour}
 use Rattle.gateway_book.specs.Least.{least}
 
@@ -33,3 +34,9 @@ opens_full l band start airtime r = is_in band r && is_overfull l band start air
 -- the hour that opens at t, with the airtime of the band that begins in it
 abbrev pub hour_from : List Reservation → Band → ℕ → FullHour
 hour_from l band t = record { from = t; spent = spent l band t }
+
+-- the end of a member's hour that holds the start; or of the first hour that a member opens from the start on, and before
+-- an hour has passed
+abbrev pub after_full_hour : List Reservation → Band → ℕ → ℕ → Option ℕ
+after_full_hour l band start from =
+    if nat_lt from start then Some (from + hour) else option_map (λ r. r.start + hour) (first_over band start (start + hour) 0 l)

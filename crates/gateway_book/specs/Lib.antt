@@ -6,6 +6,7 @@ pub mod Laws
 pub mod Kept
 pub mod Least
 pub mod Duty
+pub mod Earliest
 pub mod Answer
 pub mod Step
 pub mod Orderly

@@ -47,10 +47,10 @@ pub enum OpenFault {
 /// no more than an hour before its floor. Moments are in microseconds of the gateway's clock.
 #[derive(Drop)]
 pub struct GatewayBook<R: Roster> {
-    roster: R,
+    pub(crate) roster: R,
     id: u16,
     cap: u32,
-    floor: u64,
+    pub(crate) floor: u64,
     booked: u64,
     cancelled: u64,
     retired: u64,
@@ -179,7 +179,7 @@ impl<R: Roster> GatewayBook<R> {
     }
 
     /// The reservation that an ask becomes if there is memory, or its refusal.
-    fn admitted(&self, ask: Ask) -> Result<Reservation, Refusal>
+    pub(crate) fn admitted(&self, ask: Ask) -> Result<Reservation, Refusal>
         ensures { MatchOption (refusal_of (terms_of self.now) self.now.list ask) (IsOkAnd result (IsAsked ask))
             (λ refusal. result ≡ Err refusal) }
     {

@@ -1,5 +1,6 @@
 ghost use Rattle.gateway_book.specs.Laws.{SpacedIsApart, FirstHasLeastStart, LeastIsLeast, FewHoursSuffice, DutyRowIsExact};
 ghost use Rattle.gateway_book.specs.Laws.{BusiestIsExact};
+ghost use Rattle.gateway_book.specs.Earliest.{EarliestCandidates};
 ghost use Rattle.gateway_book.specs.Forgetting.{ForgettingIsUnseen};
 
 /// Members at different places of a list by start are disjoint exactly where each begins no earlier
@@ -36,6 +37,12 @@ pub fn law_duty_row_is_exact()
 /// there is one such answer.
 pub fn law_busiest_is_exact()
     ensures { BusiestIsExact }
+{}
+
+/// The earliest start at which an ask is accepted is the least allowed one (the greater of the moment from which it is
+/// looked for and the floor), the end of a transmission, or an hour after the start of one: no other start can be.
+pub fn law_earliest_candidates()
+    ensures { EarliestCandidates }
 {}
 
 /// What a floor has put out of sight, a transmission that began more than an hour before it, is seen in no such answer: for

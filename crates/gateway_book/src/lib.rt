@@ -6,6 +6,7 @@ mod book;
 mod busiest;
 mod cancel;
 mod duty;
+mod earliest;
 mod laws;
 mod listing;
 mod overlap;
@@ -16,8 +17,8 @@ pub use ask::Ask;
 pub use book::{GatewayBook, MAX_CAP, NoMemory, OpenFault, TOTAL_LIMIT};
 pub use cancel::CancelFault;
 pub use laws::{
-    law_busiest_is_exact, law_duty_row_is_exact, law_few_hours_suffice, law_first_has_least_start,
-    law_forgetting, law_least_is_least, law_spaced_is_apart,
+    law_busiest_is_exact, law_duty_row_is_exact, law_earliest_candidates, law_few_hours_suffice,
+    law_first_has_least_start, law_forgetting, law_least_is_least, law_spaced_is_apart,
 };
 pub use refusal::Refusal;
 pub use resv_list::HOUR;
