@@ -12,6 +12,8 @@ pub mod OverlapLaws
 pub mod DutyRow
 pub mod DutySearch
 pub mod OwnHours
+pub mod EarliestLists
+pub mod EarliestRows
 pub mod EarliestLaws
 pub mod BusiestLaws
 pub mod AdmittedLaws
