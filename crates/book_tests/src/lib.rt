@@ -4,6 +4,8 @@
 #[cfg(test)]
 mod book;
 #[cfg(test)]
+mod earliest;
+#[cfg(test)]
 mod filling;
 #[cfg(test)]
 mod growths;
