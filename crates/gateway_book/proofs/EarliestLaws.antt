@@ -20,7 +20,8 @@ use Rattle.gateway_book.specs.Answer.{Terms, ask_airtime, ask_end, overlap}
 use Rattle.gateway_book.specs.Answer.{refusal_of}
 use Rattle.gateway_book.specs.Earliest.{at_start, Accepts, IsLeastAccepted, IsNextStart, IsCandidate}
 use Rattle.gateway_book.proofs.AnswerLaws.{accepted}
-use Rattle.gateway_book.proofs.EarliestLists.{overlapping, clear_after, not_before_end, first_full_hour, after_hour, after_own_hour, never, begins_in, unfound, same_member, passing_member}
+use Rattle.gateway_book.proofs.EarliestLists.{overlapping, clear_after, not_before_end, first_full_hour, after_hour}
+use Rattle.gateway_book.proofs.EarliestLists.{after_own_hour, never, begins_in, unfound, same_member, passing_member}
 use Rattle.gateway_book.proofs.EarliestRows.{IsBusyBy, IsBusy, busy, told}
 
 -- The earliest start at which an ask would be accepted.
