@@ -143,8 +143,8 @@ fn toggle<R: Roster>(
     Ok(())
 }
 
-/// Random changes to a roster and to the list, some of which drop what begins before a moment, and the same questions to both; the
-/// starts lie within two hours.
+/// Random changes to a roster and to the list, some of which drop what begins before a moment, and the same questions to both;
+/// the starts lie within two hours.
 fn answers_alike<R: Roster>(
     rt: &impl Abort,
     roster: &mut R,

@@ -135,7 +135,8 @@ each_later low (x ∷ xs) r = (
 )
 
 -- one more in front begins in the own hour of none behind it
-one_in_front : (r : Reservation) (rs : List Reservation) (e : Entry) → r.start + 1 ≤ key_of e → 128 * e.own ≡ own_hour rs e.reservation
+one_in_front : (r : Reservation) (rs : List Reservation) (e : Entry) → r.start + 1 ≤ key_of e
+    → 128 * e.own ≡ own_hour rs e.reservation
     → 128 * e.own ≡ own_hour (r ∷ rs) e.reservation
 one_in_front r rs e h own =
     let b = banded e.reservation in
@@ -160,4 +161,5 @@ hours_of_all low (x ∷ xs) r = (
 
 pub with_hours-has : (l : List Reservation) → IsByStart l → HasHours (with_hours l)
 with_hours-has l b =
-    subst (λ k. Each (λ e. 128 * e.own ≡ own_hour k e.reservation) (with_hours l)) (sym (members-with_hours l)) (hours_of_all 0 l b)
+    subst (λ k. Each (λ e. 128 * e.own ≡ own_hour k e.reservation) (with_hours l)) (sym (members-with_hours l))
+    (hours_of_all 0 l b)

@@ -19,7 +19,8 @@ use Rattle.resv_tree.proofs.QuarterLemmas.{above}
 -- The own hours of all members, at the root.
 
 -- an entry's own hour where it is one of the sub-band
-own_spent : (l : List Reservation) (band : Band) (e : Entry) → 128 * e.own ≡ own_hour l e.reservation → is_in band e.reservation ≡ true
+own_spent : (l : List Reservation) (band : Band) (e : Entry) → 128 * e.own ≡ own_hour l e.reservation
+    → is_in band e.reservation ≡ true
     → 128 * e.own ≡ spent l band e.reservation.start
 own_spent l band e h i = h ∙ amount_of (λ b. spent l b e.reservation.start) e.reservation band (in_band e.reservation band i)
 

@@ -2,6 +2,7 @@ pub mod TotalLemmas
 pub mod EntryLemmas
 pub mod QuarterLemmas
 pub mod OwedLemmas
+pub mod OwingLemmas
 pub mod StretchLemmas
 pub mod FirstLemmas
 pub mod HourLemmas
@@ -13,5 +14,6 @@ pub mod SumLemmas
 pub mod HeightLemmas
 pub mod Crossing
 pub mod OwnLemmas
+pub mod OwnHourLemmas
 pub mod AheadLemmas
 pub mod BuildLemmas

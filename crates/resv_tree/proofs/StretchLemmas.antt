@@ -11,7 +11,7 @@ use Rattle.resv_tree.specs.Parts.{IsMadeOf}
 use Rattle.resv_tree.proofs.SplitLemmas.{middle_from, rises_behind}
 use Rattle.resv_tree.proofs.EntryLemmas.{each, each-with, each-left, each-right, map-same, map-identity, map-parts}
 use Rattle.resv_tree.proofs.EntryLemmas.{banded, amount_at}
-use Rattle.resv_tree.proofs.OwedLemmas.{own_in_top}
+use Rattle.resv_tree.proofs.OwingLemmas.{own_in_top}
 use Rattle.resv_tree.proofs.TreeLemmas.{sides}
 
 -- Own hours that change in a stretch, on a tree and on its sides.

@@ -78,7 +78,8 @@ abbrev pub IsLevel : Shape → Shape → Type 0
 IsLevel l r = (height_of l ≤ height_of r + 1) × (height_of r ≤ height_of l + 1)
 
 -- the sides are level, and what the node keeps follows from what they keep; each sum has room for 2^22 microseconds a
--- member, which is longer than any transmission. What it owes can be handed down, and is nothing where it isn't said that it owes.
+-- member, which is longer than any transmission. What it owes can be handed down, and is nothing where it isn't said that it
+-- owes.
 pub record IsKept (l : Shape) (e : Entry) (r : Shape) (k : Kept) : Type 0 where
   pub level : IsLevel l r
   pub height : k.height ≡ max (height_of l) (height_of r) + 1

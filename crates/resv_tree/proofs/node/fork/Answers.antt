@@ -2,7 +2,7 @@ use Rattle.std.proofs.Common.{arith, ap}
 use Rattle.resv_tree.specs.Shape.{shape_of, entry_of}
 use Rattle.resv_tree.proofs.ShapeLemmas.{count_bounds_sum}
 use Rattle.resv_tree.proofs.HeightLemmas.{height_is_low}
-use Rattle.resv_tree.proofs.OwedLemmas.{made-node, whole-node}
+use Rattle.resv_tree.proofs.OwingLemmas.{made-node, whole-node}
 use Rattle.resv_tree.proofs.node.fork.Goals as goal
 
 pub around-requires : goal.around-requires

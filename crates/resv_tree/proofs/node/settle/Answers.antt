@@ -1,7 +1,7 @@
 use Rattle.std.proofs.Common.{ap, arith, sym, ◌∙◌}
 use Rattle.resv_tree.specs.Sums.{quarters_in}
 use Rattle.resv_tree.specs.Shape.{shape_of, entry_of, kept_of, top_of}
-use Rattle.resv_tree.proofs.OwedLemmas.{covered_left, covered_right, own_in_top}
+use Rattle.resv_tree.proofs.OwingLemmas.{covered_left, covered_right, own_in_top}
 use Rattle.resv_tree.proofs.node.settle.Goals as goal
 
 pub hand-left-requires-clause-fits : goal.hand-left-requires-clause-fits

@@ -3,7 +3,7 @@ use Rattle.resv_list.specs.Reservations.{airtime_in}
 use Rattle.resv_tree.specs.Sums.{sum_in}
 use Rattle.resv_tree.specs.Shape.{shape_of, entry_of, kept_of}
 use Rattle.resv_tree.proofs.SumLemmas.{airtime_in-short}
-use Rattle.resv_tree.proofs.OwedLemmas.{made-node, whole-node}
+use Rattle.resv_tree.proofs.OwingLemmas.{made-node, whole-node}
 use Rattle.resv_tree.proofs.ShapeLemmas.{count_bounds_sum}
 use Rattle.resv_tree.proofs.HeightLemmas.{height_is_low}
 use Rattle.resv_tree.proofs.node.with_left.Goals as goal

@@ -2,7 +2,7 @@ use Rattle.std.proofs.Common.{arith, ap, ◌∙◌}
 use Rattle.resv_list.specs.Reservations.{airtime_in}
 use Rattle.resv_tree.specs.Sums.{sum_in}
 use Rattle.resv_tree.specs.Shape.{entry_of, kept_of}
-use Rattle.resv_tree.proofs.OwedLemmas.{made-node, whole-node}
+use Rattle.resv_tree.proofs.OwingLemmas.{made-node, whole-node}
 use Rattle.resv_tree.proofs.node.with_other_hours.Goals as goal
 
 pub returns-clause-whole : goal.returns-clause-whole

@@ -1,6 +1,6 @@
 use Rattle.std.proofs.Common.{ap, sym, ◌∙◌}
 use Rattle.resv_tree.specs.Shape.{shape, shape_of}
-use Rattle.resv_tree.proofs.OwedLemmas.{moved-node}
+use Rattle.resv_tree.proofs.OwingLemmas.{moved-node}
 use Rattle.resv_tree.proofs.owed.hand.Goals as goal
 
 pub returns : goal.returns

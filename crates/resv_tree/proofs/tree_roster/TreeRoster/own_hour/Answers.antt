@@ -1,7 +1,7 @@
 use Rattle.std.proofs.Common.{◌+◌, arith}
 use Rattle.resv_list.specs.Reservations.{place}
 use Rattle.resv_tree.specs.Shape.{shape_of, members_of}
-use Rattle.resv_tree.proofs.OwnLemmas.{begun_short, own_placed}
+use Rattle.resv_tree.proofs.OwnHourLemmas.{begun_short, own_placed}
 use Rattle.resv_tree.proofs.QuarterLemmas.{own_hour_whole}
 use Rattle.resv_tree.proofs.tree_roster.TreeRoster.own_hour.Goals as goal
 

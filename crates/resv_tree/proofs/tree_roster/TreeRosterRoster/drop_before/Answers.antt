@@ -3,7 +3,7 @@ use Rattle.resv_list.specs.Sorted.{rest_from}
 use Rattle.resv_tree.specs.Shape.{shape_of, entries, count_of, members_of}
 use Rattle.resv_tree.specs.Entries.{key_of}
 use Rattle.resv_tree.proofs.HeightLemmas.{count_of-length}
-use Rattle.resv_tree.proofs.OwnLemmas.{root_by_key, dropped_members, dropped_hours}
+use Rattle.resv_tree.proofs.OwnHourLemmas.{root_by_key, dropped_members, dropped_hours}
 use Rattle.resv_tree.proofs.TreeLemmas.{rest_by_start, rest_lighter, dropped_count, dropped_airtime}
 use Rattle.resv_tree.proofs.tree_roster.TreeRosterRoster.drop_before.Goals as goal
 

@@ -1,7 +1,8 @@
 use Rattle.std.proofs.Common.{◌≡◌, map, arith, ap, sym, ◌∙◌}
 use Rattle.resv_tree.specs.Shape.{shape, shape_of, entries, entry_of, count_of}
 use Rattle.resv_tree.specs.OwnHours.{raised}
-use Rattle.resv_tree.proofs.OwnLemmas.{root_by_key, root_fits, raised_by_key, inserted_members, inserted_hours}
+use Rattle.resv_tree.proofs.OwnHourLemmas.{inserted_members, inserted_hours}
+use Rattle.resv_tree.proofs.OwnHourLemmas.{root_by_key, root_fits, raised_by_key}
 use Rattle.resv_tree.proofs.TreeLemmas.{placed_by_start}
 use Rattle.resv_tree.proofs.tree_roster.TreeRosterRoster.insert.Goals as goal
 

@@ -1,8 +1,8 @@
 use Rattle.std.proofs.Common.{◌≡◌, Some, None, ap, sym, ◌∙◌, arith}
 use Rattle.resv_tree.specs.Shape.{shape_of, entries, count_of}
 use Rattle.resv_tree.specs.Entries.{entry_at, entries_without}
-use Rattle.resv_tree.proofs.OwnLemmas.{root_by_key, left_members, left_by_start, left_fits, missing_hours, no_member}
-use Rattle.resv_tree.proofs.OwnLemmas.{the_member, left_counted, lowered_members, lowered_hours}
+use Rattle.resv_tree.proofs.OwnHourLemmas.{root_by_key, left_members, left_by_start, left_fits, missing_hours, no_member}
+use Rattle.resv_tree.proofs.OwnHourLemmas.{the_member, left_counted, lowered_members, lowered_hours}
 use Rattle.resv_tree.proofs.TreeLemmas.{without_by_start}
 use Rattle.resv_tree.proofs.tree_roster.TreeRosterRoster.remove.Goals as goal
 
