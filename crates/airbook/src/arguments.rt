@@ -7,10 +7,10 @@ use std::alloc::{AllocError, Global};
 pub enum Task {
     /// The time on air of a PHYPayload of `len` bytes at data rate `rate`.
     Toa { rate: u8, len: u8 },
-    /// The book of a gateway that keeps at most `cap` transmissions.
-    Book { cap: u32 },
+    /// The book of a gateway that keeps at most `cap` transmissions, at least `gap` microseconds apart.
+    Book { cap: u32, gap: u32 },
     /// The same, and what that book would answer to further bookings.
-    Plan { cap: u32 },
+    Plan { cap: u32, gap: u32 },
     /// Settings of a server, and what happens there, with so many workers; with none one thread does all.
     Run { workers: u8 },
 }
@@ -53,24 +53,26 @@ fn toa<'a>(alloc: Global) -> Result<Command<'a>, AllocError> {
 fn book<'a>(alloc: Global) -> Result<Command<'a>, AllocError> {
     Command::new(alloc, "book")
         .about(
-            "Keeps the airtime book of one gateway. Lines of standard input: book NUMBER START FREQ DR LEN, cancel NUMBER START, tick NOW",
+            "Keeps the airtime book of one gateway. Lines of standard input: book NUMBER START FREQ DR LEN, cancel NUMBER START, tick NOW, earliest NUMBER NOT_BEFORE LAST FREQ DR LEN",
         )
         .after_help(
             "Example:\n  $ echo book 1 10000000 868100000 5 12 | airbook book\n  ok 1 10000000 10041216\n  booked 41216\n  cancelled 0\n  retired 0\n  kept 1 41216\n  floor 0\n  busiest M 10000000 41216",
         )
-        .arg(cap(alloc))
+        .arg(cap(alloc))?
+        .arg(gap(alloc))
 }
 
 /// The arguments of `plan`.
 fn plan<'a>(alloc: Global) -> Result<Command<'a>, AllocError> {
     Command::new(alloc, "plan")
         .about(
-            "Keeps the airtime book of one gateway, as book does, and tells what it would answer to the bookings that follow a line plan. They are not booked; each that would be accepted stays for the next",
+            "Keeps the airtime book of one gateway, as book does, and tells what it would answer to the lines book and earliest that follow a line plan. Nothing is booked; each booking that would be accepted stays for the next",
         )
         .after_help(
             "Example:\n  $ airbook plan < examples/plan.txt\n  ok 1 10000000 10041216\n  if no 8 Taken 10000000\n  if ok 9 10041216 10082432\n  if no 10 Taken 10000000\n  booked 41216\n  cancelled 0\n  retired 0\n  kept 1 41216\n  floor 0\n  busiest M 10000000 41216",
         )
-        .arg(cap(alloc))
+        .arg(cap(alloc))?
+        .arg(gap(alloc))
 }
 
 /// How many transmissions a book keeps at most.
@@ -80,6 +82,16 @@ fn cap<'a>(alloc: Global) -> Arg<'a> {
         .long("cap")
         .value_name("N")
         .default_value("4096")
+        .value_parser(value_parser!(u32))
+}
+
+/// How long a gateway needs between two transmissions.
+fn gap<'a>(alloc: Global) -> Arg<'a> {
+    Arg::new(alloc, "gap")
+        .help("Microseconds that the gateway needs between two transmissions, 0 to 100000")
+        .long("gap")
+        .value_name("N")
+        .default_value("0")
         .value_parser(value_parser!(u32))
 }
 
@@ -112,9 +124,11 @@ pub fn task_of(matches: &ArgMatches<'_>) -> Option<Task> {
         }),
         Some(("book", book)) => Some(Task::Book {
             cap: book.get_one::<u32>("cap")?,
+            gap: book.get_one::<u32>("gap")?,
         }),
         Some(("plan", plan)) => Some(Task::Plan {
             cap: plan.get_one::<u32>("cap")?,
+            gap: plan.get_one::<u32>("gap")?,
         }),
         Some(("run", run)) => Some(Task::Run {
             workers: run.get_one::<u8>("workers")?,

@@ -11,10 +11,10 @@ use resv_tree::TreeRoster;
 use std::alloc::{AllocError, Allocator};
 
 /// The number of a trial's gateway, which no answer names.
-const TRIAL: u16 = 0;
+pub(crate) const TRIAL: u16 = 0;
 
-/// What a book with this list, floor, cap and booked airtime (both in microseconds of its clock) would answer to the
-/// asks, one after another: each that is accepted stays for the next. The answers are put behind what `out` has. They are
+/// What a book with this list, floor, cap, gap and booked airtime (all but the cap in microseconds of its clock) would answer
+/// to the asks, one after another: each that is accepted stays for the next. The answers are put behind what `out` has. They are
 /// tried on a copy in the arena, which is dropped before the call returns, so that the arena can be reset.
 ///
 /// Where the arena or `out` finds no memory, `out` is as before.
@@ -23,17 +23,26 @@ pub fn what_if<P: Allocator, A: Allocator>(
     list: &[Reservation],
     floor: u64,
     cap: u32,
+    gap: u32,
     booked: u64,
     asks: &[Ask],
     out: &mut Vec<Result<Reservation, Refusal>, A>,
 ) -> Result<(), NoMemory>
-    requires { IsBookList (record { cap = cap }) floor booked list.now }
-    ensures answers { OnOk result (AddsAnswers (record { cap = cap }) (opened_at floor booked list.now) asks.now
+    requires { IsBookList (record { cap = cap; gap = gap }) floor booked list.now }
+    ensures answers { OnOk result (AddsAnswers (record { cap = cap; gap = gap }) (opened_at floor booked list.now) asks.now
         out.old.items out.new.items) }
     ensures unchanged { OnErr result (out.new.items ≡ out.old.items) }
 {
     out.reserve(asks.len())?;
-    let mut book = GatewayBook::trial(TreeRoster::new(arena), TRIAL, cap, floor, booked, list)?;
+    let mut book = GatewayBook::trial(
+        TreeRoster::new(arena),
+        TRIAL,
+        cap,
+        gap,
+        floor,
+        booked,
+        list,
+    )?;
     let before = out.len();
     match answer_all(&mut book, asks, out) {
         Ok(()) => Ok(()),

@@ -2,7 +2,9 @@
 #![tactic(auto)]
 
 mod asking;
+mod earliest;
 mod laws;
 
 pub use asking::{answer_to, what_if};
-pub use laws::law_live_book_answers_alike;
+pub use earliest::what_if_earliest;
+pub use laws::{law_live_book_answers_alike, law_live_book_starts_alike};

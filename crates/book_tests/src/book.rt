@@ -119,7 +119,7 @@ fn slow_ask(start: u64, freq_hz: u32) -> Ask {
 fn opened<R: Roster + Drop>(rt: &impl Abort, roster: R, id: u16, cap: u32) -> GatewayBook<R>
     requires { R.list roster ≡ [] }
 {
-    GatewayBook::new(roster, id, cap).expect(rt, "the cap is in range")
+    GatewayBook::new(roster, id, cap, 0).expect(rt, "the cap and the gap are in range")
 }
 
 fn booked<R: Roster>(book: &mut GatewayBook<R>, ask: Ask) -> Result<Reservation, Refusal> {
@@ -237,16 +237,22 @@ fn a_cap_of_one_takes_a_thousand_hours(rt: HostRuntime) {
 }
 
 #[test]
-fn opens_with_a_cap_in_range(rt: HostRuntime) {
+fn opens_with_a_cap_and_a_gap_in_range(rt: HostRuntime) {
     let cases = [
-        (0, Some(OpenFault::BadCap)),
-        (1, None),
-        (65_536, None),
-        (65_537, Some(OpenFault::BadCap)),
+        (0, 0, Some(OpenFault::BadCap)),
+        (1, 0, None),
+        (65_536, 100_000, None),
+        (65_537, 0, Some(OpenFault::BadCap)),
+        (1, 100_001, Some(OpenFault::BadGap)),
+        (4_096, u32::MAX, Some(OpenFault::BadGap)),
+        (0, 100_001, Some(OpenFault::BadCap)),
+        (65_537, 100_001, Some(OpenFault::BadCap)),
     ];
-    for (cap, fault) in cases {
-        let opened = GatewayBook::new(VecRoster::new(rt.alloc()), 7, cap);
-        assert_eq!(rt; opened.err(), fault, "at {cap}");
+    for (cap, gap, fault) in cases {
+        let opened = GatewayBook::new(VecRoster::new(rt.alloc()), 7, cap, gap);
+        let told = opened.map(|book| (book.id(), book.cap(), book.gap()));
+        let wanted = fault.map_or(Ok((7, cap, gap)), Err);
+        assert_eq!(rt; told, wanted, "at {cap} with {gap}");
     }
 }
 

@@ -90,12 +90,12 @@ fn answers_alike<R: Roster>(rt: &impl Abort, book: &mut GatewayBook<R>) {
 
 #[test]
 fn names_the_earliest_start(rt: HostRuntime) {
-    let mut slow = GatewayBook::new(VecRoster::new(rt.alloc()), 1, 200).expect(
+    let mut slow = GatewayBook::new(VecRoster::new(rt.alloc()), 1, 200, 0).expect(
         &rt,
         "the cap is in range",
     );
     answers_rows(&rt, &mut slow);
-    let mut tree = GatewayBook::new(TreeRoster::new(rt.alloc()), 1, 200).expect(
+    let mut tree = GatewayBook::new(TreeRoster::new(rt.alloc()), 1, 200, 0).expect(
         &rt,
         "the cap is in range",
     );
@@ -104,12 +104,12 @@ fn names_the_earliest_start(rt: HostRuntime) {
 
 #[test]
 fn earliest_is_that_of_a_search_of_all(rt: HostRuntime) {
-    let mut slow = GatewayBook::new(VecRoster::new(rt.alloc()), 1, 200).expect(
+    let mut slow = GatewayBook::new(VecRoster::new(rt.alloc()), 1, 200, 0).expect(
         &rt,
         "the cap is in range",
     );
     answers_alike(&rt, &mut slow);
-    let mut tree = GatewayBook::new(TreeRoster::new(rt.alloc()), 1, 200).expect(
+    let mut tree = GatewayBook::new(TreeRoster::new(rt.alloc()), 1, 200, 0).expect(
         &rt,
         "the cap is in range",
     );

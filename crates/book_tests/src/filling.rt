@@ -30,7 +30,7 @@ fn drawn_ask(number: u64, drawn: u64) -> Ask {
 
 /// A book of what it accepts of so many random asks.
 fn drawn_book(rt: &impl Abort, alloc: Global, asks: u64) -> GatewayBook<VecRoster<Global>> {
-    let mut book = GatewayBook::new(VecRoster::new(alloc), 1, 4_096).expect(
+    let mut book = GatewayBook::new(VecRoster::new(alloc), 1, 4_096, 0).expect(
         rt,
         "the cap is in range",
     );

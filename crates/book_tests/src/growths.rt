@@ -85,7 +85,7 @@ fn only_a_new_member_takes_memory(rt: HostRuntime) -> Result<(), Fail> {
 #[test]
 fn only_what_a_book_accepts_takes_memory(rt: HostRuntime) -> Result<(), Fail> {
     let arena = Bump::try_with_capacity(rt.alloc(), AMPLE_BYTES)?;
-    let mut book = GatewayBook::new(TreeRoster::new(&arena), 1, 2)?;
+    let mut book = GatewayBook::new(TreeRoster::new(&arena), 1, 2, 0)?;
     for start in [0, 3_000_000] {
         let free = arena.chunk_capacity();
         assert!(rt; book.book(ask(start, start)).is_ok());
@@ -108,7 +108,7 @@ fn only_what_a_book_accepts_takes_memory(rt: HostRuntime) -> Result<(), Fail> {
 /// How many bytes an arena gave for the list of a book with so many members.
 fn taken_by_list(rt: &impl Abort, alloc: Global, count: u64) -> Result<usize, Fail> {
     let arena = Bump::try_with_capacity(alloc, AMPLE_BYTES)?;
-    let mut book = GatewayBook::new(TreeRoster::new(alloc), 1, 100)?;
+    let mut book = GatewayBook::new(TreeRoster::new(alloc), 1, 100, 0)?;
     for number in 0..count {
         assert!(rt;
             book.book(ask(number, number.saturating_mul(100_000_000)))

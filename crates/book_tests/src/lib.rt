@@ -8,6 +8,8 @@ mod earliest;
 #[cfg(test)]
 mod filling;
 #[cfg(test)]
+mod gap;
+#[cfg(test)]
 mod growths;
 #[cfg(test)]
 mod hours;

@@ -189,7 +189,7 @@ fn counts_alike<R: Roster>(rt: &impl Abort, book: &GatewayBook<R>, plain: &Plain
 fn answers_alike<R: Roster + Drop>(rt: &impl Abort, roster: R, plain: &mut Plain)
     requires { R.list roster ≡ [] }
 {
-    let mut book = GatewayBook::new(roster, 1, CAP).expect(rt, "the cap is in range");
+    let mut book = GatewayBook::new(roster, 1, CAP, 0).expect(rt, "the cap is in range");
     let mut drawn = 1;
     for number in 0..600 {
         drawn = drawn_after(drawn);

@@ -13,9 +13,12 @@ use Rattle.gateway_book.specs.Book.{Book, terms_of, state_of, with_booked, with_
 use Rattle.gateway_book.specs.Remembers.{StandsFor}
 use Rattle.gateway_book.proofs.RememberedLaws.{remembers_cancel}
 use Rattle.gateway_book.proofs.StandingLaws.{stands_answer, stands_booked, stands_cancelled, stands_ticked}
-use Rattle.book_texts.specs.declared.command.Command.TheVariants.{Book as Booking, Cancel, Tick}
+use Rattle.book_texts.specs.declared.command.Command.TheVariants.{Book as Booking, Cancel, Tick, Earliest}
+use Rattle.gateway_book.specs.EarliestValue.{earliest_of}
+use Rattle.gateway_book.proofs.EarliestValue.{stands_earliest}
+use Rattle.book_texts.specs.declared.reply.Reply.{Reply}
 use Rattle.book_texts.specs.declared.reply.Reply.TheVariants.{Booked, Refused, Cancelled, NotCancelled, Floor}
-use Rattle.book_texts.specs.Answering.{booking_reply, cancel_reply, reply_of}
+use Rattle.book_texts.specs.Answering.{booking_reply, cancel_reply, start_reply, reply_of}
 use Rattle.book_texts.specs.Progress.{IsCarriedOut}
 
 refused_by : (old : Book) (ask : Ask) (refusal : Refusal) (o : Option Refusal) → refusal_of (terms_of old) old.list ask ≡ o
@@ -91,7 +94,7 @@ carried_out-cancelled old new number start airtime h is step =
       starved = false;
       answered = λ s stood.
           ap (cancel_reply number) (h ∙ ap airtime_answer (remembers_cancel old s stood.orderly stood.remembers number start));
-      reached = λ s stood. stands_cancelled old s stood number start new step;
+      reached = λ s stood. stands_cancelled old s stood number start new (rw is refl) step;
       rules = rw is refl;
     }
 
@@ -104,7 +107,7 @@ carried_out-not_cancelled old new number start fault h is step =
       starved = false;
       answered = λ s stood.
           ap (cancel_reply number) (h ∙ ap airtime_answer (remembers_cancel old s stood.orderly stood.remembers number start));
-      reached = λ s stood. stands_cancelled old s stood number start new step;
+      reached = λ s stood. stands_cancelled old s stood number start new (rw is refl) step;
       rules = rw is refl;
     }
 
@@ -117,4 +120,16 @@ carried_out-ticked old new now floor is f =
           ap Floor (f ∙ ap (λ (b : Book). b.floor) is ∙ ap (λ n. max n now) stood.remembers.floor);
       reached = λ s stood. rw is (stands_ticked old s stood now);
       rules = rw is refl;
+    }
+
+-- a question for the earliest start changes nothing
+pub carried_out-sought : (old : Book) (ask : Ask) (last : ℕ) (reply : Reply)
+    → reply ≡ start_reply ask.number (earliest_of (terms_of old) old.list ask ask.start last)
+    → IsCarriedOut old old (Earliest ask last) reply
+carried_out-sought old ask last reply h =
+    record {
+      starved = false;
+      answered = λ s stood. h ∙ ap (start_reply ask.number) (stands_earliest old s stood ask ask.start last);
+      reached = λ s stood. stood;
+      rules = refl;
     }

@@ -10,17 +10,19 @@ use Rattle.gateway_book.specs.declared.refusal.Refusal.{Refusal}
 use Rattle.gateway_book.specs.Answer.{Rules, refusal_of}
 use Rattle.gateway_book.specs.Step.{terms_at, book_step, State}
 use Rattle.book_texts.specs.declared.command.Command.{Command}
-use Rattle.book_texts.specs.declared.command.Command.TheVariants.{Book}
+use Rattle.book_texts.specs.declared.command.Command.TheVariants.{Book, Cancel, Tick, Earliest}
+use Rattle.book_texts.specs.declared.command.Said.{Said}
 use Rattle.book_texts.specs.declared.command.Said.TheVariants.{Nothing, Order, Malformed}
 use Rattle.book_texts.specs.Said.{said, order_or_malformed, command_of}
 use Rattle.book_texts.specs.Reply.{reply_line}
 use Rattle.text_words.specs.Words.{is_refusal}
-use Rattle.book_texts.specs.Answering.{booking_reply, reply_of, reply_to, answer_to, state_after_line}
+use Rattle.book_texts.specs.Answering.{booking_reply, start_reply, reply_of, reply_to, answer_to, state_after_line}
 use Rattle.book_texts.specs.Output.{Standing, book_turns, is_starved, opened, report_at, answers, reached, output}
-use Rattle.book_texts.specs.Planning.{Planned, plan_turns, opens_plan, plan_output, unplanned, if_line}
-use Rattle.book_texts.specs.Laws.{tried_lines}
+use Rattle.book_texts.specs.Planning.{Planned, plan_turns, opens_plan, plan_output, unplanned, if_line, planned_after_line}
+use Rattle.book_texts.specs.Laws.{tried_lines, asks_of, PlanTellsBookings, PlanTellsStarts}
 use Rattle.book_texts.proofs.TryingLemmas.{told_answer}
-use Rattle.airtime_planner.specs.WhatIf.{Answer, AreAnswers}
+use Rattle.airtime_planner.specs.WhatIf.{Answer, IsAnswer, AreAnswers}
+use Rattle.airtime_planner.specs.EarliestAfter.{after_asks, earliest_in}
 
 answered_by : (starved : Bool) (ask : Ask) (o : Option Refusal)
     → (is_refusal (reply_line (booking_reply starved o ask)) ≡ false) ↔ ((o ≡ None) × (starved ≡ false))
@@ -112,3 +114,64 @@ plan_tells_answers rules s t number (line ∷ lines) (ask ∷ asks) (answer ∷ 
     rw first (ap (λ reply. if_line reply ∷ rest) (told_answer ask (refusal_of (terms_at rules t) t.list ask) answer h.0)
     ∙ ap (λ l. if_line (reply_of ask answer) ∷ l)
     (plan_tells_answers rules s (book_step rules t ask) (number + 1) lines asks tried more h.1))
+
+-- what would be reserved after lines of a plan is what stands after the bookings among them
+module _ (rules : Rules) (s : State) where
+  abbrev in_plan : State → Planned
+  in_plan t = record { rules = rules; state = s; trial = Some t }
+
+  reached_line : (number : ℕ) (t : State) (more : List (List ℕ)) (x : Said)
+      → ((u : State) → reached_by plan_turns [] number (in_plan u) more ≡ in_plan (after_asks rules u (asks_of (map said more))))
+      → reached_by plan_turns [] number (in_plan (planned_after_line rules false t x)) more
+      ≡ in_plan (after_asks rules t (asks_of (x ∷ map said more)))
+  reached_line number t more Nothing rest = rest t
+  reached_line number t more Malformed rest = rest t
+  reached_line number t more (Order (Book ask)) rest = rest (book_step rules t ask)
+  reached_line number t more (Order (Cancel n start)) rest = rest t
+  reached_line number t more (Order (Tick now)) rest = rest t
+  reached_line number t more (Order (Earliest ask last)) rest = rest t
+
+  reached_asks : (number : ℕ) (t : State) (lines : List (List ℕ))
+      → reached_by plan_turns [] number (in_plan t) lines ≡ in_plan (after_asks rules t (asks_of (map said lines)))
+  reached_asks number t [] = refl
+  reached_asks number t (line ∷ more) =
+      reached_line (number + 1) t more (said line) (λ u. reached_asks (number + 1) u more)
+
+-- a question for the earliest start in a plan is answered by what would be reserved then
+sought_line : (rules : Rules) (s t : State) (number : ℕ) (line : List ℕ) (ask : Ask) (last : ℕ)
+    → said line ≡ Order (Earliest ask last)
+    → answers_by plan_turns [] number (in_plan rules s t) (line ∷ [])
+    ≡ if_line (start_reply ask.number (earliest_in rules t ask ask.start last)) ∷ []
+sought_line rules s t number line ask last is = rw is refl
+
+-- and so is a booking
+booked_line : (rules : Rules) (s t : State) (number : ℕ) (line : List ℕ) (ask : Ask) (answer : Answer)
+    → said line ≡ Order (Book ask) → IsAnswer rules t ask answer
+    → answers_by plan_turns [] number (in_plan rules s t) (line ∷ []) ≡ if_line (reply_of ask answer) ∷ []
+booked_line rules s t number line ask answer is h =
+    rw is (ap (λ reply. if_line reply ∷ []) (told_answer ask (refusal_of (terms_at rules t) t.list ask) answer h))
+
+-- one more line of a plan is answered by what would be reserved after the bookings before it
+one_more : (rules : Rules) (s t : State) (number : ℕ) (lines : List (List ℕ)) (line told : List ℕ)
+    → answers_by plan_turns [] (number + length lines) (in_plan rules s (after_asks rules t (asks_of (map said lines))))
+    (line ∷ []) ≡ told ∷ []
+    → answers_by plan_turns [] number (in_plan rules s t) (lines ++ line ∷ [])
+    ≡ answers_by plan_turns [] number (in_plan rules s t) lines ++ told ∷ []
+one_more rules s t number lines line told is =
+    let at : Planned = in_plan rules s t in
+    let next : ℕ = number + length lines in
+    let before : List (List ℕ) = answers_by plan_turns [] number at lines in
+    answers-append plan_turns [] number at lines (line ∷ []) next refl
+    ∙ ap (λ (p : Planned). before ++ answers_by plan_turns [] next p (line ∷ [])) (reached_asks rules s number t lines)
+    ∙ ap (λ (l : List (List ℕ)). before ++ l) is
+
+pub plan_tells_bookings : PlanTellsBookings
+plan_tells_bookings rules s t number lines line ask answer is h =
+    one_more rules s t number lines line (if_line (reply_of ask answer))
+    (booked_line rules s (after_asks rules t (asks_of (map said lines))) (number + length lines) line ask answer is h)
+
+pub plan_tells_starts : PlanTellsStarts
+plan_tells_starts rules s t number lines line ask last is =
+    let later : State = after_asks rules t (asks_of (map said lines)) in
+    one_more rules s t number lines line (if_line (start_reply ask.number (earliest_in rules later ask ask.start last)))
+    (sought_line rules s later (number + length lines) line ask last is)

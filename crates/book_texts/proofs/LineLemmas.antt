@@ -4,7 +4,7 @@ use Rattle.std.proofs.Common.{arith}
 use Rattle.std.proofs.lemmas.Bool.Decides.{nat_tests}
 use Rattle.std.specs.Char.{digit_value}
 use Rattle.std.specs.Str.Parse.{IsNumeral}
-use Rattle.book_texts.specs.Said.{book_command}
+use Rattle.book_texts.specs.Said.{book_command, earliest_command}
 use Rattle.text_words.specs.Words.{is_refusal}
 
 -- a booking has no more than five words after its name
@@ -16,6 +16,29 @@ book_command-more f (a ∷ b ∷ c ∷ []) h = absurd (omega arith)
 book_command-more f (a ∷ b ∷ c ∷ d ∷ []) h = absurd (omega arith)
 book_command-more f (a ∷ b ∷ c ∷ d ∷ e ∷ []) h = absurd (omega arith)
 book_command-more f (a ∷ b ∷ c ∷ d ∷ e ∷ g ∷ more) h = refl
+
+-- a question for the earliest start has no fewer than six words after its name
+pub earliest_command-fewer : {X : Type 0} (f : X → List ℕ) (words : List X) → length words < 6
+    → earliest_command (map f words) ≡ None
+earliest_command-fewer f [] h = refl
+earliest_command-fewer f (a ∷ []) h = refl
+earliest_command-fewer f (a ∷ b ∷ []) h = refl
+earliest_command-fewer f (a ∷ b ∷ c ∷ []) h = refl
+earliest_command-fewer f (a ∷ b ∷ c ∷ d ∷ []) h = refl
+earliest_command-fewer f (a ∷ b ∷ c ∷ d ∷ e ∷ []) h = refl
+earliest_command-fewer f (a ∷ b ∷ c ∷ d ∷ e ∷ g ∷ more) h = absurd (omega arith)
+
+-- and no more
+pub earliest_command-more : {X : Type 0} (f : X → List ℕ) (words : List X) → 6 < length words
+    → earliest_command (map f words) ≡ None
+earliest_command-more f [] h = absurd (omega arith)
+earliest_command-more f (a ∷ []) h = absurd (omega arith)
+earliest_command-more f (a ∷ b ∷ []) h = absurd (omega arith)
+earliest_command-more f (a ∷ b ∷ c ∷ []) h = absurd (omega arith)
+earliest_command-more f (a ∷ b ∷ c ∷ d ∷ []) h = absurd (omega arith)
+earliest_command-more f (a ∷ b ∷ c ∷ d ∷ e ∷ []) h = absurd (omega arith)
+earliest_command-more f (a ∷ b ∷ c ∷ d ∷ e ∷ g ∷ []) h = absurd (omega arith)
+earliest_command-more f (a ∷ b ∷ c ∷ d ∷ e ∷ g ∷ i ∷ more) h = refl
 
 -- a line that begins with a digit begins with neither `no` nor `bad`
 pub is_refusal-digit : (line : List ℕ) → 0 < length line → 48 ≤ get_or line 0 0 → get_or line 0 0 ≤ 57 → is_refusal line ≡ false

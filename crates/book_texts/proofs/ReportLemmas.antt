@@ -1,11 +1,12 @@
 -- The report of a book is that of what stands in it.
-use Rattle.std.proofs.Common.{◌≡◌, ◌+◌, [], refl}
+use Rattle.std.proofs.Common.{◌≡◌, ◌≤◌, ◌+◌, [], refl}
 use Rattle.resv_list.specs.Reservations.{net}
 use Rattle.gateway_book.specs.Kept.{kept, retired_of}
 use Rattle.gateway_book.specs.Step.{State}
 use Rattle.gateway_book.specs.Book.{Book, totals_of}
 use Rattle.gateway_book.specs.Remembers.{StandsFor}
 use Rattle.gateway_book.specs.Answer.{Rules}
+use Rattle.gateway_book.specs.Disjoint.{most_gap}
 use Rattle.gateway_book.proofs.KeptLaws.{kept-nil}
 use Rattle.gateway_book.proofs.OrderlyLaws.{orderly_nil}
 use Rattle.gateway_book.proofs.RememberedLaws.{remembers_own}
@@ -22,15 +23,15 @@ report_stands book s balanced h =
     rw (list, retired, h.remembers.booked, h.remembers.cancelled, h.remembers.floor) refl
 
 -- an empty book stands for the state in which nothing is reserved
-pub stands_opened : (rules : Rules) → StandsIn
+pub stands_opened : (rules : Rules) → rules.gap ≤ most_gap → StandsIn
     (record { id = 1; rules = rules; floor = 0; list = []; booked = 0; cancelled = 0; retired = 0 })
     (record { rules = rules; state = opened })
 unfolding net
-stands_opened rules =
+stands_opened rules h =
     record {
       rules = refl;
       stands = record {
-        orderly = orderly_nil;
+        orderly = orderly_nil rules.gap h;
         balanced = refl;
         remembers = remembers_own _ opened refl (kept-nil 0);
       };

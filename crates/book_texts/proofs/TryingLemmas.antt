@@ -5,19 +5,20 @@ use Rattle.text_lines.specs.Progress.{IsAnswer, IsTurn}
 use Rattle.text_words.specs.Words.{is_refusal}
 use Rattle.gateway_book.specs.declared.ask.Ask.{Ask}
 use Rattle.gateway_book.specs.declared.refusal.Refusal.{Refusal}
-use Rattle.gateway_book.specs.declared.refusal.Refusal.TheVariants.{NoMemory}
 use Rattle.gateway_book.specs.Answer.{IsAsked, refusal_of}
 use Rattle.gateway_book.specs.Step.{State, book_step}
 use Rattle.gateway_book.specs.Book.{Book, terms_of, state_of}
-use Rattle.book_texts.specs.declared.command.Command.TheVariants.{Book as Booking}
+use Rattle.book_texts.specs.declared.command.Command.TheVariants.{Book as Booking, Earliest}
+use Rattle.book_texts.specs.declared.command.Command.{Command}
 use Rattle.book_texts.specs.declared.command.Said.TheVariants.{Order}
 use Rattle.book_texts.specs.declared.reply.Reply.{Reply}
-use Rattle.book_texts.specs.declared.reply.Reply.TheVariants.{Booked, Refused, Cancelled, NotCancelled, Floor, Bad}
+use Rattle.book_texts.specs.declared.reply.Reply.TheVariants.{Booked, Refused, Cancelled, NotCancelled, Floor, At, NoStart, Bad}
 use Rattle.book_texts.specs.Said.{said}
 use Rattle.book_texts.specs.Answering.{booking_reply, reply_of}
 use Rattle.airtime_planner.specs.WhatIf.{Answer, IsAnswer as IsAnswerTo}
-use Rattle.book_texts.specs.Planning.{Planned, plan_turns, opens_plan, if_line, tried_reply, tried_after}
-use Rattle.book_texts.specs.Trying.{IsTried, IsTriedOn, IsCopyOf, IsTrialTurn, StandsPlanned}
+use Rattle.book_texts.specs.Planning.{Planned, plan_turns, opens_plan, if_line, tried_reply, tried_after, tried_start}
+use Rattle.book_texts.specs.Planning.{planned_line, planned_after}
+use Rattle.book_texts.specs.Trying.{IsTried, IsTriedOn, IsSoughtOn, IsCopyOf, IsTrialTurn, StandsPlanned}
 use Rattle.book_texts.specs.Output.{book_turns}
 use Rattle.book_texts.specs.Progress.{StandsIn}
 
@@ -47,37 +48,57 @@ if_line-unrefused (Refused number refusal) = refl
 if_line-unrefused (Cancelled number airtime) = refl
 if_line-unrefused (NotCancelled number fault) = refl
 if_line-unrefused (Floor floor) = refl
+if_line-unrefused (At number start) = refl
+if_line-unrefused (NoStart number) = refl
 if_line-unrefused (Bad line) = refl
 
-module _ (number : ℕ) (line text : List ℕ) (ask : Ask) (reply : Reply) (is : said line ≡ Order (Booking ask))
+-- a command of the plan whose line begins with `if`
+module _ (number : ℕ) (line text : List ℕ) (command : Command) (reply : Reply) (is : said line ≡ Order command)
     (put : text ≡ if_line reply ++ (10 ∷ [])) where
   turn_at : (new : Option Book) (at : Planned) (t : State) (starved : Bool) → at.trial ≡ Some t
-      → reply ≡ tried_reply at.rules starved t ask
-      → IsCopyOf new (record { rules = at.rules; state = at.state; trial = Some (tried_after at.rules starved t ask) })
+      → if_line reply ≡ planned_line at.rules starved number t command
+      → IsCopyOf new (record { rules = at.rules; state = at.state; trial = Some (planned_after at.rules starved t command) })
       → IsAnswer plan_turns at (λ next. (next.rules ≡ at.rules) × (next.state ≡ at.state) × IsCopyOf new next) number line text
       false
   turn_at new at t starved trial e stood =
       record {
         starved = starved;
-        is_text = rw (trial, is) (put ∙ ap (λ r. if_line r ++ (10 ∷ [])) e);
-        told = rw (trial, is, if_line-unrefused (tried_reply at.rules starved t ask)) refl;
+        is_text = rw (trial, is) (put ∙ ap (λ l. l ++ (10 ∷ [])) e);
+        told = rw (trial, is, sym e, if_line-unrefused reply) refl;
         stands = rw (trial, is) (refl, refl, stood);
       }
 
-  starved_at : (at : Planned) (o : Option State) → at.trial ≡ o → is_some at.trial ≡ true → reply ≡ Refused ask.number NoMemory
+  -- without a copy of the book memory is wanted
+  turn_starved : (at : Planned) (o : Option State) → at.trial ≡ o → is_some at.trial ≡ true
+      → ((t : State) → if_line reply ≡ planned_line at.rules true number t command)
       → IsAnswer plan_turns at (λ next. (next.rules ≡ at.rules) × (next.state ≡ at.state) × IsCopyOf None next) number line text
       false
-  starved_at at None trial some e = absurd (cc (trial, some))
-  starved_at at (Some t) trial some e = turn_at None at t true trial e refl
+  turn_starved at None trial some e = absurd (cc (trial, some))
+  turn_starved at (Some t) trial some e = turn_at None at t true trial (e t) refl
 
+module _ (number : ℕ) (line text : List ℕ) (ask : Ask) (reply : Reply) (is : said line ≡ Order (Booking ask))
+    (put : text ≡ if_line reply ++ (10 ∷ [])) where
   pub turn_tried : (old new : Option Book) → IsTriedOn old new ask reply → IsTrialTurn old new number line text false
   turn_tried None (Some new) e = elim e [ ]
   turn_tried (Some old) None tried = elim tried [ ]
-  turn_tried None None e = λ at some. starved_at at at.trial refl some e
+  turn_tried None None e = λ at some.
+      turn_starved number line text (Booking ask) reply is put at at.trial refl some (λ t. ap if_line e)
   turn_tried (Some old) (Some new) tried = λ at stood.
       let answered : reply ≡ tried_reply at.rules tried.starved (state_of old) ask = rw (sym stood.0) tried.answered in
       let reached : state_of new ≡ tried_after at.rules tried.starved (state_of old) ask = rw (sym stood.0) tried.reached in
-      turn_at (Some new) at (state_of old) tried.starved stood.1 answered (tried.rules ∙ stood.0, ap Some (sym reached))
+      turn_at number line text (Booking ask) reply is put (Some new) at (state_of old) tried.starved stood.1
+      (ap if_line answered) (tried.rules ∙ stood.0, ap Some (sym reached))
+
+-- the earliest start that is looked for on the copy is the plan's turn, and leaves the copy as it is
+pub turn_sought : (number : ℕ) (line text : List ℕ) (ask : Ask) (last : ℕ) (reply : Reply)
+    → said line ≡ Order (Earliest ask last) → text ≡ if_line reply ++ (10 ∷ []) → (copy : Option Book)
+    → IsSoughtOn copy ask last reply → IsTrialTurn copy copy number line text false
+turn_sought number line text ask last reply is put None e = λ at some.
+    turn_starved number line text (Earliest ask last) reply is put at at.trial refl some (λ t. ap if_line e)
+turn_sought number line text ask last reply is put (Some copy) e = λ at stood.
+    let answered : reply ≡ tried_start at.rules false (state_of copy) ask last = rw (sym stood.0) e in
+    turn_at number line text (Earliest ask last) reply is put (Some copy) at (state_of copy) false stood.1
+    (ap if_line answered) (stood.0, refl)
 
 -- before the plan a line is the book's own turn
 pub turn_before : (old new : Book) (is_planned : Bool) (copy : Option Book) (number : ℕ) (line text : List ℕ) (refused : Bool)

@@ -8,13 +8,14 @@ use Rattle.gateway_book.specs.Answer.{overlap}
 use Rattle.gateway_book.specs.Kept.{kept}
 use Rattle.gateway_book.specs.Duty.{full_hour}
 use Rattle.gateway_book.specs.Busiest.{busiest_of}
+use Rattle.gateway_book.specs.EarliestValue.{earliest_of}
 use Rattle.book_texts.specs.Output.{output}
 use Rattle.book_texts.specs.Planning.{plan_output}
 use Rattle.book_texts.specs.Toa.{toa_line}
 
 -- two transmissions that touch, and a third that overlaps both
 pub three_bookings :
-    output (record { cap = 4096 }) [] (codes "book 1 10000000 868100000 5 12" ∷ codes "book 2 10041216 868100000 5 12"
+    output (record { cap = 4096; gap = 0 }) [] (codes "book 1 10000000 868100000 5 12" ∷ codes "book 2 10041216 868100000 5 12"
     ∷ codes "book 3 10041215 868100000 5 12" ∷ [])
     ≡ codes "ok 1 10000000 10041216" ∷ codes "ok 2 10041216 10082432" ∷ codes "no 3 Taken 10000000" ∷ codes "booked 82432"
     ∷ codes "cancelled 0" ∷ codes "retired 0" ∷ codes "kept 2 82432" ∷ codes "floor 0" ∷ codes "busiest M 10000000 82432" ∷ []
@@ -23,8 +24,8 @@ three_bookings = refl
 
 -- malformed lines, a comment and a blank line between; the booking at line 4 finds no memory
 pub starved_booking :
-    output (record { cap = 4096 }) (4 ∷ []) (codes "book 1 0 868100000 5" ∷ codes "# note" ∷ [] ∷ codes "book 1 0 868100000 5 12"
-    ∷ codes "book 2 0 868100000 7 12" ∷ codes "cancel 1" ∷ [])
+    output (record { cap = 4096; gap = 0 }) (4 ∷ []) (codes "book 1 0 868100000 5" ∷ codes "# note" ∷ []
+    ∷ codes "book 1 0 868100000 5 12" ∷ codes "book 2 0 868100000 7 12" ∷ codes "cancel 1" ∷ [])
     ≡ codes "bad 1 Syntax" ∷ codes "no 1 NoMemory" ∷ codes "bad 5 Syntax" ∷ codes "bad 6 Syntax" ∷ codes "booked 0"
     ∷ codes "cancelled 0" ∷ codes "retired 0" ∷ codes "kept 0 0" ∷ codes "floor 0" ∷ []
 unfolding airtime_of band_of net begun kept overlap full_hour busiest_of digits
@@ -32,7 +33,7 @@ starved_booking = refl
 
 -- a cap of one transmission
 pub full_book :
-    output (record { cap = 1 }) [] (codes "book 1 0 868100000 5 12" ∷ codes "book 2 1000000 868100000 5 12" ∷ [])
+    output (record { cap = 1; gap = 0 }) [] (codes "book 1 0 868100000 5 12" ∷ codes "book 2 1000000 868100000 5 12" ∷ [])
     ≡ codes "ok 1 0 41216" ∷ codes "no 2 Full" ∷ codes "booked 41216" ∷ codes "cancelled 0" ∷ codes "retired 0"
     ∷ codes "kept 1 41216" ∷ codes "floor 0" ∷ codes "busiest M 0 41216" ∷ []
 unfolding airtime_of band_of net begun kept overlap full_hour busiest_of digits
@@ -40,7 +41,7 @@ full_book = refl
 
 -- a full hour of sub-band K, a cancellation that makes room in it, and one that comes too late
 pub full_hour_of_k :
-    output (record { cap = 4096 }) [] (codes "book 1 0 863500000 0 12" ∷ codes "book 2 1000000 863500000 0 12"
+    output (record { cap = 4096; gap = 0 }) [] (codes "book 1 0 863500000 0 12" ∷ codes "book 2 1000000 863500000 0 12"
     ∷ codes "book 3 2000000 863500000 0 12" ∷ codes "book 4 3599999999 863500000 0 12" ∷ codes "cancel 3 2000000"
     ∷ codes "book 5 3599999999 863500000 0 12" ∷ codes "tick 3600000000" ∷ codes "cancel 5 3599999999" ∷ codes "tick 1" ∷ [])
     ≡ codes "ok 1 0 991232" ∷ codes "ok 2 1000000 1991232" ∷ codes "ok 3 2000000 2991232" ∷ codes "no 4 DutyFull K 0 2973696"
@@ -53,7 +54,7 @@ full_hour_of_k = refl
 -- bookings that are tried: one that overlaps what is booked, one that is accepted, and one that overlaps both; the report is of
 -- what is booked
 pub planned_bookings :
-    plan_output (record { cap = 4096 }) [] (codes "book 1 10000000 868100000 5 12" ∷ codes "plan"
+    plan_output (record { cap = 4096; gap = 0 }) [] (codes "book 1 10000000 868100000 5 12" ∷ codes "plan"
     ∷ codes "book 8 10000000 868100000 5 12" ∷ codes "book 9 10041216 868100000 5 12"
     ∷ codes "book 10 10041215 868100000 5 12" ∷ [])
     ≡ codes "ok 1 10000000 10041216" ∷ codes "if no 8 Taken 10000000" ∷ codes "if ok 9 10041216 10082432"
@@ -62,9 +63,9 @@ pub planned_bookings :
 unfolding airtime_of band_of net begun kept overlap full_hour busiest_of digits
 planned_bookings = refl
 
--- after a line `plan` no other command is taken, a second `plan` neither; the second booking finds no memory
+-- after a line `plan` no tick and no cancel is taken, and no second `plan`; the second booking finds no memory
 pub planned_alone :
-    plan_output (record { cap = 1 }) (7 ∷ []) (codes "plan now" ∷ codes "  plan " ∷ codes "plan" ∷ codes "tick 5" ∷ []
+    plan_output (record { cap = 1; gap = 0 }) (7 ∷ []) (codes "plan now" ∷ codes "  plan " ∷ codes "plan" ∷ codes "tick 5" ∷ []
     ∷ codes "book 1 0 868100000 5 12" ∷ codes "book 1 0 868100000 5 12" ∷ codes "book 2 0 868100000 5 12"
     ∷ codes "cancel 1 0" ∷ [])
     ≡ codes "bad 1 Syntax" ∷ codes "bad 3 Syntax" ∷ codes "bad 4 Syntax" ∷ codes "if ok 1 0 41216" ∷ codes "if no 1 NoMemory"
@@ -72,6 +73,19 @@ pub planned_alone :
     ∷ codes "kept 0 0" ∷ codes "floor 0" ∷ []
 unfolding airtime_of band_of net begun kept overlap full_hour busiest_of digits
 planned_alone = refl
+
+-- the earliest start beside what is booked and where there is none, and the same in a plan after a booking that is tried; the
+-- last question finds no memory
+pub earliest_starts :
+    plan_output (record { cap = 4096; gap = 0 }) (8 ∷ []) (codes "book 1 10000000 868100000 5 12"
+    ∷ codes "earliest 2 10041214 10041218 868100000 5 12" ∷ codes "earliest 3 10041213 10041215 868100000 5 12" ∷ codes "plan"
+    ∷ codes "book 8 10041216 868100000 5 12" ∷ codes "earliest 9 10082430 10082434 868100000 5 12"
+    ∷ codes "earliest 10 10082430 10082431 868100000 5 12" ∷ codes "earliest 11 10082430 10082434 868100000 5 12" ∷ [])
+    ≡ codes "ok 1 10000000 10041216" ∷ codes "at 2 10041216" ∷ codes "no 3 NoStart" ∷ codes "if ok 8 10041216 10082432"
+    ∷ codes "if at 9 10082432" ∷ codes "if no 10 NoStart" ∷ codes "if no 11 NoMemory" ∷ codes "booked 41216"
+    ∷ codes "cancelled 0" ∷ codes "retired 0" ∷ codes "kept 1 41216" ∷ codes "floor 0" ∷ codes "busiest M 10000000 41216" ∷ []
+unfolding airtime_of band_of net begun kept overlap full_hour busiest_of earliest_of digits
+earliest_starts = refl
 
 pub longest_frame : toa_line 0 64 ≡ codes "2793472"
 unfolding airtime_of digits

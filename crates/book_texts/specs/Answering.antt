@@ -8,12 +8,13 @@ use Rattle.gateway_book.specs.Answer.{Rules, ask_end, refusal_of}
 use Rattle.gateway_book.specs.declared.cancel.CancelFault.{CancelFault}
 use Rattle.gateway_book.specs.Step.{State, terms_at, book_step, cancel_answer, cancel_step, tick_step}
 use Rattle.gateway_book.specs.Book.{airtime_answer}
+use Rattle.gateway_book.specs.EarliestValue.{earliest_of}
 use Rattle.book_texts.specs.declared.command.Command.{Command}
-use Rattle.book_texts.specs.declared.command.Command.TheVariants.{Book, Cancel, Tick}
+use Rattle.book_texts.specs.declared.command.Command.TheVariants.{Book, Cancel, Tick, Earliest}
 use Rattle.book_texts.specs.declared.command.Said.{Said}
 use Rattle.book_texts.specs.declared.command.Said.TheVariants.{Nothing, Order, Malformed}
 use Rattle.book_texts.specs.declared.reply.Reply.{Reply}
-use Rattle.book_texts.specs.declared.reply.Reply.TheVariants.{Booked, Refused, Cancelled, NotCancelled, Floor, Bad}
+use Rattle.book_texts.specs.declared.reply.Reply.TheVariants.{Booked, Refused, Cancelled, NotCancelled, Floor, At, NoStart, Bad}
 use Rattle.book_texts.specs.Reply.{reply_line}
 
 -- What one line of input does, by what is reserved when it comes. `starved` says that the book finds no memory
@@ -35,18 +36,26 @@ abbrev pub cancel_reply : ℕ → Result ℕ CancelFault → Reply
 cancel_reply number (Ok airtime) = Cancelled number airtime
 cancel_reply number (Err fault) = NotCancelled number fault
 
+-- the answer to a question for the earliest start, by what was found
+abbrev pub start_reply : ℕ → Option ℕ → Reply
+start_reply number (Some start) = At number start
+start_reply number None = NoStart number
+
 -- the answer to a command
 abbrev pub reply_to : Rules → Bool → State → Command → Reply
 reply_to rules starved s (Book ask) = booking_reply starved (refusal_of (terms_at rules s) s.list ask) ask
 reply_to rules starved s (Cancel number start) =
     cancel_reply number (airtime_answer (cancel_answer s.floor s.list number start))
 reply_to rules starved s (Tick now) = Floor (max s.floor now)
+reply_to rules starved s (Earliest ask last) =
+    start_reply ask.number (earliest_of (terms_at rules s) s.list ask ask.start last)
 
 -- what is reserved after it
 abbrev pub state_after : Rules → Bool → State → Command → State
 state_after rules starved s (Book ask) = if starved then s else book_step rules s ask
 state_after rules starved s (Cancel number start) = cancel_step s number start
 state_after rules starved s (Tick now) = tick_step s now
+state_after rules starved s (Earliest ask last) = s
 
 -- the lines that answer line number `number`: none, or one
 abbrev pub answer_to : Rules → Bool → ℕ → State → Said → List (List ℕ)

@@ -6,21 +6,23 @@ use Rattle.text_words.specs.Words.{is_named, spaced}
 use Rattle.gateway_book.specs.declared.ask.Ask.{Ask}
 use Rattle.gateway_book.specs.declared.refusal.Refusal.TheVariants.{NoMemory}
 use Rattle.gateway_book.specs.Answer.{Rules, refusal_of}
+use Rattle.gateway_book.specs.EarliestValue.{earliest_of}
 use Rattle.gateway_book.specs.Kept.{kept}
 use Rattle.gateway_book.specs.Step.{State, terms_at, book_step}
 use Rattle.book_texts.specs.declared.command.Command.{Command}
-use Rattle.book_texts.specs.declared.command.Command.TheVariants.{Book}
+use Rattle.book_texts.specs.declared.command.Command.TheVariants.{Book, Earliest}
 use Rattle.book_texts.specs.declared.command.Said.{Said}
 use Rattle.book_texts.specs.declared.command.Said.TheVariants.{Nothing, Order, Malformed}
 use Rattle.book_texts.specs.declared.reply.Reply.{Reply}
 use Rattle.book_texts.specs.declared.reply.Reply.TheVariants.{Refused, Bad}
 use Rattle.book_texts.specs.Said.{said}
 use Rattle.book_texts.specs.Reply.{reply_words, reply_line}
-use Rattle.book_texts.specs.Answering.{booking_reply, answer_to, state_after_line}
+use Rattle.book_texts.specs.Answering.{booking_reply, start_reply, answer_to, state_after_line}
 use Rattle.book_texts.specs.Output.{opened, report_at}
 
 -- The output of `airbook plan` as a list of lines: up to a line `plan` that of `airbook book`; from there on bookings are only
--- tried, on what the book keeps then, and each accepted one stays for the next; and at the end the report of the book itself.
+-- tried, on what the book keeps then, and each accepted one stays for the next, and the earliest start is looked for beside
+-- them; and at the end the report of the book itself.
 
 -- whether the words are the one word `plan`
 abbrev pub are_plan : List (List ℕ) → Bool
@@ -45,13 +47,20 @@ tried_reply rules starved t ask =
 abbrev pub tried_after : Rules → Bool → State → Ask → State
 tried_after rules starved t ask = if starved then t else book_step rules t ask
 
+-- the answer to a question for the earliest start there; it too needs the copy
+abbrev pub tried_start : Rules → Bool → State → Ask → ℕ → Reply
+tried_start rules starved t ask last =
+    if starved then Refused ask.number NoMemory
+    else start_reply ask.number (earliest_of (terms_at rules t) t.list ask ask.start last)
+
 -- its line: the answer after the word `if`
 abbrev pub if_line : Reply → List ℕ
 if_line reply = spaced (codes "if" ∷ reply_words reply)
 
--- the line that answers a command of the plan, of which a booking alone is one
+-- the line that answers a command of the plan, of which bookings and questions for the earliest start alone are some
 abbrev pub planned_line : Rules → Bool → ℕ → State → Command → List ℕ
 planned_line rules starved number t (Book ask) = if_line (tried_reply rules starved t ask)
+planned_line rules starved number t (Earliest ask last) = if_line (tried_start rules starved t ask last)
 planned_line rules starved number t _ = reply_line (Bad number)
 
 abbrev pub planned_after : Rules → Bool → State → Command → State

@@ -1,8 +1,10 @@
-use Rattle.std.specs.Prelude.{◌≡◌, ◌<◌, ◌≤◌, ℕ, Bool, List, length, Option, Some, None, Result, Ok, Err, codes, ⊤}
+use Rattle.std.specs.Prelude.{◌≡◌, ◌<◌, ◌≤◌, ℕ, Bool, List, length, Option, Some, None, Result, Ok, Err, ⊤}
+use Rattle.std.specs.Option.{option_map}
 use Rattle.text_lines.specs.Promise.{AnswersAll as AllAnswered, AnswersFront as FrontAnswered, AnswersRead as ReadAnswered}
 use Rattle.text_lines.specs.declared.ahead.TheConstants.{INPUT_LIMIT}
 use Rattle.gateway_book.specs.Answer.{Rules}
-use Rattle.gateway_book.specs.declared.book.TheConstants.{MAX_CAP}
+use Rattle.gateway_book.specs.declared.opening.TheConstants.{MAX_CAP, MAX_GAP}
+use Rattle.gateway_book.specs.Opening.{name_of, open_fault}
 use Rattle.gateway_book.specs.Step.{State}
 use Rattle.text_words.specs.declared.fault.TextFault.{TextFault}
 use Rattle.text_words.specs.declared.fault.TextFault.TheVariants.{TooMuch, Settings, NoMemory}
@@ -29,12 +31,12 @@ KeepsLimit (Some bytes) (Ok _) = length bytes ≤ INPUT_LIMIT
 KeepsLimit (Some bytes) (Err TooMuch) = INPUT_LIMIT < length bytes
 KeepsLimit (Some bytes) (Err _) = ⊤
 
--- a cap that a book may have
-abbrev pub IsCap : ℕ → Type 0
-IsCap cap = (1 ≤ cap) × (cap ≤ MAX_CAP)
+-- what a book may be opened with
+abbrev pub MayOpen : Rules → Type 0
+MayOpen rules = (1 ≤ rules.cap) × (rules.cap ≤ MAX_CAP) × (rules.gap ≤ MAX_GAP)
 
--- `Settings` comes exactly for a cap that no book may have, and `NoMemory` never
-abbrev pub IsSettingOf : ℕ → Result Bool TextFault → Type 0
-IsSettingOf cap (Err (Settings name)) = (¬ IsCap cap) × (name.now ≡ codes "BadCap")
-IsSettingOf cap (Err NoMemory) = ⊥
-IsSettingOf cap _ = IsCap cap
+-- `Settings` comes exactly where no book may be opened, and names what is wrong; `NoMemory` never comes
+abbrev pub IsSettingOf : Rules → Result Bool TextFault → Type 0
+IsSettingOf rules (Err (Settings name)) = (¬ MayOpen rules) × (option_map name_of (open_fault rules) ≡ Some name.now)
+IsSettingOf rules (Err NoMemory) = ⊥
+IsSettingOf rules _ = MayOpen rules

@@ -1,6 +1,6 @@
 use Rattle.std.specs.Prelude.{ℕ, List, [], ◌∷◌, codes, decimal}
 use Rattle.book_texts.specs.declared.reply.Reply.{Reply}
-use Rattle.book_texts.specs.declared.reply.Reply.TheVariants.{Booked, Refused, Cancelled, NotCancelled, Floor, Bad}
+use Rattle.book_texts.specs.declared.reply.Reply.TheVariants.{Booked, Refused, Cancelled, NotCancelled, Floor, At, NoStart, Bad}
 use Rattle.text_words.specs.Words.{spaced, fault_word, refusal_words}
 
 -- The lines that answer.
@@ -12,6 +12,8 @@ reply_words (Refused number refusal) = codes "no" ∷ decimal number ∷ refusal
 reply_words (Cancelled number airtime) = codes "cancelled" ∷ decimal number ∷ decimal airtime ∷ []
 reply_words (NotCancelled number fault) = codes "no" ∷ decimal number ∷ fault_word fault ∷ []
 reply_words (Floor floor) = codes "floor" ∷ decimal floor ∷ []
+reply_words (At number start) = codes "at" ∷ decimal number ∷ decimal start ∷ []
+reply_words (NoStart number) = codes "no" ∷ decimal number ∷ codes "NoStart" ∷ []
 reply_words (Bad line) = codes "bad" ∷ decimal line ∷ codes "Syntax" ∷ []
 
 -- its line

@@ -10,7 +10,7 @@ use Rattle.text_lines.specs.Number.{number_below}
 use Rattle.text_lines.specs.Words.{words_of, is_passed_over}
 use Rattle.gateway_book.specs.declared.ask.Ask.{Ask}
 use Rattle.book_texts.specs.declared.command.Command.{Command}
-use Rattle.book_texts.specs.declared.command.Command.TheVariants.{Book, Cancel, Tick}
+use Rattle.book_texts.specs.declared.command.Command.TheVariants.{Book, Cancel, Tick, Earliest}
 use Rattle.book_texts.specs.declared.command.Said.{Said}
 use Rattle.book_texts.specs.declared.command.Said.TheVariants.{Nothing, Order, Malformed}
 use Rattle.text_words.specs.Rates.{rate_numbered}
@@ -28,11 +28,15 @@ ask_with (Some number) (Some start) (Some freq_hz) (Some rate) (Some len) =
     Some (record { number = number; start = start; freq_hz = freq_hz; rate = rate; len = len })
 ask_with _ _ _ _ _ = None
 
+-- the ask that these words are
+abbrev pub ask_words : List ℕ → List ℕ → List ℕ → List ℕ → List ℕ → Option Ask
+ask_words number start freq_hz rate len =
+    ask_with (number_below (2 ^ 64) number) (number_below (2 ^ 64) start) (number_below (2 ^ 32) freq_hz) (rate_word rate)
+    (number_below (2 ^ 8) len)
+
 -- what follows the word `book`: NUMBER START FREQ DR LEN
 abbrev pub book_command : List (List ℕ) → Option Command
-book_command (number ∷ start ∷ freq_hz ∷ rate ∷ len ∷ []) =
-    option_map Book (ask_with (number_below (2 ^ 64) number) (number_below (2 ^ 64) start) (number_below (2 ^ 32) freq_hz)
-    (rate_word rate) (number_below (2 ^ 8) len))
+book_command (number ∷ start ∷ freq_hz ∷ rate ∷ len ∷ []) = option_map Book (ask_words number start freq_hz rate len)
 book_command _ = None
 
 -- a cancellation of these fields, where each is there
@@ -50,13 +54,25 @@ abbrev pub tick_command : List (List ℕ) → Option Command
 tick_command (now ∷ []) = option_map Tick (number_below (2 ^ 64) now)
 tick_command _ = None
 
+-- a question for the earliest start of an ask until a moment, where each is there
+abbrev pub earliest_with : Option Ask → Option ℕ → Option Command
+earliest_with (Some ask) (Some last) = Some (Earliest ask last)
+earliest_with _ _ = None
+
+-- what follows the word `earliest`: NUMBER NOT_BEFORE LAST FREQ DR LEN
+abbrev pub earliest_command : List (List ℕ) → Option Command
+earliest_command (number ∷ not_before ∷ last ∷ freq_hz ∷ rate ∷ len ∷ []) =
+    earliest_with (ask_words number not_before freq_hz rate len) (number_below (2 ^ 64) last)
+earliest_command _ = None
+
 -- the command that the words are, if they are one: the first word decides which
 abbrev pub command_of : List (List ℕ) → Option Command
 command_of [] = None
 command_of (name ∷ words) =
     if is_named (codes "book") name then book_command words
     else (if is_named (codes "cancel") name then cancel_command words
-    else (if is_named (codes "tick") name then tick_command words else None))
+    else (if is_named (codes "tick") name then tick_command words
+    else (if is_named (codes "earliest") name then earliest_command words else None)))
 
 abbrev pub order_or_malformed : Option Command → Said
 order_or_malformed None = Malformed

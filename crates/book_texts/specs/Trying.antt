@@ -5,11 +5,13 @@ use Rattle.text_lines.specs.Progress.{IsAnswer}
 use Rattle.text_lines.specs.Turns.{TurnsByKept, EndsWithoutRefusal}
 use Rattle.gateway_book.specs.declared.ask.Ask.{Ask}
 use Rattle.gateway_book.specs.declared.refusal.Refusal.TheVariants.{NoMemory}
-use Rattle.gateway_book.specs.Book.{Book, state_of}
+use Rattle.gateway_book.specs.Book.{Book, terms_of, state_of}
+use Rattle.gateway_book.specs.EarliestValue.{earliest_of}
 use Rattle.gateway_book.specs.Step.{State}
 use Rattle.gateway_book.specs.Remembers.{StandsFor}
 use Rattle.book_texts.specs.declared.reply.Reply.{Reply}
 use Rattle.book_texts.specs.declared.reply.Reply.TheVariants.{Refused}
+use Rattle.book_texts.specs.Answering.{start_reply}
 use Rattle.book_texts.specs.Said.{said-kept, by_kept}
 use Rattle.book_texts.specs.Planning.{Planned, plan_turns, tried_reply, tried_after, opens_plan}
 use Rattle.book_texts.specs.Planning.{answer_in, after_in}
@@ -29,6 +31,12 @@ abbrev pub IsTriedOn : Option Book → Option Book → Ask → Reply → Type 0
 IsTriedOn (Some old) (Some new) ask reply = IsTried old new ask reply
 IsTriedOn None None ask reply = reply ≡ Refused ask.number NoMemory
 IsTriedOn _ _ ask reply = ⊥
+
+-- the earliest start was looked for on a copy of a book that may be missing, and this is the answer
+abbrev pub IsSoughtOn : Option Book → Ask → ℕ → Reply → Type 0
+IsSoughtOn (Some copy) ask last reply =
+    reply ≡ start_reply ask.number (earliest_of (terms_of copy) copy.list ask ask.start last)
+IsSoughtOn None ask last reply = reply ≡ Refused ask.number NoMemory
 
 -- the copy of a book on which a plan is tried, where there was memory for one
 abbrev pub IsCopied : Book → Option Book → Type 0

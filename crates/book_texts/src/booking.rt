@@ -1,11 +1,13 @@
 // The text of `airbook book`: one pass over the input, which holds one line at a time.
 ghost use Rattle.std.specs.Prelude.{◌≡◌, [], IfOk, OnErr};
+ghost use Rattle.gateway_book.specs.Book.{terms_of};
+ghost use Rattle.gateway_book.specs.EarliestValue.{earliest_of};
 ghost use Rattle.text_lines.specs.Progress.{IsTurn};
 ghost use Rattle.text_words.specs.Fault.{CountsReads, CountsWrites};
-ghost use Rattle.book_texts.specs.Answering.{reply_of};
+ghost use Rattle.book_texts.specs.Answering.{reply_of, start_reply};
 ghost use Rattle.book_texts.specs.Output.{opened, book_turns};
 ghost use Rattle.book_texts.specs.Progress.{IsCarriedOut, IsReplied, StandsIn};
-ghost use Rattle.book_texts.specs.Promise.{AnswersAll, AnswersFront, AnswersRead, KeepsLimit, IsCap, IsSettingOf};
+ghost use Rattle.book_texts.specs.Promise.{AnswersAll, AnswersFront, AnswersRead, KeepsLimit, IsSettingOf, MayOpen};
 
 use crate::command::{Command, Said, read_line};
 use crate::reply::Reply;
@@ -21,32 +23,34 @@ use text_words::TextFault;
 pub(crate) const GATEWAY: u16 = 1;
 
 /// Books what the lines of the input ask for, on an empty book that keeps at most `cap` transmissions, 1 to 65,536,
-/// and writes an answer to each line, and at the end a report. It answers whether a line of the output begins with
-/// `no` or `bad`.
+/// with at least `gap` microseconds, 0 to 100,000, between two of them, and writes an answer to each line, and at the end a
+/// report. It answers whether a line of the output begins with `no` or `bad`.
 ///
-/// `Settings("BadCap")`: the cap is outside; nothing is read or written. `Read`, `Write`: a call of the reader or the
-/// writer failed. `TooMuch`: the input has more than 2^28 bytes. After each of these a front of the output was
-/// written. Want of memory refuses one booking, by a line of the output.
+/// `Settings("BadCap")`, `Settings("BadGap")`: the cap, or else the gap is outside; nothing is read or written. `Read`,
+/// `Write`: a call of the reader or the writer failed. `TooMuch`: the input has more than 2^28 bytes. After each of these a
+/// front of the output was written. Want of memory refuses one booking, by a line of the output.
 pub fn book_text<A: Allocator + Clone, R: ByteIn, W: ByteOut>(
     alloc: A,
     cap: u32,
+    gap: u32,
     reader: &mut R,
     writer: &mut W,
 ) -> Result<bool, TextFault>
-    ensures ok { IfOk result (AnswersAll (record { cap = cap }) opened (R.left reader.old) (R.left reader.new)
+    ensures ok { IfOk result (AnswersAll (record { cap = cap; gap = gap }) opened (R.left reader.old) (R.left reader.new)
         (W.taken writer.old) (W.taken writer.new)) }
-    ensures front { OnErr result (AnswersFront (record { cap = cap }) opened (R.left reader.old) (W.taken writer.old)
+    ensures front { OnErr result (AnswersFront (record { cap = cap; gap = gap }) opened (R.left reader.old) (W.taken writer.old)
         (W.taken writer.new)) }
-    ensures read_front { OnErr result (AnswersRead (record { cap = cap }) opened (R.left reader.old) (R.left reader.new)
-        (W.taken writer.old) (W.taken writer.new)) }
+    ensures read_front { OnErr result (AnswersRead (record { cap = cap; gap = gap }) opened (R.left reader.old)
+        (R.left reader.new) (W.taken writer.old) (W.taken writer.new)) }
     ensures limit { KeepsLimit (R.left reader.old) result }
-    ensures settings { IsSettingOf cap result }
-    ensures untouched { (¬ IsCap cap) → (reader.new ≡ reader.old) × (writer.new ≡ writer.old) }
+    ensures settings { IsSettingOf (record { cap = cap; gap = gap }) result }
+    ensures untouched { (¬ MayOpen (record { cap = cap; gap = gap })) → (reader.new ≡ reader.old) × (writer.new ≡ writer.old) }
     ensures read { CountsReads (R.failed_calls reader.old) (R.failed_calls reader.new) result }
     ensures write { CountsWrites (W.failed_calls writer.old) (W.failed_calls writer.new) result }
 {
-    let Ok(book) = GatewayBook::new(TreeRoster::new(alloc), GATEWAY, cap) else {
-        return Err(TextFault::Settings("BadCap"));
+    let book = match GatewayBook::new(TreeRoster::new(alloc), GATEWAY, cap, gap) {
+        Ok(book) => book,
+        Err(fault) => return Err(TextFault::Settings(fault.name())),
     };
     match answer_text(BookLines { book }, reader, writer) {
         Err(fault) => Err(TextFault::from(fault)),
@@ -120,6 +124,7 @@ fn carry_out<B: Roster>(book: &mut GatewayBook<B>, command: Command) -> Reply
         Command::Book(ask) => reserve(book, ask),
         Command::Cancel { number, start } => take_out(book, number, start),
         Command::Tick { now } => advance(book, now),
+        Command::Earliest { ask, last } => look_for_start(book, ask, last),
     }
 }
 
@@ -164,5 +169,25 @@ fn advance<B: Roster>(book: &mut GatewayBook<B>, now: u64) -> Reply
     book.tick(now);
     Reply::Floor {
         floor: book.totals().floor,
+    }
+}
+
+/// Looks for the earliest start of what is asked for, from its own start to `last`, and gives the answer.
+fn look_for_start<B: Roster>(book: &mut GatewayBook<B>, ask: Ask, last: u64) -> Reply
+    ensures { IsCarriedOut book.old book.new (Command.Earliest ask last) result }
+{
+    earliest_start(book, ask, last)
+}
+
+/// What is told of the earliest start of what is asked for, from its own start to `last`.
+pub(crate) fn earliest_start<B: Roster>(book: &GatewayBook<B>, ask: Ask, last: u64) -> Reply
+    ensures { result ≡ start_reply ask.number (earliest_of (terms_of book.now) book.now.list ask ask.start last) }
+{
+    match book.earliest(ask, ask.start, last) {
+        Some(start) => Reply::At {
+            number: ask.number,
+            start,
+        },
+        None => Reply::NoStart { number: ask.number },
     }
 }

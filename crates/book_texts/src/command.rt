@@ -1,7 +1,8 @@
 // What a line of input says.
 ghost use Rattle.std.specs.Prelude.{◌≡◌, map, ◌≤◌};
 ghost use Rattle.book_texts.specs.Planning.{are_plan, opens_plan};
-ghost use Rattle.book_texts.specs.Said.{book_command, cancel_command, tick_command, command_of, said};
+ghost use Rattle.book_texts.specs.Said.{ask_words, book_command, cancel_command, tick_command, earliest_command};
+ghost use Rattle.book_texts.specs.Said.{command_of, said};
 
 use gateway_book::Ask;
 use text_lines::{Words, is_passed_over, is_too_long, is_word, number_u8, number_u32, number_u64};
@@ -16,6 +17,8 @@ pub(crate) enum Command {
     Cancel { number: u64, start: u64 },
     /// `tick NOW`: the gateway's clock has come to `now`.
     Tick { now: u64 },
+    /// `earliest NUMBER NOT_BEFORE LAST FREQ DR LEN`: when the transmission could begin, from the ask's own start to `last`.
+    Earliest { ask: Ask, last: u64 },
 }
 
 /// What a line of input says.
@@ -73,6 +76,7 @@ fn read_command(words: &[&[u8]]) -> Option<Command>
         [name, rest @ ..] if is_word(name, b"book") => read_book(rest),
         [name, rest @ ..] if is_word(name, b"cancel") => read_cancel(rest),
         [name, rest @ ..] if is_word(name, b"tick") => read_tick(rest),
+        [name, rest @ ..] if is_word(name, b"earliest") => read_earliest(rest),
         _ => None,
     }
 }
@@ -84,13 +88,21 @@ fn read_book(words: &[&[u8]]) -> Option<Command>
     let [number, start, freq_hz, rate, len] = words else {
         return None;
     };
-    Some(Command::Book(Ask {
+    let ask = read_ask(number, start, freq_hz, rate, len)?;
+    Some(Command::Book(ask))
+}
+
+/// What is asked for, by its words.
+fn read_ask(number: &[u8], start: &[u8], freq_hz: &[u8], rate: &[u8], len: &[u8]) -> Option<Ask>
+    ensures { result ≡ ask_words number.now start.now freq_hz.now rate.now len.now }
+{
+    Some(Ask {
         number: number_u64(number)?,
         start: number_u64(start)?,
         freq_hz: number_u32(freq_hz)?,
         rate: numbered_rate(number_u8(rate)?)?,
         len: number_u8(len)?,
-    }))
+    })
 }
 
 /// The cancellation whose words follow `cancel`.
@@ -115,5 +127,19 @@ fn read_tick(words: &[&[u8]]) -> Option<Command>
     };
     Some(Command::Tick {
         now: number_u64(now)?,
+    })
+}
+
+/// The question whose words follow `earliest`.
+fn read_earliest(words: &[&[u8]]) -> Option<Command>
+    ensures { result ≡ earliest_command (map (λ word. word.now) words.now) }
+{
+    let [number, not_before, last, freq_hz, rate, len] = words else {
+        return None;
+    };
+    let ask = read_ask(number, not_before, freq_hz, rate, len)?;
+    Some(Command::Earliest {
+        ask,
+        last: number_u64(last)?,
     })
 }

@@ -12,7 +12,7 @@ mod toa;
 pub use booking::book_text;
 pub use laws::{
     law_answers_come_first, law_ok_where_accepted, law_one_answer_a_line, law_plan_is_book,
-    law_plan_tells_answers,
+    law_plan_tells_answers, law_plan_tells_starts,
 };
 pub use planning::plan_text;
 pub use toa::toa_text;

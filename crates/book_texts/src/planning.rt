@@ -4,10 +4,10 @@ ghost use Rattle.std.specs.Option.{ForSome};
 ghost use Rattle.text_lines.specs.Promise.{AnswersAll, AnswersFront, AnswersRead};
 ghost use Rattle.text_words.specs.Fault.{CountsReads, CountsWrites};
 ghost use Rattle.book_texts.specs.Planning.{plan_output};
-ghost use Rattle.book_texts.specs.Promise.{IsCap, IsSettingOf, KeepsLimit};
-ghost use Rattle.book_texts.specs.Trying.{IsCopied, IsTriedOn, IsTrialTurn};
+ghost use Rattle.book_texts.specs.Promise.{IsSettingOf, KeepsLimit, MayOpen};
+ghost use Rattle.book_texts.specs.Trying.{IsCopied, IsSoughtOn, IsTriedOn, IsTrialTurn};
 
-use crate::booking::{GATEWAY, answer_line, told};
+use crate::booking::{GATEWAY, answer_line, earliest_start, told};
 use crate::command::{Command, Said, opens_plan, read_line};
 use crate::reply::Reply;
 use crate::report::put_report;
@@ -22,31 +22,33 @@ use text_words::TextFault;
 
 /// Books what the lines of the input ask for, as `book_text` does, up to a line `plan`. The bookings after it are tried on a
 /// copy of the book, in an arena: each is answered by a line that begins with `if`, and what is accepted stays for the next;
-/// the book itself is left alone, and the report at the end is its own. It answers whether a line of the output begins with
-/// `no` or `bad`.
+/// so is the earliest start looked for after them. The book itself is left alone, and the report at the end is its own. It
+/// answers whether a line of the output begins with `no` or `bad`.
 ///
 /// Faults as those of `book_text`. Want of memory refuses one booking, by a line of the output; where the book can't be copied
-/// for want of it, each booking of the plan.
+/// for want of it, each booking of the plan, and each question for the earliest start.
 pub fn plan_text<A: Allocator + Clone + Copy, R: ByteIn, W: ByteOut>(
     alloc: A,
     cap: u32,
+    gap: u32,
     reader: &mut R,
     writer: &mut W,
 ) -> Result<bool, TextFault>
-    ensures ok { IfOk result (AnswersAll (plan_output (record { cap = cap })) (R.left reader.old) (R.left reader.new)
+    ensures ok { IfOk result (AnswersAll (plan_output (record { cap = cap; gap = gap })) (R.left reader.old) (R.left reader.new)
         (W.taken writer.old) (W.taken writer.new)) }
-    ensures front { OnErr result (AnswersFront (plan_output (record { cap = cap })) (R.left reader.old) (W.taken writer.old)
-        (W.taken writer.new)) }
-    ensures read_front { OnErr result (AnswersRead (plan_output (record { cap = cap })) (R.left reader.old) (R.left reader.new)
+    ensures front { OnErr result (AnswersFront (plan_output (record { cap = cap; gap = gap })) (R.left reader.old)
         (W.taken writer.old) (W.taken writer.new)) }
+    ensures read_front { OnErr result (AnswersRead (plan_output (record { cap = cap; gap = gap })) (R.left reader.old)
+        (R.left reader.new) (W.taken writer.old) (W.taken writer.new)) }
     ensures limit { KeepsLimit (R.left reader.old) result }
-    ensures settings { IsSettingOf cap result }
-    ensures untouched { (¬ IsCap cap) → (reader.new ≡ reader.old) × (writer.new ≡ writer.old) }
+    ensures settings { IsSettingOf (record { cap = cap; gap = gap }) result }
+    ensures untouched { (¬ MayOpen (record { cap = cap; gap = gap })) → (reader.new ≡ reader.old) × (writer.new ≡ writer.old) }
     ensures read { CountsReads (R.failed_calls reader.old) (R.failed_calls reader.new) result }
     ensures write { CountsWrites (W.failed_calls writer.old) (W.failed_calls writer.new) result }
 {
-    let Ok(book) = GatewayBook::new(TreeRoster::new(alloc), GATEWAY, cap) else {
-        return Err(TextFault::Settings("BadCap"));
+    let book = match GatewayBook::new(TreeRoster::new(alloc), GATEWAY, cap, gap) {
+        Ok(book) => book,
+        Err(fault) => return Err(TextFault::Settings(fault.name())),
     };
     let arena = Bump::new(alloc);
     let lines = PlanLines {
@@ -122,6 +124,7 @@ fn copy_onto<B: Roster, C: Roster + Drop, A: Allocator>(
         spare?,
         book.id(),
         book.cap(),
+        book.gap(),
         totals.floor,
         totals.booked,
         members.as_slice(),
@@ -146,6 +149,10 @@ fn try_line<C: Roster>(
             try_ask(copy, ask).write_if(text);
             false
         }
+        Said::Order(Command::Earliest { ask, last }) => {
+            try_earliest(copy, ask, last).write_if(text);
+            false
+        }
         Said::Order(_) | Said::Malformed => {
             Reply::Bad { line: number }.write(text);
             true
@@ -163,5 +170,15 @@ fn try_ask<C: Roster>(copy: &mut Option<GatewayBook<C>>, ask: Ask) -> Reply
     match answer_to(book, ask) {
         Ok(answer) => told(ask, answer),
         Err(_) => told(ask, Err(Refusal::NoMemory)),
+    }
+}
+
+/// Looks for the earliest start on the copy of the book; without one memory is wanted.
+fn try_earliest<C: Roster>(copy: &Option<GatewayBook<C>>, ask: Ask, last: u64) -> Reply
+    ensures { IsSoughtOn copy.now ask last result }
+{
+    match copy {
+        Some(book) => earliest_start(book, ask, last),
+        None => told(ask, Err(Refusal::NoMemory)),
     }
 }

@@ -1,5 +1,5 @@
 // The answer to a line, and its text.
-ghost use Rattle.std.specs.Prelude.{◌≡◌, ◌≤◌, [], ◌∷◌, ◌++◌, length};
+ghost use Rattle.std.specs.Prelude.{◌≡◌, ◌+◌, ◌≤◌, [], ◌∷◌, ◌++◌, length, decimal};
 
 use gateway_book::{CancelFault, Refusal};
 use text_lines::TextLine;
@@ -18,6 +18,10 @@ pub(crate) enum Reply {
     NotCancelled { number: u64, fault: CancelFault },
     /// `floor FLOOR`: where the floor lies now, in microseconds.
     Floor { floor: u64 },
+    /// `at NUMBER START`: it could begin at `start`, in microseconds, and no earlier.
+    At { number: u64, start: u64 },
+    /// `no NUMBER NoStart`: there is no start at which it would be accepted.
+    NoStart { number: u64 },
     /// `bad LINE Syntax`: line `line` of the input, counted from 1, is malformed.
     Bad { line: u64 },
 }
@@ -54,33 +58,33 @@ impl Reply {
     {
         match self {
             Reply::Booked { number, start, end } => {
-                text.text(b"ok");
-                add_number(text, *number);
+                add_numbered(text, b"ok", *number);
                 add_number(text, *start);
                 add_number(text, *end);
             }
             Reply::Refused { number, refusal } => {
-                text.text(b"no");
-                add_number(text, *number);
+                add_numbered(text, b"no", *number);
                 add_refusal(text, *refusal);
             }
             Reply::Cancelled { number, airtime } => {
-                text.text(b"cancelled");
-                add_number(text, *number);
+                add_numbered(text, b"cancelled", *number);
                 add_number(text, *airtime);
             }
             Reply::NotCancelled { number, fault } => {
-                text.text(b"no");
-                add_number(text, *number);
+                add_numbered(text, b"no", *number);
                 add_fault(text, *fault);
             }
-            Reply::Floor { floor } => {
-                text.text(b"floor");
-                add_number(text, *floor);
+            Reply::Floor { floor } => add_numbered(text, b"floor", *floor),
+            Reply::At { number, start } => {
+                add_numbered(text, b"at", *number);
+                add_number(text, *start);
+            }
+            Reply::NoStart { number } => {
+                add_numbered(text, b"no", *number);
+                add_word(text, b"NoStart");
             }
             Reply::Bad { line } => {
-                text.text(b"bad");
-                add_number(text, *line);
+                add_numbered(text, b"bad", *line);
                 add_word(text, b"Syntax");
             }
         }
@@ -91,8 +95,24 @@ impl Reply {
         ensures { result ≡ is_refusal (reply_line self.now) }
     {
         match self {
-            Reply::Booked { .. } | Reply::Cancelled { .. } | Reply::Floor { .. } => false,
-            Reply::Refused { .. } | Reply::NotCancelled { .. } | Reply::Bad { .. } => true,
+            Reply::Booked { .. }
+            | Reply::Cancelled { .. }
+            | Reply::Floor { .. }
+            | Reply::At { .. } => false,
+            Reply::Refused { .. }
+            | Reply::NotCancelled { .. }
+            | Reply::NoStart { .. }
+            | Reply::Bad { .. } => true,
         }
     }
+}
+
+/// Adds an answer's first word and a number.
+fn add_numbered(text: &mut TextLine, word: &[u8], number: u64)
+    requires { length text.old + length word.now + 21 ≤ 1024 }
+    ensures text { text.new ≡ (text.old ++ word.now) ++ (32 ∷ decimal number) }
+    ensures len { length text.new ≤ length text.old + length word.now + 21 }
+{
+    text.text(word);
+    add_number(text, number);
 }

@@ -5,7 +5,11 @@ use std::alloc::Global;
 use std::test::Fail;
 use worked_inputs::{DEVICE, settings_of};
 
-const GATEWAY: GatewaySetting = GatewaySetting { id: 1, cap: 4_096 };
+const GATEWAY: GatewaySetting = GatewaySetting {
+    id: 1,
+    cap: 4_096,
+    gap: 0,
+};
 
 /// The name of the fault of settings with these lists.
 fn fault_of(
@@ -37,6 +41,7 @@ fn settings_show_the_lists_as_given(rt: HostRuntime) -> Result<(), Fail> {
     let last = GatewaySetting {
         id: 65_535,
         cap: 65_536,
+        gap: 100_000,
     };
     let gateways = [GATEWAY, last];
     let settings = settings_without_devices(rt.alloc(), &gateways)?;
@@ -48,14 +53,28 @@ fn settings_show_the_lists_as_given(rt: HostRuntime) -> Result<(), Fail> {
 
 #[test]
 fn the_first_fault_of_the_gateways_is_named(rt: HostRuntime) -> Result<(), Fail> {
-    let zero = GatewaySetting { id: 0, cap: 4_096 };
-    let wide = GatewaySetting { id: 2, cap: 65_537 };
-    let cases: [(&[GatewaySetting], &str); 5] = [
+    let zero = GatewaySetting {
+        id: 0,
+        cap: 4_096,
+        gap: 0,
+    };
+    let wide = GatewaySetting {
+        id: 2,
+        cap: 65_537,
+        gap: 0,
+    };
+    let slow = GatewaySetting {
+        id: 2,
+        cap: 4_096,
+        gap: 100_001,
+    };
+    let cases: [(&[GatewaySetting], &str); 6] = [
         (&[zero; 65], "Count"),
         (&[], "Count"),
         (&[GATEWAY, zero, GATEWAY], "Range"),
         (&[GATEWAY, GATEWAY, wide], "DoubleGateway"),
         (&[wide], "Range"),
+        (&[slow], "Range"),
     ];
     for (gateways, name) in cases {
         assert_eq!(rt; fault_of(rt.alloc(), gateways, &[])?, Some(name));

@@ -1,6 +1,6 @@
 use Rattle.std.specs.Prelude.{◌≡◌, nat_lt, Bool, false, List, [], ◌∷◌, Option, Some, None, Ok, Err, Result, MatchOption, IsOkAnd}
 use Rattle.std.specs.Option.{option_map, option_and_then}
-use Rattle.std.proofs.Common.{refl, ap}
+use Rattle.std.proofs.Common.{refl, ap, ℕ}
 use Rattle.radio_bands.specs.Band.{band_of}
 use Rattle.resv_list.specs.declared.reservation.Reservation.{Reservation}
 use Rattle.resv_list.specs.Reservations.{end_of, airtime_us}
@@ -22,19 +22,20 @@ not_refused (Some e) r ask h = absurd (cc)
 -- a duty refusal is the answer where the rows before it have none
 pub answer_duty : (terms : Terms) (l : List Reservation) (ask : Ask) (refusal : Refusal)
     → first_some (no_band ask ∷ too_long ask ∷ past_end ask ∷ []) ≡ None → nat_lt ask.start terms.floor ≡ false
-    → overlap l ask.start (ask_end ask) ≡ None → duty_full l ask ≡ Some refusal → refusal_of terms l ask ≡ Some refusal
+    → overlap terms.rules.gap l ask.start (ask_end ask) ≡ None → duty_full l ask ≡ Some refusal → refusal_of terms l ask
+    ≡ Some refusal
 answer_duty terms l ask refusal f p t d =
     let a = first_none (no_band ask) (too_long ask ∷ past_end ask ∷ []) f in
     let b = first_none (too_long ask) (past_end ask ∷ []) a.1 in
     let c = first_none (past_end ask) [] b.1 in
     let e : passed terms ask ≡ None = ap (λ (u : Bool). refused_if u Passed) p in
-    let g : taken l ask ≡ None = ap (option_map Taken) t in
+    let g : taken terms l ask ≡ None = ap (option_map Taken) t in
     rw (a.0, b.0, c.0, e, g, d) refl
 
 -- the rows on other members ask the same of an ask and of the reservation with its fields
-pub overlap_asked : (l : List Reservation) (ask : Ask) (r : Reservation) → IsAsked ask r → overlap l r.start (end_of r) ≡ None
-    → overlap l ask.start (ask_end ask) ≡ None
-overlap_asked l ask r a e = rw (a.start, a.rate, a.len) at e
+pub overlap_asked : (gap : ℕ) (l : List Reservation) (ask : Ask) (r : Reservation) → IsAsked ask r
+    → overlap gap l r.start (end_of r) ≡ None → overlap gap l ask.start (ask_end ask) ≡ None
+overlap_asked gap l ask r a e = rw (a.start, a.rate, a.len) at e
 
 pub duty_asked : (l : List Reservation) (ask : Ask) (r : Reservation) (refusal : Refusal) → IsAsked ask r
     → option_and_then (overfull l r.start (airtime_us r)) (band_of r.freq_hz r.rate) ≡ Some refusal

@@ -26,7 +26,7 @@ use Rattle.gateway_book.specs.Step.{terms_at, is_fit, made_if, reservation_of, p
 pub record IsAccepted (terms : Terms) (l : List Reservation) (ask : Ask) : Type 0 where
   pub fit : is_fit ask ≡ true
   pub ahead : terms.floor ≤ ask.start
-  pub clear : overlap l ask.start (ask_end ask) ≡ None
+  pub clear : overlap terms.rules.gap l ask.start (ask_end ask) ≡ None
   pub duty : (band : Band) → band_of ask.freq_hz ask.rate ≡ Some band → full_hour l band ask.start (ask_airtime ask) ≡ None
   pub spare : length (kept l terms.floor) ≢ terms.rules.cap
   pub total : terms.booked + ask_airtime ask ≤ total_limit
@@ -55,14 +55,15 @@ not_full l ask band e = no_full l band (full_hour l band ask.start (ask_airtime 
 
 pub accepted : (terms : Terms) (l : List Reservation) (ask : Ask) → refusal_of terms l ask ≡ None → IsAccepted terms l ask
 accepted terms l ask e =
-    let a = first_none (no_band ask) (too_long ask ∷ past_end ask ∷ passed terms ask ∷ taken l ask ∷ duty_full l ask
+    let a = first_none (no_band ask) (too_long ask ∷ past_end ask ∷ passed terms ask ∷ taken terms l ask ∷ duty_full l ask
     ∷ full terms l ∷ totals_full terms ask ∷ []) e in
-    let b = first_none (too_long ask) (past_end ask ∷ passed terms ask ∷ taken l ask ∷ duty_full l ask ∷ full terms l
+    let b = first_none (too_long ask) (past_end ask ∷ passed terms ask ∷ taken terms l ask ∷ duty_full l ask ∷ full terms l
     ∷ totals_full terms ask ∷ []) a.1 in
-    let c = first_none (past_end ask) (passed terms ask ∷ taken l ask ∷ duty_full l ask ∷ full terms l ∷ totals_full terms ask
+    let c = first_none (past_end ask)
+    (passed terms ask ∷ taken terms l ask ∷ duty_full l ask ∷ full terms l ∷ totals_full terms ask
     ∷ []) b.1 in
-    let d = first_none (passed terms ask) (taken l ask ∷ duty_full l ask ∷ full terms l ∷ totals_full terms ask ∷ []) c.1 in
-    let f = first_none (taken l ask) (duty_full l ask ∷ full terms l ∷ totals_full terms ask ∷ []) d.1 in
+    let d = first_none (passed terms ask) (taken terms l ask ∷ duty_full l ask ∷ full terms l ∷ totals_full terms ask ∷ []) c.1 in
+    let f = first_none (taken terms l ask) (duty_full l ask ∷ full terms l ∷ totals_full terms ask ∷ []) d.1 in
     let g = first_none (duty_full l ask) (full terms l ∷ totals_full terms ask ∷ []) f.1 in
     let h = first_none (full terms l) (totals_full terms ask ∷ []) g.1 in
     let i = first_none (totals_full terms ask) [] h.1 in
@@ -75,7 +76,7 @@ accepted terms l ask e =
     record {
       fit = fits banded sized timely;
       ahead = grind (arith, nat_tests);
-      clear = not_taken (overlap l ask.start (ask_end ask)) f.0;
+      clear = not_taken (overlap terms.rules.gap l ask.start (ask_end ask)) f.0;
       duty = λ band b. not_full l ask band (rw b at g.0);
       spare = λ same. grind (arith, nat_tests);
       total = grind (arith, nat_tests);

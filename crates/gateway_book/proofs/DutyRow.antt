@@ -55,7 +55,8 @@ nothing_by : (p : Bool) (t s air : ℕ) → (p ≡ true → t ≤ s → t + hour
 nothing_by true t s air g = let k : t ≤ s → t + hour ≤ s = g refl in grind (arith, nat_tests)
 nothing_by false t s air g = refl
 
-pub spent_nothing : (band : Band) (t : ℕ) (l : List Reservation) → OfStarts band (λ s. t ≤ s → t + hour ≤ s) l → spent l band t ≡ 0
+pub spent_nothing : (band : Band) (t : ℕ) (l : List Reservation) → OfStarts band (λ s. t ≤ s → t + hour ≤ s) l → spent l band t
+    ≡ 0
 spent_nothing band t [] o = begun-nil band t (t + hour)
 spent_nothing band t (r ∷ rs) o =
     omega (

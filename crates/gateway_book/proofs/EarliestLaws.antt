@@ -23,13 +23,14 @@ use Rattle.gateway_book.proofs.AnswerLaws.{accepted}
 use Rattle.gateway_book.proofs.EarliestLists.{overlapping, clear_after, not_before_end, first_full_hour, after_hour}
 use Rattle.gateway_book.proofs.EarliestLists.{after_own_hour, never, begins_in, unfound, same_member, passing_member}
 use Rattle.gateway_book.proofs.EarliestRows.{IsBusyBy, IsBusy, busy, told}
+use Rattle.gateway_book.specs.Disjoint.{rested_from}
 
 -- The earliest start at which an ask would be accepted.
 
 -- Where to look on.
 
 clear_at : (terms : Terms) (l : List Reservation) (ask : Ask) (s : ℕ) → Accepts terms l ask s
-    → overlap l s (ask_end (at_start ask s)) ≡ None
+    → overlap terms.rules.gap l s (ask_end (at_start ask s)) ≡ None
 clear_at terms l ask s acc = (accepted terms l (at_start ask s) acc).clear
 
 spare_at : (terms : Terms) (l : List Reservation) (ask : Ask) (s : ℕ) (band : Band) → Accepts terms l ask s
@@ -41,17 +42,18 @@ floor_at terms l ask s acc = (accepted terms l (at_start ask s) acc).ahead
 
 -- after what overlaps
 pub next_taken : (terms : Terms) (l : List Reservation) (ask : Ask) (start : ℕ) (m : Reservation) → IsByStart l
-    → refusal_of terms l ask ≡ Some (Taken start) → overlap l ask.start (ask_end ask) ≡ Some start
-    → member_from start l ≡ Some m → IsNextStart terms l ask (Some (end_of m))
+    → refusal_of terms l ask ≡ Some (Taken start) → overlap terms.rules.gap l ask.start (ask_end ask) ≡ Some start
+    → member_from start l ≡ Some m → IsNextStart terms l ask (Some (rested_from terms.rules.gap m))
 next_taken terms l ask start m b e o f =
-    let found = overlapping l ask.start (ask_end ask) start o in
+    let gap : ℕ = terms.rules.gap in
+    let found = overlapping gap l ask.start (ask_end ask) start o in
     let r : Reservation = found.0 in
     let P : ℕ → Type 0 = λ n. member_from n l ≡ Some m in
     let same : m ≡ r = same_member start_of 0 r m l b found.1 (subst P (sym found.3) f) in
-    let Q : Reservation → Type 0 = λ x. IsNextStart terms l ask (Some (end_of x)) in
+    let Q : Reservation → Type 0 = λ x. IsNextStart terms l ask (Some (rested_from gap x)) in
     subst Q (sym same) (inr (
-      not_before_end ask.start (ask_end ask) r.start (end_of r) found.2,
-      λ t h acc. clear_after l ask.start t (ask_airtime ask) r h found.1 found.2 (clear_at terms l ask t acc),
+      not_before_end ask.start (ask_end ask + gap) r.start (rested_from gap r) found.2,
+      λ t h acc. clear_after gap l ask.start t (ask_airtime ask) r h found.1 found.2 (clear_at terms l ask t acc),
     ))
 
 -- after a full hour
@@ -104,16 +106,17 @@ lasting o b h NoMemory i t d = i
 pub next_none : (terms : Terms) (l : List Reservation) (ask : Ask) (r : Refusal) → terms.floor ≤ ask.start
     → refusal_of terms l ask ≡ Some r → ((start : ℕ) → r ≡ Taken start → ⊥)
     → ((band : Band) (from sum : ℕ) → r ≡ DutyFull band from sum → ⊥) → IsNextStart terms l ask None
-next_none terms l ask r fl e t d = λ s h acc. absurd (lasting (overlap l ask.start (ask_end ask)) (band_of ask.freq_hz ask.rate)
+next_none terms l ask r fl e t d =
+    λ s h acc. absurd (lasting (overlap terms.rules.gap l ask.start (ask_end ask)) (band_of ask.freq_hz ask.rate)
     (λ band. full_hour l band ask.start (ask_airtime ask)) r (busy terms l ask s r fl h acc e) t d)
 
 -- what overlaps is found from its start on
 pub found_taken : (terms : Terms) (l : List Reservation) (ask : Ask) (start : ℕ) (o : Option Reservation) → IsByStart l
     → refusal_of terms l ask ≡ Some (Taken start) → member_from start l ≡ o
-    → IsNextStart terms l ask (option_map end_of o)
+    → IsNextStart terms l ask (option_map (rested_from terms.rules.gap) o)
 found_taken terms l ask start (Some m) b e f = next_taken terms l ask start m b e (told terms l ask (Taken start) e) f
 found_taken terms l ask start None b e f =
-    let found = overlapping l ask.start (ask_end ask) start (told terms l ask (Taken start) e) in
+    let found = overlapping terms.rules.gap l ask.start (ask_end ask) start (told terms l ask (Taken start) e) in
     absurd (unfound (λ x. nat_le start x.start) found.0 l found.1 (le-leb start found.0.start (omega (arith, found.3))) f)
 
 -- Only ends of members and starts an hour ago open the way.
@@ -130,12 +133,13 @@ opened_by terms l ask a s (Some r) fl n acc e some = by_refusal r e (busy terms 
         let m = passing_member start_of (is_in band) from l c in
         (m.0, m.1, omega (arith, h, m.3))
 
-    by_refusal : (r : Refusal) → refusal_of terms l ask ≡ Some r → IsBusy l ask r → IsCandidate terms l a s
+    by_refusal : (r : Refusal) → refusal_of terms l ask ≡ Some r → IsBusy terms l ask r → IsCandidate terms l a s
     by_refusal (Taken start) e i =
-        let found = overlapping l ask.start (ask_end ask) start i in
-        let after = clear_after l ask.start s (ask_airtime ask) found.0 (omega (arith, n)) found.1 found.2
+        let gap : ℕ = terms.rules.gap in
+        let found = overlapping gap l ask.start (ask_end ask) start i in
+        let after = clear_after gap l ask.start s (ask_airtime ask) found.0 (omega (arith, n)) found.1 found.2
         (clear_at terms l ask s acc) in
-        let before = not_before_end ask.start (ask_end ask) found.0.start (end_of found.0) found.2 in
+        let before = not_before_end ask.start (ask_end ask + gap) found.0.start (rested_from gap found.0) found.2 in
         inr (found.0, found.1, inl (omega (arith, after, before, n)))
     by_refusal (DutyFull band from sum) e i =
         let full = first_full_hour l band ask.start (ask_airtime ask) from i.1 in

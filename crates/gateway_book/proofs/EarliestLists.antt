@@ -11,7 +11,7 @@ use Rattle.resv_list.specs.Reservations.{start_of, end_of, is_in, spent, IsBySta
 use Rattle.resv_list.specs.Hours.{is_over, first_over}
 use Rattle.resv_list.proofs.Walk.{found_passes}
 use Rattle.gateway_book.specs.Least.{least}
-use Rattle.gateway_book.specs.Disjoint.{overlaps}
+use Rattle.gateway_book.specs.Disjoint.{overlaps, rested_from}
 use Rattle.gateway_book.specs.Duty.{full_hour}
 use Rattle.gateway_book.specs.Laws.{IsFirstFullHour}
 use Rattle.gateway_book.specs.Answer.{overlap}
@@ -108,33 +108,33 @@ unfound test x (y ∷ ys) c p n = unfound_by test x y ys (test y) refl c p n (λ
 
 -- what overlaps
 
-pub overlapping : (l : List Reservation) (from to start : ℕ) → overlap l from to ≡ Some start
-    → (r : Reservation) × Contains l r × (overlaps start_of end_of from to r ≡ true) × (r.start ≡ start)
+pub overlapping : (gap : ℕ) (l : List Reservation) (from to start : ℕ) → overlap gap l from to ≡ Some start
+    → (r : Reservation) × Contains l r × (overlaps start_of (rested_from gap) from (to + gap) r ≡ true) × (r.start ≡ start)
 unfolding overlap
-overlapping l from to start e =
-    let test : Reservation → Bool = overlaps start_of end_of from to in
+overlapping gap l from to start e =
+    let test : Reservation → Bool = overlaps start_of (rested_from gap) from (to + gap) in
     let P : Option ℕ → Type 0 = λ o. MatchOption o (map start_of (filter test l) ≡ [])
     (λ m. Contains (map start_of (filter test l)) m × All (λ n. m ≤ n) (map start_of (filter test l))) in
     let found : P (Some start) = subst P e (least_is_least (map start_of (filter test l))) in
     passing_member start_of test start l found.0
 
-clear_of : (l : List Reservation) (from to : ℕ) (r : Reservation) → Contains l r → overlap l from to ≡ None
-    → overlaps start_of end_of from to r ≡ true → ⊥
+clear_of : (gap : ℕ) (l : List Reservation) (from to : ℕ) (r : Reservation) → Contains l r → overlap gap l from to ≡ None
+    → overlaps start_of (rested_from gap) from (to + gap) r ≡ true → ⊥
 unfolding overlap
-clear_of l from to r c n p = some_least start_of (overlaps start_of end_of from to) r l c p n
+clear_of gap l from to r c n p = some_least start_of (overlaps start_of (rested_from gap) from (to + gap)) r l c p n
 
-still_overlaps : (t s air low end : ℕ) → t ≤ s → not (nat_le end t || nat_le (t + air) low) ≡ true → s < end
-    → not (nat_le end s || nat_le (s + air) low) ≡ true
-still_overlaps t s air low end h o g = grind (arith, nat_tests)
+still_overlaps : (t s air gap low end : ℕ) → t ≤ s → not (nat_le end t || nat_le (t + air + gap) low) ≡ true → s < end
+    → not (nat_le end s || nat_le (s + air + gap) low) ≡ true
+still_overlaps t s air gap low end h o g = grind (arith, nat_tests)
 
 pub not_before_end : (t to low end : ℕ) → not (nat_le end t || nat_le to low) ≡ true → t < end
 not_before_end t to low end o = grind (arith, nat_tests)
 
--- where a member overlaps at t, a later start that is clear lies no earlier than its end
-pub clear_after : (l : List Reservation) (t s air : ℕ) (r : Reservation) → t ≤ s → Contains l r
-    → overlaps start_of end_of t (t + air) r ≡ true → overlap l s (s + air) ≡ None → end_of r ≤ s
-clear_after l t s air r h c o n = elim (cases_lt s (end_of r)) [
-  | inl g ↦ absurd (clear_of l s (s + air) r c n (still_overlaps t s air r.start (end_of r) h o g))
+-- where a member overlaps at t, a later start that is clear lies no earlier than its end and the gap after it
+pub clear_after : (gap : ℕ) (l : List Reservation) (t s air : ℕ) (r : Reservation) → t ≤ s → Contains l r
+    → overlaps start_of (rested_from gap) t (t + air + gap) r ≡ true → overlap gap l s (s + air) ≡ None → rested_from gap r ≤ s
+clear_after gap l t s air r h c o n = elim (cases_lt s (rested_from gap r)) [
+  | inl g ↦ absurd (clear_of gap l s (s + air) r c n (still_overlaps t s air gap r.start (rested_from gap r) h o g))
   | inr g ↦ g
 ]
 

@@ -18,8 +18,8 @@ use Rattle.gateway_book.specs.declared.refusal.Refusal.{Refusal}
 use Rattle.gateway_book.specs.declared.refusal.Refusal.TheVariants.{NoBand, TooLong, PastEnd, Passed, Taken, DutyFull, Full}
 use Rattle.gateway_book.specs.declared.refusal.Refusal.TheVariants.{TotalsFull, NoMemory}
 use Rattle.gateway_book.specs.Duty.{full_hour}
-use Rattle.gateway_book.specs.Answer.{Terms, ask_airtime, ask_end, refused_if, no_band, too_long, past_end, passed, overlap, taken}
-use Rattle.gateway_book.specs.Answer.{duty_full, full, totals_full, first_some, refusal_of}
+use Rattle.gateway_book.specs.Answer.{Terms, ask_airtime, ask_end, refused_if, no_band, too_long, past_end, passed, overlap}
+use Rattle.gateway_book.specs.Answer.{taken, duty_full, full, totals_full, first_some, refusal_of}
 use Rattle.gateway_book.specs.Earliest.{at_start, Accepts}
 use Rattle.gateway_book.proofs.AnswerLaws.{first_none}
 
@@ -37,9 +37,9 @@ IsBusyBy o b h Full = ⊥
 IsBusyBy o b h TotalsFull = ⊥
 IsBusyBy o b h NoMemory = ⊥
 
-abbrev pub IsBusy : List Reservation → Ask → Refusal → Type 0
-IsBusy l ask refusal =
-    IsBusyBy (overlap l ask.start (ask_end ask)) (band_of ask.freq_hz ask.rate)
+abbrev pub IsBusy : Terms → List Reservation → Ask → Refusal → Type 0
+IsBusy terms l ask refusal =
+    IsBusyBy (overlap terms.rules.gap l ask.start (ask_end ask)) (band_of ask.freq_hz ask.rate)
     (λ band. full_hour l band ask.start (ask_airtime ask)) refusal
 
 in_hour : (l : List Reservation) (band : Band) (h : Band → Option ℕ) (r : Refusal) (u : Option ℕ) → h band ≡ u
@@ -69,31 +69,35 @@ rows_left : {X : Type 0} (n t p q o u f v : Option X) → n ≡ None → t ≡ N
     → first_some (n ∷ t ∷ p ∷ q ∷ o ∷ u ∷ f ∷ v ∷ []) ≡ first_some (o ∷ u ∷ [])
 rows_left n t p q o u f v a b c d e g = rw (a, b, c, d, e, g) (two_rows o u)
 
-not_past : (refusal : Refusal) (m n k : ℕ) → m ≤ n → refused_if (nat_lt k n) refusal ≡ None → refused_if (nat_lt k m) refusal ≡ None
+not_past : (refusal : Refusal) (m n k : ℕ) → m ≤ n → refused_if (nat_lt k n) refusal ≡ None → refused_if (nat_lt k m) refusal
+    ≡ None
 not_past refusal m n k h e = grind (arith, nat_tests)
 
 -- where a later start is accepted, the refusal is one of what overlaps, or of a full hour
-pub busy : (terms : Terms) (l : List Reservation) (ask : Ask) (s : ℕ) (refusal : Refusal) → terms.floor ≤ ask.start → ask.start ≤ s
-    → Accepts terms l ask s → refusal_of terms l ask ≡ Some refusal → IsBusy l ask refusal
+pub busy : (terms : Terms) (l : List Reservation) (ask : Ask) (s : ℕ) (refusal : Refusal) → terms.floor ≤ ask.start
+    → ask.start ≤ s
+    → Accepts terms l ask s → refusal_of terms l ask ≡ Some refusal → IsBusy terms l ask refusal
 busy terms l ask s refusal fl h acc e =
     let later : Ask = at_start ask s in
-    let a = first_none (no_band later) (too_long later ∷ past_end later ∷ passed terms later ∷ taken l later
+    let a = first_none (no_band later) (too_long later ∷ past_end later ∷ passed terms later ∷ taken terms l later
     ∷ duty_full l later ∷ full terms l ∷ totals_full terms later ∷ []) acc in
-    let b = first_none (too_long later) (past_end later ∷ passed terms later ∷ taken l later ∷ duty_full l later ∷ full terms l
+    let b = first_none (too_long later)
+    (past_end later ∷ passed terms later ∷ taken terms l later ∷ duty_full l later ∷ full terms l
     ∷ totals_full terms later ∷ []) a.1 in
-    let c = first_none (past_end later) (passed terms later ∷ taken l later ∷ duty_full l later ∷ full terms l
+    let c = first_none (past_end later) (passed terms later ∷ taken terms l later ∷ duty_full l later ∷ full terms l
     ∷ totals_full terms later ∷ []) b.1 in
-    let d = first_none (passed terms later) (taken l later ∷ duty_full l later ∷ full terms l ∷ totals_full terms later ∷ [])
+    let d = first_none (passed terms later)
+    (taken terms l later ∷ duty_full l later ∷ full terms l ∷ totals_full terms later ∷ [])
     c.1 in
-    let f = first_none (taken l later) (duty_full l later ∷ full terms l ∷ totals_full terms later ∷ []) d.1 in
+    let f = first_none (taken terms l later) (duty_full l later ∷ full terms l ∷ totals_full terms later ∷ []) d.1 in
     let g = first_none (duty_full l later) (full terms l ∷ totals_full terms later ∷ []) f.1 in
     let i = first_none (full terms l) (totals_full terms later ∷ []) g.1 in
     let j = first_none (totals_full terms later) [] i.1 in
     let in_time : past_end ask ≡ None = not_past PastEnd (ask_end ask) (ask_end later) last_end (omega (arith, h)) c.0 in
     let ahead : passed terms ask ≡ None = ap (λ (t : Bool). refused_if t Passed) (le-ltb ask.start terms.floor fl) in
-    let left = rows_left (no_band ask) (too_long ask) (past_end ask) (passed terms ask) (taken l ask) (duty_full l ask)
+    let left = rows_left (no_band ask) (too_long ask) (past_end ask) (passed terms ask) (taken terms l ask) (duty_full l ask)
     (full terms l) (totals_full terms ask) a.0 b.0 in_time ahead i.0 j.0 in
-    busy_by l (overlap l ask.start (ask_end ask)) (band_of ask.freq_hz ask.rate)
+    busy_by l (overlap terms.rules.gap l ask.start (ask_end ask)) (band_of ask.freq_hz ask.rate)
     (λ band. full_hour l band ask.start (ask_airtime ask)) refusal (sym left ∙ e)
 
 -- What a refusal tells of what overlaps, or of the full hour.
@@ -137,10 +141,10 @@ told_by l false false false false f g None None h r e = told_last false None Non
 told_by l false false false false f g None (Some band) h r e = told_hour l band h r (h band) f g refl e
 
 pub told : (terms : Terms) (l : List Reservation) (ask : Ask) (r : Refusal) → refusal_of terms l ask ≡ Some r
-    → IsTold (nat_lt last_end (ask_end ask)) (overlap l ask.start (ask_end ask)) (band_of ask.freq_hz ask.rate)
+    → IsTold (nat_lt last_end (ask_end ask)) (overlap terms.rules.gap l ask.start (ask_end ask)) (band_of ask.freq_hz ask.rate)
     (λ band. full_hour l band ask.start (ask_airtime ask)) r
 told terms l ask r e =
     told_by l (not (is_some (band_of ask.freq_hz ask.rate))) (nat_lt (max_phy_of ask.rate) ask.len)
     (nat_lt last_end (ask_end ask)) (nat_lt ask.start terms.floor) (length (kept l terms.floor) == terms.rules.cap)
-    (nat_lt total_limit (terms.booked + ask_airtime ask)) (overlap l ask.start (ask_end ask))
+    (nat_lt total_limit (terms.booked + ask_airtime ask)) (overlap terms.rules.gap l ask.start (ask_end ask))
     (band_of ask.freq_hz ask.rate) (λ band. full_hour l band ask.start (ask_airtime ask)) r e

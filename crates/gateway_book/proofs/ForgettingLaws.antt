@@ -25,6 +25,7 @@ use Rattle.gateway_book.specs.Step.{is_named, found_or, cancel_answer}
 use Rattle.gateway_book.proofs.DutyLaws.{full_hour_answers}
 use Rattle.gateway_book.proofs.KeptLaws.{filter-placed, kept-filtered, kept-by_start, kept-place, kept-filter, kept-later}
 use Rattle.gateway_book.proofs.SightLaws.{AreOwn, overlap-kept, spent-kept, full_hour-kept}
+use Rattle.gateway_book.specs.Disjoint.{most_gap}
 
 -- What is kept answers as the whole list does.
 
@@ -93,13 +94,14 @@ own-kept_later l floor later o h =
     ∙ sym (kept-sorted l later o)
 
 -- the rows behind the one on the floor, where it doesn't refuse
-rows_behind : (terms : Terms) (l : List Reservation) (ask : Ask) → AreOwn l → terms.floor ≤ ask.start
-    → first_some (taken (kept l terms.floor) ask ∷ duty_full (kept l terms.floor) ask ∷ full terms (kept l terms.floor)
+rows_behind : (terms : Terms) (l : List Reservation) (ask : Ask) → terms.rules.gap ≤ most_gap → AreOwn l
+    → terms.floor ≤ ask.start
+    → first_some (taken terms (kept l terms.floor) ask ∷ duty_full (kept l terms.floor) ask ∷ full terms (kept l terms.floor)
     ∷ totals_full terms ask ∷ [])
-    ≡ first_some (taken l ask ∷ duty_full l ask ∷ full terms l ∷ totals_full terms ask ∷ [])
-rows_behind terms l ask o h =
-    let a : taken (kept l terms.floor) ask ≡ taken l ask =
-    ap (option_map Taken) (overlap-kept l terms.floor ask.start (ask_end ask) o h) in
+    ≡ first_some (taken terms l ask ∷ duty_full l ask ∷ full terms l ∷ totals_full terms ask ∷ [])
+rows_behind terms l ask g o h =
+    let a : taken terms (kept l terms.floor) ask ≡ taken terms l ask =
+    ap (option_map Taken) (overlap-kept terms.rules.gap l terms.floor ask.start (ask_end ask) g o h) in
     let b : duty_full (kept l terms.floor) ask ≡ duty_full l ask =
     duty_by l terms.floor ask.start (ask_airtime ask) (band_of ask.freq_hz ask.rate) o h in
     let c : full terms (kept l terms.floor) ≡ full terms l =
@@ -118,11 +120,11 @@ not_passed : (terms : Terms) (ask : Ask) (t : Bool) → nat_lt ask.start terms.f
 not_passed terms ask true e n = absurd (cc)
 not_passed terms ask false e n = ltb-false ask.start terms.floor e
 
-pub refusal_of-kept : (terms : Terms) (l : List Reservation) (ask : Ask) → AreOwn l
+pub refusal_of-kept : (terms : Terms) (l : List Reservation) (ask : Ask) → terms.rules.gap ≤ most_gap → AreOwn l
     → refusal_of terms (kept l terms.floor) ask ≡ refusal_of terms l ask
-refusal_of-kept terms l ask o =
+refusal_of-kept terms l ask g o =
     same_behind (no_band ask) _ _ (λ n1. same_behind (too_long ask) _ _ (λ n2. same_behind (past_end ask) _ _
-    (λ n3. same_behind (passed terms ask) _ _ (λ n4. rows_behind terms l ask o
+    (λ n3. same_behind (passed terms ask) _ _ (λ n4. rows_behind terms l ask g o
     (not_passed terms ask (nat_lt ask.start terms.floor) refl n4)))))
 
 -- what begins after the floor is kept, so it is found

@@ -15,6 +15,7 @@ pub mod OwnHours
 pub mod EarliestLists
 pub mod EarliestRows
 pub mod EarliestLaws
+pub mod EarliestValue
 pub mod BusiestLaws
 pub mod AdmittedLaws
 pub mod SoundLaws

@@ -4,14 +4,15 @@ use Rattle.std.proofs.Common.{refl, sym, ap, ◌∙◌, arith}
 use Rattle.std.proofs.lemmas.Bool.{leb-true, leb-false, le-leb, lt-leb, lt-ltb, le-ltb, ltb-true, ltb-false}
 use Rattle.std.proofs.lemmas.Bool.Decides.{nat_tests}
 use Rattle.resv_list.specs.Sorted.{last, below, last_below, first_from}
-use Rattle.gateway_book.specs.Disjoint.{overlaps}
+use Rattle.gateway_book.specs.Disjoint.{overlaps, rested_from}
 use Rattle.gateway_book.specs.Spaced.{keep_if, SpacedFrom}
 use Rattle.std.specs.Option.{option_map}
 use Rattle.resv_list.specs.declared.reservation.Reservation.{Reservation}
 use Rattle.resv_list.specs.Reservations.{start_of, end_of, IsByStart, member_before, member_from}
 use Rattle.gateway_book.specs.Lawful.{AreApart}
 use Rattle.gateway_book.specs.Answer.{overlap}
-use Rattle.gateway_book.proofs.ApartLaws.{ends_later, first_has_least_start, spaced_apart, apart_spaced}
+use Rattle.gateway_book.proofs.ApartLaws.{ends_later, first_has_least_start, spaced_apart, apart_spaced, rests_later}
+use Rattle.std.specs.Prelude.{◌+◌}
 
 -- Only two neighbours of what is asked for can overlap it: the last member that begins before it, and
 -- the first that doesn't.
@@ -108,14 +109,17 @@ module _ {X : Type 0} (key end : X → ℕ) (positive : (x : X) → key x < end 
   find-neighbours low from to (x ∷ xs) h s = neighbours_by low from to x xs (nat_lt (key x) from) refl h s
       (find-neighbours (end x) from to xs h s.1)
 
-pub spaced_is_apart : (l : List Reservation) → IsByStart l → SpacedFrom start_of end_of 0 l ↔ AreApart l
-spaced_is_apart l s = (λ h. spaced_apart 0 l h, λ a. apart_spaced 0 l s a)
+pub spaced_is_apart : (gap : ℕ) (l : List Reservation) → IsByStart l → SpacedFrom start_of (rested_from gap) 0 l ↔ AreApart gap l
+spaced_is_apart gap l s = (λ h. spaced_apart gap 0 l h, λ a. apart_spaced gap 0 l s a)
 
 -- only the last member that begins before what is asked for, and the first that doesn't, can overlap it
-pub overlap-neighbours : (l : List Reservation) (from to : ℕ) → IsByStart l → AreApart l → from < to
-    → overlap l from to ≡ option_map start_of (or_else (keep_if (λ b. nat_lt from (end_of b)) (member_before from l))
-    (keep_if (λ n. nat_lt n.start to) (member_from from l)))
+pub overlap-neighbours : (gap : ℕ) (l : List Reservation) (from to : ℕ) → IsByStart l → AreApart gap l → from < to
+    → overlap gap l from to
+    ≡ option_map start_of (or_else (keep_if (λ b. nat_lt from (rested_from gap b)) (member_before from l))
+    (keep_if (λ n. nat_lt n.start (to + gap)) (member_from from l)))
 unfolding overlap
-overlap-neighbours l from to s a h =
-    first_has_least_start _ l s ∙ ap (option_map start_of) (find-neighbours start_of end_of ends_later 0 from to l h
-    (apart_spaced 0 l s a))
+overlap-neighbours gap l from to s a h =
+    first_has_least_start _ l s
+    ∙ ap (option_map start_of)
+    (find-neighbours start_of (rested_from gap) (rests_later gap) 0 from (to + gap) l (omega (arith, h))
+    (apart_spaced gap 0 l s a))

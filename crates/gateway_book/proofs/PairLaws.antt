@@ -8,7 +8,7 @@ use Rattle.resv_list.specs.declared.reservation.Reservation.{Reservation}
 use Rattle.resv_list.specs.Reservations.{start_of, end_of, airtime_us, place}
 use Rattle.resv_list.proofs.SortLemmas.{NoneAt, none_at_cons}
 use Rattle.gateway_book.specs.declared.ask.Ask.{Ask}
-use Rattle.gateway_book.specs.Disjoint.{AreDisjoint, overlaps}
+use Rattle.gateway_book.specs.Disjoint.{AreDisjoint, overlaps, rested_from}
 use Rattle.gateway_book.specs.Least.{least}
 use Rattle.gateway_book.specs.Duty.{full_hour}
 use Rattle.gateway_book.specs.Lawful.{AreApart, IsLawful}
@@ -59,79 +59,87 @@ each_filtered P test [] h = tt
 each_filtered P test (r ∷ l) h = each_filtered_by P r (filter test l) (test r) h.0 (each_filtered P test l h.1)
 
 -- each member is disjoint from those behind it
-abbrev ArePairs : List Reservation → Type 0
-ArePairs [] = ⊤
-ArePairs (r ∷ l) = OfEach (AreDisjoint r) l × ArePairs l
+abbrev ArePairs : ℕ → List Reservation → Type 0
+ArePairs gap [] = ⊤
+ArePairs gap (r ∷ l) = OfEach (AreDisjoint gap r) l × ArePairs gap l
 
-turned : (r s : Reservation) → AreDisjoint r s → AreDisjoint s r
-turned r s (inl a) = inr a
-turned r s (inr b) = inl b
+module _ (gap : ℕ) where
+  turned : (r s : Reservation) → AreDisjoint gap r s → AreDisjoint gap s r
+  turned r s (inl a) = inr a
+  turned r s (inr b) = inl b
 
-pairs_of : (l : List Reservation) → AreApart l → ArePairs l
-pairs_of [] a = tt
-pairs_of (r ∷ l) a = (
-  each_of (AreDisjoint r) l (λ j s e. a zero (suc j) r s refl e (λ n. absurd (omega arith))),
-  pairs_of l (λ i j q s e f n. a (suc i) (suc j) q s e f (λ m. n (omega arith))),
-)
+  pairs_of : (l : List Reservation) → AreApart gap l → ArePairs gap l
+  pairs_of [] a = tt
+  pairs_of (r ∷ l) a = (
+    each_of (AreDisjoint gap r) l (λ j s e. a zero (suc j) r s refl e (λ n. absurd (omega arith))),
+    pairs_of l (λ i j q s e f n. a (suc i) (suc j) q s e f (λ m. n (omega arith))),
+  )
 
-of_pairs : (l : List Reservation) → ArePairs l → AreApart l
-of_pairs [] p i j r s e f n = absurd (cc)
-of_pairs (x ∷ l) p zero zero r s e f n = absurd (n refl)
-of_pairs (x ∷ l) p zero (suc j) r s e f n =
-    let same : x ≡ r = cc in
-    let P : Reservation → Type 0 = λ q. AreDisjoint q s in
-    subst P same (each_at (AreDisjoint x) l j s p.0 f)
-of_pairs (x ∷ l) p (suc i) zero r s e f n =
-    let same : x ≡ s = cc in
-    let P : Reservation → Type 0 = λ q. AreDisjoint r q in
-    subst P same (turned x r (each_at (AreDisjoint x) l i r p.0 e))
-of_pairs (x ∷ l) p (suc i) (suc j) r s e f n = of_pairs l p.1 i j r s e f (λ m. n (omega arith))
+  of_pairs : (l : List Reservation) → ArePairs gap l → AreApart gap l
+  of_pairs [] p i j r s e f n = absurd (cc)
+  of_pairs (x ∷ l) p zero zero r s e f n = absurd (n refl)
+  of_pairs (x ∷ l) p zero (suc j) r s e f n =
+      let same : x ≡ r = cc in
+      let P : Reservation → Type 0 = λ q. AreDisjoint gap q s in
+      subst P same (each_at (AreDisjoint gap x) l j s p.0 f)
+  of_pairs (x ∷ l) p (suc i) zero r s e f n =
+      let same : x ≡ s = cc in
+      let P : Reservation → Type 0 = λ q. AreDisjoint gap r q in
+      subst P same (turned x r (each_at (AreDisjoint gap x) l i r p.0 e))
+  of_pairs (x ∷ l) p (suc i) (suc j) r s e f n = of_pairs l p.1 i j r s e f (λ m. n (omega arith))
 
-pairs_placed_by : (r s : Reservation) (l : List Reservation) (t : Bool) → OfEach (AreDisjoint r) (s ∷ l) → ArePairs (s ∷ l)
-    → ArePairs (place r l) → ArePairs (cond t (s ∷ place r l) (r ∷ s ∷ l))
-pairs_placed_by r s l true h p rest = (each_placed (AreDisjoint s) r l (turned r s h.0) p.0, rest)
-pairs_placed_by r s l false h p rest = (h, p)
+  pairs_placed_by : (r s : Reservation) (l : List Reservation) (t : Bool) → OfEach (AreDisjoint gap r) (s ∷ l)
+      → ArePairs gap (s ∷ l)
+      → ArePairs gap (place r l) → ArePairs gap (cond t (s ∷ place r l) (r ∷ s ∷ l))
+  pairs_placed_by r s l true h p rest = (each_placed (AreDisjoint gap s) r l (turned r s h.0) p.0, rest)
+  pairs_placed_by r s l false h p rest = (h, p)
 
-pairs_placed : (r : Reservation) (l : List Reservation) → OfEach (AreDisjoint r) l → ArePairs l → ArePairs (place r l)
-pairs_placed r [] h p = (tt, tt)
-pairs_placed r (s ∷ l) h p = pairs_placed_by r s l (nat_lt s.start r.start) h p (pairs_placed r l h.1 p.1)
+  pairs_placed : (r : Reservation) (l : List Reservation) → OfEach (AreDisjoint gap r) l → ArePairs gap l
+      → ArePairs gap (place r l)
+  pairs_placed r [] h p = (tt, tt)
+  pairs_placed r (s ∷ l) h p = pairs_placed_by r s l (nat_lt s.start r.start) h p (pairs_placed r l h.1 p.1)
 
-pairs_filtered_by : (r : Reservation) (l : List Reservation) (t : Bool) → OfEach (AreDisjoint r) l → ArePairs l
-    → ArePairs (cond t (r ∷ l) l)
-pairs_filtered_by r l true h p = (h, p)
-pairs_filtered_by r l false h p = p
+  pairs_filtered_by : (r : Reservation) (l : List Reservation) (t : Bool) → OfEach (AreDisjoint gap r) l → ArePairs gap l
+      → ArePairs gap (cond t (r ∷ l) l)
+  pairs_filtered_by r l true h p = (h, p)
+  pairs_filtered_by r l false h p = p
 
-pairs_filtered : (test : Reservation → Bool) (l : List Reservation) → ArePairs l → ArePairs (filter test l)
-pairs_filtered test [] p = tt
-pairs_filtered test (r ∷ l) p =
-    pairs_filtered_by r (filter test l) (test r) (each_filtered (AreDisjoint r) test l p.0) (pairs_filtered test l p.1)
+  pairs_filtered : (test : Reservation → Bool) (l : List Reservation) → ArePairs gap l → ArePairs gap (filter test l)
+  pairs_filtered test [] p = tt
+  pairs_filtered test (r ∷ l) p =
+      pairs_filtered_by r (filter test l) (test r) (each_filtered (AreDisjoint gap r) test l p.0) (pairs_filtered test l p.1)
 
--- a reservation that overlaps no member is disjoint from each
-clear_by : (r s : Reservation) (l ps : List Reservation) (t : Bool) → overlaps start_of end_of r.start (end_of r) s ≡ t
-    → least (map start_of (cond t (s ∷ ps) ps)) ≡ None → (least (map start_of ps) ≡ None → OfEach (AreDisjoint r) l)
-    → OfEach (AreDisjoint r) (s ∷ l)
-clear_by r s l ps true o e rest = absurd (cc)
-clear_by r s l ps false o e rest = (by (nat_le (end_of s) r.start) (nat_le (end_of r) s.start) refl refl o, rest e)
-  where
-    by : (p q : Bool) → nat_le (end_of s) r.start ≡ p → nat_le (end_of r) s.start ≡ q → not (p || q) ≡ false → AreDisjoint r s
-    by true q a b f = inr (leb-true (end_of s) r.start a)
-    by false true a b f = inl (leb-true (end_of r) s.start b)
-    by false false a b f = absurd (cc)
+  -- a reservation that overlaps no member is disjoint from each
+  clear_by : (r s : Reservation) (l ps : List Reservation) (t : Bool)
+      → overlaps start_of (rested_from gap) r.start (rested_from gap r) s ≡ t
+      → least (map start_of (cond t (s ∷ ps) ps)) ≡ None → (least (map start_of ps) ≡ None → OfEach (AreDisjoint gap r) l)
+      → OfEach (AreDisjoint gap r) (s ∷ l)
+  clear_by r s l ps true o e rest = absurd (cc)
+  clear_by r s l ps false o e rest = (
+    by (nat_le (rested_from gap s) r.start) (nat_le (rested_from gap r) s.start) refl refl o,
+    rest e,
+  )
+    where
+      by : (p q : Bool) → nat_le (rested_from gap s) r.start ≡ p → nat_le (rested_from gap r) s.start ≡ q
+          → not (p || q) ≡ false → AreDisjoint gap r s
+      by true q a b f = inr (leb-true (rested_from gap s) r.start a)
+      by false true a b f = inl (leb-true (rested_from gap r) s.start b)
+      by false false a b f = absurd (cc)
 
-clear_of : (r : Reservation) (l : List Reservation) → overlap l r.start (end_of r) ≡ None → OfEach (AreDisjoint r) l
-unfolding overlap
-clear_of r [] e = tt
-clear_of r (s ∷ l) e =
-    clear_by r s l (filter (overlaps start_of end_of r.start (end_of r)) l)
-    (overlaps start_of end_of r.start (end_of r) s) refl e (clear_of r l)
+  clear_of : (r : Reservation) (l : List Reservation) → overlap gap l r.start (end_of r) ≡ None → OfEach (AreDisjoint gap r) l
+  unfolding overlap
+  clear_of r [] e = tt
+  clear_of r (s ∷ l) e =
+      clear_by r s l (filter (overlaps start_of (rested_from gap) r.start (rested_from gap r)) l)
+      (overlaps start_of (rested_from gap) r.start (rested_from gap r) s) refl e (clear_of r l)
 
-apart_starts : (r s : Reservation) → AreDisjoint r s → s.start ≢ r.start
-apart_starts r s (inl a) e = let p = ends_later r in omega arith
-apart_starts r s (inr b) e = let p = ends_later s in omega arith
+  apart_starts : (r s : Reservation) → AreDisjoint gap r s → s.start ≢ r.start
+  apart_starts r s (inl a) e = let p = ends_later r in omega arith
+  apart_starts r s (inr b) e = let p = ends_later s in omega arith
 
-pub none_there : (r : Reservation) (l : List Reservation) → OfEach (AreDisjoint r) l → NoneAt start_of r.start l
-none_there r [] h = λ i d l. absurd (omega arith)
-none_there r (s ∷ l) h = none_at_cons start_of r.start s l (apart_starts r s h.0) (none_there r l h.1)
+pub none_there : (gap : ℕ) (r : Reservation) (l : List Reservation) → OfEach (AreDisjoint gap r) l → NoneAt start_of r.start l
+none_there gap r [] h = λ i d l. absurd (omega arith)
+none_there gap r (s ∷ l) h = none_at_cons start_of r.start s l (apart_starts gap r s h.0) (none_there gap r l h.1)
 
 -- starts of their own, member by member
 none_of_each : (k : ℕ) (l : List Reservation) → OfEach (λ s. s.start ≢ k) l → NoneAt start_of k l
@@ -164,7 +172,7 @@ some_asked ask e = (
 pub record IsJoined (rules : Rules) (s : State) (ask : Ask) (r : Reservation) : Type 0 where
   pub made : reservation_of ask ≡ Some r
   pub ahead : s.floor ≤ r.start
-  pub clear : OfEach (AreDisjoint r) s.list
+  pub clear : OfEach (AreDisjoint rules.gap r) s.list
   pub duty : (band : Band) → band_of r.freq_hz r.rate ≡ Some band → full_hour s.list band r.start (airtime_us r) ≡ None
 
 pub joined : (rules : Rules) (s : State) (ask : Ask) → refusal_of (terms_at rules s) s.list ask ≡ None
@@ -177,26 +185,27 @@ joined rules s ask e =
       record {
         made = reservation_of-asked ask some.0 a.fit some.1;
         ahead = rw some.1.start a.ahead;
-        clear = clear_of some.0 s.list may.clear;
+        clear = clear_of rules.gap some.0 s.list may.clear;
         duty = may.duty;
       },
     )
 
 -- a lawful list stays lawful with an accepted ask, and without a member
-pub lawful_placed : (l : List Reservation) (r : Reservation) → IsLawful l → OfEach (AreDisjoint r) l
+pub lawful_placed : (gap : ℕ) (l : List Reservation) (r : Reservation) → IsLawful gap l → OfEach (AreDisjoint gap r) l
     → ((band : Band) → band_of r.freq_hz r.rate ≡ Some band → full_hour l band r.start (airtime_us r) ≡ None)
-    → IsLawful (place r l)
-lawful_placed l r w c d =
+    → IsLawful gap (place r l)
+lawful_placed gap l r w c d =
     record {
       fit = all_fit (place r l);
-      apart = of_pairs (place r l) (pairs_placed r l c (pairs_of l w.apart));
+      apart = of_pairs gap (place r l) (pairs_placed gap r l c (pairs_of gap l w.apart));
       duty = duty_placed l r w.duty d;
     }
 
-pub lawful_filtered : (test : Reservation → Bool) (l : List Reservation) → IsLawful l → IsLawful (filter test l)
-lawful_filtered test l w =
+pub lawful_filtered : (gap : ℕ) (test : Reservation → Bool) (l : List Reservation) → IsLawful gap l
+    → IsLawful gap (filter test l)
+lawful_filtered gap test l w =
     record {
       fit = all_fit (filter test l);
-      apart = of_pairs (filter test l) (pairs_filtered test l (pairs_of l w.apart));
+      apart = of_pairs gap (filter test l) (pairs_filtered gap test l (pairs_of gap l w.apart));
       duty = λ band t. omega (arith, begun-filter band t (t + hour) test l, w.duty band t);
     }

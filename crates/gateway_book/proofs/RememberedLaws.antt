@@ -25,7 +25,7 @@ remembers_own b s e k = record { floor = cc; list = cc; booked = cc; cancelled =
 -- Of a book that remembers an orderly state: it answers as the state does, and what it becomes remembers the next state,
 -- whose list is orderly too.
 
-module _ (b : Book) (s : State) (o : IsOrderly s.list) (r : Remembers b s) where
+module _ (b : Book) (s : State) (o : IsOrderly b.rules.gap s.list) (r : Remembers b s) where
   own : AreOwn s.list
   own = own_rising start_of 0 s.list o.by_start
 
@@ -36,7 +36,7 @@ module _ (b : Book) (s : State) (o : IsOrderly s.list) (r : Remembers b s) where
   remembers_answer ask =
       ap (λ (t : Terms). refusal_of t b.list ask) same_terms
       ∙ ap (λ (l : List Reservation). refusal_of (terms_at b.rules s) l ask) r.list
-      ∙ refusal_of-kept (terms_at b.rules s) s.list ask own
+      ∙ refusal_of-kept (terms_at b.rules s) s.list ask o.rested own
 
   module _ (ask : Ask) (m : Reservation) (a : IsAsked ask m) (e : refusal_of (terms_of b) b.list ask ≡ None) where
     unrefused : refusal_of (terms_at b.rules s) s.list ask ≡ None
@@ -45,10 +45,10 @@ module _ (b : Book) (s : State) (o : IsOrderly s.list) (r : Remembers b s) where
     stepped : book_step b.rules s ask ≡ record s { list = place m s.list; booked = s.booked + airtime_us m }
     stepped = book_step-accepted b.rules s ask m unrefused a
 
-    placed_orderly : IsOrderly (place m s.list)
+    placed_orderly : IsOrderly b.rules.gap (place m s.list)
     placed_orderly = orderly_placed s.list m o (may_join (terms_at b.rules s) s.list ask m a unrefused)
 
-    pub orderly_booked : IsOrderly (book_step b.rules s ask).list
+    pub orderly_booked : IsOrderly b.rules.gap (book_step b.rules s ask).list
     orderly_booked = rw stepped placed_orderly
 
     pub remembers_booked : Remembers (with_booked b m) (book_step b.rules s ask)
@@ -71,11 +71,11 @@ module _ (b : Book) (s : State) (o : IsOrderly s.list) (r : Remembers b s) where
         ∙ ap (λ (l : List Reservation). cancel_answer s.floor l number start) r.list
         ∙ cancel_answer-kept s.list s.floor number start own
 
-    cancelled_orderly : (x : Result Reservation CancelFault) → IsOrderly (after_cancel x s number start).list
+    cancelled_orderly : (x : Result Reservation CancelFault) → IsOrderly b.rules.gap (after_cancel x s number start).list
     cancelled_orderly (Ok m) = orderly_filter (λ x. not (is_named number start x)) s.list o
     cancelled_orderly (Err fault) = o
 
-    pub orderly_cancelled : IsOrderly (cancel_step s number start).list
+    pub orderly_cancelled : IsOrderly b.rules.gap (cancel_step s number start).list
     orderly_cancelled = cancelled_orderly (cancel_answer s.floor s.list number start)
 
     cancelled_by : (c : Book) (x : Result Reservation CancelFault) → state_of c ≡ after_cancel x (state_of b) number start

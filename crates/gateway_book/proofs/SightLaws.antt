@@ -12,7 +12,7 @@ use Rattle.resv_list.specs.Reservations.{start_of, end_of, is_in, share, begun, 
 use Rattle.resv_list.proofs.BegunLemmas.{share_before}
 use Rattle.resv_list.proofs.FilterLemmas.{filter-alike, filter-stronger}
 use Rattle.resv_list.proofs.SortLemmas.{HaveOwnKeys, own_filtered, value-sorted}
-use Rattle.gateway_book.specs.Disjoint.{overlaps}
+use Rattle.gateway_book.specs.Disjoint.{overlaps, most_gap, rested_from}
 use Rattle.gateway_book.specs.Least.{least, at_most, first_start}
 use Rattle.gateway_book.specs.Kept.{is_kept, kept}
 use Rattle.resv_list.specs.Hours.{starts_in}
@@ -59,18 +59,20 @@ first_start-kept test l floor o h =
     (own_filtered start_of (is_kept floor) l o)
     ∙ ap (λ (m : List Reservation). least (map start_of m)) (filter-stronger test (is_kept floor) h l)
 
--- what is still on air at a moment no earlier than the floor is kept
-overlap_kept : (floor from to : ℕ) → floor ≤ from → (r : Reservation) → overlaps start_of end_of from to r ≡ true
-    → is_kept floor r ≡ true
-overlap_kept floor from to h r e =
+-- what is still on air, or whose gap has not passed, at a moment no earlier than the floor is kept: airtime and gap are
+-- together below an hour
+overlap_kept : (gap floor from to : ℕ) → gap ≤ most_gap → floor ≤ from → (r : Reservation)
+    → overlaps start_of (rested_from gap) from to r ≡ true → is_kept floor r ≡ true
+overlap_kept gap floor from to g h r e =
     let s = airtime_of-short r.rate r.len r.fit.sized in
     grind (arith, nat_tests)
 
-pub overlap-kept : (l : List Reservation) (floor from to : ℕ) → AreOwn l → floor ≤ from
-    → overlap (kept l floor) from to ≡ overlap l from to
+pub overlap-kept : (gap : ℕ) (l : List Reservation) (floor from to : ℕ) → gap ≤ most_gap → AreOwn l → floor ≤ from
+    → overlap gap (kept l floor) from to ≡ overlap gap l from to
 unfolding overlap
-overlap-kept l floor from to o h =
-    first_start-kept (overlaps start_of end_of from to) l floor o (overlap_kept floor from to h)
+overlap-kept gap l floor from to g o h =
+    first_start-kept (overlaps start_of (rested_from gap) from (to + gap)) l floor o
+    (overlap_kept gap floor from (to + gap) g h)
 
 -- what begins within an hour that ends after the floor is kept
 begun_kept_by : (band : Band) (floor from : ℕ) (r : Reservation) (l : List Reservation) (t : Bool) → is_kept floor r ≡ t

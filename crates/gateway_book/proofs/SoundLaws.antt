@@ -1,6 +1,7 @@
-use Rattle.std.specs.Prelude.{ℕ, ◌≡◌, ◌+◌, ◌-◌, ◌<◌, ◌≤◌, max, Bool, List, [], length, Some, None, find, filter}
-use Rattle.std.specs.Prelude.{not}
-use Rattle.std.proofs.Common.{refl, sym, ap, subst, ◌∙◌, arith}
+use Rattle.std.specs.Prelude.{ℕ, ◌≡◌, ◌+◌, ◌-◌, ◌<◌, ◌≤◌, max, Bool, List, [], length, Some, None, find, filter, ◌==◌, ◌||◌}
+use Rattle.std.specs.Prelude.{not, true, false, if◌then◌else◌}
+use Rattle.std.proofs.Common.{refl, sym, ap, subst, ◌∙◌, arith, nat_lt}
+use Rattle.std.proofs.lemmas.Bool.Decides.{nat_tests}
 use Rattle.resv_list.specs.declared.reservation.Reservation.{Reservation}
 use Rattle.resv_list.proofs.SortedLaws.{length-place_by}
 use Rattle.resv_list.specs.Reservations.{start_of, IsByStart, place, airtime_us, net, without, members_before, members_from}
@@ -8,10 +9,11 @@ use Rattle.resv_list.proofs.NetLemmas.{net-parted}
 use Rattle.radio_bands.specs.Band.{hour}
 use Rattle.gateway_book.specs.Kept.{is_kept, kept, retired_of}
 use Rattle.gateway_book.specs.Lawful.{IsLawful}
+use Rattle.gateway_book.specs.Opening.{open_fault}
 use Rattle.gateway_book.proofs.KeptLaws.{kept-filtered, kept-place, kept-filter, kept-twice, kept-nil, kept-from, retired-before}
 use Rattle.gateway_book.proofs.KeptLaws.{net-place}
 use Rattle.gateway_book.specs.declared.ask.Ask.{Ask}
-use Rattle.gateway_book.specs.Answer.{IsAsked, total_limit, refusal_of}
+use Rattle.gateway_book.specs.Answer.{IsAsked, total_limit, refusal_of, Rules}
 use Rattle.gateway_book.proofs.AnswerLaws.{accepted, book_step-accepted}
 use Rattle.gateway_book.specs.Step.{is_named, without_named, book_step, tick_step}
 use Rattle.gateway_book.proofs.CancelLaws.{fewer, net_named}
@@ -19,18 +21,34 @@ use Rattle.gateway_book.specs.Orderly.{IsOrderly, MayJoin}
 use Rattle.gateway_book.proofs.OrderlyLaws.{orderly_nil, orderly_placed, orderly_filter, may_join}
 use Rattle.gateway_book.specs.Book.{Book, IsSound, terms_of, with_booked, with_cancelled, at_floor, ticked, state_of}
 use Rattle.gateway_book.specs.Remembers.{Remembers}
+use Rattle.gateway_book.specs.Disjoint.{most_gap}
+use Rattle.gateway_book.specs.declared.opening.OpenFault.TheVariants.{BadCap, BadGap}
 
 -- What a book keeps when it is opened and when it books.
 
-pub sound_empty : (id cap : ℕ) → 0 < cap → cap ≤ 65536 → IsSound
-    (record { id = id; rules = record { cap = cap }; floor = 0; list = []; booked = 0; cancelled = 0; retired = 0 })
+-- what is not refused lies within
+within_by : (cap gap : ℕ) (s t u : Bool) → (cap == 0) ≡ s → nat_lt 65536 cap ≡ t → nat_lt most_gap gap ≡ u
+    → (if s || t then Some BadCap else (if u then Some BadGap else None)) ≡ None
+    → (0 < cap) × (cap ≤ 65536) × (gap ≤ most_gap)
+within_by cap gap true t u a b c e = absurd (cc)
+within_by cap gap false true u a b c e = absurd (cc)
+within_by cap gap false false true a b c e = absurd (cc)
+within_by cap gap false false false a b c e = (grind (arith, nat_tests), grind (arith, nat_tests), grind (arith, nat_tests))
+
+pub within : (rules : Rules) → open_fault rules ≡ None → (0 < rules.cap) × (rules.cap ≤ 65536) × (rules.gap ≤ most_gap)
+within rules e =
+    within_by rules.cap rules.gap (rules.cap == 0) (nat_lt 65536 rules.cap) (nat_lt most_gap rules.gap) refl refl refl e
+
+pub sound_empty : (id : ℕ) (rules : Rules) → 0 < rules.cap → rules.cap ≤ 65536 → rules.gap ≤ most_gap → IsSound
+    (record { id = id; rules = rules; floor = 0; list = []; booked = 0; cancelled = 0; retired = 0 })
 unfolding net
-sound_empty id cap h g =
+sound_empty id rules h g k =
     record {
       opened = h;
       capped = g;
       counted = omega arith;
-      lawful = orderly_nil.lawful;
+      rested = k;
+      lawful = (orderly_nil rules.gap k).lawful;
       kept_whole = kept-nil 0;
       balanced = refl;
       bounded = omega arith;
@@ -39,20 +57,21 @@ sound_empty id cap h g =
 -- what a book learns from an accepted ask, of the reservation with its fields
 pub record CanBook (b : Book) (r : Reservation) : Type 0 where
   pub ahead : b.floor ≤ r.start
-  pub joins : MayJoin b.list r
+  pub joins : MayJoin b.rules.gap b.list r
   pub spare : length b.list < b.rules.cap
   pub total : b.booked + airtime_us r ≤ total_limit
 
-orderly_book : (b : Book) → IsSound b → IsByStart b.list → IsOrderly b.list
-orderly_book b s o = record { by_start = o; lawful = s.lawful }
+orderly_book : (b : Book) → IsSound b → IsByStart b.list → IsOrderly b.rules.gap b.list
+orderly_book b s o = record { rested = s.rested; by_start = o; lawful = s.lawful }
 
 pub sound_booked : (b : Book) (r : Reservation) → IsSound b → IsByStart b.list → CanBook b r → IsSound (with_booked b r)
 sound_booked b r s o c =
-    let joined : IsOrderly (place r b.list) = orderly_placed b.list r (orderly_book b s o) c.joins in
+    let joined : IsOrderly b.rules.gap (place r b.list) = orderly_placed b.list r (orderly_book b s o) c.joins in
     record {
       opened = s.opened;
       capped = s.capped;
       counted = omega (arith, length-place_by start_of r b.list, c.spare);
+      rested = s.rested;
       lawful = joined.lawful;
       kept_whole = kept-place r b.list b.floor o joined.by_start c.ahead ∙ ap (place r) s.kept_whole;
       balanced = omega (arith, net-place r b.list, s.balanced);
@@ -86,12 +105,14 @@ shorter l floor o =
 -- what a book keeps when its floor rises
 pub sound_ticked : (b : Book) (floor : ℕ) → IsSound b → IsByStart b.list → IsSound (at_floor b floor)
 sound_ticked b floor s o =
-    let left : IsOrderly (filter (is_kept floor) b.list) = orderly_filter (is_kept floor) b.list (orderly_book b s o) in
-    let P : List Reservation → Type 0 = λ l. IsLawful l in
+    let left : IsOrderly b.rules.gap (filter (is_kept floor) b.list) = orderly_filter (is_kept floor) b.list
+    (orderly_book b s o) in
+    let P : List Reservation → Type 0 = λ l. IsLawful b.rules.gap l in
     record {
       opened = s.opened;
       capped = s.capped;
       counted = omega (arith, s.counted, shorter b.list floor o);
+      rested = s.rested;
       lawful = subst P (sym (kept-filtered b.list floor o)) left.lawful;
       kept_whole = kept-twice b.list floor o;
       balanced = omega (arith, s.balanced, net_parted b.list floor o);
@@ -104,11 +125,12 @@ pub sound_cancelled : (b : Book) (number start : ℕ) (r : Reservation) → IsSo
     → IsSound (with_cancelled b number start (airtime_us r))
 sound_cancelled b number start r s o f w =
     let stays : Reservation → Bool = λ m. not (is_named number start m) in
-    let left : IsOrderly (without_named b.list number start) = orderly_filter stays b.list (orderly_book b s o) in
+    let left : IsOrderly b.rules.gap (without_named b.list number start) = orderly_filter stays b.list (orderly_book b s o) in
     record {
       opened = s.opened;
       capped = s.capped;
       counted = omega (arith, fewer stays b.list, s.counted);
+      rested = s.rested;
       lawful = left.lawful;
       kept_whole = kept-filter stays b.list b.floor o ∙ ap (filter stays) s.kept_whole;
       balanced = omega (arith, net_named b.list number start r o f w, s.balanced);

@@ -6,7 +6,7 @@ use Rattle.resv_list.specs.Reservations.{IsByStart, airtime_us, member_from, net
 use Rattle.gateway_book.specs.declared.ask.Ask.{Ask}
 use Rattle.gateway_book.specs.declared.cancel.CancelFault.{CancelFault}
 use Rattle.gateway_book.specs.declared.cancel.CancelFault.TheVariants.{Begun}
-use Rattle.gateway_book.specs.Answer.{IsAsked, refusal_of}
+use Rattle.gateway_book.specs.Answer.{IsAsked, refusal_of, Rules}
 use Rattle.gateway_book.specs.Kept.{kept, retired_of}
 use Rattle.gateway_book.specs.Step.{State, book_step, cancel_answer, after_cancel, cancel_step, tick_step, is_named, found_or}
 use Rattle.gateway_book.specs.Step.{terms_at, without_named}
@@ -18,6 +18,7 @@ use Rattle.gateway_book.proofs.KeptLaws.{net-place}
 use Rattle.gateway_book.proofs.SoundLaws.{net_parted}
 use Rattle.gateway_book.proofs.RememberedLaws.{remembers_answer, orderly_booked, remembers_booked, orderly_cancelled}
 use Rattle.gateway_book.proofs.RememberedLaws.{remembers_cancelled, remembers_ticked}
+use Rattle.gateway_book.specs.Orderly.{IsOrderly}
 
 -- What stays of a state whose totals go with its list, and of a book that stands for it.
 
@@ -71,11 +72,12 @@ module _ (b : Book) (s : State) (h : StandsFor b s) where
         remembers = remembers_booked b s h.orderly h.remembers ask m a e;
       }
 
-  pub stands_cancelled : (number start : ℕ) (c : Book) → state_of c ≡ cancel_step (state_of b) number start
-      → StandsFor c (cancel_step s number start)
-  stands_cancelled number start c e =
+  pub stands_cancelled : (number start : ℕ) (c : Book) → c.rules ≡ b.rules
+      → state_of c ≡ cancel_step (state_of b) number start → StandsFor c (cancel_step s number start)
+  stands_cancelled number start c same e =
+      let P : Rules → Type 0 = λ r. IsOrderly r.gap (cancel_step s number start).list in
       record {
-        orderly = orderly_cancelled b s h.orderly h.remembers number start;
+        orderly = subst P (sym same) (orderly_cancelled b s h.orderly h.remembers number start);
         balanced = balanced_cancelled s number start (cancel_answer s.floor s.list number start) refl h.orderly.by_start
             h.balanced;
         remembers = remembers_cancelled b s h.orderly h.remembers number start c e;

@@ -31,7 +31,7 @@ full_hour_of_k =
     placed (reservation_of (slow_at 0)) (placed (reservation_of (slow_at 1000000)) (placed (reservation_of (slow_at 2000000)) []))
 
 abbrev pub terms : ℕ → ℕ → ℕ → Terms
-terms floor cap booked = record { floor = floor; rules = record { cap = cap }; booked = booked }
+terms floor cap booked = record { floor = floor; rules = record { cap = cap; gap = 0 }; booked = booked }
 
 pub no_band_before_too_long :
     refusal_of (terms 0 1 0) [] (record { number = 1; start = 0; freq_hz = 868600000; rate = Dr0; len = 255 }) ≡ Some NoBand

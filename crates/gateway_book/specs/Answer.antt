@@ -10,18 +10,19 @@ use Rattle.gateway_book.specs.declared.ask.Ask.{Ask}
 use Rattle.gateway_book.specs.declared.refusal.Refusal.{Refusal}
 use Rattle.gateway_book.specs.declared.refusal.Refusal.TheVariants.{NoBand, TooLong, PastEnd, Passed, Taken, DutyFull, Full}
 use Rattle.gateway_book.specs.declared.refusal.Refusal.TheVariants.{TotalsFull}
-use Rattle.gateway_book.specs.Disjoint.{overlaps}
+use Rattle.gateway_book.specs.Disjoint.{overlaps, rested_from}
 use Rattle.gateway_book.specs.Kept.{kept}
 use Rattle.gateway_book.specs.Least.{first_start}
 use Rattle.gateway_book.specs.Duty.{full_hour}
 use Rattle.radio_bands.specs.declared.band.Band.{Band}
-use Rattle.resv_list.specs.Reservations.{start_of, end_of, spent}
+use Rattle.resv_list.specs.Reservations.{start_of, spent}
 
 -- The answer of a book to an ask: the first of eight rows that holds, or none where it is accepted.
 
--- what a book is opened with, and keeps: how many members it may have
+-- what a book is opened with, and keeps: how many members it may have, and the gap that it keeps between two of them
 pub record Rules : Type 0 where
   pub cap : ℕ
+  pub gap : ℕ
 
 -- what an answer rests on beside the list
 pub record Terms : Type 0 where
@@ -63,13 +64,13 @@ past_end ask = refused_if (nat_lt last_end (ask_end ask)) PastEnd
 abbrev pub passed : Terms → Ask → Option Refusal
 passed terms ask = refused_if (nat_lt ask.start terms.floor) Passed
 
--- the least start of a member that is not disjoint from what covers `from` up to `to`
-unfoldable pub overlap : List Reservation → ℕ → ℕ → Option ℕ
-overlap l from to = first_start (overlaps start_of end_of from to) l
+-- the least start of a member that is not disjoint, with this gap, from what covers `from` up to `to`
+unfoldable pub overlap : ℕ → List Reservation → ℕ → ℕ → Option ℕ
+overlap gap l from to = first_start (overlaps start_of (rested_from gap) from (to + gap)) l
 
 -- a member is not disjoint from it: the least start of such a member
-abbrev pub taken : List Reservation → Ask → Option Refusal
-taken l ask = option_map Taken (overlap l ask.start (ask_end ask))
+abbrev pub taken : Terms → List Reservation → Ask → Option Refusal
+taken terms l ask = option_map Taken (overlap terms.rules.gap l ask.start (ask_end ask))
 
 -- an hour that holds its start would have more airtime of its band than the limit: the least opening
 -- of such an hour, and the airtime that begins in it without what is asked for
@@ -99,7 +100,7 @@ rows terms l ask =
     ∷ too_long ask
     ∷ past_end ask
     ∷ passed terms ask
-    ∷ taken l ask
+    ∷ taken terms l ask
     ∷ duty_full l ask
     ∷ full terms l
     ∷ totals_full terms ask

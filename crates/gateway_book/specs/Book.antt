@@ -2,6 +2,7 @@ use Rattle.std.specs.Prelude.{ℕ, ◌≡◌, ◌<◌, ◌≤◌, ◌+◌, ◌-�
 use Rattle.resv_list.specs.declared.reservation.Reservation.{Reservation}
 use Rattle.resv_list.specs.Reservations.{IsByStart, net, place, airtime_us}
 use Rattle.gateway_book.specs.declared.totals.Totals.{Totals}
+use Rattle.gateway_book.specs.Disjoint.{most_gap}
 use Rattle.gateway_book.specs.Lawful.{IsLawful}
 use Rattle.gateway_book.specs.Kept.{kept, retired_of}
 use Rattle.gateway_book.specs.Answer.{Rules, Terms, total_limit}
@@ -65,7 +66,8 @@ pub record IsSound (b : Book) : Type 0 where
   pub opened : 0 < b.rules.cap
   pub capped : b.rules.cap ≤ 65536
   pub counted : length b.list ≤ b.rules.cap
-  pub lawful : IsLawful b.list
+  pub rested : b.rules.gap ≤ most_gap
+  pub lawful : IsLawful b.rules.gap b.list
   pub kept_whole : kept b.list b.floor ≡ b.list
   pub balanced : b.booked ≡ b.cancelled + b.retired + net b.list
   pub bounded : b.booked ≤ total_limit
@@ -76,7 +78,8 @@ pub record IsBookList (rules : Rules) (floor booked : ℕ) (l : List Reservation
   pub capped : rules.cap ≤ 65536
   pub counted : length l ≤ rules.cap
   pub by_start : IsByStart l
-  pub lawful : IsLawful l
+  pub rested : rules.gap ≤ most_gap
+  pub lawful : IsLawful rules.gap l
   pub kept_whole : kept l floor ≡ l
   pub covered : net l ≤ booked
   pub bounded : booked ≤ total_limit

@@ -1,9 +1,9 @@
 use Rattle.std.specs.Prelude.{ℕ, ◌≡◌, ◌+◌, ◌<◌, ◌≤◌, max, List, ◌⊎◌, Option, None, Contains, MatchOption}
 use Rattle.radio_bands.specs.Band.{hour}
 use Rattle.resv_list.specs.declared.reservation.Reservation.{Reservation}
-use Rattle.resv_list.specs.Reservations.{end_of}
 use Rattle.gateway_book.specs.declared.ask.Ask.{Ask}
 use Rattle.gateway_book.specs.Answer.{Terms, refusal_of}
+use Rattle.gateway_book.specs.Disjoint.{rested_from}
 
 -- The earliest start at which an ask would be accepted.
 
@@ -37,10 +37,11 @@ IsNextStart terms l ask o =
     (λ n. ((n ≡ ask.start) × Accepts terms l ask n)
     ⊎ ((ask.start < n) × ((t : ℕ) → ask.start ≤ t → Accepts terms l ask t → n ≤ t)))
 
--- the least allowed start, the end of a member, or an hour after the start of one
+-- the least allowed start, the end of a member and the gap after it, or an hour after the start of one
 abbrev pub IsCandidate : Terms → List Reservation → ℕ → ℕ → Type 0
 IsCandidate terms l a s =
-    (s ≡ max a terms.floor) ⊎ ((r : Reservation) × Contains l r × ((s ≡ end_of r) ⊎ (s ≡ r.start + hour)))
+    (s ≡ max a terms.floor)
+    ⊎ ((r : Reservation) × Contains l r × ((s ≡ rested_from terms.rules.gap r) ⊎ (s ≡ r.start + hour)))
 
 -- the law: the least accepted start is one of these, for every list
 abbrev pub EarliestCandidates : Type 0

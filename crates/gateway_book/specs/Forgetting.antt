@@ -1,4 +1,4 @@
-use Rattle.std.specs.Prelude.{ℕ, ◌≡◌, ◌≢◌, max, List, [], ◌∷◌, Option, Some, Result, slice_get}
+use Rattle.std.specs.Prelude.{ℕ, ◌≡◌, ◌≢◌, max, List, [], ◌∷◌, Option, Some, Result, slice_get, ◌≤◌}
 use Rattle.resv_list.specs.declared.reservation.Reservation.{Reservation}
 use Rattle.gateway_book.specs.declared.ask.Ask.{Ask}
 use Rattle.gateway_book.specs.declared.refusal.Refusal.{Refusal}
@@ -7,6 +7,7 @@ use Rattle.gateway_book.specs.Kept.{kept}
 use Rattle.gateway_book.specs.Lawful.{IsLawful}
 use Rattle.gateway_book.specs.Answer.{Rules, refusal_of}
 use Rattle.gateway_book.specs.Step.{State, terms_at, book_step, cancel_answer, cancel_step, tick_step}
+use Rattle.gateway_book.specs.Disjoint.{most_gap}
 
 -- A gateway that forgets what its floor has put out of sight, beside one that forgets nothing.
 
@@ -57,8 +58,9 @@ pub record IsUnseen (rules : Rules) (s : State) : Type 0 where
   pub reply : (c : Command) → reply_to rules (forgetful s) c ≡ reply_to rules s c
   pub after : (c : Command) → forgetful (after_command rules (forgetful s) c) ≡ forgetful (after_command rules s c)
   pub replies : (cs : List Command) → forgetful_replies rules (forgetful s) cs ≡ replies rules s cs
-  pub lawful : (c : Command) → IsLawful s.list → IsLawful (after_command rules s c).list
+  pub lawful : (c : Command) → IsLawful rules.gap s.list → IsLawful rules.gap (after_command rules s c).list
 
--- the law: so it is for every list of fit members with starts of their own, by start or not, lawful or not
+-- the law: so it is for every gap that a gateway may have, and every list of fit members with starts of their own, by start
+-- or not, lawful or not
 abbrev pub ForgettingIsUnseen : Type 0
-ForgettingIsUnseen = (rules : Rules) (s : State) → HaveOwnStarts s.list → IsUnseen rules s
+ForgettingIsUnseen = (rules : Rules) (s : State) → rules.gap ≤ most_gap → HaveOwnStarts s.list → IsUnseen rules s

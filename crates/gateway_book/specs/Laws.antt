@@ -2,7 +2,7 @@ use Rattle.std.specs.Prelude.{ℕ, ◌≡◌, ◌+◌, ◌<◌, ◌≤◌, Bool,
 use Rattle.std.specs.Option.{option_map}
 use Rattle.resv_list.specs.declared.reservation.Reservation.{Reservation}
 use Rattle.resv_list.specs.Reservations.{start_of, end_of, IsByStart, spent}
-use Rattle.gateway_book.specs.Lawful.{AreApart}
+use Rattle.gateway_book.specs.Lawful.{AreApart, IsLawful}
 use Rattle.gateway_book.specs.Least.{first_start, least}
 use Rattle.gateway_book.specs.Spaced.{SpacedFrom}
 use Rattle.radio_bands.specs.declared.band.Band.{Band}
@@ -10,12 +10,18 @@ use Rattle.radio_bands.specs.Band.{hour, limit_of}
 use Rattle.resv_list.specs.Hours.{starts_in}
 use Rattle.gateway_book.specs.Duty.{full_hour}
 use Rattle.gateway_book.specs.Busiest.{IsBusiestAnswer, busiest_of}
+use Rattle.gateway_book.specs.Disjoint.{rested_from}
 
 -- The laws of a book: what its definitions mean, for every list and every natural moment.
 
 -- neighbours of a list by start are spaced exactly where members at different places are disjoint
 abbrev pub SpacedIsApart : Type 0
-SpacedIsApart = (l : List Reservation) → IsByStart l → SpacedFrom start_of end_of 0 l ↔ AreApart l
+SpacedIsApart =
+    (gap : ℕ) (l : List Reservation) → IsByStart l → SpacedFrom start_of (rested_from gap) 0 l ↔ AreApart gap l
+
+-- a list that keeps a gap keeps each smaller one, so that its members are disjoint
+abbrev pub GapKeepsDisjoint : Type 0
+GapKeepsDisjoint = (gap less : ℕ) (l : List Reservation) → less ≤ gap → IsLawful gap l → IsLawful less l
 
 -- the first member of a list by start that passes a test has the least start of those that do
 abbrev pub FirstHasLeastStart : Type 0

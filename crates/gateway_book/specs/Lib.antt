@@ -7,10 +7,12 @@ pub mod Kept
 pub mod Least
 pub mod Duty
 pub mod Earliest
+pub mod EarliestValue
 pub mod Answer
 pub mod Step
 pub mod Orderly
 pub mod Book
+pub mod Opening
 pub mod Remembers
 pub mod Forgetting
 pub use Rattle.radio_airtime.specs.DataRate

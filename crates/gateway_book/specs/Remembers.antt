@@ -16,6 +16,6 @@ pub record Remembers (b : Book) (s : State) : Type 0 where
 
 -- and the state's list is one that a gateway may hold, with the totals to it
 pub record StandsFor (b : Book) (s : State) : Type 0 where
-  pub orderly : IsOrderly s.list
+  pub orderly : IsOrderly b.rules.gap s.list
   pub balanced : s.booked ≡ s.cancelled + net s.list
   pub remembers : Remembers b s

@@ -1,12 +1,13 @@
-ghost use Rattle.std.specs.Prelude.{◌≡◌, ◌+◌, ◌≤◌, ◌↔◌, [], IsOk, IfOk, OnOk, OnErr, MatchOption, IsOkUnless, IsOkAnd};
+ghost use Rattle.std.specs.Prelude.{◌≡◌, ◌+◌, ◌≤◌, ◌↔◌, [], IsOk, IfOk, IfErr, OnOk, OnErr, MatchOption, IsOkUnless, IsOkAnd};
 ghost use Rattle.std.specs.Option.{option_and_then};
-ghost use Rattle.gateway_book.specs.Answer.{IsAsked, refusal_of, overlap, overfull};
-ghost use Rattle.gateway_book.specs.Lawful.{IsLawful};
+ghost use Rattle.gateway_book.specs.Answer.{IsAsked, refusal_of, overfull};
+ghost use Rattle.gateway_book.specs.Lawful.{AreApart, IsLawful};
 ghost use Rattle.gateway_book.specs.Book.{IsBookList, trial_book};
+ghost use Rattle.gateway_book.specs.Opening.{open_fault};
 ghost use Rattle.gateway_book.specs.Book.{terms_of, state_of, with_booked, with_cancelled, ticked, airtime_answer, totals_of};
 ghost use Rattle.gateway_book.specs.Remembers.{Remembers};
 ghost use Rattle.radio_bands.specs.Band.{band_of};
-ghost use Rattle.resv_list.specs.Reservations.{end_of, airtime_us};
+ghost use Rattle.resv_list.specs.Reservations.{airtime_us};
 ghost use Rattle.gateway_book.specs.Busiest.{IsBusiestAnswer, busiest_of};
 ghost use Rattle.gateway_book.specs.Step.{book_step, cancel_answer, cancel_step, tick_step};
 
@@ -15,16 +16,12 @@ use crate::busiest::busiest_hour;
 use crate::cancel::named;
 use crate::duty::full_hour;
 use crate::listing::members_of;
-use crate::overlap::{ending_after, starting_before};
-use crate::{Ask, CancelFault, Refusal, Totals};
+use crate::opening::fault_of;
+use crate::{Ask, CancelFault, MAX_CAP, MAX_GAP, OpenFault, Refusal, Totals};
 use radio_bands::Band;
 use resv_list::{HOUR, Reservation, Roster, airtime_of};
 use std::alloc::{AllocError, Allocator};
 use std::marker::Model;
-use thiserror::Error;
-
-/// The greatest number of transmissions that a book may keep.
-pub const MAX_CAP: u32 = 65_536;
 
 /// The greatest total of booked airtime, in microseconds.
 pub const TOTAL_LIMIT: u64 = 1 << 62;
@@ -32,16 +29,9 @@ pub const TOTAL_LIMIT: u64 = 1 << 62;
 /// There was no memory for a list.
 pub type NoMemory = AllocError;
 
-/// Why no book was opened.
-#[derive(Clone, Copy, Debug, PartialEq, Eq, Error)]
-pub enum OpenFault {
-    #[error("the cap of a book is 1 to 65,536 transmissions")]
-    BadCap,
-}
-
 /// The airtime book of one gateway, over any roster: which transmissions it has reserved. Its type
-/// keeps that every member is fit, that members at different places are disjoint, that in each sub-band
-/// the airtime that begins in an hour, wherever the hour opens, is within the band's limit (this
+/// keeps that every member is fit, that members at different places are disjoint with the gateway's gap between them, that in
+/// each sub-band the airtime that begins in an hour, wherever the hour opens, is within the band's limit (this
 /// project's profile of ETSI EN 300 220-2, duty cycle over one hour, with its sub-bands), and that the
 /// booked airtime is the sum of what was cancelled, what was retired and what is kept. It keeps just what began
 /// no more than an hour before its floor. Moments are in microseconds of the gateway's clock.
@@ -50,6 +40,7 @@ pub struct GatewayBook<R: Roster> {
     pub(crate) roster: R,
     id: u16,
     cap: u32,
+    pub(crate) gap: u32,
     pub(crate) floor: u64,
     booked: u64,
     cancelled: u64,
@@ -63,7 +54,7 @@ impl<R: Roster> Model for GatewayBook<R> {
 
     ghost view = { λ b. record {
       id = b.id;
-      rules = record { cap = b.cap };
+      rules = record { cap = b.cap; gap = b.gap };
       floor = b.floor;
       list = R.list b.roster;
       booked =
@@ -74,7 +65,7 @@ impl<R: Roster> Model for GatewayBook<R> {
 
     ghost invariant = { λ b. IsSound (record {
       id = b.id;
-      rules = record { cap = b.cap };
+      rules = record { cap = b.cap; gap = b.gap };
       floor = b.floor;
       list = R.list b.roster;
       booked = b.booked;
@@ -84,16 +75,18 @@ impl<R: Roster> Model for GatewayBook<R> {
 }
 
 impl<R: Roster> GatewayBook<R> {
-    /// An empty book of gateway `id` that keeps at most `cap` transmissions, 1 to 65,536, over an empty
-    /// roster. Where the cap is outside, the roster is dropped.
-    pub fn new(roster: R, id: u16, cap: u32) -> Result<Self, OpenFault>
+    /// An empty book of gateway `id` that keeps at most `cap` transmissions, 1 to 65,536, with at least `gap` microseconds, 0
+    /// to 100,000, between the end of one and the start of the next, over an empty roster. Where the cap or the gap is outside,
+    /// the roster is dropped.
+    pub fn new(roster: R, id: u16, cap: u32, gap: u32) -> Result<Self, OpenFault>
     where
         R: Drop,
         requires { R.list roster ≡ [] }
-        ensures capped { IsOk result ↔ ((1 ≤ cap) × (cap ≤ MAX_CAP)) }
+        ensures opened { IsOk result ↔ ((1 ≤ cap) × (cap ≤ MAX_CAP) × (gap ≤ MAX_GAP)) }
+        ensures fault { IfErr result (λ fault. open_fault (record { cap = cap; gap = gap }) ≡ Some fault) }
         ensures empty { IfOk result (λ b. b ≡ record {
           id = id;
-          rules = record { cap = cap };
+          rules = record { cap = cap; gap = gap };
           floor = 0;
           list = [];
           booked = 0;
@@ -101,13 +94,14 @@ impl<R: Roster> GatewayBook<R> {
           retired = 0;
         }) }
     {
-        if cap == 0 || cap > MAX_CAP {
-            return Err(OpenFault::BadCap);
+        if let Some(fault) = fault_of(cap, gap) {
+            return Err(fault);
         }
         Ok(GatewayBook {
             roster,
             id,
             cap,
+            gap,
             floor: 0,
             booked: 0,
             cancelled: 0,
@@ -115,12 +109,14 @@ impl<R: Roster> GatewayBook<R> {
         })
     }
 
-    /// A book to try asks on, over an empty roster: with another's list, cap, floor and booked airtime (both in microseconds) it
-    /// answers as that one does. What it doesn't keep of what was booked is retired. A roster that found no memory is dropped.
+    /// A book to try asks on, over an empty roster: with another's list and cap, and its gap, floor and booked airtime in
+    /// microseconds, it answers as that one does. What it doesn't keep of what was booked is retired. A roster that found no
+    /// memory is dropped.
     pub fn trial(
         roster: R,
         id: u16,
         cap: u32,
+        gap: u32,
         floor: u64,
         booked: u64,
         list: &[Reservation],
@@ -128,14 +124,15 @@ impl<R: Roster> GatewayBook<R> {
     where
         R: Drop,
         requires empty { R.list roster ≡ [] }
-        requires listed { IsBookList (record { cap = cap }) floor booked list.now }
-        ensures { IfOk result (λ b. b ≡ trial_book id (record { cap = cap }) floor booked list.now) }
+        requires listed { IsBookList (record { cap = cap; gap = gap }) floor booked list.now }
+        ensures { IfOk result (λ b. b ≡ trial_book id (record { cap = cap; gap = gap }) floor booked list.now) }
     {
         let roster = roster.filled(list)?;
         Ok(GatewayBook {
             roster,
             id,
             cap,
+            gap,
             floor,
             booked,
             cancelled: 0,
@@ -155,6 +152,13 @@ impl<R: Roster> GatewayBook<R> {
         ensures { result ≡ self.now.rules.cap }
     {
         self.cap
+    }
+
+    /// The gap that the book keeps between two transmissions, in microseconds.
+    pub fn gap(&self) -> u32
+        ensures { result ≡ self.now.rules.gap }
+    {
+        self.gap
     }
 
     /// Reserves what is asked for, or answers the first refusal that holds, in the order of `Refusal`;
@@ -200,18 +204,6 @@ impl<R: Roster> GatewayBook<R> {
             return Err(Refusal::TotalsFull);
         }
         Ok(reservation)
-    }
-
-    /// The least start of a member that overlaps. Only two can: the last that begins before it, and the
-    /// first that doesn't.
-    fn first_overlap(&self, reservation: &Reservation) -> Option<u64>
-        ensures { result ≡ overlap self.now.list reservation.now.start (end_of reservation.now) }
-    {
-        let from = reservation.start;
-        match ending_after(self.roster.before(from), from) {
-            Some(before) => Some(before.start),
-            None => starting_before(self.roster.first_from(from), reservation.end()),
-        }
     }
 
     /// The refusal of what would overfill an hour of its sub-band.
@@ -291,7 +283,8 @@ impl<R: Roster> GatewayBook<R> {
     /// What the book keeps, by start.
     pub fn list<A: Allocator>(&self, alloc: A) -> Result<Vec<Reservation, A>, NoMemory>
         ensures members { IfOk result (λ members. members.items ≡ self.now.list) }
-        ensures lawful { IsLawful self.now.list }
+        ensures lawful { IsLawful self.now.rules.gap self.now.list }
+        ensures disjoint { AreApart 0 self.now.list }
         ensures whole { IsBookList self.now.rules self.now.floor self.now.booked self.now.list }
     {
         members_of(alloc, &self.roster)

@@ -5,7 +5,9 @@ ghost use Rattle.gateway_book.specs.Answer.{refusal_of};
 ghost use Rattle.gateway_book.specs.Book.{terms_of};
 ghost use Rattle.gateway_book.specs.Duty.{after_full_hour};
 ghost use Rattle.gateway_book.specs.Earliest.{IsEarliest, IsNextStart};
+ghost use Rattle.gateway_book.specs.EarliestValue.{earliest_of};
 
+use crate::overlap::rested_from;
 use crate::{Ask, GatewayBook, Refusal};
 use radio_bands::Band;
 use resv_list::{HOUR, Roster};
@@ -14,10 +16,11 @@ impl<R: Roster> GatewayBook<R> {
     /// The least start from `not_before` to `last`, both included and in microseconds of the gateway's clock, at which `book`
     /// would accept what is asked for, memory aside; `None` where there is none. The ask's own start is not looked at. The
     /// limits are those of `book`: duty cycle over one hour after ETSI EN 300 220-2, annex B, in the sub-bands of LoRaWAN
-    /// Regional Parameters RP002, EU863-870. Takes no memory, and walks over no transmissions: it tries only the least
-    /// allowed start, ends of transmissions, and starts of transmissions plus an hour (`law_earliest_candidates`).
+    /// Regional Parameters RP002, EU863-870. Takes no memory, and looks at transmissions by the roster's look-ups alone: it tries only the least
+    /// allowed start, ends of transmissions plus the gap, and starts of transmissions plus an hour (`law_earliest_candidates`).
     pub fn earliest(&self, ask: Ask, not_before: u64, last: u64) -> Option<u64>
-        ensures { IsEarliest (terms_of self.now) self.now.list ask not_before last result }
+        ensures answer { IsEarliest (terms_of self.now) self.now.list ask not_before last result }
+        ensures value { result ≡ earliest_of (terms_of self.now) self.now.list ask not_before last }
     {
         let mut start = not_before.max(self.floor);
         while start <= last {
@@ -48,8 +51,8 @@ impl<R: Roster> GatewayBook<R> {
         }
     }
 
-    /// The same where it is refused: the end of what overlaps it, or what comes after a full hour. No other refusal passes
-    /// with time.
+    /// The same where it is refused: when what overlaps it has ended and its gap has passed, or what comes after a full hour.
+    /// No other refusal passes with time.
     fn after_refusal(&self, ask: Ask, refusal: Refusal) -> Option<u64>
         requires late { self.now.floor ≤ ask.start }
         requires refused { refusal_of (terms_of self.now) self.now.list ask ≡ Some refusal }
@@ -58,7 +61,7 @@ impl<R: Roster> GatewayBook<R> {
         match refusal {
             Refusal::Taken { start } => {
                 let member = self.roster.first_from(start)?;
-                Some(member.end())
+                Some(rested_from(&member, self.gap))
             }
             Refusal::DutyFull { band, from, .. } => {
                 after_full_hour(&self.roster, band, ask.start, from)

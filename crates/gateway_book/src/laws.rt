@@ -1,12 +1,18 @@
-ghost use Rattle.gateway_book.specs.Laws.{SpacedIsApart, FirstHasLeastStart, LeastIsLeast, FewHoursSuffice, DutyRowIsExact};
-ghost use Rattle.gateway_book.specs.Laws.{BusiestIsExact};
+ghost use Rattle.gateway_book.specs.Laws.{SpacedIsApart, GapKeepsDisjoint, FirstHasLeastStart, LeastIsLeast};
+ghost use Rattle.gateway_book.specs.Laws.{FewHoursSuffice, DutyRowIsExact, BusiestIsExact};
 ghost use Rattle.gateway_book.specs.Earliest.{EarliestCandidates};
+ghost use Rattle.gateway_book.specs.EarliestValue.{EarliestIsExact};
 ghost use Rattle.gateway_book.specs.Forgetting.{ForgettingIsUnseen};
 
-/// Members at different places of a list by start are disjoint exactly where each begins no earlier
-/// than the one before it ends.
+/// Members at different places of a list by start are disjoint, with a gap between them, exactly where each begins no earlier
+/// than the one before it ends and the gap passes.
 pub fn law_spaced_is_apart()
     ensures { SpacedIsApart }
+{}
+
+/// A list that a gateway with a gap may hold is one that a gateway with any smaller gap may hold; so its members are disjoint.
+pub fn law_gap_keeps_disjoint()
+    ensures { GapKeepsDisjoint }
 {}
 
 /// The first member of a list by start that passes a test, as that it overlaps, has the least start of
@@ -39,14 +45,21 @@ pub fn law_busiest_is_exact()
     ensures { BusiestIsExact }
 {}
 
+/// The earliest start at which an ask is accepted, from one moment to another, is the one value that is answered, for every
+/// list of transmissions.
+pub fn law_earliest_is_exact()
+    ensures { EarliestIsExact }
+{}
+
 /// The earliest start at which an ask is accepted is the least allowed one (the greater of the moment from which it is
-/// looked for and the floor), the end of a transmission, or an hour after the start of one: no other start can be.
+/// looked for and the floor), the end of a transmission plus the gap, or an hour after the start of one: no other start can be.
 pub fn law_earliest_candidates()
     ensures { EarliestCandidates }
 {}
 
-/// What a floor has put out of sight, a transmission that began more than an hour before it, is seen in no such answer: for
-/// every list of transmissions that begin at different moments, by start or not, lawful or not, a book that keeps the
+/// What a floor has put out of sight, a transmission that began more than an hour before it, is seen in no such answer (the
+/// airtime of one and the gap are together below an hour): for every gap that a gateway may have, and every list of
+/// transmissions that begin at different moments, by start or not, lawful or not, a book that keeps the
 /// rest alone answers every ask, every cancel and every tick as one that keeps all, with the same refusals, hours and sums,
 /// and so every list of these; what each keeps afterwards is the same; and a lawful list stays lawful.
 pub fn law_forgetting()

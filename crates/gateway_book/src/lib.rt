@@ -9,17 +9,20 @@ mod duty;
 mod earliest;
 mod laws;
 mod listing;
+mod opening;
 mod overlap;
 mod refusal;
 mod totals;
 
 pub use ask::Ask;
-pub use book::{GatewayBook, MAX_CAP, NoMemory, OpenFault, TOTAL_LIMIT};
+pub use book::{GatewayBook, NoMemory, TOTAL_LIMIT};
 pub use cancel::CancelFault;
 pub use laws::{
-    law_busiest_is_exact, law_duty_row_is_exact, law_earliest_candidates, law_few_hours_suffice,
-    law_first_has_least_start, law_forgetting, law_least_is_least, law_spaced_is_apart,
+    law_busiest_is_exact, law_duty_row_is_exact, law_earliest_candidates, law_earliest_is_exact,
+    law_few_hours_suffice, law_first_has_least_start, law_forgetting, law_gap_keeps_disjoint,
+    law_least_is_least, law_spaced_is_apart,
 };
+pub use opening::{MAX_CAP, MAX_GAP, OpenFault};
 pub use refusal::Refusal;
 pub use resv_list::HOUR;
 pub use text_lines::{ByteIn, ByteOut, CallFailed, MemoryIn, MemoryOut, StdIn, StdOut};

@@ -12,8 +12,8 @@ pub enum Refusal {
     PastEnd,
     #[error("the start lies before the book's floor")]
     Passed,
-    /// `start` is the least start of a reservation that overlaps, in microseconds.
-    #[error("it overlaps the transmission that begins at {start}")]
+    /// `start` is the least start of a reservation that overlaps, or that is closer than the gap, in microseconds.
+    #[error("it overlaps the transmission that begins at {start}, or is closer to it than the gap")]
     Taken { start: u64 },
     /// `from` is the least opening of an hour that holds the start and would pass the sub-band's limit,
     /// among the asked start and the starts of the band's members; `spent` is the airtime of the band

@@ -1,6 +1,6 @@
-// Random asks: a trial answers as the live book does, which is asked afterwards.
+// Random asks: a trial answers as the live book does, which is asked afterwards, and names the same earliest start.
 
-use crate::trials::{Answer, tried};
+use crate::trials::{Answer, sought, tried};
 use bumpalo::Bump;
 use gateway_book::{Ask, GatewayBook};
 use radio_airtime::DataRate;
@@ -12,6 +12,9 @@ use std::test::Fail;
 
 /// How many transmissions a book may keep here.
 const CAP: u32 = 24;
+
+/// What these books keep between two transmissions, in microseconds.
+const GAP: u32 = 1_000;
 
 /// The next of some numbers that look random (Knuth's MMIX).
 fn drawn_after(number: u64) -> u64 {
@@ -37,6 +40,16 @@ fn drawn_ask(number: u64, drawn: u64, from: u64) -> Ask {
     }
 }
 
+/// Eight asks within two hours from a moment.
+fn drawn_asks(alloc: Global, drawn: &mut u64, from: u64) -> Result<Vec<Ask, Global>, Fail> {
+    let mut asks = Vec::new(alloc);
+    for number in 0..8 {
+        *drawn = drawn_after(*drawn);
+        asks.push(drawn_ask(number, *drawn, from))?;
+    }
+    Ok(asks)
+}
+
 /// The answers of the live book.
 fn live_answers<R: Roster>(
     alloc: Global,
@@ -50,7 +63,8 @@ fn live_answers<R: Roster>(
     Ok(answers)
 }
 
-/// Tries asks on a copy of a book, asks the book itself, and lets some time pass, again and again.
+/// Tries asks on a copy of a book, and looks for a start after them, asks the book itself, and lets some time pass, again and
+/// again.
 fn answers_alike<R: Roster>(
     rt: &impl Abort,
     alloc: Global,
@@ -64,16 +78,17 @@ where
     let (mut accepted, mut refused) = (0, 0);
     for round in 0..40 {
         let from = book.totals().floor.saturating_sub(1_000_000);
-        let mut asks = Vec::new(alloc);
-        for number in 0..8 {
-            drawn = drawn_after(drawn);
-            asks.push(drawn_ask(number, drawn, from))?;
-        }
+        let asks = drawn_asks(alloc, &mut drawn, from)?;
         let mut out = Vec::new(alloc);
         tried(&arena, alloc, &book, &asks, &mut out)?;
         arena.reset()?;
+        let ask = drawn_ask(8, drawn_after(drawn), from);
+        let last = ask.start.saturating_add(3_600_000_000);
+        let start = sought(&arena, alloc, &book, &asks, ask, last)?;
+        arena.reset()?;
         let live = live_answers(alloc, &mut book, &asks)?;
         assert_eq!(rt; out.as_slice(), live.as_slice(), "round {round}");
+        assert_eq!(rt; start, book.earliest(ask, ask.start, last), "round {round}");
         accepted = live
             .iter()
             .filter(|answer| answer.is_ok())
@@ -92,8 +107,8 @@ where
 
 #[test]
 fn a_trial_answers_as_the_live_book(rt: HostRuntime) -> Result<(), Fail> {
-    let slow = GatewayBook::new(VecRoster::new(rt.alloc()), 1, CAP)?;
+    let slow = GatewayBook::new(VecRoster::new(rt.alloc()), 1, CAP, GAP)?;
     answers_alike(&rt, rt.alloc(), slow)?;
-    let tree = GatewayBook::new(TreeRoster::new(rt.alloc()), 1, CAP)?;
+    let tree = GatewayBook::new(TreeRoster::new(rt.alloc()), 1, CAP, GAP)?;
     answers_alike(&rt, rt.alloc(), tree)
 }

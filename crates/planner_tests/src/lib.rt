@@ -6,6 +6,10 @@ mod alike;
 #[cfg(test)]
 mod memory;
 #[cfg(test)]
+mod plans;
+#[cfg(test)]
+mod starts;
+#[cfg(test)]
 mod trials;
 #[cfg(test)]
 mod worked;

@@ -10,7 +10,7 @@ use std::test::Fail;
 
 /// A book with six members, a second apart.
 fn six_members(rt: &impl Abort, alloc: Global) -> GatewayBook<VecRoster<Global>> {
-    let mut book = GatewayBook::new(VecRoster::new(alloc), 1, 4_096).expect(
+    let mut book = GatewayBook::new(VecRoster::new(alloc), 1, 4_096, 0).expect(
         rt,
         "the cap is in range",
     );

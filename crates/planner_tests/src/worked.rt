@@ -25,7 +25,7 @@ fn answers_beside(rt: &impl Abort) -> [Answer; 3] {
 
 #[test]
 fn an_arena_that_is_reset_gives_the_same_answers(rt: HostRuntime) -> Result<(), Fail> {
-    let mut book = GatewayBook::new(VecRoster::new(rt.alloc()), 1, 4_096)?;
+    let mut book = GatewayBook::new(VecRoster::new(rt.alloc()), 1, 4_096, 0)?;
     assert!(&rt; book.book(ask_in_m(1, 10_000_000)).is_ok());
     let before = book.totals();
     let mut arena = Bump::new(rt.alloc());
@@ -41,7 +41,7 @@ fn an_arena_that_is_reset_gives_the_same_answers(rt: HostRuntime) -> Result<(), 
 
 #[test]
 fn answers_stand_behind_what_was_there(rt: HostRuntime) -> Result<(), Fail> {
-    let book = GatewayBook::new(VecRoster::new(rt.alloc()), 1, 4_096)?;
+    let book = GatewayBook::new(VecRoster::new(rt.alloc()), 1, 4_096, 0)?;
     let arena = Bump::new(rt.alloc());
     let mut out = Vec::new(rt.alloc());
     out.push(Err(Refusal::Full))?;
@@ -54,12 +54,21 @@ fn answers_stand_behind_what_was_there(rt: HostRuntime) -> Result<(), Fail> {
 
 /// Two asks where all but the airtime of one has been booked, and nothing is kept.
 fn nearly_all_booked(alloc: Global) -> Result<Vec<Answer, Global>, Fail> {
-    let book = GatewayBook::new(VecRoster::new(alloc), 1, 4_096)?;
+    let book = GatewayBook::new(VecRoster::new(alloc), 1, 4_096, 0)?;
     let list = book.list(alloc)?;
     let arena = Bump::try_with_capacity(alloc, AMPLE_BYTES)?;
     let asks = [ask_in_m(8, 10_000_000), ask_in_m(9, 10_041_216)];
     let mut out = Vec::new(alloc);
-    what_if(&arena, &list, 0, 4_096, (1 << 62) - 41_216, &asks, &mut out)?;
+    what_if(
+        &arena,
+        &list,
+        0,
+        4_096,
+        0,
+        (1 << 62) - 41_216,
+        &asks,
+        &mut out,
+    )?;
     Ok(out)
 }
 

@@ -35,7 +35,7 @@ none_sent = record { floor = 0; list = []; booked = 0; cancelled = 0 }
 
 -- one transmission
 pub one_sent : State
-one_sent = book_step (record { cap = 4096 }) none_sent (record
+one_sent = book_step (record { cap = 4096; gap = 0 }) none_sent (record
     { number = 1; start = 10000000; freq_hz = 868100000; rate = Dr5; len = 12 })
 
 pub worked_lines : List (Line ℕ)
@@ -46,8 +46,8 @@ worked_lines =
 
 -- two gateways that are not in order
 pub replay_of_two_gateways :
-    replay_lines (map (entry_at 0) worked_lines) (record { id = 10; rules = record { cap = 4096 }; state = one_sent }
-    ∷ record { id = 2; rules = record { cap = 1 }; state = none_sent } ∷ [])
+    replay_lines (map (entry_at 0) worked_lines) (record { id = 10; rules = record { cap = 4096; gap = 0 }; state = one_sent }
+    ∷ record { id = 2; rules = record { cap = 1; gap = 0 }; state = none_sent } ∷ [])
     ≡ codes "queued 26011bda 2" ∷ codes "opened 1" ∷ codes "opened 2 repeat" ∷ codes "joined 1 2" ∷ codes "no hear Short"
     ∷ codes "send 1 2 RX1 10000000 868100000 5 12" ∷ codes "frame 1 60da0a" ∷ codes "silent 2" ∷ codes "unanswered 3 Taken"
     ∷ codes "gateway 2 booked 0 cancelled 0 retired 0 kept 0" ∷ codes "gateway 10 booked 41216 cancelled 0 retired 0 kept 1"
@@ -57,7 +57,7 @@ replay_of_two_gateways = refl
 
 -- two transmissions, of which the second is in RX2's sub-band
 pub two_sent : State
-two_sent = book_step (record { cap = 4096 }) one_sent (record
+two_sent = book_step (record { cap = 4096; gap = 0 }) one_sent (record
     { number = 1; start = 11000000; freq_hz = 869525000; rate = Dr0; len = 12 })
 
 pub each_form : List (Line ℕ)
@@ -73,8 +73,8 @@ each_form =
 
 -- a line of each form
 pub replay_of_each_form :
-    replay_lines (map (entry_at 0) each_form) (record { id = 2; rules = record { cap = 4096 }; state = two_sent }
-    ∷ record { id = 1; rules = record { cap = 4096 }; state = none_sent } ∷ [])
+    replay_lines (map (entry_at 0) each_form) (record { id = 2; rules = record { cap = 4096; gap = 0 }; state = two_sent }
+    ∷ record { id = 1; rules = record { cap = 4096; gap = 0 }; state = none_sent } ∷ [])
     ≡ codes "queued 0000000a 2" ∷ codes "no queue QueueFull" ∷ codes "opened 1" ∷ codes "opened 2 repeat" ∷ codes "joined 1 2"
     ∷ codes "no hear OptionsCut" ∷ codes "no hear UnknownGateway" ∷ codes "silent 2" ∷ codes "no 3 CounterSpent"
     ∷ codes "send 1 2 RX1 10000000 868100000 5 12" ∷ codes "frame 1 60da1b01ff" ∷ codes "send 4 1 RX2 11000000 869525000 0 12"

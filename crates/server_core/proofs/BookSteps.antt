@@ -7,7 +7,7 @@ use Words.{remembers_cancelled, remembers_ticked, IsAsked, refusal_of, CancelFau
 use Words.{ask_for, next_of, refusal_by, answered_as, Standing, candidate_of, Ending, Unanswered, Answer, Booked, Open, Out}
 use Words.{Waiting, numbered-here, is_here, Gateway, World, TakeFault, gateway_with, known, found_there, Sent, IsBookOf, is_among}
 use Words.{Cancel, Reply, Step, Tick, Try, cancel_sent, ending_of, refused, sent_by, settle_as, settle_of, take_by, terms}
-use Words.{tried_by, take_answer, step, try_of}
+use Words.{tried_by, take_answer, step, try_of, subst, Rules, IsOrderly}
 use Rattle.server_core.proofs.DeskSteps.{desk_calls_are_steps, may}
 use Rattle.server_core.proofs.{Members.equal_where_tested, TakeStep.ticket, TakeStep.still_waits}
 use Rattle.server_core.specs.BookCalls.{next_candidate, IsBookAt, IsStepAt, IsTicketIn, IsTryStep, LeavesStub}
@@ -87,11 +87,12 @@ cancel_at_book w n at sent old new result e b c =
     let s = b.gateway.state in
     let same = same_book n sent.start old new result c in
     let v : Gateway = record (b.gateway) { state = cancel_step s n sent.start } in
+    let OfRules : Rules → Type 0 = λ r. IsOrderly r.gap v.state.list in
     let keeps : IsBookOf new v =
     record {
       id = same.0 ∙ k.id;
       rules = same.1 ∙ k.rules;
-      orderly = orderly_cancelled old s k.orderly k.remembers n sent.start;
+      orderly = subst OfRules (sym same.1) (orderly_cancelled old s k.orderly k.remembers n sent.start);
       remembers = remembers_cancelled old s k.orderly k.remembers n sent.start new c.step;
     } in
     stepped w sent.gateway at old b (Cancel n) w.answers new (replies.Cancelled result) v refl keeps

@@ -1,6 +1,7 @@
 -- The headline follows from what is promised of every run.
 use Rattle.server_core.proofs.Words
-use Words.{ap, inl, inr, subst, sym, ◌∙◌, Contains, List, Some, ◌≡◌, ◌⊎◌, Reservation, IsAsked, HeardCopy, Candidate, Job}
+use Words.{one_after_another, ap, inl, inr, subst, sym, ◌∙◌, Contains, List, Some, ◌≡◌, ◌⊎◌, Reservation, IsAsked, HeardCopy}
+use Words.{Candidate, Job}
 use Words.{ask_for, Gateway, SettingLists, Device, Run, IsSafe, IsOwnWindow, plan_for, map, get_contains, map_there}
 use Rattle.server_core.proofs.Runs.{every_interleaving_is_safe}
 use Rattle.std.proofs.lemmas.Option.{slice_get-get_or}
@@ -39,7 +40,8 @@ module _ (settings : SettingLists) (r : Run) (safe : IsSafe settings r) where
   pub keeps_headline : KeepsHeadline settings r
   keeps_headline =
       record {
-        disjoint = λ i k l g a b e x y d. (safe.lawful i g e).apart k l a b x y d;
+        disjoint = λ i k l g a b e x y d.
+            one_after_another g.rules.gap a b ((safe.lawful i g e).apart k l a b x y d);
         hour = λ i g e band t. (safe.lawful i g e).duty band t;
         once = λ i j k l g h a b e x f y same.
             safe.once i j k l g h a b (record { gateway = e; member = x }) (record { gateway = f; member = y }) same;

@@ -72,7 +72,7 @@ pub record Stands (settings : SettingLists) (T : Job → Type 0) (l : List Gathe
 
 -- the gateway's list is one that it may hold, and what was booked less what was cancelled is its airtime
 pub record IsInOrder (g : Gateway) : Type 0 where
-  pub orderly : IsOrderly g.state.list
+  pub orderly : IsOrderly g.rules.gap g.state.list
   pub balanced : g.state.booked ≡ g.state.cancelled + net g.state.list
 
 -- each reservation of the gateway stands for its uplink's answer

@@ -54,5 +54,5 @@ pub other_cancel : (settings : SettingLists) → AreSettings settings.gateways s
     → ((sent : Sent) → sent_at (run settings limits steps).world n ≡ Some sent → sent.gateway ≡ id → sent.start ≢ start)
     → new ≡ old
 other_cancel settings are limits steps n start id at old new result b c other =
-    let good = run_good settings are (λ j. ⊥) (opening settings limits) (opened settings (λ j. ⊥) limits) steps in
+    let good = run_good settings are (λ j. ⊥) (opening settings limits) (opened settings are (λ j. ⊥) limits) steps in
     same good.holds n start id at old b other new result c

@@ -4,21 +4,32 @@ use Words.{ap, append-nil, append_assoc, sym, ◌∙◌, drop_of_length-le, List
 use Words.{◌<◌, ◌∷◌, ◌≡◌, ◌≤◌, map-map, Book, orderly_nil, kept-nil, remembers_own, desk_of, Gateway, World, opened_gateway}
 use Words.{opening, AreSettings, SettingLists, GatewaySetting, entries, gateway_of, gateways_after, kept_gateway, reached}
 use Words.{schedule, step_of, usual_limits, AreBooksOf, Does, IsAt, IsOpened, IsBetweenCalls, Seen, with_lines, Step, Event}
-use Words.{event_steps, schedule_from, entries_from, run_from, drop_more}
+use Words.{event_steps, schedule_from, entries_from, run_from, drop_more, arith, All, All-head, All-tail, IsGatewayInRange}
 use Rattle.server_core.proofs.{Calls.reached_append, Members.none_numbered}
 use Rattle.server_core.specs.declared.event.Event.TheVariants as events
 use Rattle.server_core.specs.declared.entry.Line.TheVariants as says
 
 -- a server that has heard nothing
 
-opened_books : (books : List Book) (gs : List GatewaySetting) → map gateway_of books ≡ map opened_gateway gs
+within_range : (b : Book) (g : GatewaySetting) → IsGatewayInRange g → gateway_of b ≡ opened_gateway g → b.rules.gap ≤ 100000
+within_range b g r e =
+    let same : b.rules.gap ≡ g.gap = ap (λ (x : Gateway). x.rules.gap) e in
+    omega (arith, same, r.gap.1)
+
+opened_books : (books : List Book) (gs : List GatewaySetting) → All IsGatewayInRange gs
+    → map gateway_of books ≡ map opened_gateway gs
     → AreBooksOf books (map opened_gateway gs)
-opened_books [] [] e = tt
-opened_books [] (g ∷ gs) e = absurd (cc (e))
-opened_books (b ∷ bs) [] e = absurd (cc (e))
-opened_books (b ∷ bs) (g ∷ gs) e = (
-  record { id = cc (e); rules = cc (e); orderly = orderly_nil; remembers = remembers_own b _ (cc (e)) (kept-nil 0) },
-  opened_books bs gs (cc (e)),
+opened_books [] [] a e = tt
+opened_books [] (g ∷ gs) a e = absurd (cc (e))
+opened_books (b ∷ bs) [] a e = absurd (cc (e))
+opened_books (b ∷ bs) (g ∷ gs) a e = (
+  record {
+    id = cc (e);
+    rules = cc (e);
+    orderly = orderly_nil b.rules.gap (within_range b g (All-head IsGatewayInRange g gs a) (cc (e)));
+    remembers = remembers_own b _ (cc (e)) (kept-nil 0);
+  },
+  opened_books bs gs (All-tail IsGatewayInRange g gs a) (cc (e)),
 )
 
 pub server_opened : {A : Type 0} (settings : SettingLists) (s : Seen A) → s.desk ≡ desk_of (opening settings usual_limits)
@@ -27,7 +38,7 @@ pub server_opened : {A : Type 0} (settings : SettingLists) (s : Seen A) → s.de
 server_opened settings s d b t o are =
     record {
       are = are;
-      at = record { desk = d; books = opened_books s.books settings.gateways b };
+      at = record { desk = d; books = opened_books s.books settings.gateways are.gateways_in_range b };
       ready = rw d (record {
         books = sym (map-map (λ (g : Gateway). g.id) gateway_of s.books) ∙ ap (map (λ (g : Gateway). g.id)) b;
         heard = λ n g e c k. absurd (none_numbered n g e);

@@ -5,6 +5,7 @@ use Words.{AllPairs, Contains, List, Ok, Some, [], map, refl, slice_get, ℕ, �
 use Words.{orderly_nil, IsLawful, addr_of, Limits, Job, candidates, from_map, get_contains, some_inj, Device, opened_device}
 use Words.{plan_for, Gateway, World, opened_gateway, opening, AreSettings, SettingLists, Sent, EveryInterleavingIsSafe}
 use Words.{HaveOwnCounters, IsMember, IsOwnWindow, IsSafe, jobs_given, setting_of, with_given, Cancel, Given, Hear, Pass, Queue}
+use Words.{all_get, IsGatewayInRange}
 use Words.{Reply, Run, Settle, Step, Take, Tick, Try, run, sent_for, net, run_from, step, map-map, map-id}
 use Rattle.server_core.proofs.Holds.{IsKept, Stands, Holds, IsInOrder, AllStand, IsGivenAt, Follows, IsGoodStep, IsNew, UsesUp}
 use Rattle.server_core.proofs.Holds.{given_after, Holds-weaker, member_stands}
@@ -76,14 +77,16 @@ module _ (settings : SettingLists) (r : Run) (h : Holds settings (Contains (jobs
 
 -- What holds before the first step.
 
-module _ (settings : SettingLists) (T : Job → Type 0) (limits : Limits) where
+module _ (settings : SettingLists) (are : AreSettings settings.gateways settings.devices) (T : Job → Type 0)
+    (limits : Limits) where
   opened_at : (i : ℕ) (g : Gateway) → slice_get (map opened_gateway settings.gateways) i ≡ Some g
       → IsInOrder g × AllStand settings T [] [] g
   unfolding net
   opened_at i g e =
       let s = from_map opened_gateway settings.gateways i g e in
+      let range = all_get IsGatewayInRange settings.gateways i s.0 are.gateways_in_range s.1 in
       subst (λ x. IsInOrder x × AllStand settings T [] [] x) s.2
-      (record { orderly = orderly_nil; balanced = refl }, All-nil (Stands settings T [] [] s.0.id))
+      (record { orderly = orderly_nil s.0.gap range.gap.1; balanced = refl }, All-nil (Stands settings T [] [] s.0.id))
 
   pub opened : Holds settings T (opening settings limits)
   opened =
@@ -186,7 +189,7 @@ module _ (settings : SettingLists) (are : AreSettings settings.gateways settings
       let T : Job → Type 0 = Contains (jobs_given r.replies) in
       let h : Holds settings T r.world = Holds-weaker settings (WithGiven (λ j. ⊥) (jobs_given r.replies)) T
       (λ j x. elim x [ inl e ↦ absurd e | inr y ↦ y ]) r.world g.holds in
-      let lawful : (i : ℕ) (x : Gateway) → slice_get r.world.gateways i ≡ Some x → IsLawful x.state.list =
+      let lawful : (i : ℕ) (x : Gateway) → slice_get r.world.gateways i ≡ Some x → IsLawful x.rules.gap x.state.list =
       λ i x e. (h.in_order i x e).orderly.lawful in
       let counted : (i : ℕ) (x : Gateway) → slice_get r.world.gateways i ≡ Some x
       → x.state.booked ≡ x.state.cancelled + net x.state.list = λ i x e. (h.in_order i x e).balanced in
@@ -195,7 +198,7 @@ module _ (settings : SettingLists) (are : AreSettings settings.gateways settings
   pub run_safe : (limits : Limits) (steps : List Step) → IsSafe settings (run settings limits steps)
   run_safe limits steps =
       let w = opening settings limits in
-      safe_by w (run_from w steps) (run_good (λ j. ⊥) w (opened settings (λ j. ⊥) limits) steps)
+      safe_by w (run_from w steps) (run_good (λ j. ⊥) w (opened settings are (λ j. ⊥) limits) steps)
 
 pub every_interleaving_is_safe : EveryInterleavingIsSafe
 every_interleaving_is_safe settings are limits steps = run_safe settings are limits steps

@@ -6,7 +6,7 @@ use Words.{remembers_own, Refusal, orderly_nil, AllPairs-head, AllPairs-tail, nu
 use Words.{Outcome, Answer, Waiting, Open, is_given, known_of, Decision, all_get, numbered-append, numbered_after, some_inj}
 use Words.{Gateway, World, gateway_with, ids, known, opened_gateway, GatewaySetting, Sent, TakeFault, Step, Queue, Hear, Pass}
 use Words.{Take, Settle, Try, Cancel, Tick, answers_after, cancel_at, cancel_sent, ending_of, take_by, tick_at, tried_by, decide}
-use Words.{take_answer, step}
+use Words.{take_answer, step, IsGatewayInRange}
 use Rattle.server_core.proofs.DeskSteps.{by_option, gateway_walk, tick_walk, cancel_walk, try_walk, settle_walk}
 use Rattle.server_core.proofs.DeskSteps.{desk_calls_are_steps}
 use Rattle.server_core.proofs.{TakeStep.ticket, TakeStep.still_waits, BookSteps.cancel_is, OtherCancels.other_cancel}
@@ -138,7 +138,8 @@ others_leave_alone =
         keeps = record {
           id = refl;
           rules = refl;
-          orderly = orderly_nil;
+          orderly =
+              orderly_nil g.gap (all_get IsGatewayInRange settings.gateways at g are.gateways_in_range e).gap.1;
           remembers = remembers_own (unused_book g) _ refl (kept-nil 0);
         };
       };

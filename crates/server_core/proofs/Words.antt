@@ -20,7 +20,8 @@ pub use Rattle.gateway_book.specs.{Book.Book, Book.ticked, Book.with_booked, Boo
 pub use Rattle.gateway_book.specs.{Answer.refusal_of, Orderly.IsOrderly, declared.ask.Ask.Ask}
 pub use Rattle.gateway_book.specs.{declared.cancel.CancelFault.CancelFault, declared.cancel.CancelFault.TheVariants.Begun}
 pub use Rattle.gateway_book.specs.{declared.cancel.CancelFault.TheVariants.NotHere, declared.refusal.Refusal.Refusal}
-pub use Rattle.gateway_book.specs.{declared.totals.Totals.Totals, Lawful.IsLawful}
+pub use Rattle.gateway_book.specs.{declared.totals.Totals.Totals, Lawful.IsLawful, Answer.Rules}
+pub use Rattle.gateway_book.proofs.ApartLaws.{one_after_another}
 pub use Rattle.gateway_book.proofs.RememberedLaws.{orderly_booked, orderly_cancelled, remembers_answer, remembers_booked}
 pub use Rattle.gateway_book.proofs.RememberedLaws.{remembers_cancel, remembers_cancelled, remembers_own, remembers_ticked}
 pub use Rattle.gateway_book.proofs.OrderlyLaws.{may_join, orderly_filter, orderly_nil, orderly_placed}
@@ -52,6 +53,7 @@ pub use Rattle.server_desk.specs.World.{Gateway, World, gateway_with, ids, known
 pub use Rattle.server_desk.specs.{Taking.job_of, Taking.plan_for, Taking.with_counter_given, Queueing.after_queueing}
 pub use Rattle.server_desk.specs.{Queueing.queue_answer, Queueing.with_payload, Passing.closing, Passing.pass_answer}
 pub use Rattle.server_desk.specs.{Settings.AreSettings, Settings.SettingLists, declared.answers.Asked.Asked}
+pub use Rattle.server_desk.specs.{Settings.IsGatewayInRange}
 pub use Rattle.server_desk.specs.{declared.answers.Known.Known, declared.answers.Known.TheVariants.Done}
 pub use Rattle.server_desk.specs.{declared.answers.Known.TheVariants.NotGiven, declared.answers.Sent.Sent}
 pub use Rattle.server_desk.specs.{declared.faults.DeskFault.DeskFault, declared.faults.QueueFault.QueueFault}

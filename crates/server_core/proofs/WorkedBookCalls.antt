@@ -28,7 +28,7 @@ use Rattle.server_core.specs.Steps as replies
 abbrev first_book : Book
 first_book = record {
   id = 1;
-  rules = record { cap = 4096 };
+  rules = record { cap = 4096; gap = 0 };
   floor = 0;
   list = gateway_1.state.list;
   booked = gateway_1.state.booked;
@@ -39,7 +39,8 @@ first_book = record {
 first_kept : IsBookAt 1 0 w18.gateways first_book
 unfolding kept airtime_of band_of overlap full_hour begun
 first_kept =
-    let orderly : IsOrderly gateway_1.state.list = record {
+    let orderly : IsOrderly 0 gateway_1.state.list = record {
+      rested = omega arith;
       by_start = (omega arith, tt);
       lawful = safe_run.lawful 0 gateway_1 refl;
     } in
@@ -56,10 +57,10 @@ receipt_of job c r = record {
 }
 
 abbrev first_gateway : GatewaySetting
-first_gateway = record { id = 1; cap = 4096 }
+first_gateway = record { id = 1; cap = 4096; gap = 0 }
 
 abbrev second_gateway : GatewaySetting
-second_gateway = record { id = 2; cap = 4096 }
+second_gateway = record { id = 2; cap = 4096; gap = 0 }
 
 abbrev first_ticket : Standing
 first_ticket = record { job = job_1; at = 0 }
@@ -150,7 +151,7 @@ module _ {A : Type 0} (calls : BookCallsAreSteps A) (alone : OthersLeaveAlone) w
 
   unused_second : IsBookAt 2 1 w11.gateways (unused_book second_gateway)
   unfolding kept
-  unused_second = record { gateway = gateway_at 2 unused; found = refl; keeps = assumption orderly_nil }
+  unused_second = record { gateway = gateway_at 2 unused; found = refl; keeps = assumption (orderly_nil 0 (omega arith)) }
 
   second_booked : LeavesStub w11 2 2 1 (record { number = 2; result = ended_at 2 10000000 }) with_second None
   second_booked = calls.try_on w11 (record { job = job_2; at = 1 }) 2 1 (unused_book second_gateway) with_second

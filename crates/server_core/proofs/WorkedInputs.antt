@@ -43,7 +43,7 @@ second_device = record {
 
 abbrev pub settings : SettingLists
 settings = record {
-  gateways = record { id = 1; cap = 4096 } ∷ record { id = 2; cap = 4096 } ∷ [];
+  gateways = record { id = 1; cap = 4096; gap = 0 } ∷ record { id = 2; cap = 4096; gap = 0 } ∷ [];
   devices = first_device ∷ second_device ∷ [];
 }
 
@@ -104,7 +104,7 @@ abbrev pub asked_by : ℕ → Asked
 asked_by device = record { device = device; confirmed = true; adr_ack_req = false }
 
 abbrev pub gateway_at : ℕ → State → Gateway
-gateway_at id state = record { id = id; rules = record { cap = 4096 }; state = state }
+gateway_at id state = record { id = id; rules = record { cap = 4096; gap = 0 }; state = state }
 
 abbrev pub unused : State
 unused = record { floor = 0; list = []; booked = 0; cancelled = 0 }

@@ -85,7 +85,7 @@ module _ (safe : IsSafe settings after) where
   disjoint =
       let apart = (safe.lawful 1 gateway_3 refl).apart 0 1 second_held.member third_held.member second_held.there third_held.there
       (λ e. absurd (omega (arith, e))) in
-      elim apart [ inl e ↦ e | inr e ↦ absurd (omega (arith, e, second_held.asked.start, third_held.asked.start)) ]
+      elim apart [ inl e ↦ omega (arith, e) | inr e ↦ absurd (omega (arith, e, second_held.asked.start, third_held.asked.start)) ]
 
   booked_is : 41216 ≡ 0 + net gateway_1.state.list
   unfolding airtime_of band_of overlap full_hour kept begun

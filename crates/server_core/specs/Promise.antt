@@ -26,7 +26,7 @@ pub record IsMember (w : World) (i k : ℕ) (g : Gateway) (r : Reservation) : Ty
 
 -- the gateway's setting
 abbrev pub setting_of : Gateway → GatewaySetting
-setting_of g = record { id = g.id; cap = g.rules.cap }
+setting_of g = record { id = g.id; cap = g.rules.cap; gap = g.rules.gap }
 
 -- the jobs for which tickets were given, in order
 abbrev pub with_given : Reply → List Job → List Job
@@ -69,8 +69,8 @@ pub record IsSafe (settings : SettingLists) (r : Run) : Type 0 where
   -- what is known of each gathered uplink, and how far its answer is, are kept once each
   pub told : length r.world.reg.asked ≡ length r.world.reg.gathered.list
   pub answered : length r.world.answers ≡ length r.world.reg.gathered.list
-  -- every gateway's list is lawful, and its totals are those of its list
-  pub lawful : (i : ℕ) (g : Gateway) → slice_get r.world.gateways i ≡ Some g → IsLawful g.state.list
+  -- every gateway's list is lawful with its gap, and its totals are those of its list
+  pub lawful : (i : ℕ) (g : Gateway) → slice_get r.world.gateways i ≡ Some g → IsLawful g.rules.gap g.state.list
   pub counted : (i : ℕ) (g : Gateway) → slice_get r.world.gateways i ≡ Some g
       → g.state.booked ≡ g.state.cancelled + net g.state.list
   -- a number stands at most once over all gateways

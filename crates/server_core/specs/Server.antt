@@ -51,7 +51,7 @@ with_lines place lines s = record s { outcomes = s.outcomes ++ map (entry_at pla
 pub record IsBookOf (b : Book) (g : Gateway) : Type 0 where
   pub id : b.id ≡ g.id
   pub rules : b.rules ≡ g.rules
-  pub orderly : IsOrderly g.state.list
+  pub orderly : IsOrderly b.rules.gap g.state.list
   pub remembers : Remembers b g.state
 
 -- each book is the gateway's at its place

@@ -43,8 +43,8 @@ pub fn empty_book<A: Allocator + Copy>(alloc: A, gateway: &GatewaySetting) -> Bo
       retired = 0;
     } }
 {
-    // The cap of a setting is in range.
-    let Ok(book) = Book::new(TreeRoster::new(alloc), gateway.id, gateway.cap) else {
+    // The cap and the gap of a setting are in range.
+    let Ok(book) = Book::new(TreeRoster::new(alloc), gateway.id, gateway.cap, gateway.gap) else {
         unreachable!()
     };
     book

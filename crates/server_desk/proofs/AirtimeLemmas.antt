@@ -65,7 +65,7 @@ limits_kept r s bytes copy arrived = grind arith
 ids_differ : (gateways : List GatewaySetting) → AllPairs (λ g h. g.id ≢ h.id) gateways
     → AllPairs (λ a b. a ≢ b) (map (λ g. g.id) gateways)
 ids_differ gateways d i j x i<j j<n same =
-    let none : GatewaySetting = record { id = 0; cap = 0 } in
+    let none : GatewaySetting = record { id = 0; cap = 0; gap = 0 } in
     let short : j < length gateways = omega (arith, length-map gateways (λ (g : GatewaySetting). g.id), j<n) in
     let first = get_or-map (λ (g : GatewaySetting). g.id) gateways i none x (omega (arith, i<j, short)) in
     let other = get_or-map (λ (g : GatewaySetting). g.id) gateways j none x short in

@@ -27,9 +27,10 @@ is_from low high n = nat_le low n && nat_le n high
 pub record IsGatewayInRange (g : GatewaySetting) : Type 0 where
   pub id : IsFrom 1 65535 g.id
   pub cap : IsFrom 1 65536 g.cap
+  pub gap : IsFrom 0 100000 g.gap
 
 abbrev pub is_gateway_in_range : GatewaySetting → Bool
-is_gateway_in_range g = is_from 1 65535 g.id && is_from 1 65536 g.cap
+is_gateway_in_range g = is_from 1 65535 g.id && is_from 1 65536 g.cap && is_from 0 100000 g.gap
 
 -- the numbers of a device are in their ranges: RX1Delay in seconds, RX1DROffset, and the next downlink
 -- counter, which is 2^32 where all are spent

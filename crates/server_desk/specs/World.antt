@@ -34,7 +34,7 @@ gateway_with id gateways = first_at (λ g. g.id == id) gateways
 
 -- what its setting opens a gateway's book with
 abbrev pub rules_of : GatewaySetting → Rules
-rules_of g = record { cap = g.cap }
+rules_of g = record { cap = g.cap; gap = g.gap }
 
 -- a gateway that has booked nothing
 abbrev pub opened_gateway : GatewaySetting → Gateway

@@ -10,6 +10,8 @@ pub struct GatewaySetting {
     pub id: u16,
     /// How many transmissions its book may keep, 1 to 65,536.
     pub cap: u32,
+    /// How long it needs between two transmissions, in microseconds, 0 to 100,000.
+    pub gap: u32,
 }
 
 /// One device with its session (LoRaWAN L2 1.0.4, Class A), as it is set.

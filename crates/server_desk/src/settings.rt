@@ -158,11 +158,11 @@ fn has_device(devices: &[DeviceSetting], addr: u32) -> bool
     devices.iter().any(|device| device.addr == addr)
 }
 
-/// Whether the gateway's number is 1 to 65,535 and its cap 1 to 65,536.
+/// Whether the gateway's number is 1 to 65,535, its cap 1 to 65,536 and its gap 0 to 100,000.
 fn is_gateway_in_range(gateway: &GatewaySetting) -> bool
     ensures { result ≡ is_gateway_in_range gateway.now }
 {
-    1 <= gateway.id && 1 <= gateway.cap && gateway.cap <= 65_536
+    1 <= gateway.id && 1 <= gateway.cap && gateway.cap <= 65_536 && gateway.gap <= 100_000
 }
 
 /// Whether the device's delay is 1 to 15, its offset 0 to 5 and its next downlink counter 0 to 2^32.

@@ -8,7 +8,7 @@ use thiserror::Error;
 pub enum SettingsFault {
     #[error("the settings have to name 1 to 64 gateways and at most 1024 devices")]
     Count,
-    #[error("a number in the settings is out of its range: gateway id 1 to 65535, cap 1 to 65536; device delay 1 to 15, offset 0 to 5, down 0 to 4294967296")]
+    #[error("a number in the settings is out of its range: gateway id 1 to 65535, cap 1 to 65536, gap 0 to 100000; device delay 1 to 15, offset 0 to 5, down 0 to 4294967296")]
     Range,
     #[error("two gateways in the settings have the same id")]
     DoubleGateway,

@@ -29,7 +29,7 @@ ids-differ : (gateways : List GatewaySetting) → AllPairs (λ g h. g.id ≢ h.i
     → AllPairs (λ a b. a ≢ b) (map (λ (g : GatewaySetting). g.id) gateways)
 ids-differ gateways differ i j d h l =
     let len = length-map gateways (λ (g : GatewaySetting). g.id) in
-    let e : GatewaySetting = record { id = 0; cap = 0 } in
+    let e : GatewaySetting = record { id = 0; cap = 0; gap = 0 } in
     let at_i = get_or-map (λ (g : GatewaySetting). g.id) gateways i e d (omega (arith, len)) in
     let at_j = get_or-map (λ (g : GatewaySetting). g.id) gateways j e d (omega (arith, len)) in
     rw (at_i, at_j) (differ i j e h (omega (arith, len)))

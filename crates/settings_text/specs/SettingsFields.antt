@@ -73,6 +73,10 @@ id_of gateway = required (codes "id") (whole_below (2 ^ 16)) gateway
 abbrev pub cap_of : Members → Result ℕ ReadFault
 cap_of gateway = optional (codes "cap") 4096 (whole_below (2 ^ 32)) gateway
 
+-- how long it needs between two transmissions, in microseconds
+abbrev pub gap_of : Members → Result ℕ ReadFault
+gap_of gateway = optional (codes "gap") 0 (whole_below (2 ^ 32)) gateway
+
 -- a device's DevAddr
 abbrev pub addr_of : Members → Result ℕ ReadFault
 addr_of device = required (codes "addr") addr_in device

@@ -8,8 +8,8 @@ use Rattle.server_desk.specs.declared.settings_fault.SettingsFault.{SettingsFaul
 use Rattle.server_desk.specs.Settings.{SettingLists, settings_fault}
 use Rattle.settings_text.specs.declared.settings_fault.ReadFault.{ReadFault}
 use Rattle.settings_text.specs.declared.settings_fault.ReadFault.TheVariants.{NotToml, Kind, Checked}
-use Rattle.settings_text.specs.SettingsFields.{said_or, id_of, cap_of, addr_of, nwk_of, app_of, delay_of, offset_of, rx2_freq_of}
-use Rattle.settings_text.specs.SettingsFields.{rx2_rate_of, up_of, down_of, ◌>>=◌}
+use Rattle.settings_text.specs.SettingsFields.{said_or, id_of, cap_of, gap_of, addr_of, nwk_of, app_of, delay_of, offset_of}
+use Rattle.settings_text.specs.SettingsFields.{rx2_freq_of, rx2_rate_of, up_of, down_of, ◌>>=◌}
 
 -- The settings that a text gives (docs/FORMATS.md, "Settings"). Of several faults the first in the order
 -- of these definitions is named.
@@ -19,7 +19,8 @@ abbrev pub gateway_setting : Members → Result GatewaySetting ReadFault
 gateway_setting gateway = do
   id ← id_of gateway
   most ← cap_of gateway
-  Ok (record { id = id; cap = most })
+  gap ← gap_of gateway
+  Ok (record { id = id; cap = most; gap = gap })
 
 -- a device's table
 abbrev pub device_setting : Members → Result DeviceSetting ReadFault

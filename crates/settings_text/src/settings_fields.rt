@@ -127,6 +127,13 @@ pub(crate) fn cap_of(gateway: &Table) -> Result<u32, ReadFault>
     optional(gateway, "cap", 4_096)
 }
 
+/// How long a gateway needs between two transmissions, in microseconds.
+pub(crate) fn gap_of(gateway: &Table) -> Result<u32, ReadFault>
+    ensures { result ≡ fields.gap_of (table_view gateway.now) }
+{
+    optional(gateway, "gap", 0)
+}
+
 /// A device's DevAddr, written with the most significant digit first.
 pub(crate) fn addr_of(device: &Table) -> Result<u32, ReadFault>
     ensures { result ≡ fields.addr_of (table_view device.now) }

@@ -8,8 +8,8 @@ ghost use Rattle.settings_text.specs.SettingsOfTable.{gateway_setting, device_se
 
 use crate::ReadFault;
 use crate::settings_fields::{
-    addr_of, app_of, cap_of, delay_of, down_of, id_of, nwk_of, offset_of, rx2_freq_of, rx2_rate_of,
-    up_of, value_at,
+    addr_of, app_of, cap_of, delay_of, down_of, gap_of, id_of, nwk_of, offset_of, rx2_freq_of,
+    rx2_rate_of, up_of, value_at,
 };
 use server_desk::{DeviceSetting, GatewaySetting, Settings};
 use std::alloc::Global;
@@ -31,6 +31,7 @@ impl FromTable for GatewaySetting {
         Ok(GatewaySetting {
             id: id_of(table)?,
             cap: cap_of(table)?,
+            gap: gap_of(table)?,
         })
     }
 }

@@ -37,7 +37,7 @@ struct Failing {
 fn booked(alloc: Global, failing: Failing) -> Told {
     let mut reader = MemoryIn::failing(BOOKINGS, 8, failing.read);
     let mut writer = MemoryOut::failing(alloc, 8, failing.write);
-    let fault = book_text(alloc, 4096, &mut reader, &mut writer).err();
+    let fault = book_text(alloc, 4096, 0, &mut reader, &mut writer).err();
     Told {
         fault,
         failed: (reader.failed, writer.failed),

@@ -10,7 +10,7 @@ const DEVICE: &str =
     "[[device]]\naddr = \"26011bda\"\nnwkskey = \"2b7e151628aed2a6abf7158809cf4f3c\"\nappskey = \"000102030405060708090a0b0c0d0e0f\"\n";
 
 const ALL_KEYS: &str =
-    "site = 3\n[[gateway]]\nid = 65535\ncap = 65536\nplace = \"roof\"\n[[device]]\naddr = \"26011bda\"\nnwkskey = \"2b7e151628aed2a6abf7158809cf4f3c\"\nappskey = \"000102030405060708090a0b0c0d0e0f\"\ndelay = 15\noffset = 5\nrx2_freq = 868300000\nrx2_dr = 6\nup = 4294967295\ndown = 4294967296\nname = \"pump\"\n";
+    "site = 3\n[[gateway]]\nid = 65535\ncap = 65536\ngap = 100000\nplace = \"roof\"\n[[device]]\naddr = \"26011bda\"\nnwkskey = \"2b7e151628aed2a6abf7158809cf4f3c\"\nappskey = \"000102030405060708090a0b0c0d0e0f\"\ndelay = 15\noffset = 5\nrx2_freq = 868300000\nrx2_dr = 6\nup = 4294967295\ndown = 4294967296\nname = \"pump\"\n";
 
 const INLINE: &str =
     "gateway = [{id = 1}]\ndevice = [{addr = \"26011BDA\", nwkskey = \"2B7E151628AED2A6ABF7158809CF4F3C\", appskey = \"000102030405060708090A0b0C0d0E0f\"}]\n";
@@ -45,10 +45,15 @@ fn gives(
 #[test]
 fn keys_are_read(rt: HostRuntime) -> Result<(), Fail> {
     let alloc = rt.alloc();
-    let plain = [GatewaySetting { id: 1, cap: 4_096 }];
+    let plain = [GatewaySetting {
+        id: 1,
+        cap: 4_096,
+        gap: 0,
+    }];
     let greatest = [GatewaySetting {
         id: 65_535,
         cap: 65_536,
+        gap: 100_000,
     }];
     let full = DeviceSetting {
         delay: 15,
@@ -92,6 +97,9 @@ fn faults_of_gateways_are_named(rt: HostRuntime) {
         ("[[gateway]]\nid = 65536\n", "Kind"),
         ("[[gateway]]\nid = -1\n", "Kind"),
         ("[[gateway]]\nid = 0\n", "Range"),
+        ("[[gateway]]\nid = 1\ngap = 100001\n", "Range"),
+        ("[[gateway]]\nid = 1\ngap = 4294967296\n", "Kind"),
+        ("[[gateway]]\nid = 1\ngap = -1\n", "Kind"),
         (
             "[[gateway]]\nid = 1\n[[gateway]]\nid = 1\n",
             "DoubleGateway",

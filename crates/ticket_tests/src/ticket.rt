@@ -106,7 +106,7 @@ fn spent<A: Allocator, X>(tried: Tried<A>) -> Option<X> {
 type Book = GatewayBook<TreeRoster<Global>>;
 
 fn opened(alloc: Global, id: u16) -> Result<Book, OpenFault> {
-    GatewayBook::new(TreeRoster::new(alloc), id, 4_096)
+    GatewayBook::new(TreeRoster::new(alloc), id, 4_096, 0)
 }
 
 /// The ticket for that answer.

@@ -9,5 +9,5 @@ pub type WorkedBook = GatewayBook<TreeRoster<Global>>;
 
 /// The empty book of the gateway with this number.
 pub fn book_of(alloc: Global, id: u16) -> Result<WorkedBook, Fail> {
-    Ok(GatewayBook::new(TreeRoster::new(alloc), id, 4_096)?)
+    Ok(GatewayBook::new(TreeRoster::new(alloc), id, 4_096, 0)?)
 }

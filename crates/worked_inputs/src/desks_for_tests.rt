@@ -27,8 +27,16 @@ pub fn hasher() -> WorkedHasher {
 /// The settings of the gateways 1 and 2, and of these devices.
 pub fn settings_of(alloc: Global, devices: &[DeviceSetting]) -> Result<Settings<Global>, Fail> {
     let gateways = [
-        GatewaySetting { id: 1, cap: 4_096 },
-        GatewaySetting { id: 2, cap: 4_096 },
+        GatewaySetting {
+            id: 1,
+            cap: 4_096,
+            gap: 0,
+        },
+        GatewaySetting {
+            id: 2,
+            cap: 4_096,
+            gap: 0,
+        },
     ];
     Ok(Settings::new(gateways.to_vec(alloc)?, devices.to_vec(alloc)?)?)
 }

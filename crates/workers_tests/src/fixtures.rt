@@ -27,6 +27,7 @@ pub(crate) fn station_with<B: Ledger>(
         settings.push(GatewaySetting {
             id: *id,
             cap: 4_096,
+            gap: 0,
         })?;
     }
     let settings = Settings::new(settings, devices_of(alloc, devices)?)?;

@@ -11,7 +11,7 @@ pub loop-gateway-preserved : goal.loop-gateway-preserved
 loop-gateway-preserved g c =
     let all = c.args.gateways.now in
     let place = c.loop-gateway.gateway-index in
-    let none : GatewaySetting = record { id = 0; cap = 0 } in
+    let none : GatewaySetting = record { id = 0; cap = 0; gap = 0 } in
     let so_far = map opened_gateway (take place all) in
     ap (map gateway_of) c.in_ok-push.ensures.items
     ∙ map-append gateway_of c.loop-gateway.books.items (c.empty_book.result ∷ [])

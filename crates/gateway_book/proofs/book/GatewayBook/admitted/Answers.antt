@@ -14,7 +14,7 @@ returns-in-Some-duty_full g c =
     let told = not_refused (first_some (no_band ask ∷ too_long ask ∷ past_end ask ∷ [])) r ask c.in_ok-reservation.ensures in
     let P : Book → Type 0 = λ b. nat_lt ask.start b.floor ≡ false in
     let ahead : P now = subst P c.self.view_is (le-ltb ask.start c.self.inside.floor c.if-ask-self.false) in
-    let clear = overlap_asked now.list ask r told.1 (sym c.first_overlap.ensures ∙ c.in_default.is) in
+    let clear = overlap_asked now.rules.gap now.list ask r told.1 (sym c.first_overlap.ensures ∙ c.in_default.is) in
     let full = duty_asked now.list ask r refusal told.1 (sym c.duty_full.ensures ∙ c.in-Some-duty_full.is) in
     answer_match (refusal_of (terms_of now) now.list ask) refusal ask
     (answer_duty (terms_of now) now.list ask refusal told.0 ahead clear full)

@@ -3,6 +3,7 @@ use Rattle.resv_list.specs.Reservations.{IsByStart, member_from}
 use Rattle.gateway_book.specs.declared.refusal.Refusal.TheVariants.{Taken, DutyFull}
 use Rattle.gateway_book.specs.Answer.{refusal_of}
 use Rattle.gateway_book.specs.Book.{Book, terms_of}
+use Rattle.gateway_book.specs.Disjoint.{rested_from}
 use Rattle.gateway_book.specs.Duty.{after_full_hour}
 use Rattle.gateway_book.specs.Earliest.{IsNextStart}
 use Rattle.gateway_book.proofs.EarliestLaws.{found_taken, next_full, next_none}
@@ -27,9 +28,11 @@ returns-in_ok-member-in-Taken g c =
     let P : Book → Type 0 = λ b. IsByStart b.list in
     let Q : Book → Type 0 = λ b. member_from c.in-Taken.start b.list ≡ Some m in
     let R : ℕ → Type 0 = λ n. IsNextStart (terms_of now) now.list c.args.ask (Some n) in
+    let S : Book → Type 0 = λ b. c.rested_from.result ≡ rested_from b.rules.gap m in
     let e : refusal_of (terms_of now) now.list c.args.ask ≡ Some (Taken c.in-Taken.start) =
     c.requires.refused ∙ ap Some c.in-Taken.is in
-    subst R (sym c.end.ensures) (found_taken (terms_of now) now.list c.args.ask c.in-Taken.start (Some m)
+    subst R (sym (subst S c.self.view_is c.rested_from.ensures))
+    (found_taken (terms_of now) now.list c.args.ask c.in-Taken.start (Some m)
     (subst P c.self.view_is (g.met.R.Roster.by_start c.self.inside.roster)) e
     (subst Q c.self.view_is (sym c.first_from.ensures ∙ c.in_ok-member-in-Taken.was)))
 

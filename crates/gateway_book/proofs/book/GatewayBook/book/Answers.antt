@@ -11,7 +11,8 @@ insert-requires g c =
     let r = c.in_ok-reservation.reservation in
     let told = not_refused (refusal_of (terms_of now) now.list c.args.ask) r c.args.ask c.in_ok-reservation.ensures in
     let can = may_book_inside _ now c.args.ask r c.self.view_is c.self.invariant told.1 told.0 in
-    free_where_clear (g.R.Roster.list c.self.inside.roster) r (g.met.R.Roster.by_start c.self.inside.roster) can.joins.clear
+    free_where_clear c.self.inside.gap (g.R.Roster.list c.self.inside.roster) r
+    (g.met.R.Roster.by_start c.self.inside.roster) can.joins.clear
 
 pub invariant_of-self : goal.invariant_of-self
 invariant_of-self g c =

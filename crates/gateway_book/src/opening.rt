@@ -1,0 +1,47 @@
+// What a book may be opened with.
+ghost use Rattle.std.specs.Prelude.{◌≡◌};
+ghost use Rattle.gateway_book.specs.Opening.{open_fault};
+
+use thiserror::Error;
+
+/// The greatest number of transmissions that a book may keep.
+pub const MAX_CAP: u32 = 65_536;
+
+/// The greatest gap between two transmissions, in microseconds.
+pub const MAX_GAP: u32 = 100_000;
+
+/// Why no book was opened. Where both hold, the first in this order is answered.
+#[derive(Clone, Copy, Debug, PartialEq, Eq, Error)]
+pub enum OpenFault {
+    #[error("the cap of a book is 1 to 65,536 transmissions")]
+    BadCap,
+    #[error("the gap between two transmissions is 0 to 100,000 microseconds")]
+    BadGap,
+}
+
+impl OpenFault {
+    ghost use Rattle.gateway_book.specs.Opening.{name_of};
+
+    /// The fault's own name, as a program prints it.
+    pub fn name(self) -> &'static str
+        ensures { result.now ≡ name_of self }
+    {
+        match self {
+            OpenFault::BadCap => "BadCap",
+            OpenFault::BadGap => "BadGap",
+        }
+    }
+}
+
+/// Why no book is opened with this cap and this gap, if there is a reason.
+pub(crate) fn fault_of(cap: u32, gap: u32) -> Option<OpenFault>
+    ensures { result ≡ open_fault (record { cap = cap; gap = gap }) }
+{
+    if cap == 0 || cap > MAX_CAP {
+        return Some(OpenFault::BadCap);
+    }
+    if gap > MAX_GAP {
+        return Some(OpenFault::BadGap);
+    }
+    None
+}
