@@ -11,18 +11,18 @@ def book(number, start):
     return f"book {number} {start} 868300000 6 12\n"
 
 
-def started(program, given, command="book"):
-    return subprocess.Popen([program, command, "--cap", "65536"], stdin=given, stdout=subprocess.DEVNULL)
+def started(program, given, command="book", more=()):
+    return subprocess.Popen([program, command, "--cap", "65536", *more], stdin=given, stdout=subprocess.DEVNULL)
 
 
-def seconds(program, lines, runs=1, command="book"):
-    """The least processor seconds of so many runs of a command over these lines."""
+def seconds(program, lines, runs=1, command="book", more=()):
+    """The least processor seconds of so many runs of a command, with more arguments if any, over these lines."""
     best = None
     with tempfile.TemporaryFile() as given:
         given.writelines(line.encode() for line in lines)
         for _ in range(runs):
             given.seek(0)
-            child = started(program, given, command)
+            child = started(program, given, command, more)
             _, status, used = os.wait4(child.pid, 0)
             child.returncode = os.waitstatus_to_exitcode(status)
             if child.returncode not in (0, 1):

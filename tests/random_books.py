@@ -5,8 +5,8 @@ Usage: tests/random_books.py [PROGRAM [COMMANDS [SEED]]]     (the program that t
 
 The list is kept here by start and asked as docs/FORMATS.md says: it keeps no sum and no tree, and each answer is found by going
 over it. A quarter of the commands each is given to a book of few members in narrow hours (sub-band K), of many in wide ones (P),
-of both beside M, and to one with a small cap. Each answer that differs has a line; the last line is 'N passed, M failed', of
-the books. The status is 0 where none failed, 1 where one did, 2 where there is no program.
+of both beside M with a gap, and to one with a small cap. Each answer that differs has a line; the last line is
+'N passed, M failed', of the books. The status is 0 where none failed, 1 where one did, 2 where there is no program.
 """
 import bisect
 import pathlib
@@ -21,39 +21,43 @@ HOUR = 3_600_000_000
 K = (863_500_000, "K", 3_600_000, [(0, 12, 991_232), (5, 12, 41_216)])
 M = (868_100_000, "M", 36_000_000, [(5, 12, 41_216), (3, 12, 144_384)])
 P = (869_525_000, "P", 360_000_000, [(0, 12, 991_232), (1, 12, 577_536)])
-# A name, the channels, the cap, and how far ahead of the floor is booked.
+# A name, the channels, the cap, the gap, and how far ahead of the floor is booked.
 BOOKS = [
-    ("narrow hours", [K], 4096, 3 * HOUR),
-    ("wide hours", [P], 65536, HOUR + HOUR // 2),
-    ("three bands", [K, M, P], 4096, 2 * HOUR),
-    ("a small cap", [M, P], 64, 4 * HOUR),
+    ("narrow hours", [K], 4096, 0, 3 * HOUR),
+    ("wide hours", [P], 65536, 0, HOUR + HOUR // 2),
+    ("three bands with a gap", [K, M, P], 4096, 50_000, 2 * HOUR),
+    ("a small cap", [M, P], 64, 1, 4 * HOUR),
 ]
 
 
 class Book:
     """Members (start, end, number, band, airtime) by start, and what was counted."""
 
-    def __init__(self, cap):
-        self.cap, self.floor, self.members = cap, 0, []
+    def __init__(self, cap, gap):
+        self.cap, self.gap, self.floor, self.members = cap, gap, 0, []
         self.booked = self.cancelled = self.retired = 0
 
-    def book(self, number, start, channel, airtime):
+    def refusal(self, start, channel, airtime):
+        """Why it can't be booked, if there is a reason."""
         _, band, limit, _ = channel
-        end = start + airtime
         if start < self.floor:
-            return f"no {number} Passed"
+            return "Passed"
         at = bisect.bisect_left(self.members, (start,))
         for other in self.members[max(at - 1, 0):at + 1]:
-            if other[0] < end and start < other[1]:
-                return f"no {number} Taken {other[0]}"
+            if other[0] < start + airtime + self.gap and start < other[1] + self.gap:
+                return f"Taken {other[0]}"
         over = self.overfull(start, band, limit, airtime)
         if over is not None:
-            return f"no {number} DutyFull {band} {over[0]} {over[1]}"
-        if len(self.members) >= self.cap:
-            return f"no {number} Full"
-        self.members.insert(at, (start, end, number, band, airtime))
+            return f"DutyFull {band} {over[0]} {over[1]}"
+        return "Full" if len(self.members) >= self.cap else None
+
+    def book(self, number, start, channel, airtime):
+        refusal = self.refusal(start, channel, airtime)
+        if refusal is not None:
+            return f"no {number} {refusal}"
+        bisect.insort(self.members, (start, start + airtime, number, channel[1], airtime))
         self.booked += airtime
-        return f"ok {number} {start} {end}"
+        return f"ok {number} {start} {start + airtime}"
 
     def overfull(self, start, band, limit, airtime):
         """The first hour that holds the start and would be overfull, by where it opens, and what begins in it."""
@@ -110,9 +114,9 @@ class Book:
         return lines + [line for band in "KLMNPQ" for line in self.busiest(band)]
 
 
-def commands(chance, channels, cap, ahead, count):
+def commands(chance, channels, cap, gap, ahead, count):
     """So many lines, with what the list answers to each; the report comes last."""
-    plain = Book(cap)
+    plain = Book(cap, gap)
     for number in range(count):
         kind = chance.random()
         member = plain.members[chance.randrange(len(plain.members))] if plain.members else None
@@ -128,16 +132,16 @@ def commands(chance, channels, cap, ahead, count):
             beside = member and chance.random() < 0.3
             start = plain.floor + chance.randrange(ahead)
             if beside:
-                start = max(member[0] + chance.choice([-HOUR, HOUR, -1, 0, member[4], HOUR - 1]), 0)
+                start = max(member[0] + chance.choice([-HOUR, HOUR, -1, 0, member[4], member[4] + gap, HOUR - 1]), 0)
             yield f"book {number} {start} {channel[0]} {rate} {length}", plain.book(number, start, channel, airtime)
     yield None, plain.report()
 
 
-def compared(program, name, channels, cap, ahead, count, seed):
+def compared(program, name, channels, cap, gap, ahead, count, seed):
     """Whether the program answers as the list does; each answer that differs has a line."""
-    told = list(commands(random.Random(seed), channels, cap, ahead, count))
+    told = list(commands(random.Random(seed), channels, cap, gap, ahead, count))
     given = "".join(line + "\n" for line, _ in told[:-1])
-    ran = subprocess.run([program, "book", "--cap", str(cap)], input=given, capture_output=True, text=True)
+    ran = subprocess.run([program, "book", "--cap", str(cap), "--gap", str(gap)], input=given, capture_output=True, text=True)
     wanted = [answer for _, answer in told[:-1]] + told[-1][1]
     written = ran.stdout.splitlines()
     differs = [(i, w, g) for i, (w, g) in enumerate(zip(wanted, written)) if w != g]

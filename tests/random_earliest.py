@@ -1,0 +1,91 @@
+#!/usr/bin/env python3
+"""Compares the lines `earliest` of `airbook book` with a search that tries every start, on small random books.
+
+Usage: tests/random_earliest.py [PROGRAM [BOOKS [SEED]]]     (the program that the gate leaves, 10,000, 1)
+
+Each book has its own gap and a dozen commands at most; then it is asked for earliest starts within narrow bounds about the
+moments at which the answer can change: its floor, the ends of its transmissions and an hour after their starts. What is
+wanted is found by trying each start in the bounds on a plain list (random_books.py). Each answer that differs has a line; the
+last line is 'N passed, M failed', of the books. The status is 0 where none failed, 1 where one did, 2 where there is no program.
+"""
+import pathlib
+import random
+import subprocess
+import sys
+
+sys.dont_write_bytecode = True
+from random_books import HOUR, K, M, P, TOP, Book
+
+ASKS, WIDTH = 4, 60
+
+
+def drawn(chance):
+    """A book with a gap, and the lines that made it, each with its answer."""
+    book = Book(chance.choice([3, 4096]), chance.choice([0, 0, 1, 1_000, 100_000]))
+    lines = []
+    for number in range(chance.randrange(1, 13)):
+        if chance.random() < 0.1:
+            now = book.floor + chance.randrange(2 * HOUR)
+            lines.append((f"tick {now}", book.tick(now)))
+            continue
+        channel = chance.choice([K, K, M, P])
+        rate, length, airtime = chance.choice(channel[3])
+        near = chance.randrange(3_000_000)
+        start = book.floor + chance.choice([near, HOUR + near, chance.randrange(HOUR)])
+        lines.append((f"book {number} {start} {channel[0]} {rate} {length}", book.book(number, start, channel, airtime)))
+    return book, lines
+
+
+def turns(book, airtime):
+    """Moments about which the earliest start can lie."""
+    found = [book.floor]
+    for start, end, *_ in book.members:
+        found += [end + book.gap, start + HOUR, start - airtime - book.gap]
+    return found
+
+
+def asked(chance, book, number):
+    """A line that asks for the earliest start in narrow bounds, with the answer of a search that tries each start."""
+    channel = chance.choice([K, M, P])
+    rate, length, airtime = chance.choice(channel[3])
+    low = max(chance.choice(turns(book, airtime)) - chance.randrange(WIDTH), 0)
+    high = max(low + chance.randrange(-1, WIDTH), 0)
+    least = next((s for s in range(low, high + 1) if book.refusal(s, channel, airtime) is None), None)
+    told = f"no {number} NoStart" if least is None else f"at {number} {least}"
+    return f"earliest {number} {low} {high} {channel[0]} {rate} {length}", told
+
+
+def compared(program, seed):
+    """Whether the program answers as the search does, and how many starts were found; each answer that differs has a line."""
+    chance = random.Random(seed)
+    book, lines = drawn(chance)
+    lines += [asked(chance, book, 100 + n) for n in range(ASKS)]
+    given = "".join(line + "\n" for line, _ in lines)
+    arguments = ["book", "--cap", str(book.cap), "--gap", str(book.gap)]
+    ran = subprocess.run([program, *arguments], input=given, capture_output=True, text=True)
+    written = ran.stdout.splitlines()
+    wanted = [answer for _, answer in lines] + book.report()
+    for place, (want, got) in enumerate(zip(wanted, written)):
+        if want != got:
+            print(f"book {seed}, line {place + 1}: wanted '{want}', written '{got}'")
+    if len(wanted) != len(written):
+        print(f"book {seed}: {len(wanted)} lines wanted, {len(written)} written; status {ran.returncode} {ran.stderr}")
+    return wanted == written, sum(answer.startswith("at") for _, answer in lines)
+
+
+def main(words):
+    program = words[0] if words else str(TOP / "crates/airbook/out/airbook")
+    count = int(words[1]) if len(words) > 1 else 10_000
+    seed = int(words[2]) if len(words) > 2 else 1
+    if not pathlib.Path(program).is_file():
+        print(f"no program {program}: run make test, or name one", file=sys.stderr)
+        return 2
+    done = [compared(program, seed + i) for i in range(count)]
+    passed = sum(right for right, _ in done)
+    print(f"{count * ASKS} asks, {sum(found for _, found in done)} with a start")
+    print(f"{passed} passed, {count - passed} failed")
+    return 0 if passed == count else 1
+
+
+if __name__ == "__main__":
+    sys.exit(main(sys.argv[1:]))
