@@ -114,9 +114,8 @@ class Book:
         return lines + [line for band in "KLMNPQ" for line in self.busiest(band)]
 
 
-def commands(chance, channels, cap, gap, ahead, count):
-    """So many lines, with what the list answers to each; the report comes last."""
-    plain = Book(cap, gap)
+def commands(chance, channels, plain, ahead, count):
+    """So many lines, with what the list answers to each."""
     for number in range(count):
         kind = chance.random()
         member = plain.members[chance.randrange(len(plain.members))] if plain.members else None
@@ -132,29 +131,34 @@ def commands(chance, channels, cap, gap, ahead, count):
             beside = member and chance.random() < 0.3
             start = plain.floor + chance.randrange(ahead)
             if beside:
-                start = max(member[0] + chance.choice([-HOUR, HOUR, -1, 0, member[4], member[4] + gap, HOUR - 1]), 0)
+                start = max(member[0] + chance.choice([-HOUR, HOUR, -1, 0, member[4], member[4] + plain.gap, HOUR - 1]), 0)
             yield f"book {number} {start} {channel[0]} {rate} {length}", plain.book(number, start, channel, airtime)
-    yield None, plain.report()
 
 
-def compared(program, name, channels, cap, gap, ahead, count, seed):
-    """Whether the program answers as the list does; each answer that differs has a line."""
-    told = list(commands(random.Random(seed), channels, cap, gap, ahead, count))
-    given = "".join(line + "\n" for line, _ in told[:-1])
-    ran = subprocess.run([program, "book", "--cap", str(cap), "--gap", str(gap)], input=given, capture_output=True, text=True)
-    wanted = [answer for _, answer in told[:-1]] + told[-1][1]
+def answers_alike(program, name, plain, lines, wanted):
+    """Whether a book with the plain one's cap and gap answers the lines as wanted; each answer that differs has a line."""
+    arguments = ["book", "--cap", str(plain.cap), "--gap", str(plain.gap)]
+    ran = subprocess.run([program, *arguments], input="".join(line + "\n" for line in lines), capture_output=True, text=True)
     written = ran.stdout.splitlines()
     differs = [(i, w, g) for i, (w, g) in enumerate(zip(wanted, written)) if w != g]
     for place, want, got in differs[:10]:
         print(f"{name}, line {place + 1}: wanted '{want}', written '{got}'")
+    if len(wanted) != len(written):
+        print(f"{name}: {len(wanted)} lines wanted, {len(written)} written; status {ran.returncode} {ran.stderr}")
+    return wanted == written
+
+
+def compared(program, name, channels, cap, gap, ahead, count, seed):
+    """Whether the program answers as the list does."""
+    plain = Book(cap, gap)
+    told = list(commands(random.Random(seed), channels, plain, ahead, count))
+    wanted = [answer for _, answer in told] + plain.report()
     kinds = {}
-    for answer in wanted[:count]:
+    for _, answer in told:
         word = answer.split()[2] if answer.startswith("no") else answer.split()[0]
         kinds[word] = kinds.get(word, 0) + 1
     print(f"{name}: {count} commands, {', '.join(f'{kinds[k]} {k}' for k in sorted(kinds))}; {wanted[count + 3]}")
-    if len(wanted) != len(written):
-        print(f"{name}: {len(wanted)} lines wanted, {len(written)} written; status {ran.returncode} {ran.stderr}")
-    return not differs and len(wanted) == len(written)
+    return answers_alike(program, name, plain, [line for line, _ in told], wanted)
 
 
 def main(words):

@@ -10,11 +10,10 @@ last line is 'N passed, M failed', of the books. The status is 0 where none fail
 """
 import pathlib
 import random
-import subprocess
 import sys
 
 sys.dont_write_bytecode = True
-from random_books import HOUR, K, M, P, TOP, Book
+from random_books import HOUR, K, M, P, TOP, Book, answers_alike
 
 ASKS, WIDTH = 4, 60
 
@@ -56,21 +55,13 @@ def asked(chance, book, number):
 
 
 def compared(program, seed):
-    """Whether the program answers as the search does, and how many starts were found; each answer that differs has a line."""
+    """Whether the program answers as the search does, and how many starts were found."""
     chance = random.Random(seed)
-    book, lines = drawn(chance)
-    lines += [asked(chance, book, 100 + n) for n in range(ASKS)]
-    given = "".join(line + "\n" for line, _ in lines)
-    arguments = ["book", "--cap", str(book.cap), "--gap", str(book.gap)]
-    ran = subprocess.run([program, *arguments], input=given, capture_output=True, text=True)
-    written = ran.stdout.splitlines()
-    wanted = [answer for _, answer in lines] + book.report()
-    for place, (want, got) in enumerate(zip(wanted, written)):
-        if want != got:
-            print(f"book {seed}, line {place + 1}: wanted '{want}', written '{got}'")
-    if len(wanted) != len(written):
-        print(f"book {seed}: {len(wanted)} lines wanted, {len(written)} written; status {ran.returncode} {ran.stderr}")
-    return wanted == written, sum(answer.startswith("at") for _, answer in lines)
+    book, told = drawn(chance)
+    told += [asked(chance, book, 100 + n) for n in range(ASKS)]
+    wanted = [answer for _, answer in told] + book.report()
+    alike = answers_alike(program, f"book {seed}", book, [line for line, _ in told], wanted)
+    return alike, sum(answer.startswith("at") for _, answer in told)
 
 
 def main(words):

@@ -16,8 +16,9 @@ impl<R: Roster> GatewayBook<R> {
     /// The least start from `not_before` to `last`, both included and in microseconds of the gateway's clock, at which `book`
     /// would accept what is asked for, memory aside; `None` where there is none. The ask's own start is not looked at. The
     /// limits are those of `book`: duty cycle over one hour after ETSI EN 300 220-2, annex B, in the sub-bands of LoRaWAN
-    /// Regional Parameters RP002, EU863-870. Takes no memory, and looks at transmissions by the roster's look-ups alone: it tries only the least
-    /// allowed start, ends of transmissions plus the gap, and starts of transmissions plus an hour (`law_earliest_candidates`).
+    /// Regional Parameters RP002, EU863-870. Takes no memory, and looks at transmissions by the roster's look-ups alone: it
+    /// tries only the least allowed start, ends of transmissions plus the gap, and starts of transmissions plus an hour
+    /// (`law_earliest_candidates`).
     pub fn earliest(&self, ask: Ask, not_before: u64, last: u64) -> Option<u64>
         ensures answer { IsEarliest (terms_of self.now) self.now.list ask not_before last result }
         ensures value { result ≡ earliest_of (terms_of self.now) self.now.list ask not_before last }
