@@ -161,16 +161,27 @@ def compared(program, name, channels, cap, gap, ahead, count, seed):
     return answers_alike(program, name, plain, [line for line, _ in told], wanted)
 
 
-def main(words):
+def asked_for(words, count):
+    """The program, how many, and the seed that the words name; none where there is no such program."""
     program = words[0] if words else str(TOP / "crates/airbook/out/airbook")
-    count = int(words[1]) if len(words) > 1 else 100_000
-    seed = int(words[2]) if len(words) > 2 else 1
-    if not pathlib.Path(program).is_file():
-        print(f"no program {program}: run make test, or name one", file=sys.stderr)
-        return 2
-    passed = [compared(program, *book, count // len(BOOKS), seed + i) for i, book in enumerate(BOOKS)]
+    if pathlib.Path(program).is_file():
+        return program, int(words[1]) if len(words) > 1 else count, int(words[2]) if len(words) > 2 else 1
+    print(f"no program {program}: run make test, or name one", file=sys.stderr)
+    return None
+
+
+def status_of(passed):
+    """The last line, and the status that goes with it."""
     print(f"{sum(passed)} passed, {len(passed) - sum(passed)} failed")
     return 0 if all(passed) else 1
+
+
+def main(words):
+    asked = asked_for(words, 100_000)
+    if asked is None:
+        return 2
+    program, count, seed = asked
+    return status_of([compared(program, *book, count // len(BOOKS), seed + i) for i, book in enumerate(BOOKS)])
 
 
 if __name__ == "__main__":

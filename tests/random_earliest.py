@@ -8,12 +8,11 @@ moments at which the answer can change: its floor, the ends of its transmissions
 wanted is found by trying each start in the bounds on a plain list (random_books.py). Each answer that differs has a line; the
 last line is 'N passed, M failed', of the books. The status is 0 where none failed, 1 where one did, 2 where there is no program.
 """
-import pathlib
 import random
 import sys
 
 sys.dont_write_bytecode = True
-from random_books import HOUR, K, M, P, TOP, Book, answers_alike
+from random_books import HOUR, K, M, P, Book, answers_alike, asked_for, status_of
 
 ASKS, WIDTH = 4, 60
 
@@ -43,7 +42,7 @@ def turns(book, airtime):
     return found
 
 
-def asked(chance, book, number):
+def question(chance, book, number):
     """A line that asks for the earliest start in narrow bounds, with the answer of a search that tries each start."""
     channel = chance.choice([K, M, P])
     rate, length, airtime = chance.choice(channel[3])
@@ -58,24 +57,20 @@ def compared(program, seed):
     """Whether the program answers as the search does, and how many starts were found."""
     chance = random.Random(seed)
     book, told = drawn(chance)
-    told += [asked(chance, book, 100 + n) for n in range(ASKS)]
+    told += [question(chance, book, 100 + n) for n in range(ASKS)]
     wanted = [answer for _, answer in told] + book.report()
     alike = answers_alike(program, f"book {seed}", book, [line for line, _ in told], wanted)
     return alike, sum(answer.startswith("at") for _, answer in told)
 
 
 def main(words):
-    program = words[0] if words else str(TOP / "crates/airbook/out/airbook")
-    count = int(words[1]) if len(words) > 1 else 10_000
-    seed = int(words[2]) if len(words) > 2 else 1
-    if not pathlib.Path(program).is_file():
-        print(f"no program {program}: run make test, or name one", file=sys.stderr)
+    asked = asked_for(words, 10_000)
+    if asked is None:
         return 2
+    program, count, seed = asked
     done = [compared(program, seed + i) for i in range(count)]
-    passed = sum(right for right, _ in done)
     print(f"{count * ASKS} asks, {sum(found for _, found in done)} with a start")
-    print(f"{passed} passed, {count - passed} failed")
-    return 0 if passed == count else 1
+    return status_of([right for right, _ in done])
 
 
 if __name__ == "__main__":
