@@ -52,10 +52,10 @@ module _ {S : Type 0} (turns : Turns S) (s : S) (Old : S → Type 0) (stood : Ol
       }
 
 module _ {S : Type 0} (turns : Turns S) (s : S) (Old : S → Type 0) (stood : Old s) (Now : S → Type 0)
-    (before mid after : Option (List ℕ)) (pending : List ℕ) (refused : Bool) where
+    (before mid after : Option (List ℕ)) (pending : List ℕ) (refused : Bool) (taken : ℕ) where
   -- all was written
   pub AnswersAll-ended : (left left_after : Option (List ℕ)) → EndsWithoutRefusal turns
-      → ReadsAll left left_after (AreTurns turns Old Now refused before mid pending)
+      → ReadsAll taken left left_after (AreTurns turns Old Now refused before mid pending)
       → ((now : S) → Now now → Appends mid after (pending ++ text_of (turns.ending now)))
       → AnswersAll (output_of turns s) left left_after before after refused
   AnswersAll-ended None left_after quiet all wrote = tt
@@ -75,7 +75,7 @@ module _ {S : Type 0} (turns : Turns S) (s : S) (Old : S → Type 0) (stood : Ol
 
   -- the ending was not wholly written
   pub AnswersFront-ended : (left left_after : Option (List ℕ))
-      → ReadsAll left left_after (AreTurns turns Old Now refused before mid pending)
+      → ReadsAll taken left left_after (AreTurns turns Old Now refused before mid pending)
       → ((now : S) → Now now → WritesFront mid after (pending ++ text_of (turns.ending now)))
       → AnswersFront (output_of turns s) left before after
   AnswersFront-ended None left_after all wrote = tt
@@ -92,7 +92,7 @@ module _ {S : Type 0} (turns : Turns S) (s : S) (Old : S → Type 0) (stood : Ol
 
   -- all bytes had been read then
   pub AnswersRead-ended : (left left_after : Option (List ℕ))
-      → ReadsAll left left_after (AreTurns turns Old Now refused before mid pending)
+      → ReadsAll taken left left_after (AreTurns turns Old Now refused before mid pending)
       → AnswersFront (output_of turns s) left before after → AnswersRead (output_of turns s) left left_after before after
   AnswersRead-ended None left_after all front = tt
   AnswersRead-ended (Some bytes) left_after all front = record { read = bytes; consumed = all.consumed; answered = front }

@@ -8,17 +8,17 @@ use Rattle.std.proofs.lemmas.List.{length_push}
 use Rattle.text_lines.specs.Ahead.{Ahead, unread, TakesFront}
 use Rattle.text_lines.specs.Line.{kept}
 use Rattle.text_lines.specs.Progress.{ReadsAll, ReadsPart}
-use Rattle.text_lines.specs.Promise.{KeepsLimit}
+use Rattle.text_lines.specs.Promise.{KeepsLimitFrom}
 use Rattle.text_lines.specs.Reading.{GivesLine, IsEndWithin}
 use Rattle.text_lines.specs.declared.ahead.NextLine.{NextLine}
 use Rattle.text_lines.specs.declared.ahead.NextLine.TheVariants.{Whole, Last, End}
 
 -- `taken` stands at the front of the bytes and `rest` follows; whatever follows `taken`, its lines are the first, and this
--- holds of them
-pub record SoFar (bytes rest : List ℕ) (count number : ℕ) (Holds : List (List ℕ) → Type 0) : Type 0 where
+-- holds of them. The count began at `from`
+pub record SoFar (from : ℕ) (bytes rest : List ℕ) (count number : ℕ) (Holds : List (List ℕ) → Type 0) : Type 0 where
   pub taken : List ℕ
   pub front : bytes ≡ taken ++ rest
-  pub counted : count ≡ length taken
+  pub counted : count ≡ from + length taken
   pub read : List (List ℕ)
   pub first : (more : List ℕ) → lines (taken ++ more) ≡ read ++ lines more
   pub numbered : number ≡ 1 + length read
@@ -26,10 +26,10 @@ pub record SoFar (bytes rest : List ℕ) (count number : ℕ) (Holds : List (Lis
   pub holds : Holds read
 
 -- the same where the reader tells what it has left
-abbrev pub IsSoFar : Option (List ℕ) → Option (List ℕ) → ℕ → ℕ → (List (List ℕ) → Type 0) → Type 0
-IsSoFar None now count number Holds = ⊤
-IsSoFar (Some bytes) None count number Holds = ⊥
-IsSoFar (Some bytes) (Some rest) count number Holds = SoFar bytes rest count number Holds
+abbrev pub IsSoFar : ℕ → Option (List ℕ) → Option (List ℕ) → ℕ → ℕ → (List (List ℕ) → Type 0) → Type 0
+IsSoFar from None now count number Holds = ⊤
+IsSoFar from (Some bytes) None count number Holds = ⊥
+IsSoFar from (Some bytes) (Some rest) count number Holds = SoFar from bytes rest count number Holds
 
 -- what holds of some lines holds, or something else does, of one line more
 abbrev pub GoesOn : ℕ → List ℕ → (List (List ℕ) → Type 0) → (List (List ℕ) → Type 0) → Type 0
@@ -47,22 +47,22 @@ same_front : (bytes a b rest : List ℕ) → bytes ≡ a ++ rest → bytes ≡ b
 same_front bytes a b rest e f = omega (arith, ap length e, ap length f, length-append a rest, length-append b rest)
 
 -- one line more
-pub IsSoFar-next : (left now now_after : Option (List ℕ)) (count number : ℕ) (Holds HoldsThen : List (List ℕ) → Type 0)
+pub IsSoFar-next : (from : ℕ) (left now now_after : Option (List ℕ)) (count number : ℕ) (Holds HoldsThen : List (List ℕ) → Type 0)
     (found : NextLine) (held front : List ℕ) (count_after : ℕ)
-    → IsSoFar left now count number Holds → GivesLine now now_after found held → Consumes now now_after front
+    → IsSoFar from left now count number Holds → GivesLine now now_after found held → Consumes now now_after front
     → count_after ≡ count + length front → (found ≡ End → ⊥) → (found ≡ Last → ⊥) → GoesOn number held Holds HoldsThen
-    → IsSoFar left now_after count_after (number + 1) HoldsThen
-IsSoFar-next None now now_after count number Holds HoldsThen found held front count_after far line consumed counted some whole on
+    → IsSoFar from left now_after count_after (number + 1) HoldsThen
+IsSoFar-next from None now now_after count number Holds HoldsThen found held front count_after far line consumed counted some whole on
     = tt
-IsSoFar-next (Some bytes) None now_after count number Holds HoldsThen found held front count_after far line consumed counted some
+IsSoFar-next from (Some bytes) None now_after count number Holds HoldsThen found held front count_after far line consumed counted some
     whole on = absurd far
-IsSoFar-next (Some bytes) (Some rest) None count number Holds HoldsThen found held front count_after far line consumed counted
+IsSoFar-next from (Some bytes) (Some rest) None count number Holds HoldsThen found held front count_after far line consumed counted
     some whole on = absurd line
-IsSoFar-next (Some bytes) (Some rest) (Some rest_after) count number Holds HoldsThen End held front count_after far line consumed
+IsSoFar-next from (Some bytes) (Some rest) (Some rest_after) count number Holds HoldsThen End held front count_after far line consumed
     counted some whole on = absurd (some refl)
-IsSoFar-next (Some bytes) (Some rest) (Some rest_after) count number Holds HoldsThen Last held front count_after far line consumed
+IsSoFar-next from (Some bytes) (Some rest) (Some rest_after) count number Holds HoldsThen Last held front count_after far line consumed
     counted some whole on = absurd (whole refl)
-IsSoFar-next (Some bytes) (Some rest) (Some rest_after) count number Holds HoldsThen Whole held front count_after far line
+IsSoFar-next from (Some bytes) (Some rest) (Some rest_after) count number Holds HoldsThen Whole held front count_after far line
     consumed counted some whole on =
     let more : length front ≡ length line.taken = same_front rest front line.taken rest_after consumed line.front in
     let begun : 0 < length line.taken = some_taken line.taken line.line line.first in
@@ -79,14 +79,14 @@ IsSoFar-next (Some bytes) (Some rest) (Some rest_after) count number Holds Holds
     }
 
 -- nothing more was answered, whatever was read
-pub ReadsPart-now : (left left_old left_after : Option (List ℕ)) (old new : Ahead) (number : ℕ)
+pub ReadsPart-now : (from : ℕ) (left left_old left_after : Option (List ℕ)) (old new : Ahead) (number : ℕ)
     (Holds HoldsThen : List (List ℕ) → Type 0)
-    → IsSoFar left (unread old left_old) old.taken number Holds → TakesFront old left_old new left_after
+    → IsSoFar from left (unread old left_old) old.taken number Holds → TakesFront old left_old new left_after
     → ((read : List (List ℕ)) → Holds read → HoldsThen read) → ReadsPart left left_after HoldsThen
-ReadsPart-now None left_old left_after old new number Holds HoldsThen far front on = tt
-ReadsPart-now (Some bytes) None left_after old new number Holds HoldsThen far front on = absurd far
-ReadsPart-now (Some bytes) (Some x) None old new number Holds HoldsThen far front on = absurd front.consumed
-ReadsPart-now (Some bytes) (Some x) (Some y) old new number Holds HoldsThen far front on =
+ReadsPart-now from None left_old left_after old new number Holds HoldsThen far front on = tt
+ReadsPart-now from (Some bytes) None left_after old new number Holds HoldsThen far front on = absurd far
+ReadsPart-now from (Some bytes) (Some x) None old new number Holds HoldsThen far front on = absurd front.consumed
+ReadsPart-now from (Some bytes) (Some x) (Some y) old new number Holds HoldsThen far front on =
     let gone : List ℕ = front.front ++ new.pending in
     record {
       read = far.taken ++ gone;
@@ -111,17 +111,17 @@ all_read bytes new y e none =
     let nothing : y ≡ [] = rw none at e in sym (append-nil bytes) ∙ ap (λ l. bytes ++ l) (sym nothing)
 
 -- the next line was answered, but its answer not wholly written
-pub ReadsPart-line : (left left_old left_after : Option (List ℕ)) (old new : Ahead) (number : ℕ)
+pub ReadsPart-line : (from : ℕ) (left left_old left_after : Option (List ℕ)) (old new : Ahead) (number : ℕ)
     (Holds HoldsThen : List (List ℕ) → Type 0) (found : NextLine) (held : List ℕ)
-    → IsSoFar left (unread old left_old) old.taken number Holds
+    → IsSoFar from left (unread old left_old) old.taken number Holds
     → GivesLine (unread old left_old) (unread new left_after) found held → IsEndWithin new found → (found ≡ End → ⊥)
     → GoesOn number held Holds HoldsThen → ReadsPart left left_after HoldsThen
-ReadsPart-line None left_old left_after old new number Holds HoldsThen found held far line within some on = tt
-ReadsPart-line (Some bytes) None left_after old new number Holds HoldsThen found held far line within some on = absurd far
-ReadsPart-line (Some bytes) (Some x) None old new number Holds HoldsThen found held far line within some on = absurd line
-ReadsPart-line (Some bytes) (Some x) (Some y) old new number Holds HoldsThen End held far line within some on =
+ReadsPart-line from None left_old left_after old new number Holds HoldsThen found held far line within some on = tt
+ReadsPart-line from (Some bytes) None left_after old new number Holds HoldsThen found held far line within some on = absurd far
+ReadsPart-line from (Some bytes) (Some x) None old new number Holds HoldsThen found held far line within some on = absurd line
+ReadsPart-line from (Some bytes) (Some x) (Some y) old new number Holds HoldsThen End held far line within some on =
     absurd (some refl)
-ReadsPart-line (Some bytes) (Some x) (Some y) old new number Holds HoldsThen Whole held far line within some on =
+ReadsPart-line from (Some bytes) (Some x) (Some y) old new number Holds HoldsThen Whole held far line within some on =
     let gone : List ℕ = line.taken ++ new.pending in
     record {
       read = far.taken ++ gone;
@@ -137,7 +137,7 @@ ReadsPart-line (Some bytes) (Some x) (Some y) old new number Holds HoldsThen Who
           ∙ sym (append_assoc far.read (line.line ∷ []) (lines new.pending));
       holds = on far.read line.line far.numbered line.keeps far.holds;
     }
-ReadsPart-line (Some bytes) (Some x) (Some y) old new number Holds HoldsThen Last held far line within some on =
+ReadsPart-line from (Some bytes) (Some x) (Some y) old new number Holds HoldsThen Last held far line within some on =
     let rest : List ℕ = old.pending ++ x in
     let all : lines bytes ≡ far.read ++ rest ∷ [] =
     ap lines far.front ∙ far.first rest ∙ ap (λ l. far.read ++ l) line.last in
@@ -153,15 +153,15 @@ ReadsPart-line (Some bytes) (Some x) (Some y) old new number Holds HoldsThen Las
     }
 
 -- or after a line without a line feed
-pub ReadsAll-last : (left left_old left_after : Option (List ℕ)) (old new : Ahead) (number : ℕ)
+pub ReadsAll-last : (from : ℕ) (left left_old left_after : Option (List ℕ)) (old new : Ahead) (number : ℕ)
     (Holds HoldsThen : List (List ℕ) → Type 0) (held : List ℕ)
-    → IsSoFar left (unread old left_old) old.taken number Holds → TakesFront old left_old new left_after
+    → IsSoFar from left (unread old left_old) old.taken number Holds → TakesFront old left_old new left_after
     → GivesLine (unread old left_old) (unread new left_after) Last held → IsEndWithin new Last
-    → GoesOn number held Holds HoldsThen → ReadsAll left left_after HoldsThen
-ReadsAll-last None left_old left_after old new number Holds HoldsThen held far front line within on = tt
-ReadsAll-last (Some bytes) None left_after old new number Holds HoldsThen held far front line within on = absurd far
-ReadsAll-last (Some bytes) (Some x) None old new number Holds HoldsThen held far front line within on = absurd line
-ReadsAll-last (Some bytes) (Some x) (Some y) old new number Holds HoldsThen held far front line within on =
+    → GoesOn number held Holds HoldsThen → ReadsAll from left left_after HoldsThen
+ReadsAll-last from None left_old left_after old new number Holds HoldsThen held far front line within on = tt
+ReadsAll-last from (Some bytes) None left_after old new number Holds HoldsThen held far front line within on = absurd far
+ReadsAll-last from (Some bytes) (Some x) None old new number Holds HoldsThen held far front line within on = absurd line
+ReadsAll-last from (Some bytes) (Some x) (Some y) old new number Holds HoldsThen held far front line within on =
     let rest : List ℕ = old.pending ++ x in
     let all : lines bytes ≡ far.read ++ rest ∷ [] =
     ap lines far.front ∙ far.first rest ∙ ap (λ l. far.read ++ l) line.last in
@@ -181,8 +181,7 @@ ReadsAll-last (Some bytes) (Some x) (Some y) old new number Holds HoldsThen held
     }
 
 -- all bytes were read, and are not too many
-pub KeepsLimit-all : (left left_after : Option (List ℕ)) (Holds : List (List ℕ) → Type 0) (refused : Bool)
-    → ReadsAll left left_after Holds
-    → KeepsLimit left (Ok refused)
-KeepsLimit-all None left_after Holds refused all = tt
-KeepsLimit-all (Some bytes) left_after Holds refused all = all.within
+pub KeepsLimit-all : (from : ℕ) (left left_after : Option (List ℕ)) (Holds : List (List ℕ) → Type 0) (refused : Bool)
+    → ReadsAll from left left_after Holds → KeepsLimitFrom from left (Ok refused)
+KeepsLimit-all from None left_after Holds refused all = tt
+KeepsLimit-all from (Some bytes) left_after Holds refused all = all.within

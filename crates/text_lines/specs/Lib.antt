@@ -5,6 +5,7 @@ pub mod Number
 pub mod Progress
 pub mod Promise
 pub mod Reading
+pub mod Rest
 pub mod Turns
 pub mod Words
 pub mod Writing

@@ -1,5 +1,5 @@
 -- How far lines were read and answered. What stands is told by a predicate on the states that turns speak of.
-use Rattle.std.specs.Prelude.{◌≡◌, ℕ, ◌≤◌, Bool, List, ◌++◌, length, All, Option, Some, None, Result, ⊤, IfOk, OnOk, OnErr}
+use Rattle.std.specs.Prelude.{◌≡◌, ℕ, ◌+◌, ◌≤◌, Bool, List, ◌++◌, length, All, Option, Some, None, Result, ⊤, IfOk, OnOk, OnErr}
 use Rattle.std.specs.Io.KnownBytes.{Consumes}
 use Rattle.std.specs.Str.Lines.{lines}
 use Rattle.text_lines.specs.Line.{text_of}
@@ -52,10 +52,10 @@ module _ {S : Type 0} (turns : Turns S) (Old : S → Type 0) where
   AreTurnsInPart before after read =
       (s : S) → Old s → (starved : List ℕ) × WritesFront before after (text_of (answers turns starved 1 s read))
 
--- all these bytes were read, and this holds of their lines
-pub record IsWholly (bytes : List ℕ) (left_after : Option (List ℕ)) (Holds : List (List ℕ) → Type 0) : Type 0 where
+-- all these bytes were read, behind so many that were taken before, and this holds of their lines
+pub record IsWholly (taken : ℕ) (bytes : List ℕ) (left_after : Option (List ℕ)) (Holds : List (List ℕ) → Type 0) : Type 0 where
   pub consumed : Consumes (Some bytes) left_after bytes
-  pub within : length bytes ≤ INPUT_LIMIT
+  pub within : taken + length bytes ≤ INPUT_LIMIT
   pub holds : Holds (lines bytes)
 
 -- this holds of the first lines of these bytes, which are also the first of the bytes that were read
@@ -70,9 +70,9 @@ pub record IsInPart (bytes : List ℕ) (left_after : Option (List ℕ)) (Holds :
   pub holds : Holds first
 
 -- the same two where the reader tells what it has left
-abbrev pub ReadsAll : Option (List ℕ) → Option (List ℕ) → (List (List ℕ) → Type 0) → Type 0
-ReadsAll None left_after Holds = ⊤
-ReadsAll (Some bytes) left_after Holds = IsWholly bytes left_after Holds
+abbrev pub ReadsAll : ℕ → Option (List ℕ) → Option (List ℕ) → (List (List ℕ) → Type 0) → Type 0
+ReadsAll taken None left_after Holds = ⊤
+ReadsAll taken (Some bytes) left_after Holds = IsWholly taken bytes left_after Holds
 
 abbrev pub ReadsPart : Option (List ℕ) → Option (List ℕ) → (List (List ℕ) → Type 0) → Type 0
 ReadsPart None left_after Holds = ⊤

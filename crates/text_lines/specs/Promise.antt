@@ -1,6 +1,7 @@
 -- What a text promises of a reader and a writer that tell their bytes. `output` is a function of the numbers of those lines
 -- that found no memory, and of the lines of the input.
-use Rattle.std.specs.Prelude.{◌≡◌, ◌<◌, ◌≤◌, ℕ, Bool, true, false, List, [], length, refl, Option, Some, None, Result, Ok, Err, ⊤}
+use Rattle.std.specs.Prelude.{◌≡◌, ◌<◌, ◌≤◌, ◌+◌, ℕ, Bool, true, false, List, [], length, refl, Option, Some, None, Result, Ok, Err}
+use Rattle.std.specs.Prelude.{⊤}
 use Rattle.std.specs.Io.KnownBytes.{Appends, Consumes}
 use Rattle.std.specs.Str.Lines.{lines}
 use Rattle.text_lines.specs.Calls.{CountsWhere}
@@ -57,6 +58,14 @@ module _ (output : List ℕ → List (List ℕ) → List (List ℕ)) where
   AnswersRead-nothing None before = tt
   AnswersRead-nothing (Some bytes) before =
       record { read = []; consumed = refl; answered = AnswersFront-nothing (Some []) before }
+
+-- the length of an input of which so many bytes were taken before, where it is known: at most 2^28 bytes on `Ok`, and more
+-- where `TooMuch` is answered
+abbrev pub KeepsLimitFrom : ℕ → Option (List ℕ) → Result Bool LineFault → Type 0
+KeepsLimitFrom taken None result = ⊤
+KeepsLimitFrom taken (Some bytes) (Ok _) = taken + length bytes ≤ INPUT_LIMIT
+KeepsLimitFrom taken (Some bytes) (Err TooMuch) = INPUT_LIMIT < taken + length bytes
+KeepsLimitFrom taken (Some bytes) (Err _) = ⊤
 
 -- the input's length, where it is known: at most 2^28 bytes on `Ok`, and more where `TooMuch` is answered
 abbrev pub KeepsLimit : Option (List ℕ) → Result Bool LineFault → Type 0

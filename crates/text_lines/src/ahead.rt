@@ -1,5 +1,6 @@
 // Input that is read 4 KiB at a time, and taken by the byte or by the line.
-ghost use Rattle.std.specs.Prelude.{◌≡◌, ℕ, ◌+◌, ◌<◌, ◌≤◌, List, [], ◌∷◌, Some, None, length, take, drop, OnOk, OnErr, IfOk};
+ghost use Rattle.std.specs.Prelude.{◌≡◌, ℕ, ◌+◌, ◌<◌, ◌≤◌, ◌↔◌, min, List, [], ◌∷◌, ◌++◌, Some, None, length, take, drop};
+ghost use Rattle.std.specs.Prelude.{IsTrue, OnOk, OnErr, IfOk};
 ghost use Rattle.std.specs.Prelude.{IfNone, MatchOption, MatchBool};
 ghost use Rattle.std.specs.Option.{option_to_list};
 ghost use Rattle.std.specs.Io.KnownBytes.{Consumes, Keeps, IsAtEnd};
@@ -72,6 +73,36 @@ impl ReadAhead {
             end: 0,
             taken: 0,
         }
+    }
+
+    /// The bytes that were read and not yet taken.
+    pub(crate) fn as_slice(&self) -> &[u8]
+        ensures { result.now ≡ self.now.pending }
+    {
+        &self.buffer[self.start..self.end]
+    }
+
+    /// How many bytes were taken.
+    pub(crate) fn taken(&self) -> u64
+        ensures { result ≡ self.now.taken }
+    {
+        self.taken
+    }
+
+    /// Takes bytes that were read and not yet taken into the front of `into`, as many as there are and fit, and answers how
+    /// many.
+    pub fn take_into(&mut self, into: &mut [u8]) -> usize
+        ensures count { result ≡ min (length self.old.pending) (length into.old) }
+        ensures taken { self.old.pending ≡ take result into.new ++ self.new.pending }
+        ensures counted { self.new.taken ≡ self.old.taken + result }
+        ensures bound { read_count self.new ≤ INPUT_LIMIT + READ_SIZE }
+    {
+        let waiting = self.as_slice();
+        let count = waiting.len().min(into.len());
+        into[..count].copy_from_slice(&waiting[..count]);
+        self.start += count;
+        self.taken += count as u64;
+        count
     }
 
     /// Takes the first byte that was read and not yet taken, if there is one.

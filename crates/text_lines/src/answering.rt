@@ -1,10 +1,12 @@
 // The one loop that reads the lines of an input, has each answered, and writes the answers.
 ghost use Rattle.std.specs.Prelude.{◌≡◌, [], ◌++◌, IfOk, OnOk, OnErr};
 ghost use Rattle.std.specs.Io.KnownBytes.{Appends};
+ghost use Rattle.text_lines.specs.Ahead.{unread};
 ghost use Rattle.text_lines.specs.Calls.{CountsFailure};
 ghost use Rattle.text_lines.specs.Line.{text_of};
 ghost use Rattle.text_lines.specs.Progress.{IsTurn, IsTurnPut, AreTurns, AreTurnsInPart, ReadsAll, ReadsPart};
-ghost use Rattle.text_lines.specs.Promise.{AnswersAll, AnswersFront, AnswersRead, KeepsLimit, CountsReads, CountsWrites};
+ghost use Rattle.text_lines.specs.Promise.{AnswersAll, AnswersFront, AnswersRead, KeepsLimit, KeepsLimitFrom};
+ghost use Rattle.text_lines.specs.Promise.{CountsReads, CountsWrites};
 ghost use Rattle.text_lines.specs.Turns.{Turns, TurnsByKept, EndsWithoutRefusal, output_of};
 ghost use Rattle.text_lines.specs.Writing.{WritesAllBut, WritesFront};
 
@@ -65,7 +67,7 @@ pub trait LineAnswerer {
 /// Answers each line of the input, and writes what follows the last answer. It says whether a line of the output
 /// begins with `no` or `bad`. After an Err a front of the output was written.
 pub fn answer_text<T: LineAnswerer + Drop, R: ByteIn, W: ByteOut>(
-    mut answerer: T,
+    answerer: T,
     reader: &mut R,
     writer: &mut W,
 ) -> Result<bool, LineFault>
@@ -79,8 +81,29 @@ pub fn answer_text<T: LineAnswerer + Drop, R: ByteIn, W: ByteOut>(
     ensures read { CountsReads (R.failed_calls reader.old) (R.failed_calls reader.new) result }
     ensures write { CountsWrites (W.failed_calls writer.old) (W.failed_calls writer.new) result }
 {
+    answer_rest(answerer, ReadAhead::new(), reader, writer)
+}
+
+/// The same of an input of which some bytes were taken, and others read ahead: the lines are those of the bytes not yet
+/// taken, and both count in the limit of the input.
+pub fn answer_rest<T: LineAnswerer + Drop, R: ByteIn, W: ByteOut>(
+    mut answerer: T,
+    mut input: ReadAhead,
+    reader: &mut R,
+    writer: &mut W,
+) -> Result<bool, LineFault>
+    ensures ok { IfOk result (λ refused. (s : T.State) → T.Stands answerer s → AnswersAll (output_of T.turns s)
+        (unread input (R.left reader.old)) (R.left reader.new) (W.taken writer.old) (W.taken writer.new) refused) }
+    ensures front { OnErr result ((s : T.State) → T.Stands answerer s → AnswersFront (output_of T.turns s)
+        (unread input (R.left reader.old)) (W.taken writer.old) (W.taken writer.new)) }
+    ensures read_front { OnErr result ((s : T.State) → T.Stands answerer s → AnswersRead (output_of T.turns s)
+        (unread input (R.left reader.old)) (R.left reader.new) (W.taken writer.old) (W.taken writer.new)) }
+    ensures limit { KeepsLimitFrom input.taken (unread input (R.left reader.old)) result }
+    ensures read { CountsReads (R.failed_calls reader.old) (R.failed_calls reader.new) result }
+    ensures write { CountsWrites (W.failed_calls writer.old) (W.failed_calls writer.new) result }
+{
     let mut output = WriteBehind::new();
-    let refused = match answer_lines(&mut answerer, reader, &mut output, writer) {
+    let refused = match answer_lines(&mut answerer, &mut input, reader, &mut output, writer) {
         Err(fault) => return Err(fault),
         Ok(refused) => refused,
     };
@@ -94,20 +117,21 @@ pub fn answer_text<T: LineAnswerer + Drop, R: ByteIn, W: ByteOut>(
 /// its end counted, so there are no more lines than the count goes up to.
 fn answer_lines<T: LineAnswerer, R: ByteIn, W: ByteOut>(
     answerer: &mut T,
+    input: &mut ReadAhead,
     reader: &mut R,
     output: &mut WriteBehind,
     writer: &mut W,
 ) -> Result<bool, LineFault>
     requires { output.old ≡ [] }
-    ensures ok { IfOk result (λ refused. ReadsAll (R.left reader.old) (R.left reader.new) (AreTurns T.turns
-        (T.Stands answerer.old) (T.Stands answerer.new) refused (W.taken writer.old) (W.taken writer.new) output.new)) }
-    ensures part { OnErr result (ReadsPart (R.left reader.old) (R.left reader.new) (AreTurnsInPart T.turns (T.Stands answerer.old)
-        (W.taken writer.old) (W.taken writer.new))) }
-    ensures limit { KeepsLimit (R.left reader.old) result }
+    ensures ok { IfOk result (λ refused. ReadsAll input.old.taken (unread input.old (R.left reader.old)) (R.left reader.new)
+        (AreTurns T.turns (T.Stands answerer.old) (T.Stands answerer.new) refused (W.taken writer.old) (W.taken writer.new)
+        output.new)) }
+    ensures part { OnErr result (ReadsPart (unread input.old (R.left reader.old)) (R.left reader.new) (AreTurnsInPart T.turns
+        (T.Stands answerer.old) (W.taken writer.old) (W.taken writer.new))) }
+    ensures limit { KeepsLimitFrom input.old.taken (unread input.old (R.left reader.old)) result }
     ensures read { CountsReads (R.failed_calls reader.old) (R.failed_calls reader.new) result }
     ensures write { CountsWrites (W.failed_calls writer.old) (W.failed_calls writer.new) result }
 {
-    let mut input = ReadAhead::new();
     let mut line = HeldLine::new();
     let mut refused = false;
     for number in 1..INPUT_LIMIT + 2 {

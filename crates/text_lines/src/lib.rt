@@ -4,6 +4,7 @@
 
 mod ahead;
 mod answering;
+mod buffered;
 mod byte_in;
 mod byte_out;
 mod held_line;
@@ -14,7 +15,8 @@ mod words;
 mod write_behind;
 
 pub use ahead::{INPUT_LIMIT, InFault, NextLine, READ_SIZE, ReadAhead};
-pub use answering::{LineAnswerer, LineFault, answer_text};
+pub use answering::{LineAnswerer, LineFault, answer_rest, answer_text};
+pub use buffered::{Buffered, Whole};
 pub use byte_in::{ByteIn, CallFailed, StdIn};
 pub use byte_out::{ByteOut, StdOut};
 pub use held_line::{HeldLine, KEPT_LIMIT, LINE_LIMIT};

@@ -6,7 +6,8 @@ use Rattle.text_lines.proofs.answering.answer_lines.Given as goal
 
 abbrev pub invariant-loop-number : goal.invariant-loop-number
 invariant-loop-number g l = record {
-  so_far : IsSoFar (g.R.ByteIn.left l.fn.reader) (unread l.input (g.R.ByteIn.left l.reader)) l.input.taken l.number
+  so_far : IsSoFar l.fn.input.taken (unread l.fn.input (g.R.ByteIn.left l.fn.reader)) (unread l.input (g.R.ByteIn.left l.reader))
+      l.input.taken l.number
       (AreTurns g.T.LineAnswerer.turns (g.T.LineAnswerer.Stands l.fn.answerer) (g.T.LineAnswerer.Stands l.answerer) l.refused
       (g.W.ByteOut.taken l.fn.writer) (g.W.ByteOut.taken l.writer) l.output);
   reads : g.R.ByteIn.failed_calls l.reader ≡ g.R.ByteIn.failed_calls l.fn.reader;
