@@ -7,7 +7,7 @@ use Rattle.std.proofs.lemmas.Bool.{le-leb, ltb-false, cases_lt}
 use Rattle.radio_bands.specs.declared.band.Band.{Band}
 use Rattle.radio_bands.specs.Band.{hour, limit_of, band_of}
 use Rattle.resv_list.specs.declared.reservation.Reservation.{Reservation}
-use Rattle.resv_list.specs.Reservations.{start_of, end_of, is_in, spent, IsByStart, member_from}
+use Rattle.resv_list.specs.Reservations.{start_of, is_in, spent, IsByStart, member_from}
 use Rattle.resv_list.specs.Hours.{is_over, first_over}
 use Rattle.resv_list.proofs.Walk.{found_passes}
 use Rattle.gateway_book.specs.declared.ask.Ask.{Ask}

@@ -25,3 +25,4 @@ pub mod PairLaws
 pub mod ForgottenSteps
 pub mod StandingLaws
 pub mod WorkedRefusals
+pub mod SavedText

@@ -16,7 +16,7 @@ use Rattle.gateway_book.proofs.DutyKept.{duty_placed}
 use Rattle.gateway_book.proofs.CancelLaws.{SpacedFrom-filter, begun-filter}
 use Rattle.gateway_book.specs.Disjoint.{overlaps, rested_from, most_gap}
 use Rattle.gateway_book.proofs.SpacedLaws.{SpacedFrom-place_by, free_of_clear}
-use Rattle.gateway_book.proofs.ApartLaws.{ends_later, first_has_least_start, apart_spaced, spaced_apart, rests_later}
+use Rattle.gateway_book.proofs.ApartLaws.{first_has_least_start, apart_spaced, spaced_apart, rests_later}
 use Rattle.gateway_book.specs.Orderly.{IsOrderly, MayJoin}
 
 -- What stays orderly: no list at all, a list that is joined by what it may hold, and a part of a list.

@@ -8,10 +8,10 @@ use Rattle.gateway_book.specs.Disjoint.{overlaps, rested_from}
 use Rattle.gateway_book.specs.Spaced.{keep_if, SpacedFrom}
 use Rattle.std.specs.Option.{option_map}
 use Rattle.resv_list.specs.declared.reservation.Reservation.{Reservation}
-use Rattle.resv_list.specs.Reservations.{start_of, end_of, IsByStart, member_before, member_from}
+use Rattle.resv_list.specs.Reservations.{start_of, IsByStart, member_before, member_from}
 use Rattle.gateway_book.specs.Lawful.{AreApart}
 use Rattle.gateway_book.specs.Answer.{overlap}
-use Rattle.gateway_book.proofs.ApartLaws.{ends_later, first_has_least_start, spaced_apart, apart_spaced, rests_later}
+use Rattle.gateway_book.proofs.ApartLaws.{first_has_least_start, spaced_apart, apart_spaced, rests_later}
 use Rattle.std.specs.Prelude.{◌+◌}
 
 -- Only two neighbours of what is asked for can overlap it: the last member that begins before it, and

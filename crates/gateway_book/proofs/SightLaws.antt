@@ -8,7 +8,7 @@ use Rattle.radio_bands.specs.declared.band.Band.{Band}
 use Rattle.radio_bands.specs.Band.{hour, limit_of}
 use Rattle.resv_list.specs.declared.reservation.Reservation.{Reservation}
 use Rattle.resv_list.specs.Begun.{begun-cons}
-use Rattle.resv_list.specs.Reservations.{start_of, end_of, is_in, share, begun, spent}
+use Rattle.resv_list.specs.Reservations.{start_of, is_in, share, begun, spent}
 use Rattle.resv_list.proofs.BegunLemmas.{share_before}
 use Rattle.resv_list.proofs.FilterLemmas.{filter-alike, filter-stronger}
 use Rattle.resv_list.proofs.SortLemmas.{HaveOwnKeys, own_filtered, value-sorted}

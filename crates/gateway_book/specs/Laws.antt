@@ -1,7 +1,7 @@
 use Rattle.std.specs.Prelude.{ℕ, ◌≡◌, ◌+◌, ◌<◌, ◌≤◌, Bool, ◌↔◌, List, [], find, ◌⊎◌, Option, All, Contains, MatchOption}
 use Rattle.std.specs.Option.{option_map}
 use Rattle.resv_list.specs.declared.reservation.Reservation.{Reservation}
-use Rattle.resv_list.specs.Reservations.{start_of, end_of, IsByStart, spent}
+use Rattle.resv_list.specs.Reservations.{start_of, IsByStart, spent}
 use Rattle.gateway_book.specs.Lawful.{AreApart, IsLawful}
 use Rattle.gateway_book.specs.Least.{first_start, least}
 use Rattle.gateway_book.specs.Spaced.{SpacedFrom}

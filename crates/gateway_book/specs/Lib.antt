@@ -15,6 +15,9 @@ pub mod Book
 pub mod Opening
 pub mod Remembers
 pub mod Forgetting
+pub mod Rates
+pub mod Saved
+pub mod Loading
 pub use Rattle.radio_airtime.specs.DataRate
 pub use Rattle.radio_airtime.specs.TimeOnAir
 pub use Rattle.radio_airtime.specs.Bounds

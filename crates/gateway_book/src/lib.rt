@@ -9,9 +9,13 @@ mod duty;
 mod earliest;
 mod laws;
 mod listing;
+mod loading;
 mod opening;
 mod overlap;
+mod rate;
 mod refusal;
+mod saved_line;
+mod saving;
 mod totals;
 
 pub use ask::Ask;
@@ -22,8 +26,11 @@ pub use laws::{
     law_few_hours_suffice, law_first_has_least_start, law_forgetting, law_gap_keeps_disjoint,
     law_least_is_least, law_spaced_is_apart,
 };
+pub use loading::LoadFault;
 pub use opening::{MAX_CAP, MAX_GAP, OpenFault};
+pub use rate::numbered_rate;
 pub use refusal::Refusal;
 pub use resv_list::HOUR;
+pub use saving::SaveFault;
 pub use text_lines::{ByteIn, ByteOut, CallFailed, MemoryIn, MemoryOut, StdIn, StdOut};
 pub use totals::Totals;

@@ -1,6 +1,4 @@
-use Rattle.std.specs.Prelude.{ℕ, Bool, nat_eq, List, [], ◌∷◌, codes, decimal}
-use Rattle.std.specs.Cmp.Lexicographic.{pointwise}
-use Rattle.std.specs.List.{join_with_byte}
+use Rattle.std.specs.Prelude.{ℕ, List, [], ◌∷◌, codes, decimal}
 use Rattle.radio_bands.specs.declared.band.Band.{Band}
 use Rattle.radio_bands.specs.declared.band.Band.TheVariants.{K, L, M, N, P, Q}
 use Rattle.gateway_book.specs.declared.cancel.CancelFault.{CancelFault}
@@ -9,16 +7,9 @@ use Rattle.gateway_book.specs.declared.refusal.Refusal.{Refusal}
 use Rattle.gateway_book.specs.declared.refusal.Refusal.TheVariants.{NoBand, TooLong, PastEnd, Passed, Taken, DutyFull, Full}
 use Rattle.gateway_book.specs.declared.refusal.Refusal.TheVariants.{TotalsFull, NoMemory}
 pub use Rattle.text_lines.specs.Turns.{is_refusal, has_refusal}
+pub use Rattle.text_lines.specs.Words.{is_named, spaced}
 
 -- The words of lines: of those that are read, and of those that answer and report.
-
--- whether the word is this name
-abbrev pub is_named : List ℕ → List ℕ → Bool
-is_named name word = pointwise nat_eq word name
-
--- a line of output: its words, with a space between two
-abbrev pub spaced : List (List ℕ) → List ℕ
-spaced words = join_with_byte 32 words
 
 -- the letter of a sub-band
 abbrev pub band_word : Band → List ℕ

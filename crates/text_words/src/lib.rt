@@ -4,10 +4,9 @@
 
 mod busiest;
 mod fault;
-mod rate;
 mod words;
 
 pub use busiest::add_busiest;
 pub use fault::TextFault;
-pub use rate::numbered_rate;
+pub use gateway_book::numbered_rate;
 pub use words::{add_band, add_fault, add_number, add_refusal, add_word, refusal_name};

@@ -1,6 +1,6 @@
 // A data rate as texts name it: by its number.
 ghost use Rattle.std.specs.Prelude.{◌≡◌};
-ghost use Rattle.text_words.specs.Rates.{rate_numbered};
+ghost use Rattle.gateway_book.specs.Rates.{rate_numbered};
 
 use radio_airtime::DataRate;
 
