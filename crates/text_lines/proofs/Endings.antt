@@ -7,7 +7,7 @@ use Rattle.std.proofs.Math.Bool.{or-false}
 use Rattle.std.proofs.lemmas.List.Folds.{list_any-append}
 use Rattle.text_lines.specs.Line.{text_of, text_of-append}
 use Rattle.text_lines.specs.Progress.{AreTurns, AreTurnsInPart, ReadsAll, ReadsPart}
-use Rattle.text_lines.specs.Promise.{IsAnsweredInPart, AnswersAll, AnswersFront, AnswersRead}
+use Rattle.text_lines.specs.Promise.{IsAnsweredInPart, AnswersAll, AnswersFront, AnswersRead, by_lines}
 use Rattle.text_lines.specs.Turns.{Turns, EndsWithoutRefusal, is_refusal, has_refusal, reached, answers, output_of}
 use Rattle.text_lines.specs.Turns.{answers-append}
 use Rattle.text_lines.specs.Writing.{WritesFront, WritesFront-more, WritesAllBut-more, Appends-after, WritesFront-after}
@@ -16,7 +16,7 @@ module _ {S : Type 0} (turns : Turns S) (s : S) where
   -- what was written for the first lines is a front of the output for all
   in_part : (bytes starved : List ℕ) (first more : List (List ℕ)) (before after : Option (List ℕ)) → lines bytes ≡ first ++ more
       → WritesFront before after (text_of (answers turns starved 1 s first))
-      → IsAnsweredInPart (output_of turns s) bytes before after
+      → IsAnsweredInPart (by_lines (output_of turns s)) bytes before after
   in_part bytes starved first more before after e wrote =
       let front : List (List ℕ) = answers turns starved 1 s first in
       let rest : List (List ℕ) = answers turns starved (1 + length first) (reached turns starved 1 s first) more in

@@ -1,5 +1,5 @@
 -- What a text promises of a reader and a writer that tell their bytes. `output` is a function of the numbers of those lines
--- that found no memory, and of the lines of the input.
+-- that found no memory, and of the bytes of the input, or of its lines.
 use Rattle.std.specs.Prelude.{◌≡◌, ◌<◌, ◌≤◌, ◌+◌, ℕ, Bool, true, false, List, [], length, refl, Option, Some, None, Result, Ok, Err}
 use Rattle.std.specs.Prelude.{⊤}
 use Rattle.std.specs.Io.KnownBytes.{Appends, Consumes}
@@ -14,50 +14,65 @@ use Rattle.text_lines.specs.declared.answering.LineFault.TheVariants.{Read, Writ
 
 -- all these bytes were read, the writer took the output for them, and `refused` says whether a line of it begins
 -- with `no` or `bad`
-pub record IsAnswered (output : List ℕ → List (List ℕ) → List (List ℕ)) (bytes : List ℕ)
+pub record IsAnswered (output : List ℕ → List ℕ → List (List ℕ)) (bytes : List ℕ)
     (left_after before after : Option (List ℕ)) (refused : Bool) : Type 0 where
   pub starved : List ℕ
   pub consumed : Consumes (Some bytes) left_after bytes
-  pub written : Appends before after (text_of (output starved (lines bytes)))
-  pub told : refused ≡ has_refusal (output starved (lines bytes))
+  pub written : Appends before after (text_of (output starved bytes))
+  pub told : refused ≡ has_refusal (output starved bytes)
 
 -- the writer took a front of the output for these bytes
-pub record IsAnsweredInPart (output : List ℕ → List (List ℕ) → List (List ℕ)) (bytes : List ℕ)
+pub record IsAnsweredInPart (output : List ℕ → List ℕ → List (List ℕ)) (bytes : List ℕ)
     (before after : Option (List ℕ)) : Type 0 where
   pub starved : List ℕ
-  pub written : WritesFront before after (text_of (output starved (lines bytes)))
+  pub written : WritesFront before after (text_of (output starved bytes))
 
 -- the writer took a front of the output for the bytes that were read
-pub record IsAnsweredSoFar (output : List ℕ → List (List ℕ) → List (List ℕ)) (bytes : List ℕ)
+pub record IsAnsweredSoFar (output : List ℕ → List ℕ → List (List ℕ)) (bytes : List ℕ)
     (left_after before after : Option (List ℕ)) : Type 0 where
   pub read : List ℕ
   pub consumed : Consumes (Some bytes) left_after read
   pub answered : IsAnsweredInPart output read before after
 
-module _ (output : List ℕ → List (List ℕ) → List (List ℕ)) where
+module _ (output : List ℕ → List ℕ → List (List ℕ)) where
   -- the same three where the reader tells what it has left
-  abbrev pub AnswersAll : Option (List ℕ) → Option (List ℕ) → Option (List ℕ) → Option (List ℕ) → Bool → Type 0
-  AnswersAll None left_after before after refused = ⊤
-  AnswersAll (Some bytes) left_after before after refused = IsAnswered output bytes left_after before after refused
+  abbrev pub AnswersWhole : Option (List ℕ) → Option (List ℕ) → Option (List ℕ) → Option (List ℕ) → Bool → Type 0
+  AnswersWhole None left_after before after refused = ⊤
+  AnswersWhole (Some bytes) left_after before after refused = IsAnswered output bytes left_after before after refused
 
-  abbrev pub AnswersFront : Option (List ℕ) → Option (List ℕ) → Option (List ℕ) → Type 0
-  AnswersFront None before after = ⊤
-  AnswersFront (Some bytes) before after = IsAnsweredInPart output bytes before after
+  abbrev pub AnswersInPart : Option (List ℕ) → Option (List ℕ) → Option (List ℕ) → Type 0
+  AnswersInPart None before after = ⊤
+  AnswersInPart (Some bytes) before after = IsAnsweredInPart output bytes before after
 
-  abbrev pub AnswersRead : Option (List ℕ) → Option (List ℕ) → Option (List ℕ) → Option (List ℕ) → Type 0
-  AnswersRead None left_after before after = ⊤
-  AnswersRead (Some bytes) left_after before after = IsAnsweredSoFar output bytes left_after before after
+  abbrev pub AnswersSoFar : Option (List ℕ) → Option (List ℕ) → Option (List ℕ) → Option (List ℕ) → Type 0
+  AnswersSoFar None left_after before after = ⊤
+  AnswersSoFar (Some bytes) left_after before after = IsAnsweredSoFar output bytes left_after before after
 
   -- a front was written where nothing was
-  pub AnswersFront-nothing : (left before : Option (List ℕ)) → AnswersFront left before before
-  AnswersFront-nothing None before = tt
-  AnswersFront-nothing (Some bytes) before =
-      record { starved = []; written = (text_of (output [] (lines bytes)), WritesAllBut-refl before _) }
+  pub AnswersInPart-nothing : (left before : Option (List ℕ)) → AnswersInPart left before before
+  AnswersInPart-nothing None before = tt
+  AnswersInPart-nothing (Some bytes) before =
+      record { starved = []; written = (text_of (output [] bytes), WritesAllBut-refl before _) }
 
-  pub AnswersRead-nothing : (left before : Option (List ℕ)) → AnswersRead left left before before
-  AnswersRead-nothing None before = tt
-  AnswersRead-nothing (Some bytes) before =
-      record { read = []; consumed = refl; answered = AnswersFront-nothing (Some []) before }
+  pub AnswersSoFar-nothing : (left before : Option (List ℕ)) → AnswersSoFar left left before before
+  AnswersSoFar-nothing None before = tt
+  AnswersSoFar-nothing (Some bytes) before =
+      record { read = []; consumed = refl; answered = AnswersInPart-nothing (Some []) before }
+
+-- an output for the lines of the bytes
+abbrev pub by_lines : (List ℕ → List (List ℕ) → List (List ℕ)) → List ℕ → List ℕ → List (List ℕ)
+by_lines output starved bytes = output starved (lines bytes)
+
+-- the same where the output is one for lines
+module _ (output : List ℕ → List (List ℕ) → List (List ℕ)) where
+  abbrev pub AnswersAll : Option (List ℕ) → Option (List ℕ) → Option (List ℕ) → Option (List ℕ) → Bool → Type 0
+  AnswersAll = AnswersWhole (by_lines output)
+
+  abbrev pub AnswersFront : Option (List ℕ) → Option (List ℕ) → Option (List ℕ) → Type 0
+  AnswersFront = AnswersInPart (by_lines output)
+
+  abbrev pub AnswersRead : Option (List ℕ) → Option (List ℕ) → Option (List ℕ) → Option (List ℕ) → Type 0
+  AnswersRead = AnswersSoFar (by_lines output)
 
 -- the length of an input of which so many bytes were taken before, where it is known: at most 2^28 bytes on `Ok`, and more
 -- where `TooMuch` is answered
