@@ -36,11 +36,11 @@ pub first_none : {X : Type 0} (o : Option X) (os : List (Option X)) → first_so
 first_none None os e = (refl, e)
 first_none (Some x) os e = absurd (cc)
 
-no_refusal : (t : Bool) (r : Refusal) → refused_if t r ≡ None → t ≡ false
+pub no_refusal : (t : Bool) (r : Refusal) → refused_if t r ≡ None → t ≡ false
 no_refusal true r e = absurd (cc)
 no_refusal false r e = refl
 
-not_taken : (o : Option ℕ) → option_map Taken o ≡ None → o ≡ None
+pub not_taken : (o : Option ℕ) → option_map Taken o ≡ None → o ≡ None
 not_taken None e = refl
 not_taken (Some s) e = absurd (cc)
 
@@ -49,7 +49,7 @@ no_full : (l : List Reservation) (band : Band) (o : Option ℕ)
 no_full l band None e = refl
 no_full l band (Some from) e = absurd (cc)
 
-not_full : (l : List Reservation) (ask : Ask) (band : Band) → overfull l ask.start (ask_airtime ask) band ≡ None
+pub not_full : (l : List Reservation) (ask : Ask) (band : Band) → overfull l ask.start (ask_airtime ask) band ≡ None
     → full_hour l band ask.start (ask_airtime ask) ≡ None
 not_full l ask band e = no_full l band (full_hour l band ask.start (ask_airtime ask)) e
 

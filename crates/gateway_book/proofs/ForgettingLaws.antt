@@ -171,7 +171,7 @@ own-kept_place r l floor n o h =
     let p = RisesFrom-place_by start_of 0 r (by_start l) (omega arith) (none_at_sorted start_of r.start l n) s in
     kept-sorted (place r l) floor (own_placed start_of r l n o)
     ∙ ap (λ (m : List Reservation). kept m floor) (placed_in_order r l n o)
-    ∙ kept-place r (by_start l) floor s p h
+    ∙ kept-place r (by_start l) floor s p (omega (arith, h))
     ∙ ap (place r) (sym (kept-sorted l floor o))
 
 pub own-kept_filter : (test : Reservation → Bool) (l : List Reservation) (floor : ℕ) → AreOwn l

@@ -61,9 +61,9 @@ kept-by_start l floor o = rw (kept-filtered l floor o) (RisesFrom-filter start_o
 is_kept-sooner : (floor later : ℕ) → floor ≤ later → (r : Reservation) → is_kept later r ≡ true → is_kept floor r ≡ true
 is_kept-sooner floor later h r e = grind (arith, nat_tests)
 
--- of what it becomes with one more member
-pub kept-place : (r : Reservation) (l : List Reservation) (floor : ℕ) → IsByStart l → IsByStart (place r l) → floor ≤ r.start
-    → kept (place r l) floor ≡ place r (kept l floor)
+-- of what it becomes with one more member that is kept
+pub kept-place : (r : Reservation) (l : List Reservation) (floor : ℕ) → IsByStart l → IsByStart (place r l)
+    → floor ≤ r.start + hour → kept (place r l) floor ≡ place r (kept l floor)
 kept-place r l floor o p h =
     let e : is_kept floor r ≡ true = grind (arith, nat_tests) in
     kept-filtered (place r l) floor p ∙ filter-placed start_of (is_kept floor) 0 r l e o

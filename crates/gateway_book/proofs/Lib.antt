@@ -26,3 +26,10 @@ pub mod ForgottenSteps
 pub mod StandingLaws
 pub mod WorkedRefusals
 pub mod SavedText
+pub mod SavedWords
+pub mod SavedReading
+pub mod SavedSteps
+pub mod FollowLaws
+pub mod Joining
+pub mod SavedNumbers
+pub mod LoadLaws

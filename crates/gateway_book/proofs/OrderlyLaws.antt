@@ -88,7 +88,8 @@ orderly_filter {gap} test l o =
       };
     }
 
-same_hour : (l : List Reservation) (band : Band) (ask : Ask) (r : Reservation) → IsAsked ask r
+-- the hours of an ask and of the reservation with its fields
+pub same_hour : (l : List Reservation) (band : Band) (ask : Ask) (r : Reservation) → IsAsked ask r
     → full_hour l band ask.start (ask_airtime ask) ≡ None → full_hour l band r.start (airtime_us r) ≡ None
 same_hour l band ask r a e =
     let same : ask_airtime ask ≡ airtime_us r = rw (a.rate, a.len) refl in

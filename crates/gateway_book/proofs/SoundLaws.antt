@@ -39,24 +39,24 @@ pub within : (rules : Rules) → open_fault rules ≡ None → (0 < rules.cap) �
 within rules e =
     within_by rules.cap rules.gap (rules.cap == 0) (nat_lt 65536 rules.cap) (nat_lt most_gap rules.gap) refl refl refl e
 
-pub sound_empty : (id : ℕ) (rules : Rules) → 0 < rules.cap → rules.cap ≤ 65536 → rules.gap ≤ most_gap → IsSound
-    (record { id = id; rules = rules; floor = 0; list = []; booked = 0; cancelled = 0; retired = 0 })
+pub sound_empty : (id : ℕ) (rules : Rules) (floor : ℕ) → 0 < rules.cap → rules.cap ≤ 65536 → rules.gap ≤ most_gap → IsSound
+    (record { id = id; rules = rules; floor = floor; list = []; booked = 0; cancelled = 0; retired = 0 })
 unfolding net
-sound_empty id rules h g k =
+sound_empty id rules floor h g k =
     record {
       opened = h;
       capped = g;
       counted = omega arith;
       rested = k;
       lawful = (orderly_nil rules.gap k).lawful;
-      kept_whole = kept-nil 0;
+      kept_whole = kept-nil floor;
       balanced = refl;
       bounded = omega arith;
     }
 
--- what a book learns from an accepted ask, of the reservation with its fields
+-- of a reservation, that it joins the list
 pub record CanBook (b : Book) (r : Reservation) : Type 0 where
-  pub ahead : b.floor ≤ r.start
+  pub ahead : b.floor ≤ r.start + hour
   pub joins : MayJoin b.rules.gap b.list r
   pub spare : length b.list < b.rules.cap
   pub total : b.booked + airtime_us r ≤ total_limit
@@ -84,7 +84,7 @@ may_book b ask r s a e =
     let h = accepted (terms_of b) b.list ask e in
     let n : length (kept b.list b.floor) ≡ length b.list = ap length s.kept_whole in
     record {
-      ahead = rw a.start h.ahead;
+      ahead = rw a.start (omega (arith, h.ahead));
       joins = may_join (terms_of b) b.list ask r a e;
       spare = omega (arith, n, h.spare, s.counted);
       total = rw (a.rate, a.len) h.total;

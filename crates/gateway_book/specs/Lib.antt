@@ -18,6 +18,7 @@ pub mod Forgetting
 pub mod Rates
 pub mod Saved
 pub mod Loading
+pub mod SavedLines
 pub use Rattle.radio_airtime.specs.DataRate
 pub use Rattle.radio_airtime.specs.TimeOnAir
 pub use Rattle.radio_airtime.specs.Bounds

@@ -11,6 +11,7 @@ use Rattle.text_lines.specs.Words.{is_named, spaced}
 use Rattle.gateway_book.specs.declared.ask.Ask.{Ask}
 use Rattle.gateway_book.specs.declared.saved_line.Entry.{Entry}
 use Rattle.gateway_book.specs.declared.saved_line.Entry.TheVariants.{Member, End}
+use Rattle.gateway_book.specs.declared.saved_line.SavedGateway.{SavedGateway}
 use Rattle.gateway_book.specs.declared.loading.LoadFault.{LoadFault}
 use Rattle.gateway_book.specs.declared.loading.LoadFault.TheVariants.{Read, Syntax, Version, Unlawful, NoMemory}
 use Rattle.gateway_book.specs.Answer.{no_band, too_long, past_end, taken, duty_full, first_some}
@@ -26,20 +27,22 @@ use Rattle.gateway_book.specs.Step.{reservation_of}
 abbrev pub words_between : List ℕ → List (List ℕ)
 words_between line = slice_split (λ byte. byte == 32) line
 
+-- whether a zero leads other bytes
+abbrev pub leads_zero : List ℕ → Bool
+leads_zero word = nat_lt 1 (length word) && (slice_index word 0 == 48)
+
 -- a number below a bound, without leading zeros
 abbrev pub plain_number : ℕ → List ℕ → Option ℕ
-plain_number bound word =
-    if nat_lt 1 (length word) && slice_index word 0 == 48 then None else number_below bound word
+plain_number bound word = if leads_zero word then None else number_below bound word
 
 -- VERSION of a line `airbook VERSION`
 abbrev pub version_in : List (List ℕ) → Option ℕ
 version_in (name ∷ version ∷ []) = if is_named (codes "airbook") name then plain_number (2 ^ 32) version else None
 version_in _ = None
 
--- a gateway of these fields, where each is there, with no member yet
-abbrev pub gateway_with : Option ℕ → Option ℕ → Option ℕ → Option ℕ → Option Saved
-gateway_with (Some id) (Some cap) (Some floor) (Some gap) =
-    Some (record { id = id; rules = record { cap = cap; gap = gap }; floor = floor; list = [] })
+-- a gateway of these fields, where each is there
+abbrev pub gateway_with : Option ℕ → Option ℕ → Option ℕ → Option ℕ → Option SavedGateway
+gateway_with (Some id) (Some cap) (Some floor) (Some gap) = Some (record { id = id; cap = cap; floor = floor; gap = gap })
 gateway_with _ _ _ _ = None
 
 -- GAP, which version 1 has not
@@ -49,12 +52,16 @@ gap_in version (gap ∷ []) = if version == 1 then None else plain_number (2 ^ 3
 gap_in version _ = None
 
 -- a line `gateway ID CAP FLOOR` or `gateway ID CAP FLOOR GAP`
-abbrev pub gateway_in : ℕ → List (List ℕ) → Option Saved
+abbrev pub gateway_in : ℕ → List (List ℕ) → Option SavedGateway
 gateway_in version (name ∷ id ∷ cap ∷ floor ∷ gap) =
     if is_named (codes "gateway") name
     then gateway_with (plain_number (2 ^ 16) id) (plain_number (2 ^ 32) cap) (plain_number (2 ^ 64) floor) (gap_in version gap)
     else None
 gateway_in version _ = None
+
+-- the gateway's book with no member yet
+abbrev pub saved_empty : SavedGateway → Saved
+saved_empty g = record { id = g.id; rules = record { cap = g.cap; gap = g.gap }; floor = g.floor; list = [] }
 
 -- a member of these fields, where each is there
 abbrev pub member_with : Option ℕ → Option ℕ → Option ℕ → Option DataRate → Option ℕ → Option Ask
@@ -133,9 +140,10 @@ members_in number s (line ∷ more) =
     after_entry number s more (λ t. members_in (number + 1) t more)
     (if is_line line more then entry_in (words_between line) else None)
 
-abbrev pub after_gateway : Option Saved → List (List ℕ) → Loaded
+abbrev pub after_gateway : Option SavedGateway → List (List ℕ) → Loaded
 after_gateway None more = Err (Syntax 2)
-after_gateway (Some s) more = if is_some (open_fault s.rules) then Err (Unlawful 2) else members_in 3 s more
+after_gateway (Some g) more =
+    if is_some (open_fault (saved_empty g).rules) then Err (Unlawful 2) else members_in 3 (saved_empty g) more
 
 -- the lines from the second on
 abbrev pub gateway_lines : ℕ → List (List ℕ) → Loaded
@@ -151,9 +159,13 @@ abbrev pub all_lines : List (List ℕ) → Loaded
 all_lines [] = Err (Syntax 1)
 all_lines (line ∷ more) = after_version (if is_line line more then version_in (words_between line) else None) more
 
+-- what stands between line feeds
+abbrev pub lines_between : List ℕ → List (List ℕ)
+lines_between bytes = slice_split (λ byte. byte == 10) bytes
+
 -- what the bytes say
 abbrev pub loaded : List ℕ → Loaded
-loaded bytes = all_lines (slice_split (λ byte. byte == 10) bytes)
+loaded bytes = all_lines (lines_between bytes)
 
 -- a front of the bytes, ended there, would be a saved book with a member
 pub record HasMembers (bytes : List ℕ) : Type 0 where

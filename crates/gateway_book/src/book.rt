@@ -38,13 +38,13 @@ pub type NoMemory = AllocError;
 #[derive(Drop)]
 pub struct GatewayBook<R: Roster> {
     pub(crate) roster: R,
-    id: u16,
-    cap: u32,
+    pub(crate) id: u16,
+    pub(crate) cap: u32,
     pub(crate) gap: u32,
     pub(crate) floor: u64,
-    booked: u64,
-    cancelled: u64,
-    retired: u64,
+    pub(crate) booked: u64,
+    pub(crate) cancelled: u64,
+    pub(crate) retired: u64,
 }
 
 impl<R: Roster> Model for GatewayBook<R> {
@@ -207,7 +207,7 @@ impl<R: Roster> GatewayBook<R> {
     }
 
     /// The refusal of what would overfill an hour of its sub-band.
-    fn duty_full(&self, reservation: &Reservation) -> Option<Refusal>
+    pub(crate) fn duty_full(&self, reservation: &Reservation) -> Option<Refusal>
         ensures { result ≡ option_and_then (overfull self.now.list reservation.now.start (airtime_us reservation.now))
             (band_of reservation.now.freq_hz reservation.now.rate) }
     {

@@ -7,6 +7,7 @@ mod busiest;
 mod cancel;
 mod duty;
 mod earliest;
+mod following;
 mod laws;
 mod listing;
 mod loading;
@@ -15,6 +16,9 @@ mod overlap;
 mod rate;
 mod refusal;
 mod saved_line;
+mod saved_reader;
+mod saved_steps;
+mod saved_words;
 mod saving;
 mod totals;
 

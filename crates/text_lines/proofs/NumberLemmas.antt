@@ -2,7 +2,7 @@
 use Rattle.std.proofs.Common.{◌≡◌, ℕ, ◌^◌, ◌<◌, ◌≤◌, List, length, get_or, true, cond, ◌&&◌, ltb, leb, None, Some, Result, Ok}
 use Rattle.std.proofs.Common.{Err, sym, ap, ◌∙◌, ⊎_elim, arith, rules, decimal}
 use Rattle.std.proofs.lemmas.Bool.{and_parts, and_from, leb-true, le-leb, lt-ltb, ltb-true, cases_Bool}
-use Rattle.std.proofs.lemmas.Fmt.{digits_decimal, digits_value-decimal, decimal_nonempty, length-decimal-le}
+use Rattle.std.proofs.lemmas.Fmt.{digits_decimal, digits_value-decimal, decimal_nonempty, length-decimal-le, decimal-digits_value}
 use Rattle.std.proofs.lemmas.List.{get_or_default}
 use Rattle.std.proofs.lemmas.List.Sums.{list_all-from_AllPass, AllPass-from_list_all}
 use Rattle.std.proofs.lemmas.Str.{IsUtf8-from_ascii}
@@ -39,7 +39,8 @@ digits_are_text most word digits =
     let digit : is_digit (get_or word k d) ≡ true = AllPass-from_list_all is_digit word (digits_alone most word digits) k d h in
     omega (arith, leb-true (get_or word k d) 57 (and_parts (leb 48 (get_or word k d)) (leb (get_or word k d) 57) digit).1)))
 
-in_bound : (bound : ℕ) (word : List ℕ) → is_digits 20 word ≡ true → value_of word < bound
+-- digits with a small value are that number
+pub in_bound : (bound : ℕ) (word : List ℕ) → is_digits 20 word ≡ true → value_of word < bound
     → number_below bound word ≡ Some (value_of word)
 in_bound bound word digits small = ap (λ b. cond b (Some (value_of word)) None)
     (and_from _ _ digits (lt-ltb (value_of word) bound small))
@@ -61,12 +62,24 @@ pub parsed : {E : Type 0} (k : ℕ) (word : List ℕ) (r : Result ℕ E) → is_
     → result_ok r ≡ number_below (2 ^ k) word
 parsed k word r digits answer = parsed_ok k word r digits (parse_digits own k word r answer (digits_alone 20 word digits))
 
+-- what is written of a number is digits, whose value it is
+pub decimal_is_digits : (number : ℕ) → number < 2 ^ 64 → is_digits 20 (decimal number) ≡ true
+decimal_is_digits number small =
+    and_from _ _ (and_from _ _ (le-leb 1 (length (decimal number)) (omega (arith, decimal_nonempty number small)))
+    (le-leb (length (decimal number)) 20 (length-decimal-le 20 number (omega arith) (omega arith) small)))
+    (digits_decimal own number small)
+
+pub value_of-decimal : (number : ℕ) → number < 2 ^ 64 → value_of (decimal number) ≡ number
+value_of-decimal number small = digits_value-decimal own number small
+
+-- digits that no zero leads are what is written of their value
+pub decimal-value_of : (word : List ℕ) → is_digits 20 word ≡ true → (get_or word 0 0 ≡ 48 → length word ≡ 1)
+    → value_of word < 2 ^ 64 → decimal (value_of word) ≡ word
+decimal-value_of word digits leads small =
+    decimal-digits_value own word (digits_alone 20 word digits) (some_digit 20 word digits) leads small
+
 -- what is written is read back
 pub read_back : NumbersReadBack
 read_back number small =
-    let digits : list_all is_digit (decimal number) ≡ true = digits_decimal own number small in
-    let value : value_of (decimal number) ≡ number = digits_value-decimal own number small in
-    let fits : is_digits 20 (decimal number) ≡ true =
-    and_from _ _ (and_from _ _ (le-leb 1 (length (decimal number)) (omega (arith, decimal_nonempty number small)))
-    (le-leb (length (decimal number)) 20 (length-decimal-le 20 number (omega arith) (omega arith) small))) digits in
-    in_bound (2 ^ 64) (decimal number) fits (omega arith) ∙ ap Some value
+    let value : value_of (decimal number) ≡ number = value_of-decimal number small in
+    in_bound (2 ^ 64) (decimal number) (decimal_is_digits number small) (omega arith) ∙ ap Some value

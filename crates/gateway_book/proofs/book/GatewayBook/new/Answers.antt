@@ -11,4 +11,4 @@ invariant_of-result g c =
     let h = within rules (sym c.fault_of.ensures ∙ c.in_default.is) in
     let P : List Reservation → Type 0 = λ l. IsSound (record
     { id = c.args.id; rules = rules; floor = 0; list = l; booked = 0; cancelled = 0; retired = 0 }) in
-    subst P (sym c.requires) (sound_empty c.args.id rules h.0 h.1 h.2)
+    subst P (sym c.requires) (sound_empty c.args.id rules 0 h.0 h.1 h.2)
