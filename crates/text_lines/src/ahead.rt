@@ -134,6 +134,7 @@ impl ReadAhead {
         ensures bound { read_count self.new ≤ INPUT_LIMIT + READ_SIZE }
         ensures too_much { IsTooMuchOnlyPast self.new result }
         ensures failed { CountsRead (R.failed_calls reader.old) (R.failed_calls reader.new) result }
+        ensures place { R.place reader.new ≡ R.place reader.old }
     {
         if self.taken > INPUT_LIMIT {
             return Err(InFault::TooMuch);

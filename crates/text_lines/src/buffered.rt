@@ -12,33 +12,58 @@ use super::ahead::{INPUT_LIMIT, InFault, ReadAhead};
 use super::byte_in::{ByteIn, CallFailed};
 use std::marker::{Brand, PhantomData};
 
-/// Which bytes an input has, from its first on.
-pub trait Whole {
-    // The bytes, where they are known.
+/// What an input is that is read through others.
+pub trait Origin {
+    // Which reader is borrowed, where one is.
+    ghost place: { ℕ };
+
+    // The bytes from the first on, where they are known.
     ghost bytes: { Option (List ℕ) };
 }
 
-impl Whole for Brand {
+impl Origin for Brand {
+    ghost place = { 0 };
+
     ghost bytes = { None };
+}
+
+/// A borrowed source, as one that others take and give back.
+pub struct Lent<'a, R> {
+    /// The source.
+    pub reader: &'a mut R,
+}
+
+impl<'a, R: ByteIn> ByteIn for Lent<'a, R> {
+    ghost left = { λ s. R.left s.reader.now };
+
+    ghost failed_calls = { λ s. R.failed_calls s.reader.now };
+
+    ghost place = { λ s. s.reader.ghost_name };
+
+    fn read(&mut self, into: &mut [u8]) -> Result<usize, CallFailed> {
+        self.reader.read(into)
+    }
 }
 
 /// A source over a reader, which is asked for 4,096 bytes at a time. What was given is counted as taken, up to more than
 /// 2^28 bytes. Once a caller has taken enough of it, it is taken apart, and others go on where that caller stopped.
 #[derive(Drop)]
-pub struct Buffered<R: ByteIn, I: Whole> {
+pub struct Buffered<R: ByteIn, I: Origin> {
     /// What was read ahead, and the count of what was given.
     pub input: ReadAhead,
     /// Where more comes from.
     pub reader: R,
     /// The input of which this is the rest.
     pub of: PhantomData<I>,
+    ghost same: { R.place reader ≡ I.place },
     ghost rest: { ForSome I.bytes (λ bytes. IsRest bytes (unread input (R.left reader)) input.taken) },
 }
 
-impl<R: ByteIn, I: Whole> Buffered<R, I> {
+impl<R: ByteIn, I: Origin> Buffered<R, I> {
     /// A source over a reader of which nothing was read yet.
     pub fn new(reader: R) -> Self
-        requires { R.left reader ≡ I.bytes }
+        requires place { R.place reader ≡ I.place }
+        requires bytes { R.left reader ≡ I.bytes }
         ensures left { unread result.input (R.left result.reader) ≡ R.left reader }
         ensures reader { result.reader ≡ reader }
     {
@@ -50,7 +75,7 @@ impl<R: ByteIn, I: Whole> Buffered<R, I> {
     }
 }
 
-impl<R: ByteIn, I: Whole> ByteIn for Buffered<R, I> {
+impl<R: ByteIn, I: Origin> ByteIn for Buffered<R, I> {
     ghost left = { λ s. unread s.input (R.left s.reader) };
 
     ghost failed_calls = { λ s. R.failed_calls s.reader };
@@ -72,6 +97,7 @@ fn give<R: ByteIn>(
         (INPUT_LIMIT + 1)) }
     ensures none { OnErr result (input.new.taken ≡ input.old.taken) }
     ensures failed { CountsFailure (R.failed_calls reader.old) (R.failed_calls reader.new) result }
+    ensures place { R.place reader.new ≡ R.place reader.old }
 {
     if !input.as_slice().is_empty() {
         return Ok(input.take_into(into));
@@ -93,6 +119,7 @@ fn read_on<R: ByteIn>(input: &mut ReadAhead, reader: &mut R) -> Result<(), CallF
     ensures counted { input.new.taken ≡ input.old.taken }
     ensures ended { OnOk result (input.new.pending ≡ [] → IsAtEnd (R.left reader.new)) }
     ensures failed { CountsFailure (R.failed_calls reader.old) (R.failed_calls reader.new) result }
+    ensures place { R.place reader.new ≡ R.place reader.old }
 {
     match input.refill(reader) {
         Err(InFault::Read) => Err(CallFailed),

@@ -22,12 +22,16 @@ pub trait ByteIn {
     // How many calls have failed, counted in 64 bits.
     ghost failed_calls: { Self → ℕ };
 
+    // Which reader is borrowed, where one is; no read changes that.
+    ghost place: { Self → ℕ } = { λ _. 0 };
+
     /// Reads some bytes into the front of `into`, and answers how many. Into a slice that is not empty, 0 says that
     /// the input has ended. Nothing is retried.
     fn read(&mut self, into: &mut [u8]) -> Result<usize, CallFailed>
         ensures bound { ReadsAtMost result into.new }
         ensures bytes { ReadConsumes (left self.old) (left self.new) result into.new }
-        ensures failed { CountsFailure (failed_calls self.old) (failed_calls self.new) result };
+        ensures failed { CountsFailure (failed_calls self.old) (failed_calls self.new) result }
+        ensures place { place self.new ≡ place self.old };
 }
 
 /// A reader of the standard library as a source of bytes.

@@ -16,7 +16,7 @@ mod write_behind;
 
 pub use ahead::{INPUT_LIMIT, InFault, NextLine, READ_SIZE, ReadAhead};
 pub use answering::{LineAnswerer, LineFault, answer_rest, answer_text};
-pub use buffered::{Buffered, Whole};
+pub use buffered::{Buffered, Lent, Origin};
 pub use byte_in::{ByteIn, CallFailed, StdIn};
 pub use byte_out::{ByteOut, StdOut};
 pub use held_line::{HeldLine, KEPT_LIMIT, LINE_LIMIT};
