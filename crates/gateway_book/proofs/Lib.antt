@@ -33,3 +33,5 @@ pub mod FollowLaws
 pub mod Joining
 pub mod SavedNumbers
 pub mod LoadLaws
+pub mod Rejoining
+pub mod SavedAgain

@@ -1,9 +1,8 @@
-use Rattle.std.specs.Prelude.{ℕ, ◌≡◌, ◌+◌, ◌^◌, ◌<◌, ◌≤◌, ◌==◌, Bool, true, false, List, [], ◌∷◌, ◌++◌, length, codes, decimal, Option, Some, None}
-use Rattle.std.specs.Prelude.{Result, Ok, Err, cond, MatchBool, ⊤, ◌&&◌}
-use Rattle.std.proofs.Common.{refl, sym, ap, ◌∙◌, arith, subst, eq-eqb, append_assoc, length-append}
-use Rattle.std.proofs.lemmas.Fmt.{length-decimal-le}
+use Rattle.std.specs.Prelude.{ℕ, ◌≡◌, ◌+◌, ◌^◌, ◌<◌, ◌≤◌, ◌==◌, Bool, true, false, List, [], ◌∷◌, ◌++◌, length, Option, Some, None}
+use Rattle.std.specs.Prelude.{Result, Ok, Err, cond, MatchBool, ⊤}
+use Rattle.std.proofs.Common.{refl, sym, ap, ◌∙◌, arith, subst, append_assoc, length-append}
 use Rattle.std.proofs.lemmas.List.Splits.{join_with_byte-slice_split}
-use Rattle.std.specs.List.{join_with_byte, list_all}
+use Rattle.std.specs.List.{join_with_byte}
 use Rattle.text_lines.specs.Words.{spaced}
 use Rattle.gateway_book.specs.declared.ask.Ask.{Ask}
 use Rattle.gateway_book.specs.declared.loading.LoadFault.{LoadFault}
@@ -11,15 +10,15 @@ use Rattle.gateway_book.specs.declared.loading.LoadFault.TheVariants.{Read, Synt
 use Rattle.gateway_book.specs.declared.saved_line.Entry.{Entry}
 use Rattle.gateway_book.specs.declared.saved_line.Entry.TheVariants.{Member, End}
 use Rattle.gateway_book.specs.Book.{Book}
-use Rattle.gateway_book.specs.Loading.{loaded, lines_between, words_between, members_in, after_entry, entry_in, entry_with}
+use Rattle.gateway_book.specs.Loading.{loaded, lines_between}
 use Rattle.gateway_book.specs.Loading.{may_follow, joined}
 use Rattle.gateway_book.specs.Loading.{Loads}
 use Rattle.gateway_book.specs.Saved.{Saved, saved_of, end_words}
 use Rattle.gateway_book.specs.SavedLines.{Leads, IsFault, members_from, entry_then, TakesBytes}
 use Rattle.gateway_book.specs.Step.{reservation_of}
 use Rattle.gateway_book.proofs.Joining.{follower_is_fit, followed}
-use Rattle.gateway_book.proofs.SavedNumbers.{plain-decimal, is_ink, is_ink-decimal, words_between-spaced, unbroken-spaced}
-use Rattle.gateway_book.proofs.SavedSteps.{Leads-trans, fault_after, always_fault, members_from-line}
+use Rattle.gateway_book.proofs.SavedAgain.{end_is_read}
+use Rattle.gateway_book.proofs.SavedSteps.{Leads-trans, fault_after, always_fault}
 
 -- What the reading of a saved text comes to.
 
@@ -51,21 +50,6 @@ loads_book (Some x) (Some y) n b leads = (y, refl, ap loaded leads.consumed ∙ 
 pub takes_bytes : (before after : Option (List ℕ)) (n : ℕ) (all following : List ℕ → Result (Saved × List ℕ) LoadFault)
     → Leads before after n all following → TakesBytes before after n
 takes_bytes before after n all following leads = (leads.front, leads.consumed, leads.counted)
-
--- the line that counts the members is read back, and nothing is left behind it
-end_is_read : (number : ℕ) (s : Saved) → length s.list < 2 ^ 32
-    → members_from number s (spaced (end_words s.list) ++ 10 ∷ []) ≡ Ok (s, [])
-end_is_read number s few =
-    let count = length s.list in
-    let ink : list_all is_ink (end_words s.list) ≡ true =
-    ap (λ t. t && true) (is_ink-decimal count (omega arith)) in
-    let short : length (spaced (end_words s.list)) ≤ 80 = omega (arith, length-decimal-le 10 count (omega arith) (omega arith) (omega arith)) in
-    let said : entry_in (words_between (spaced (end_words s.list))) ≡ Some (End count) =
-    ap entry_in (words_between-spaced (codes "end") (decimal count ∷ []) ink)
-    ∙ ap (λ o. entry_with None o) (plain-decimal (2 ^ 32) count few (omega arith)) in
-    members_from-line (spaced (end_words s.list)) [] (unbroken-spaced (codes "end") (decimal count ∷ []) ink) short number s
-    ∙ ap (after_entry number s ([] ∷ []) (λ t. members_in (number + 1) t ([] ∷ []))) said
-    ∙ ap (λ t. cond t (Ok (s, [])) (Err (Syntax number))) (eq-eqb count count refl)
 
 -- the same at equal numbers and entries
 pub before_at : (a b : Option (List ℕ)) (n k number : ℕ) (s : Saved) → Leads a b n loaded (members_from k s) → number ≡ k
@@ -162,7 +146,7 @@ module _ (a b c : Option (List ℕ)) (n m number : ℕ) (s : Saved) (before : Le
               reads =
                   ap loaded (append_assoc leads.front (spaced (end_words whole.list)) (10 ∷ []))
                   ∙ leads.says (spaced (end_words whole.list) ++ 10 ∷ [])
-                  ∙ end_is_read (number + 1) whole few;
+                  ∙ end_is_read (number + 1) whole [] few;
             }
 
     pub not_joined : (fault : LoadFault) → s.rules.cap ≤ 65536

@@ -3,6 +3,7 @@ ghost use Rattle.gateway_book.specs.Laws.{FewHoursSuffice, DutyRowIsExact, Busie
 ghost use Rattle.gateway_book.specs.Earliest.{EarliestCandidates};
 ghost use Rattle.gateway_book.specs.EarliestValue.{EarliestIsExact};
 ghost use Rattle.gateway_book.specs.Forgetting.{ForgettingIsUnseen};
+ghost use Rattle.gateway_book.specs.Loading.{SavedIsReadAgain};
 
 /// Members at different places of a list by start are disjoint, with a gap between them, exactly where each begins no earlier
 /// than the one before it ends and the gap passes.
@@ -64,4 +65,9 @@ pub fn law_earliest_candidates()
 /// and so every list of these; what each keeps afterwards is the same; and a lawful list stays lawful.
 pub fn law_forgetting()
     ensures { ForgettingIsUnseen }
+{}
+
+/// What is saved of a book is read again, whatever bytes follow the text: the same gateway, floor and list.
+pub fn law_saved_is_read_again()
+    ensures { SavedIsReadAgain }
 {}
