@@ -32,7 +32,8 @@ use Rattle.text_words.specs.Words.{spaced, fault_word, refusal_name, band_word}
 use Rattle.text_words.specs.Busiest.{gateway_words, hour_lines, busiest_lines, all_busiest_lines}
 use Rattle.run_lines.specs.EntryName.{queue_name, frame_name, hear_name, take_name}
 use Rattle.run_lines.specs.EntryLine.{addr_digits, hex_digits, heard_words, candidate_words, line_words, line_text}
-use Rattle.run_lines.specs.ReplayText.{counts_line, totals_at, gateway_lines, tally_line, entry_lines, report_lines}
+use Rattle.run_lines.specs.ReplayText.{counts_line, totals_at, gateway_lines, entry_lines, report_lines}
+use Rattle.run_lines.specs.Tally.{tally_of, tally_text}
 use Rattle.run_lines.specs.ReplayText.{replay_lines, by_id}
 use Rattle.run_lines.specs.WholeLines.{LinesAreWhole}
 use Rattle.run_lines.proofs.WholeLineLemmas.{is_whole, AreWhole, no_feeds, next, lines_append, lines_map, lines_of_each, joined}
@@ -203,6 +204,6 @@ lines_are_whole entries gateways =
     let all : AreWhole (replay_lines entries gateways) =
     lines_append (entry_lines entries) (report_lines entries gateways)
     (lines_map (λ e. line_text e.line) (λ e. joined (line_words e.line) (whole_words e.line)) entries)
-    (lines_append _ (tally_line entries ∷ []) (lines_of_each gateway_lines whole_at_gateway (by_id gateways))
-    (next (tally_line entries) [] (whole_tally _ _ _) none)) in
+    (lines_append _ (tally_text (tally_of entries) ∷ []) (lines_of_each gateway_lines whole_at_gateway (by_id gateways))
+    (next (tally_text (tally_of entries)) [] (whole_tally _ _ _) none)) in
     no_feeds (replay_lines entries gateways) all.test

@@ -1,7 +1,9 @@
 pub mod EntryName
 pub mod EntryLine
+pub mod Tally
 pub mod ReplayText
 pub mod RunWords
 pub mod RunEvents
 pub mod RunInput
+pub mod Datagram
 pub mod WholeLines

@@ -1,16 +1,15 @@
-use Rattle.std.specs.Prelude.{ℕ, ◌+◌, ◌-◌, Bool, true, false, nat_le, if◌then◌else◌, List, [], ◌∷◌, ◌++◌, length, map, Some}
-use Rattle.std.specs.Prelude.{codes, decimal}
-use Rattle.std.specs.List.{flat_map, count_by}
+use Rattle.std.specs.Prelude.{ℕ, ◌+◌, ◌-◌, nat_le, if◌then◌else◌, List, [], ◌∷◌, ◌++◌, length, map, Some, codes, decimal}
+use Rattle.std.specs.List.{flat_map}
 use Rattle.resv_list.specs.Reservations.{net}
 use Rattle.gateway_book.specs.Step.{State}
 use Rattle.gateway_book.specs.declared.totals.Totals.{Totals}
 use Rattle.server_core.specs.declared.entry.Entry.{Entry}
-use Rattle.server_core.specs.declared.entry.Line.{Line}
-use Rattle.server_core.specs.declared.entry.Line.TheVariants.{Send, Unanswered, Silent}
 use Rattle.server_core.specs.World.{Gateway}
 use Rattle.text_words.specs.Words.{spaced}
 use Rattle.run_lines.specs.EntryLine.{line_text}
 use Rattle.text_words.specs.Busiest.{all_busiest_lines}
+use Rattle.run_lines.specs.declared.tally.Tally.{Tally}
+use Rattle.run_lines.specs.Tally.{tally_of, tally_text}
 
 -- The lines of a replay: an answer's lines for each event, and then a report.
 
@@ -50,33 +49,16 @@ counts_line id totals =
 abbrev pub gateway_lines : Gateway → List (List ℕ)
 gateway_lines g = counts_line g.id (totals_at g.state) ∷ all_busiest_lines (Some g.id) g.state.list
 
--- which lines are counted at the end
-abbrev pub is_sent : {A : Type 0} → Line A → Bool
-is_sent (Send number candidate) = true
-is_sent line = false
-
-abbrev pub is_unanswered : {A : Type 0} → Line A → Bool
-is_unanswered (Unanswered number refusal) = true
-is_unanswered line = false
-
-abbrev pub is_silent : {A : Type 0} → Line A → Bool
-is_silent (Silent number) = true
-is_silent line = false
-
--- how many uplinks were answered, were not, and were owed no answer
-abbrev pub tally_line : {A : Type 0} → List (Entry A) → List ℕ
-tally_line entries =
-    spaced (codes "answered" ∷ decimal (count_by (λ e. is_sent e.line) entries)
-    ∷ codes "unanswered" ∷ decimal (count_by (λ e. is_unanswered e.line) entries)
-    ∷ codes "silent" ∷ decimal (count_by (λ e. is_silent e.line) entries) ∷ [])
-
 -- the lines that answer the events
 abbrev pub entry_lines : {A : Type 0} → List (Entry A) → List (List ℕ)
 entry_lines entries = map (λ e. line_text e.line) entries
 
 -- the report at the end
+abbrev pub report_of : Tally → List Gateway → List (List ℕ)
+report_of tally gateways = flat_map gateway_lines (by_id gateways) ++ tally_text tally ∷ []
+
 abbrev pub report_lines : {A : Type 0} → List (Entry A) → List Gateway → List (List ℕ)
-report_lines entries gateways = flat_map gateway_lines (by_id gateways) ++ tally_line entries ∷ []
+report_lines entries gateways = report_of (tally_of entries) gateways
 
 -- all lines
 abbrev pub replay_lines : {A : Type 0} → List (Entry A) → List Gateway → List (List ℕ)

@@ -9,11 +9,11 @@ ghost use Rattle.server_core.specs.Entries.{gateway_of};
 ghost use Rattle.text_words.specs.Words.{is_refusal};
 ghost use Rattle.text_words.specs.Words.{has_refusal};
 ghost use Rattle.run_lines.specs.EntryLine.{line_text};
-ghost use Rattle.run_lines.specs.ReplayText.{entry_lines, replay_lines};
+ghost use Rattle.run_lines.specs.ReplayText.{entry_lines, report_of, replay_lines};
 
 use crate::entry_line::{is_refused, put_line};
 use crate::gateway_report::put_gateways;
-use crate::tally::put_tally;
+use crate::tally::{Tally, put_tally};
 use gateway_book::GatewayBook;
 use resv_list::Roster;
 use server_core::Entry;
@@ -46,7 +46,7 @@ pub fn write_lines<A: Allocator, B: Roster, W: ByteOut>(
 }
 
 /// Whether a line that answers an event begins with `no` or `bad`.
-fn has_refused<A: Allocator>(entries: &[Entry<A>]) -> bool
+pub(crate) fn has_refused<A: Allocator>(entries: &[Entry<A>]) -> bool
     ensures { result ≡ list_any (λ e. is_refusal (line_text e.line)) entries.now }
 {
     entries.iter().any(|entry| is_refused(&entry.line))
@@ -66,17 +66,32 @@ fn put_lines<A: Allocator, B: Roster, W: ByteOut>(
     ensures failed { CountsFailure (W.failed_calls writer.old) (W.failed_calls writer.new) result }
 {
     match put_entries(entries, output, writer) {
-        Err(failed) => return Err(failed),
-        Ok(()) => {}
+        Err(failed) => Err(failed),
+        Ok(()) => put_report(&Tally::of(entries), books, output, writer),
     }
+}
+
+/// Writes the report of the gateways' books and of a tally behind what is gathered.
+pub(crate) fn put_report<B: Roster, W: ByteOut>(
+    tally: &Tally,
+    books: &[GatewayBook<B>],
+    output: &mut WriteBehind,
+    writer: &mut W,
+) -> Result<(), CallFailed>
+    ensures ok { OnOk result (WritesAllBut (W.taken writer.old) (W.taken writer.new)
+        (output.old ++ text_of (report_of tally.now (map gateway_of books.now))) output.new) }
+    ensures err { OnErr result (WritesFront (W.taken writer.old) (W.taken writer.new)
+        (output.old ++ text_of (report_of tally.now (map gateway_of books.now)))) }
+    ensures failed { CountsFailure (W.failed_calls writer.old) (W.failed_calls writer.new) result }
+{
     match put_gateways(books, output, writer) {
         Err(failed) => Err(failed),
-        Ok(()) => put_tally(entries, output, writer),
+        Ok(()) => put_tally(tally, output, writer),
     }
 }
 
 /// Writes the lines that answer the events behind what is gathered.
-fn put_entries<A: Allocator, W: ByteOut>(
+pub(crate) fn put_entries<A: Allocator, W: ByteOut>(
     entries: &[Entry<A>],
     output: &mut WriteBehind,
     writer: &mut W,

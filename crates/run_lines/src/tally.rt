@@ -1,73 +1,119 @@
-// The last line of a replay's text: how many uplinks were answered.
-ghost use Rattle.std.specs.Prelude.{◌≡◌, [], ◌∷◌, ◌++◌, OnOk, OnErr};
+// How many uplinks were answered, and the last line of a text, which tells it.
+ghost use Rattle.std.specs.Prelude.{◌≡◌, ◌+◌, ◌^◌, ◌≤◌, [], ◌∷◌, ◌++◌, length, decimal, OnOk, OnErr};
 ghost use Rattle.std.specs.List.{count_by};
 ghost use Rattle.text_lines.specs.Calls.{CountsFailure};
 ghost use Rattle.text_lines.specs.Line.{text_of};
 ghost use Rattle.text_lines.specs.Writing.{WritesAllBut, WritesFront};
-ghost use Rattle.run_lines.specs.ReplayText.{is_sent, is_unanswered, is_silent, tally_line};
+ghost use Rattle.run_lines.specs.Tally.{is_sent, is_unanswered, is_silent, tally_of, tally_sum, tally_text, IsTallyUpTo};
 
+use itoa::Buffer;
 use server_core::{Entry, Line};
 use std::alloc::Allocator;
 use text_lines::{ByteOut, CallFailed, TextLine, WriteBehind};
-use text_words::{add_number, add_word};
+use text_words::add_word;
+
+/// How many uplinks were answered, how many were not, though an answer was owed, and how many were owed none. In 128 bits,
+/// since the lines of a million turns are not counted ahead.
+#[derive(Clone, Copy, Debug, PartialEq, Eq)]
+pub struct Tally {
+    pub sent: u128,
+    pub unanswered: u128,
+    pub silent: u128,
+}
+
+impl Tally {
+    /// Counts the uplinks of some lines.
+    pub fn of<A: Allocator>(entries: &[Entry<A>]) -> Self
+        ensures tally { result ≡ tally_of entries.now }
+        ensures small { IsTallyUpTo (2 ^ 64) result }
+    {
+        Tally {
+            sent: sent(entries) as u128,
+            unanswered: unanswered(entries) as u128,
+            silent: silent(entries) as u128,
+        }
+    }
+
+    /// Counts those of another tally too.
+    pub fn add(&mut self, more: &Tally)
+        requires counted { IsTallyUpTo (2 ^ 126) self.old }
+        requires more { IsTallyUpTo (2 ^ 126) more.now }
+        ensures { self.new ≡ tally_sum self.old more.now }
+    {
+        self.sent += more.sent;
+        self.unanswered += more.unanswered;
+        self.silent += more.silent;
+    }
+}
 
 /// Writes the last line behind what is gathered.
-pub(crate) fn put_tally<A: Allocator, W: ByteOut>(
-    entries: &[Entry<A>],
+pub(crate) fn put_tally<W: ByteOut>(
+    tally: &Tally,
     output: &mut WriteBehind,
     writer: &mut W,
 ) -> Result<(), CallFailed>
     ensures ok { OnOk result (WritesAllBut (W.taken writer.old) (W.taken writer.new)
-        (output.old ++ text_of (tally_line entries.now ∷ [])) output.new) }
+        (output.old ++ text_of (tally_text tally.now ∷ [])) output.new) }
     ensures err { OnErr result (WritesFront (W.taken writer.old) (W.taken writer.new)
-        (output.old ++ text_of (tally_line entries.now ∷ []))) }
+        (output.old ++ text_of (tally_text tally.now ∷ []))) }
     ensures failed { CountsFailure (W.failed_calls writer.old) (W.failed_calls writer.new) result }
 {
     let mut text = TextLine::new();
-    write_tally(entries, &mut text);
+    write_tally(tally, &mut text);
     output.put(writer, text.as_slice())
 }
 
 /// Makes `text` the last line, with its end.
-fn write_tally<A: Allocator>(entries: &[Entry<A>], text: &mut TextLine)
-    ensures { text.new ≡ tally_line entries.now ++ (10 ∷ []) }
+fn write_tally(tally: &Tally, text: &mut TextLine)
+    ensures { text.new ≡ tally_text tally.now ++ (10 ∷ []) }
 {
     text.clear();
     text.text(b"answered");
-    add_number(text, sent(entries));
+    add_count(text, tally.sent);
     add_word(text, b"unanswered");
-    add_number(text, unanswered(entries));
+    add_count(text, tally.unanswered);
     add_word(text, b"silent");
-    add_number(text, silent(entries));
+    add_count(text, tally.silent);
     text.text(b"\n");
 }
 
+/// Adds a space and a count.
+fn add_count(text: &mut TextLine, count: u128)
+    requires { length text.old + 41 ≤ 1024 }
+    ensures text { text.new ≡ text.old ++ (32 ∷ decimal count) }
+    ensures len { length text.new ≤ length text.old + 41 }
+{
+    let mut digits = Buffer::new();
+    text.text(b" ");
+    text.text(digits.format(count).as_bytes());
+}
+
 /// How many uplinks were answered.
-fn sent<A: Allocator>(entries: &[Entry<A>]) -> u64
+fn sent<A: Allocator>(entries: &[Entry<A>]) -> usize
     ensures { result ≡ count_by (λ e. is_sent e.line) entries.now }
 {
     entries
         .iter()
         .filter(|entry| matches!(&entry.line, Line::Send { .. }))
-        .count() as u64
+        .count()
 }
 
 /// How many uplinks were not, though an answer was owed.
-fn unanswered<A: Allocator>(entries: &[Entry<A>]) -> u64
+fn unanswered<A: Allocator>(entries: &[Entry<A>]) -> usize
     ensures { result ≡ count_by (λ e. is_unanswered e.line) entries.now }
 {
     entries
         .iter()
         .filter(|entry| matches!(&entry.line, Line::Unanswered { .. }))
-        .count() as u64
+        .count()
 }
 
 /// How many uplinks were owed no answer.
-fn silent<A: Allocator>(entries: &[Entry<A>]) -> u64
+fn silent<A: Allocator>(entries: &[Entry<A>]) -> usize
     ensures { result ≡ count_by (λ e. is_silent e.line) entries.now }
 {
     entries
         .iter()
         .filter(|entry| matches!(&entry.line, Line::Silent { .. }))
-        .count() as u64
+        .count()
 }

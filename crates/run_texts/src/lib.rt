@@ -15,4 +15,6 @@ mod station_run;
 pub use pass_answers::Answer;
 pub use pass_ends::Ends;
 pub use run::run_text;
+pub use run_settings::settings_in;
 pub use station_pass::{Answered, Told, answer_with_workers};
+pub use station_run::{Played, Shift};

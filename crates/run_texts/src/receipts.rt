@@ -11,14 +11,14 @@ use std::alloc::Global;
 
 /// What was booked for the uplink with the receipt's number.
 #[derive(Drop)]
-pub(crate) struct Booking {
-    pub(crate) receipt: Receipt<Global>,
-    pub(crate) is_cancelled: bool,
+pub struct Booking {
+    pub receipt: Receipt<Global>,
+    pub is_cancelled: bool,
 }
 
 /// What was booked, by number. The frames were told, and are not kept.
 #[derive(Drop)]
-pub(crate) struct Receipts {
+pub struct Receipts {
     pub(crate) bookings: Vec<Booking>,
     ghost by_number: { IsNonDecreasingBy (λ b. b.receipt.number) bookings.items },
 }

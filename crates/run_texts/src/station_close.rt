@@ -16,7 +16,7 @@ where
     S::Hasher: Send + Sync,
 {
     /// Compares the books with what was answered, and with the receipts of what was not cancelled.
-    pub(crate) fn close(self, alloc: Global) -> Result<Played, TextFault>
+    pub fn close(self, alloc: Global) -> Result<Played, TextFault>
         ensures entries { IfOk result (λ played. played.entries ≡ self.entries) }
         ensures books { IfOk result (λ played. IsClosing self.station (open_receipts self.receipts.bookings.items)
             played.totals.items played.books.items) }

@@ -16,6 +16,7 @@ use server_core::{
 use server_workers::{Blank, Ledger, PARTS, Station, Till};
 use std::alloc::Global;
 use std::hash::BuildHasher;
+use std::mem::replace;
 use std::sync::Wait;
 use std::thread::Threads;
 use text_words::TextFault;
@@ -23,15 +24,16 @@ use text_words::TextFault;
 /// What a run left: the lines that answer its events, and what each gateway's book has counted, beside the gateway's number,
 /// and the books in the same order.
 #[derive(Drop)]
-pub(crate) struct Played {
-    pub(crate) entries: Vec<Entry<Global>>,
-    pub(crate) totals: Vec<(u16, Totals)>,
-    pub(crate) books: Vec<Book<Global>>,
+pub struct Played {
+    pub entries: Vec<Entry<Global>>,
+    pub totals: Vec<(u16, Totals)>,
+    pub books: Vec<Book<Global>>,
 }
 
-/// A station at work, the till with all parts of its ledger, what was booked, and the lines that were told.
+/// A station at work, the till with all parts of its ledger, what was booked, and the lines that were told and not taken
+/// out.
 #[derive(Drop)]
-pub(crate) struct Shift<B: Ledger, S: BuildHasher> {
+pub struct Shift<B: Ledger, S: BuildHasher> {
     pub(crate) station: Station<B, S>,
     pub(crate) till: Till<B>,
     pub(crate) receipts: Receipts,
@@ -74,7 +76,7 @@ where
 
 impl<B: Ledger, S: BuildHasher + Clone + Drop> Shift<B, S> {
     /// A station with these settings that has heard nothing.
-    fn new(
+    pub fn new(
         alloc: Global,
         hasher: S,
         settings: &Settings<Global>,
@@ -127,7 +129,7 @@ where
     }
 
     /// Does what an event asks for.
-    fn answer<R: Threads + Wait + Sync>(
+    pub fn answer<R: Threads + Wait + Sync>(
         self,
         rt: &R,
         alloc: Global,
@@ -162,6 +164,16 @@ where
         };
         shift.tell(place, line)?;
         Ok(shift)
+    }
+
+    /// Takes the lines out that were told.
+    pub fn take_lines(&mut self, alloc: Global) -> Vec<Entry<Global>>
+        ensures station { self.new.station ≡ self.old.station }
+        ensures receipts { self.new.receipts ≡ self.old.receipts }
+        ensures taken { result.items ≡ self.old.entries.items }
+        ensures none { self.new.entries.items ≡ [] }
+    {
+        replace(&mut self.entries, Vec::new(alloc))
     }
 
     /// Tells a line.
