@@ -120,7 +120,7 @@ can_join_inside inside now ask r v s e f =
     can_join inside ask r s at.0 at.1
 
 -- the book with it behind the others
-again_behind : (s : Saved) (r : Reservation) → is_behind r.start s.list ≡ false
+pub again_behind : (s : Saved) (r : Reservation) → is_behind r.start s.list ≡ false
     → record (opened_again s) { list = place r s.list; booked = net s.list + airtime_us r } ≡ opened_again (joined s (Some r))
 again_behind s r last = rw (place-last r s.list last, net-behind s.list r) refl
 

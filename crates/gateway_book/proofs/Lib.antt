@@ -35,3 +35,5 @@ pub mod SavedNumbers
 pub mod LoadLaws
 pub mod Rejoining
 pub mod SavedAgain
+pub mod SavedSpelling
+pub mod SavedWas

@@ -28,7 +28,7 @@ use Rattle.gateway_book.proofs.FollowLaws.{asked_becomes}
 use Rattle.gateway_book.proofs.Rejoining.{ask_of, asked_again, may_follow_again}
 use Rattle.gateway_book.proofs.SavedNumbers.{plain-decimal, is_ink, is_ink-decimal, words_between-spaced, unbroken-spaced}
 use Rattle.gateway_book.proofs.SavedSteps.{loaded-line, gateway_from-line, members_from-line}
-use Rattle.gateway_book.proofs.SavedText.{end_text, text_in-parts}
+use Rattle.gateway_book.proofs.SavedText.{end_text, text_in-parts, regroup}
 
 -- A saved text is read again, line by line.
 
@@ -251,9 +251,6 @@ version_reads version more small known =
     ∙ ap (λ l. after_version (version_in l) (lines_between more)) (words_between-spaced (codes "airbook") (decimal version ∷ []) ink)
     ∙ ap (λ o. after_version o (lines_between more)) said
     ∙ ap (λ t. cond t (gateway_from version more) (Err Version)) known
-
-regroup : (a b m e r : List ℕ) → ((a ++ (10 ∷ (b ++ 10 ∷ []))) ++ (m ++ e)) ++ r ≡ a ++ (10 ∷ (b ++ (10 ∷ (m ++ (e ++ r)))))
-regroup a b m e r = simp append_assoc
 
 module _ (version : ℕ) (s : Saved) (rest : List ℕ) (savable : IsSavable s) where
   whole_is_read : version < 10 → (eqb version 1 || eqb version 2) ≡ true

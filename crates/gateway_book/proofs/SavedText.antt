@@ -82,3 +82,7 @@ saved_whole old b =
     ap (λ l. old ++ l) (text_in-parts 2 (saved_of b))
     ∙ sym (append_assoc old opening (members_text b.list ++ end_text b.list))
     ∙ sym (append_assoc (old ++ opening) (members_text b.list) (end_text b.list))
+
+-- the parts of a whole text, and what follows it, line by line
+pub regroup : (a b m e r : List ℕ) → ((a ++ (10 ∷ (b ++ 10 ∷ []))) ++ (m ++ e)) ++ r ≡ a ++ (10 ∷ (b ++ (10 ∷ (m ++ (e ++ r)))))
+regroup a b m e r = simp append_assoc

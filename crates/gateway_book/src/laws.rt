@@ -3,7 +3,7 @@ ghost use Rattle.gateway_book.specs.Laws.{FewHoursSuffice, DutyRowIsExact, Busie
 ghost use Rattle.gateway_book.specs.Earliest.{EarliestCandidates};
 ghost use Rattle.gateway_book.specs.EarliestValue.{EarliestIsExact};
 ghost use Rattle.gateway_book.specs.Forgetting.{ForgettingIsUnseen};
-ghost use Rattle.gateway_book.specs.Loading.{SavedIsReadAgain};
+ghost use Rattle.gateway_book.specs.Loading.{SavedIsReadAgain, LoadedWasSaved};
 
 /// Members at different places of a list by start are disjoint, with a gap between them, exactly where each begins no earlier
 /// than the one before it ends and the gap passes.
@@ -70,4 +70,10 @@ pub fn law_forgetting()
 /// What is saved of a book is read again, whatever bytes follow the text: the same gateway, floor and list.
 pub fn law_saved_is_read_again()
     ensures { SavedIsReadAgain }
+{}
+
+/// A text that is read is one that is saved: the book may be saved, and the bytes are its text in one of the two versions, and
+/// what follows it.
+pub fn law_loaded_was_saved()
+    ensures { LoadedWasSaved }
 {}
