@@ -64,7 +64,8 @@ followed s ask r e m =
     let second = and_parts (not (is_behind ask.start s.list)) (nat_le s.floor (ask.start + hour)) third.0 in
     let rows = none_of (first_some (follow_rows s ask)) (not_true _ last.1) in
     let terms = follow_terms s ask in
-    let none-1 = first_none (no_band ask) (too_long ask ∷ past_end ask ∷ taken terms s.list ask ∷ duty_full s.list ask ∷ []) rows in
+    let none-1 = first_none (no_band ask)
+    (too_long ask ∷ past_end ask ∷ taken terms s.list ask ∷ duty_full s.list ask ∷ []) rows in
     let none-2 = first_none (too_long ask) (past_end ask ∷ taken terms s.list ask ∷ duty_full s.list ask ∷ []) none-1.1 in
     let none-3 = first_none (past_end ask) (taken terms s.list ask ∷ duty_full s.list ask ∷ []) none-2.1 in
     let none-4 = first_none (taken terms s.list ask) (duty_full s.list ask ∷ []) none-3.1 in
@@ -136,7 +137,15 @@ joined_is inside now o r l airtime v e m last p q =
 
 -- the book of a gateway without a member
 pub empty_again : (g : SavedGateway) (l : List Reservation) → l ≡ []
-    → record { id = g.id; rules = record { cap = g.cap; gap = g.gap }; floor = g.floor; list = l; booked = 0; cancelled = 0; retired = 0 }
+    → record {
+      id = g.id;
+      rules = record { cap = g.cap; gap = g.gap };
+      floor = g.floor;
+      list = l;
+      booked = 0;
+      cancelled = 0;
+      retired = 0;
+    }
     ≡ opened_again (saved_empty g)
 unfolding net
 empty_again g l e = rw e refl

@@ -58,7 +58,8 @@ module _ (b : Book) (s : State) (o : IsOrderly b.rules.gap s.list) (r : Remember
         record {
           floor = r.floor;
           list =
-              ap (place m) r.list ∙ sym (kept-place m s.list s.floor o.by_start placed_orderly.by_start (rw a.start (omega (arith, ahead))));
+              ap (place m) r.list
+              ∙ sym (kept-place m s.list s.floor o.by_start placed_orderly.by_start (rw a.start (omega (arith, ahead))));
           booked = ap (λ (n : ℕ). n + airtime_us m) r.booked;
           cancelled = r.cancelled;
         } in

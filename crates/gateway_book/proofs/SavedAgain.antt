@@ -1,6 +1,8 @@
-use Rattle.std.specs.Prelude.{ℕ, ◌≡◌, ◌+◌, ◌^◌, ◌<◌, ◌≤◌, ◌&&◌, ◌||◌, ◌==◌, true, false, List, [], ◌∷◌, ◌++◌, length, codes, decimal}
+use Rattle.std.specs.Prelude.{ℕ, ◌≡◌, ◌+◌, ◌^◌, ◌<◌, ◌≤◌, ◌&&◌, ◌||◌, ◌==◌, true, false, List, [], ◌∷◌, ◌++◌, length, codes}
+use Rattle.std.specs.Prelude.{decimal}
 use Rattle.std.specs.Prelude.{Some, None, Ok, Err, cond, is_some, nat_lt}
-use Rattle.std.proofs.Common.{refl, sym, ap, ◌∙◌, arith, subst, eqb, eq-eqb, append_assoc, append-nil, length-append, inl, inr, suc}
+use Rattle.std.proofs.Common.{refl, sym, ap, ◌∙◌, arith, subst, eqb, eq-eqb, append_assoc, append-nil, length-append, inl, inr}
+use Rattle.std.proofs.Common.{suc}
 use Rattle.std.proofs.lemmas.Bool.{ne_eqb, le-ltb}
 use Rattle.std.proofs.lemmas.Fmt.{length-decimal-le}
 use Rattle.std.proofs.lemmas.List.Splits.{join_with_byte-slice_split}
@@ -14,7 +16,8 @@ use Rattle.text_lines.specs.Words.{spaced}
 use Rattle.gateway_book.specs.declared.loading.LoadFault.TheVariants.{Syntax, Unlawful, Version}
 use Rattle.gateway_book.specs.declared.saved_line.Entry.TheVariants.{Member, End}
 use Rattle.gateway_book.specs.declared.saved_line.SavedGateway.{SavedGateway}
-use Rattle.gateway_book.specs.Loading.{loaded, lines_between, words_between, members_in, after_version, after_gateway, after_entry}
+use Rattle.gateway_book.specs.Loading.{loaded, lines_between, words_between, members_in, after_version, after_gateway}
+use Rattle.gateway_book.specs.Loading.{after_entry}
 use Rattle.gateway_book.specs.Loading.{version_in, gateway_in, entry_in, entry_with, saved_empty}
 use Rattle.gateway_book.specs.Loading.{joined, IsSavable, SavedIsReadAgain}
 use Rattle.gateway_book.specs.Answer.{Rules}
@@ -39,7 +42,8 @@ end_is_read number s rest few =
     let count = length s.list in
     let ink : list_all is_ink (end_words s.list) ≡ true =
     ap (λ t. t && true) (is_ink-decimal count (omega arith)) in
-    let short : length (spaced (end_words s.list)) ≤ 80 = omega (arith, length-decimal-le 10 count (omega arith) (omega arith) (omega arith)) in
+    let short : length (spaced (end_words s.list)) ≤ 80 =
+    omega (arith, length-decimal-le 10 count (omega arith) (omega arith) (omega arith)) in
     let said : entry_in (words_between (spaced (end_words s.list))) ≡ Some (End count) =
     ap entry_in (words_between-spaced (codes "end") (decimal count ∷ []) ink)
     ∙ ap (λ o. entry_with None o) (plain-decimal (2 ^ 32) count few (omega arith)) in
@@ -84,14 +88,16 @@ module _ (r : Reservation) (number : r.number < 2 ^ 64) (freq_hz : r.freq_hz < 2
   member_short =
       omega (
         arith,
-        length-append (decimal r.number) (32 ∷ spaced (decimal r.start ∷ decimal r.freq_hz ∷ decimal (number_of r.rate) ∷ decimal r.len ∷ [])),
+        length-append (decimal r.number)
+            (32 ∷ spaced (decimal r.start ∷ decimal r.freq_hz ∷ decimal (number_of r.rate) ∷ decimal r.len ∷ [])),
         length-append (decimal r.start) (32 ∷ spaced (decimal r.freq_hz ∷ decimal (number_of r.rate) ∷ decimal r.len ∷ [])),
         length-append (decimal r.freq_hz) (32 ∷ spaced (decimal (number_of r.rate) ∷ decimal r.len ∷ [])),
         length-append (decimal (number_of r.rate)) (32 ∷ decimal r.len),
         length-decimal-le 20 r.number (omega arith) (omega arith) number,
         length-decimal-le 20 r.start (omega arith) (omega (arith, start_small)) (omega (arith, start_small)),
         length-decimal-le 10 r.freq_hz (omega arith) (omega arith) (omega arith),
-        length-decimal-le 1 (number_of r.rate) (omega arith) (omega (arith, rate_small r.rate)) (omega (arith, rate_small r.rate)),
+        length-decimal-le 1 (number_of r.rate) (omega arith) (omega (arith, rate_small r.rate))
+            (omega (arith, rate_small r.rate)),
         length-decimal-le 3 r.len (omega arith) (omega arith) (omega arith),
       )
 
@@ -246,9 +252,11 @@ version_reads version more small known =
     let ink : list_all is_ink (version_words version) ≡ true = rw (is_ink-decimal version (omega arith)) refl in
     let short : length (spaced (version_words version)) ≤ 80 =
     omega (arith, length-decimal-le 1 version (omega arith) small (omega arith)) in
-    let said : version_in (version_words version) ≡ Some version = rw (plain-decimal (2 ^ 32) version (omega arith) (omega arith)) refl in
+    let said : version_in (version_words version) ≡ Some version =
+    rw (plain-decimal (2 ^ 32) version (omega arith) (omega arith)) refl in
     loaded-line (spaced (version_words version)) more (unbroken-spaced (codes "airbook") (decimal version ∷ []) ink) short
-    ∙ ap (λ l. after_version (version_in l) (lines_between more)) (words_between-spaced (codes "airbook") (decimal version ∷ []) ink)
+    ∙ ap (λ l. after_version (version_in l) (lines_between more))
+    (words_between-spaced (codes "airbook") (decimal version ∷ []) ink)
     ∙ ap (λ o. after_version o (lines_between more)) said
     ∙ ap (λ t. cond t (gateway_from version more) (Err Version)) known
 

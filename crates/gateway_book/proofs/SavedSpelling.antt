@@ -11,7 +11,8 @@ use Rattle.text_lines.specs.Words.{is_named}
 use Rattle.text_lines.proofs.NumberLemmas.{decimal-value_of}
 use Rattle.gateway_book.specs.declared.ask.Ask.{Ask}
 use Rattle.gateway_book.specs.declared.saved_line.SavedGateway.{SavedGateway}
-use Rattle.gateway_book.specs.Loading.{leads_zero, plain_number, version_in, gateway_in, gateway_with, gap_in, member_in, member_with}
+use Rattle.gateway_book.specs.Loading.{leads_zero, plain_number, version_in, gateway_in, gateway_with, gap_in, member_in}
+use Rattle.gateway_book.specs.Loading.{member_with}
 use Rattle.gateway_book.specs.Loading.{count_in, saved_empty}
 use Rattle.gateway_book.specs.Saved.{gateway_words, gap_words}
 use Rattle.gateway_book.specs.Rates.{rates, rate_numbered}

@@ -12,7 +12,8 @@ use Rattle.gateway_book.specs.declared.saved_line.Entry.{Entry}
 use Rattle.gateway_book.specs.declared.saved_line.SavedGateway.{SavedGateway}
 use Rattle.gateway_book.specs.Opening.{open_fault}
 use Rattle.gateway_book.specs.Saved.{Saved}
-use Rattle.gateway_book.specs.Loading.{Loaded, is_line, lines_between, words_between, version_in, gateway_in, entry_in, saved_empty}
+use Rattle.gateway_book.specs.Loading.{Loaded, is_line, lines_between, words_between, version_in, gateway_in, entry_in}
+use Rattle.gateway_book.specs.Loading.{saved_empty}
 use Rattle.gateway_book.specs.Loading.{after_version, after_gateway, after_entry, all_lines, gateway_lines, members_in, loaded}
 use Rattle.gateway_book.specs.SavedLines.{TakesLine, IsNoLine, LacksLine, gateway_from, members_from, entry_then, Leads}
 use Rattle.gateway_book.specs.SavedLines.{Faults, IsFault}

@@ -4,7 +4,8 @@ use Rattle.std.proofs.lemmas.List.{map-append}
 use Rattle.resv_list.specs.declared.reservation.Reservation.{Reservation}
 use Rattle.text_lines.specs.Line.{text_of, text_of-append}
 use Rattle.text_lines.specs.Words.{spaced}
-use Rattle.text_lines.specs.Writing.{WritesAllBut, WritesFront, WritesAllBut-more, WritesAllBut-trans, WritesFront-after, WritesFront-more}
+use Rattle.text_lines.specs.Writing.{WritesAllBut, WritesFront, WritesAllBut-more, WritesAllBut-trans, WritesFront-after}
+use Rattle.text_lines.specs.Writing.{WritesFront-more}
 use Rattle.gateway_book.specs.Saved.{Saved, version_words, gateway_words, member_words, members_text, end_words, text_in}
 use Rattle.gateway_book.specs.Saved.{saved_of, saved_text}
 use Rattle.gateway_book.specs.Book.{Book}

@@ -15,10 +15,12 @@ use Rattle.gateway_book.specs.declared.saved_line.Entry.TheVariants.{Member, End
 use Rattle.gateway_book.specs.declared.saved_line.SavedGateway.{SavedGateway}
 use Rattle.gateway_book.specs.Book.{IsSound}
 use Rattle.gateway_book.specs.Loading.{Loaded, lines_between, words_between, is_line, members_in, gateway_lines, all_lines}
-use Rattle.gateway_book.specs.Loading.{after_version, after_gateway, after_entry, version_in, gateway_in, entry_in, entry_with, member_in}
+use Rattle.gateway_book.specs.Loading.{after_version, after_gateway, after_entry, version_in, gateway_in, entry_in, entry_with}
+use Rattle.gateway_book.specs.Loading.{member_in}
 use Rattle.gateway_book.specs.Loading.{count_in, saved_empty, may_follow, joined, IsSavable, IsVersion, LoadedWasSaved}
 use Rattle.gateway_book.specs.Opening.{open_fault}
-use Rattle.gateway_book.specs.Saved.{Saved, opened_again, member_words, members_text, version_words, gateway_words, end_words, text_in}
+use Rattle.gateway_book.specs.Saved.{Saved, opened_again, member_words, members_text, version_words, gateway_words, end_words}
+use Rattle.gateway_book.specs.Saved.{text_in}
 use Rattle.gateway_book.specs.Step.{reservation_of}
 use Rattle.gateway_book.proofs.FollowLaws.{none_of, place-last}
 use Rattle.gateway_book.proofs.Joining.{followed, follower_is_fit, can_join, again_behind, empty_again}
@@ -109,7 +111,8 @@ module _ (number : ℕ) (s t : Saved) (line : List ℕ) (more : List (List ℕ))
         let again : IsSound (opened_again u) =
         subst IsSound (again_behind s r f.last)
         (sound_booked (opened_again s) r sound by_start (can_join (opened_again s) ask r sound refl f)) in
-        let placed = orderly_placed s.list r (record { rested = sound.rested; by_start = by_start; lawful = sound.lawful }) f.joins in
+        let placed = orderly_placed s.list r
+        (record { rested = sound.rested; by_start = by_start; lawful = sound.lawful }) f.joins in
         let next = after u read again (subst IsByStart (place-last r s.list f.last) placed.by_start) in
         let asked = f.asked in
         let words = member_line (words_between line) ask
@@ -171,7 +174,8 @@ record WasGateway (version : ℕ) (t : Saved) (parts : List (List ℕ)) (rest : 
 
 module _ (version : ℕ) (t : Saved) (line : List ℕ) (more : List (List ℕ)) (rest : List ℕ) (some : 0 < length more) where
   opened_was : (g : SavedGateway) → gateway_in version (words_between line) ≡ Some g → (o : Bool)
-      → is_some (open_fault (saved_empty g).rules) ≡ o → cond o (Err (Unlawful 2)) (members_in 3 (saved_empty g) more) ≡ told t rest
+      → is_some (open_fault (saved_empty g).rules) ≡ o
+      → cond o (Err (Unlawful 2)) (members_in 3 (saved_empty g) more) ≡ told t rest
       → WasGateway version t (line ∷ more) rest
   opened_was g said true opens e = absurd (cc)
   opened_was g said false opens e =
@@ -190,7 +194,8 @@ module _ (version : ℕ) (t : Saved) (line : List ℕ) (more : List (List ℕ)) 
             line_before line more some
             ∙ ap (λ l. l ++ (10 ∷ join_with_byte 10 more)) (spelled_line line _ (words.written ∙ sym head))
             ∙ ap (λ l. spaced (gateway_words version t) ++ (10 ∷ l)) m.text
-            ∙ ap (λ (l : List Reservation). spaced (gateway_words version t) ++ (10 ∷ (members_text l ++ (end_text t.list ++ rest))))
+            ∙ ap (λ (l : List Reservation).
+            spaced (gateway_words version t) ++ (10 ∷ (members_text l ++ (end_text t.list ++ rest))))
             (sym list);
         id = omega (arith, id, words.id);
         floor = omega (arith, floor, words.floor);
