@@ -52,18 +52,18 @@ pub IsSoFar-next : (from : ℕ) (left now now_after : Option (List ℕ)) (count 
     → IsSoFar from left now count number Holds → GivesLine now now_after found held → Consumes now now_after front
     → count_after ≡ count + length front → (found ≡ End → ⊥) → (found ≡ Last → ⊥) → GoesOn number held Holds HoldsThen
     → IsSoFar from left now_after count_after (number + 1) HoldsThen
-IsSoFar-next from None now now_after count number Holds HoldsThen found held front count_after far line consumed counted some whole on
-    = tt
-IsSoFar-next from (Some bytes) None now_after count number Holds HoldsThen found held front count_after far line consumed counted some
-    whole on = absurd far
-IsSoFar-next from (Some bytes) (Some rest) None count number Holds HoldsThen found held front count_after far line consumed counted
-    some whole on = absurd line
-IsSoFar-next from (Some bytes) (Some rest) (Some rest_after) count number Holds HoldsThen End held front count_after far line consumed
-    counted some whole on = absurd (some refl)
-IsSoFar-next from (Some bytes) (Some rest) (Some rest_after) count number Holds HoldsThen Last held front count_after far line consumed
-    counted some whole on = absurd (whole refl)
-IsSoFar-next from (Some bytes) (Some rest) (Some rest_after) count number Holds HoldsThen Whole held front count_after far line
-    consumed counted some whole on =
+IsSoFar-next from None now now_after count number Holds HoldsThen found held front count_after far line consumed counted some
+    whole on = tt
+IsSoFar-next from (Some bytes) None now_after count number Holds HoldsThen found held front count_after far line consumed counted
+    some whole on = absurd far
+IsSoFar-next from (Some bytes) (Some rest) None count number Holds HoldsThen found held front count_after far line consumed
+    counted some whole on = absurd line
+IsSoFar-next from (Some bytes) (Some rest) (Some rest_after) count number Holds HoldsThen End held front count_after far line
+    consumed counted some whole on = absurd (some refl)
+IsSoFar-next from (Some bytes) (Some rest) (Some rest_after) count number Holds HoldsThen Last held front count_after far line
+    consumed counted some whole on = absurd (whole refl)
+IsSoFar-next from (Some bytes) (Some rest) (Some rest_after) count number Holds HoldsThen Whole held front count_after far
+    line consumed counted some whole on =
     let more : length front ≡ length line.taken = same_front rest front line.taken rest_after consumed line.front in
     let begun : 0 < length line.taken = some_taken line.taken line.line line.first in
     record {
