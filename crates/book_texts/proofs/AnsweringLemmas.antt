@@ -33,6 +33,7 @@ refused_by old ask refusal None is h =
           ∙ sym (ap (λ o. booking_reply true o ask) (sym (stands_answer old s stood ask) ∙ is));
       reached = λ s stood. stood;
       rules = refl;
+      id = refl;
     }
 refused_by old ask refusal (Some e) is h =
     let same : refusal ≡ e = cc in
@@ -44,6 +45,7 @@ refused_by old ask refusal (Some e) is h =
       reached = λ s stood.
           subst (StandsFor old) (sym (ap (λ o. after_answer o s ask) (sym (stands_answer old s stood ask) ∙ is))) stood;
       rules = refl;
+      id = refl;
     }
 
 -- a booking that is refused changes nothing
@@ -74,6 +76,7 @@ carried_out-booked old new ask r h a is =
           (sym (ap (λ o. booking_reply false o ask) (sym (stands_answer old s stood ask) ∙ none)));
       reached = λ s stood. rw is (stands_booked old s stood ask r a none);
       rules = rw is refl;
+      id = rw is refl;
     }
 
 -- a booking is one step, and told as it was answered
@@ -96,6 +99,7 @@ carried_out-cancelled old new number start airtime h is step =
           ap (cancel_reply number) (h ∙ ap airtime_answer (remembers_cancel old s stood.orderly stood.remembers number start));
       reached = λ s stood. stands_cancelled old s stood number start new (rw is refl) step;
       rules = rw is refl;
+      id = rw is refl;
     }
 
 pub carried_out-not_cancelled : (old new : Book) (number start : ℕ) (fault : CancelFault)
@@ -109,6 +113,7 @@ carried_out-not_cancelled old new number start fault h is step =
           ap (cancel_reply number) (h ∙ ap airtime_answer (remembers_cancel old s stood.orderly stood.remembers number start));
       reached = λ s stood. stands_cancelled old s stood number start new (rw is refl) step;
       rules = rw is refl;
+      id = rw is refl;
     }
 
 pub carried_out-ticked : (old new : Book) (now floor : ℕ) → new ≡ ticked old now → floor ≡ new.floor
@@ -120,6 +125,7 @@ carried_out-ticked old new now floor is f =
           ap Floor (f ∙ ap (λ (b : Book). b.floor) is ∙ ap (λ n. max n now) stood.remembers.floor);
       reached = λ s stood. rw is (stands_ticked old s stood now);
       rules = rw is refl;
+      id = rw is refl;
     }
 
 -- a question for the earliest start changes nothing
@@ -132,4 +138,5 @@ carried_out-sought old ask last reply h =
       answered = λ s stood. h ∙ ap (start_reply ask.number) (stands_earliest old s stood ask ask.start last);
       reached = λ s stood. stood;
       rules = refl;
+      id = refl;
     }

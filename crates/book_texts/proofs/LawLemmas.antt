@@ -1,7 +1,8 @@
 -- Lemmas behind the laws on the output.
 use Rattle.std.proofs.Common.{◌≡◌, ◌↔◌, ℕ, suc, ◌+◌, Bool, true, false, not, List, [], ◌∷◌, ◌++◌, length, filter, cond}
 use Rattle.std.proofs.Common.{Option, None, All, map}
-use Rattle.std.proofs.Common.{Some, refl, ap, ◌∙◌, arith, length-append}
+use Rattle.std.proofs.Common.{Some, refl, sym, ap, ◌∙◌, arith, length-append, if◌then◌else◌}
+use Rattle.gateway_book.specs.Saved.{lines_in}
 use Rattle.text_lines.specs.Line.{is_too_long}
 use Rattle.text_lines.specs.Turns.{reached as reached_by, answers as answers_by, answers-append}
 use Rattle.text_lines.specs.Words.{words_of, is_passed_over}
@@ -17,7 +18,8 @@ use Rattle.book_texts.specs.Said.{said, order_or_malformed, command_of}
 use Rattle.book_texts.specs.Reply.{reply_line}
 use Rattle.text_words.specs.Words.{is_refusal}
 use Rattle.book_texts.specs.Answering.{booking_reply, start_reply, reply_of, reply_to, answer_to, state_after_line}
-use Rattle.book_texts.specs.Output.{Standing, book_turns, is_starved, opened, report_at, answers, reached, output}
+use Rattle.book_texts.specs.Output.{Standing, book_turns, reported, is_starved, opened, report_at, saved_at, answers, reached}
+use Rattle.book_texts.specs.Output.{output}
 use Rattle.book_texts.specs.Planning.{Planned, plan_turns, opens_plan, plan_output, unplanned, if_line, planned_after_line}
 use Rattle.book_texts.specs.Laws.{tried_lines, asks_of, PlanTellsBookings, PlanTellsStarts}
 use Rattle.book_texts.proofs.TryingLemmas.{told_answer}
@@ -66,7 +68,7 @@ one_answer_a_line rules starved number s (line ∷ more) =
 pub answers_come_first : (rules : Rules) (starved : List ℕ) (number : ℕ) (s : State) (lines more : List (List ℕ))
     → (rest : List (List ℕ)) × (answers rules starved number s (lines ++ more) ≡ answers rules starved number s lines ++ rest)
 answers_come_first rules starved number s lines more =
-    let at : Standing = record { rules = rules; state = s } in (
+    let at : Standing = reported rules s in (
       answers_by book_turns starved (number + length lines) (reached_by book_turns starved number at lines) more,
       answers-append book_turns starved number at lines more (number + length lines) refl,
     )
@@ -91,12 +93,28 @@ unplanned_answers rules starved number s (line ∷ more) shut =
       ap (λ at. (reached_by plan_turns starved (number + 1) at more).state) next ∙ rest.1,
     )
 
+-- whether the book is saved at the end hangs on no line
+reached-saves : (starved : List ℕ) (number : ℕ) (at : Standing) (lines : List (List ℕ))
+    → (reached_by book_turns starved number at lines).saves ≡ at.saves
+reached-saves starved number at [] = refl
+reached-saves starved number at (line ∷ more) =
+    reached-saves starved (number + 1) (book_turns.after (is_starved starved number) at line) more
+
+ends_with_report : (rules : Rules) (starved : List ℕ) (lines : List (List ℕ))
+    → output rules starved lines ≡ answers rules starved 1 opened lines ++ report_at (reached rules starved 1 opened lines)
+ends_with_report rules starved lines =
+    let last : Standing = reached_by book_turns starved 1 (reported rules opened) lines in
+    ap (λ saves. answers rules starved 1 opened lines
+    ++ (if saves then lines_in 2 (saved_at last) else report_at last.state))
+    (reached-saves starved 1 (reported rules opened) lines)
+
 pub plan_is_book : (rules : Rules) (starved : List ℕ) (lines : List (List ℕ)) → All (λ line. opens_plan line ≡ false) lines
     → plan_output rules starved lines ≡ output rules starved lines
 plan_is_book rules starved lines shut =
     let same = unplanned_answers rules starved 1 opened lines shut in
     let last : State = (reached_by plan_turns starved 1 (unplanned rules) lines).state in
     ap (λ l. l ++ report_at last) same.0 ∙ ap (λ s. answers rules starved 1 opened lines ++ report_at s) same.1
+    ∙ sym (ends_with_report rules starved lines)
 
 pub plan_tells_answers : (rules : Rules) (s t : State) (number : ℕ) (lines : List (List ℕ)) (asks : List Ask)
     (tried : List Answer) → map said lines ≡ map (λ ask. Order (Book ask)) asks → AreAnswers rules t asks tried

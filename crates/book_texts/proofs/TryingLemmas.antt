@@ -19,7 +19,7 @@ use Rattle.airtime_planner.specs.WhatIf.{Answer, IsAnswer as IsAnswerTo}
 use Rattle.book_texts.specs.Planning.{Planned, plan_turns, opens_plan, if_line, tried_reply, tried_after, tried_start}
 use Rattle.book_texts.specs.Planning.{planned_line, planned_after}
 use Rattle.book_texts.specs.Trying.{IsTried, IsTriedOn, IsSoughtOn, IsCopyOf, IsTrialTurn, StandsPlanned}
-use Rattle.book_texts.specs.Output.{book_turns}
+use Rattle.book_texts.specs.Output.{Standing, book_turns}
 use Rattle.book_texts.specs.Progress.{StandsIn}
 
 -- a booking that is tried is told its answer
@@ -106,7 +106,8 @@ pub turn_before : (old new : Book) (is_planned : Bool) (copy : Option Book) (num
     → IsTurn plan_turns (StandsPlanned old is_planned copy) (StandsPlanned new is_planned copy) number line text refused
 turn_before old new true copy number line text refused live shut turn = absurd (cc)
 turn_before old new false copy number line text refused live shut turn = λ at stood.
-    let told = turn (record { rules = at.rules; state = at.state }) (record { rules = stood.rules; stands = stood.stands }) in
+    let here : Standing = record { saves = false; id = old.id; rules = at.rules; state = at.state } in
+    let told = turn here (record { id = refl; rules = stood.rules; stands = stood.stands }) in
     record {
       starved = told.starved;
       is_text = rw (stood.plan, shut) told.is_text;

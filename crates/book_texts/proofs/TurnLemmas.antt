@@ -28,7 +28,11 @@ module _ (old new : Book) (number : ℕ) (line : List ℕ) (at : Standing) (stoo
       → StandsIn new (book_turns.after r.starved at line)
   reached o r =
       let P : Rules → Type 0 = λ rules. StandsFor new (state_after_line rules r.starved at.state (said line)) in
-      record { rules = r.rules ∙ stood.rules; stands = subst P stood.rules (r.reached at.state stood.stands) }
+      record {
+        id = r.id ∙ stood.id;
+        rules = r.rules ∙ stood.rules;
+        stands = subst P stood.rules (r.reached at.state stood.stands);
+      }
 
   pub turn_unanswered : (text : List ℕ) → IsReplied old new number line None → text ≡ []
       → IsAnswer book_turns at (StandsIn new) number line text false

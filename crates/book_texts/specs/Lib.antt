@@ -3,6 +3,7 @@ pub mod Reply
 pub mod Report
 pub mod Answering
 pub mod Output
+pub mod Opening
 pub mod Toa
 pub mod Planning
 pub mod Progress

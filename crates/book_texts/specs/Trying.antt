@@ -15,7 +15,7 @@ use Rattle.book_texts.specs.Answering.{start_reply}
 use Rattle.book_texts.specs.Said.{said-kept, by_kept}
 use Rattle.book_texts.specs.Planning.{Planned, plan_turns, tried_reply, tried_after, opens_plan}
 use Rattle.book_texts.specs.Planning.{answer_in, after_in}
-use Rattle.book_texts.specs.Progress.{book_ends_without_refusal}
+use Rattle.book_texts.specs.Progress.{report-refuses_nothing}
 
 -- What a plan does with a line, and what stands then.
 
@@ -86,4 +86,4 @@ plan_turns_by_kept starved number at line = by at.trial
 
 -- no line of the report begins with `no` or `bad`
 pub plan_ends_without_refusal : EndsWithoutRefusal plan_turns
-plan_ends_without_refusal at = book_ends_without_refusal (record { rules = at.rules; state = at.state })
+plan_ends_without_refusal at = report-refuses_nothing at.state

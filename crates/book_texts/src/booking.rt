@@ -1,17 +1,19 @@
 // The text of `airbook book`: one pass over the input, which holds one line at a time.
-ghost use Rattle.std.specs.Prelude.{◌≡◌, [], IfOk, OnErr};
+ghost use Rattle.std.specs.Prelude.{◌≡◌, true, false, [], IfOk, IfErr, OnErr};
 ghost use Rattle.gateway_book.specs.Book.{terms_of};
 ghost use Rattle.gateway_book.specs.EarliestValue.{earliest_of};
 ghost use Rattle.text_lines.specs.Progress.{IsTurn};
 ghost use Rattle.text_words.specs.Fault.{CountsReads, CountsWrites};
 ghost use Rattle.book_texts.specs.Answering.{reply_of, start_reply};
-ghost use Rattle.book_texts.specs.Output.{opened, book_turns};
+ghost use Rattle.book_texts.specs.Output.{book_turns};
 ghost use Rattle.book_texts.specs.Progress.{IsCarriedOut, IsReplied, StandsIn};
-ghost use Rattle.book_texts.specs.Promise.{AnswersAll, AnswersFront, AnswersRead, KeepsLimit, IsSettingOf, MayOpen};
+ghost use Rattle.book_texts.specs.Promise.{AnswersAll, AnswersFront, AnswersRead, KeepsLimit, MayOpen, is_unopened};
+ghost use Rattle.book_texts.specs.Promise.{IsOpeningOf, IsSettingOf};
 
 use crate::command::{Command, Said, read_line};
 use crate::reply::Reply;
 use crate::report::put_report;
+use crate::resuming::resumed_text;
 use gateway_book::{Ask, GatewayBook, Refusal};
 use resv_list::{Reservation, Roster};
 use resv_tree::TreeRoster;
@@ -19,32 +21,70 @@ use std::alloc::Allocator;
 use text_lines::{ByteIn, ByteOut, CallFailed, LineAnswerer, TextLine, WriteBehind, answer_text};
 use text_words::TextFault;
 
-/// The number of the gateway whose book the lines speak of.
+/// The number of the gateway whose book the lines speak of, where they speak of an empty one.
 pub(crate) const GATEWAY: u16 = 1;
 
-/// Books what the lines of the input ask for, on an empty book that keeps at most `cap` transmissions, 1 to 65,536,
-/// with at least `gap` microseconds, 0 to 100,000, between two of them, and writes an answer to each line, and at the end a
-/// report. It answers whether a line of the output begins with `no` or `bad`.
+/// Books what the lines of the input ask for, and writes an answer to each line, and at the end a report. It answers whether a
+/// line of the output begins with `no` or `bad`.
 ///
-/// `Settings("BadCap")`, `Settings("BadGap")`: the cap, or else the gap is outside; nothing is read or written. `Read`,
-/// `Write`: a call of the reader or the writer failed. `TooMuch`: the input has more than 2^28 bytes. After each of these a
-/// front of the output was written. Want of memory refuses one booking, by a line of the output.
+/// The book is an empty one that keeps at most `cap` transmissions, 1 to 65,536, with at least `gap` microseconds, 0 to 100,000,
+/// between two of them; or with `resume` the one whose saved text the input begins with, and the lines are those behind it. Cap
+/// and gap are then not looked at. With `save` the book is saved in place of the report.
+///
+/// `Settings("BadCap")`, `Settings("BadGap")`: the cap, or else the gap is outside; nothing is read or written.
+/// `Settings("Syntax")`, `Settings("Version")`, `Settings("Unlawful")`: the input does not begin with a saved text. `NoMemory`:
+/// there was none for a member of it. After these nothing was written. `Read`, `Write`: a call of the reader or the writer
+/// failed. `TooMuch`: the input, a saved text included, has more than 2^28 bytes. After each of these a front of the output was
+/// written. Want of memory refuses one booking, by a line of the output.
 pub fn book_text<A: Allocator + Clone, R: ByteIn, W: ByteOut>(
     alloc: A,
     cap: u32,
     gap: u32,
+    resume: bool,
+    save: bool,
     reader: &mut R,
     writer: &mut W,
 ) -> Result<bool, TextFault>
-    ensures ok { IfOk result (AnswersAll (record { cap = cap; gap = gap }) opened (R.left reader.old) (R.left reader.new)
+    ensures ok { IfOk result (AnswersAll resume save (record { cap = cap; gap = gap }) (R.left reader.old) (R.left reader.new)
         (W.taken writer.old) (W.taken writer.new)) }
-    ensures front { OnErr result (AnswersFront (record { cap = cap; gap = gap }) opened (R.left reader.old) (W.taken writer.old)
-        (W.taken writer.new)) }
-    ensures read_front { OnErr result (AnswersRead (record { cap = cap; gap = gap }) opened (R.left reader.old)
+    ensures front { OnErr result (AnswersFront resume save (record { cap = cap; gap = gap }) (R.left reader.old)
+        (W.taken writer.old) (W.taken writer.new)) }
+    ensures read_front { OnErr result (AnswersRead resume save (record { cap = cap; gap = gap }) (R.left reader.old)
+        (R.left reader.new) (W.taken writer.old) (W.taken writer.new)) }
+    ensures limit { KeepsLimit (R.left reader.old) result }
+    ensures settings { IsOpeningOf resume (record { cap = cap; gap = gap }) (R.left reader.old) result }
+    ensures untouched { resume ≡ false → (¬ MayOpen (record { cap = cap; gap = gap }))
+        → (reader.new ≡ reader.old) × (writer.new ≡ writer.old) }
+    ensures unopened { IfErr result (λ fault. is_unopened fault ≡ true → writer.new ≡ writer.old) }
+    ensures read { CountsReads (R.failed_calls reader.old) (R.failed_calls reader.new) result }
+    ensures write { CountsWrites (W.failed_calls writer.old) (W.failed_calls writer.new) result }
+{
+    if resume {
+        resumed_text(alloc, save, reader, writer)
+    } else {
+        opened_text(alloc, cap, gap, save, reader, writer)
+    }
+}
+
+/// The same on an empty book.
+fn opened_text<A: Allocator + Clone, R: ByteIn, W: ByteOut>(
+    alloc: A,
+    cap: u32,
+    gap: u32,
+    save: bool,
+    reader: &mut R,
+    writer: &mut W,
+) -> Result<bool, TextFault>
+    ensures ok { IfOk result (AnswersAll false save (record { cap = cap; gap = gap }) (R.left reader.old) (R.left reader.new)
+        (W.taken writer.old) (W.taken writer.new)) }
+    ensures front { OnErr result (AnswersFront false save (record { cap = cap; gap = gap }) (R.left reader.old)
+        (W.taken writer.old) (W.taken writer.new)) }
+    ensures read_front { OnErr result (AnswersRead false save (record { cap = cap; gap = gap }) (R.left reader.old)
         (R.left reader.new) (W.taken writer.old) (W.taken writer.new)) }
     ensures limit { KeepsLimit (R.left reader.old) result }
     ensures settings { IsSettingOf (record { cap = cap; gap = gap }) result }
     ensures untouched { (¬ MayOpen (record { cap = cap; gap = gap })) → (reader.new ≡ reader.old) × (writer.new ≡ writer.old) }
+    ensures unopened { IfErr result (λ fault. is_unopened fault ≡ true → writer.new ≡ writer.old) }
     ensures read { CountsReads (R.failed_calls reader.old) (R.failed_calls reader.new) result }
     ensures write { CountsWrites (W.failed_calls writer.old) (W.failed_calls writer.new) result }
 {
@@ -52,7 +92,7 @@ pub fn book_text<A: Allocator + Clone, R: ByteIn, W: ByteOut>(
         Ok(book) => book,
         Err(fault) => return Err(TextFault::Settings(fault.name())),
     };
-    match answer_text(BookLines { book }, reader, writer) {
+    match answer_text(BookLines { book, save }, reader, writer) {
         Err(fault) => Err(TextFault::from(fault)),
         Ok(refused) => Ok(refused),
     }
@@ -60,26 +100,32 @@ pub fn book_text<A: Allocator + Clone, R: ByteIn, W: ByteOut>(
 
 /// A book that answers lines.
 #[derive(Drop)]
-struct BookLines<B: Roster> {
-    book: GatewayBook<B>,
+pub(crate) struct BookLines<B: Roster> {
+    pub(crate) book: GatewayBook<B>,
+    /// Whether it is saved at the end.
+    pub(crate) save: bool,
 }
 
 impl<B: Roster + Drop> LineAnswerer for BookLines<B> {
     ghost use Rattle.book_texts.specs.Output.{Standing, book_turns};
-    ghost use Rattle.book_texts.specs.Progress.{StandsIn, book_turns_by_kept, book_ends_without_refusal};
+    ghost use Rattle.book_texts.specs.Progress.{StandsToEnd, book_turns_by_kept, book_ends_without_refusal};
 
     ghost State = { Standing };
 
     ghost turns = { book_turns };
 
-    ghost Stands = { λ lines. StandsIn lines.book };
+    ghost Stands = { λ lines. StandsToEnd lines.book lines.save };
 
     fn answer(&mut self, number: u64, line: &[u8], text: &mut TextLine) -> bool {
         answer_line(&mut self.book, number, line, text)
     }
 
     fn end<W: ByteOut>(self, output: &mut WriteBehind, writer: &mut W) -> Result<(), CallFailed> {
-        put_report(&self.book, output, writer)
+        if self.save {
+            self.book.put_saved(output, writer)
+        } else {
+            put_report(&self.book, output, writer)
+        }
     }
 
     ghost by_kept = { book_turns_by_kept };

@@ -7,6 +7,7 @@ mod laws;
 mod planning;
 mod reply;
 mod report;
+mod resuming;
 mod toa;
 
 pub use booking::book_text;
