@@ -8,6 +8,7 @@ mod buffered;
 mod byte_in;
 mod byte_out;
 mod held_line;
+mod line_answerer;
 mod memory;
 mod numbers;
 mod text_line;
@@ -15,11 +16,12 @@ mod words;
 mod write_behind;
 
 pub use ahead::{INPUT_LIMIT, InFault, NextLine, READ_SIZE, ReadAhead};
-pub use answering::{LineAnswerer, LineFault, answer_rest, answer_text};
+pub use answering::{LineFault, answer_rest, answer_text};
 pub use buffered::{Buffered, Lent, Origin};
 pub use byte_in::{ByteIn, CallFailed, StdIn};
 pub use byte_out::{ByteOut, StdOut};
 pub use held_line::{HeldLine, KEPT_LIMIT, LINE_LIMIT};
+pub use line_answerer::LineAnswerer;
 pub use memory::{MemoryIn, MemoryOut};
 pub use numbers::{
     law_numbers_read_back, number_i16, number_u8, number_u16, number_u32, number_u64,
