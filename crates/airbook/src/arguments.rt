@@ -1,18 +1,32 @@
 // The command line.
-use clap::{Arg, ArgMatches, Command, value_parser};
+use clap::{Arg, ArgAction, ArgMatches, Command, value_parser};
 use std::alloc::{AllocError, Global};
 
 /// What is asked for on the command line.
 #[derive(Clone, Copy, Debug, PartialEq, Eq)]
 pub enum Task {
     /// The time on air of a PHYPayload of `len` bytes at data rate `rate`.
-    Toa { rate: u8, len: u8 },
-    /// The book of a gateway that keeps at most `cap` transmissions, at least `gap` microseconds apart.
-    Book { cap: u32, gap: u32 },
+    Toa {
+        rate: u8,
+        len: u8,
+    },
+    /// The book of a gateway: an empty one that keeps at most `cap` transmissions, at least `gap` microseconds apart, or with
+    /// `resume` a saved one. With `save` it is saved at the end.
+    Book {
+        cap: u32,
+        gap: u32,
+        resume: bool,
+        save: bool,
+    },
     /// The same, and what that book would answer to further bookings.
-    Plan { cap: u32, gap: u32 },
+    Plan {
+        cap: u32,
+        gap: u32,
+    },
     /// Settings of a server, and what happens there, with so many workers; with none one thread does all.
-    Run { workers: u8 },
+    Run {
+        workers: u8,
+    },
 }
 
 /// The command line that the program takes.
@@ -56,10 +70,12 @@ fn book<'a>(alloc: Global) -> Result<Command<'a>, AllocError> {
             "Keeps the airtime book of one gateway. Lines of standard input: book NUMBER START FREQ DR LEN, cancel NUMBER START, tick NOW, earliest NUMBER NOT_BEFORE LAST FREQ DR LEN",
         )
         .after_help(
-            "Example:\n  $ echo book 1 10000000 868100000 5 12 | airbook book\n  ok 1 10000000 10041216\n  booked 41216\n  cancelled 0\n  retired 0\n  kept 1 41216\n  floor 0\n  busiest M 10000000 41216",
+            "Examples:\n  $ echo book 1 10000000 868100000 5 12 | airbook book\n  ok 1 10000000 10041216\n  booked 41216\n  cancelled 0\n  retired 0\n  kept 1 41216\n  floor 0\n  busiest M 10000000 41216\n  $ echo book 1 10000000 868100000 5 12 | airbook book --save\n  ok 1 10000000 10041216\n  airbook 2\n  gateway 1 4096 0 0\n  r 1 10000000 868100000 5 12\n  end 1\n  $ airbook book --resume < examples/saved-book.txt\n  no 4 DutyFull K 0 2973696\n  ok 5 3600000000 3600991232\n  booked 3964928\n  cancelled 0\n  retired 0\n  kept 4 3964928\n  floor 0\n  busiest K 0 2973696",
         )
         .arg(cap(alloc))?
-        .arg(gap(alloc))
+        .arg(gap(alloc))?
+        .arg(resume(alloc))?
+        .arg(save(alloc))
 }
 
 /// The arguments of `plan`.
@@ -95,6 +111,24 @@ fn gap<'a>(alloc: Global) -> Arg<'a> {
         .value_parser(value_parser!(u32))
 }
 
+/// Whether the input begins with a saved book.
+fn resume<'a>(alloc: Global) -> Arg<'a> {
+    Arg::new(alloc, "resume")
+        .help(
+            "The input begins with a saved book, and the lines follow it; --cap and --gap are not looked at",
+        )
+        .long("resume")
+        .action(ArgAction::SetTrue)
+}
+
+/// Whether the book is saved at the end.
+fn save<'a>(alloc: Global) -> Arg<'a> {
+    Arg::new(alloc, "save")
+        .help("Writes the book as --resume reads it, in place of the report")
+        .long("save")
+        .action(ArgAction::SetTrue)
+}
+
 /// The arguments of `run`.
 fn run<'a>(alloc: Global) -> Result<Command<'a>, AllocError> {
     let workers = Arg::new(alloc, "workers")
@@ -125,6 +159,8 @@ pub fn task_of(matches: &ArgMatches<'_>) -> Option<Task> {
         Some(("book", book)) => Some(Task::Book {
             cap: book.get_one::<u32>("cap")?,
             gap: book.get_one::<u32>("gap")?,
+            resume: book.get_flag("resume"),
+            save: book.get_flag("save"),
         }),
         Some(("plan", plan)) => Some(Task::Plan {
             cap: plan.get_one::<u32>("cap")?,

@@ -58,7 +58,12 @@ fn perform<R: AllocGlobal + Input + Print + Eprint + RandomSource + Threads + Wa
     let mut writer = StdOut::new(io::writer(rt));
     let answered = match task {
         Task::Toa { rate, len } => toa_text(rate, len, &mut writer),
-        Task::Book { cap, gap } => book_text(rt.alloc(), cap, gap, &mut reader, &mut writer),
+        Task::Book {
+            cap,
+            gap,
+            resume,
+            save,
+        } => book_text(rt.alloc(), cap, gap, resume, save, &mut reader, &mut writer),
         Task::Plan { cap, gap } => plan_text(rt.alloc(), cap, gap, &mut reader, &mut writer),
         Task::Run { workers } => match RandomState::new(rt) {
             Ok(hasher) => run_text(rt, rt.alloc(), hasher, workers, &mut reader, &mut writer),

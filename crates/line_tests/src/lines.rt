@@ -72,3 +72,17 @@ fn long_lines_are_told(rt: HostRuntime) -> Result<(), Fail> {
     }
     Ok(())
 }
+
+#[test]
+fn bytes_read_ahead_are_taken(rt: HostRuntime) -> Result<(), Fail> {
+    let mut reader = MemoryIn::failing(b"abcde", 4, 0);
+    let mut ahead = ReadAhead::new();
+    let mut into = [b'-'; 3];
+    assert_eq!(rt; ahead.take_into(&mut into), 0);
+    ahead.refill(&mut reader)?;
+    assert_eq!(rt; ahead.take_into(&mut into), 3);
+    assert_eq!(rt; into.as_slice(), b"abc".as_slice());
+    assert_eq!(rt; ahead.take_into(&mut into), 1);
+    assert_eq!(rt; into.as_slice(), b"dbc".as_slice());
+    Ok(())
+}

@@ -12,6 +12,12 @@ const BOOKINGS: &[u8] = b"book 1 10000000 868100000 5 12\nbook 2 10041216 868100
 const BOOKED: &[u8] =
     b"ok 1 10000000 10041216\nok 2 10041216 10082432\nbooked 82432\ncancelled 0\nretired 0\nkept 2 82432\nfloor 0\nbusiest M 10000000 82432\n";
 
+const SAVED: &[u8] =
+    b"airbook 1\ngateway 1 4096 0\nr 1 10000000 868100000 5 12\nend 1\nbook 2 10041216 868100000 5 12\n";
+
+const SAVED_AGAIN: &[u8] =
+    b"ok 2 10041216 10082432\nairbook 2\ngateway 1 4096 0 0\nr 1 10000000 868100000 5 12\nr 2 10041216 868100000 5 12\nend 2\n";
+
 const COPIES: &[u8] =
     b"[[gateway]]\nid = 1\n[[gateway]]\nid = 2\n[[device]]\naddr = \"26011bda\"\nnwkskey = \"2b7e151628aed2a6abf7158809cf4f3c\"\nappskey = \"000102030405060708090a0b0c0d0e0f\"\n---\nhear 1 5000000 868100000 5 55 -90 1000 @c:26011bda:7\nhear 2 9000000 868100000 5 55 -80 1100 @c:26011bda:7\npass 201000\npass 201001\n";
 
@@ -33,11 +39,21 @@ struct Failing {
     write: u64,
 }
 
-/// A book's text, read and written in steps of 8 bytes.
-fn booked(alloc: Global, failing: Failing) -> Told {
-    let mut reader = MemoryIn::failing(BOOKINGS, 8, failing.read);
+/// A book's text, read and written in steps of 8 bytes; of a saved book, which is saved again, where it is resumed.
+fn booked(alloc: Global, is_resumed: bool, failing: Failing) -> Told {
+    let input = if is_resumed { SAVED } else { BOOKINGS };
+    let mut reader = MemoryIn::failing(input, 8, failing.read);
     let mut writer = MemoryOut::failing(alloc, 8, failing.write);
-    let fault = book_text(alloc, 4096, 0, &mut reader, &mut writer).err();
+    let fault = book_text(
+        alloc,
+        4096,
+        0,
+        is_resumed,
+        is_resumed,
+        &mut reader,
+        &mut writer,
+    )
+    .err();
     Told {
         fault,
         failed: (reader.failed, writer.failed),
@@ -66,7 +82,7 @@ fn stopped(told: Told, fault: TextFault, failed: (u64, u64), whole: &[u8]) -> bo
 #[test]
 fn each_read_fails_in_turn(rt: HostRuntime) {
     for read in 1..9 {
-        let told = booked(rt.alloc(), Failing { read, write: 0 });
+        let told = booked(rt.alloc(), false, Failing { read, write: 0 });
         assert!(rt;
             stopped(told, TextFault::Read, (1, 0), BOOKED),
             "at read {read}"
@@ -77,12 +93,49 @@ fn each_read_fails_in_turn(rt: HostRuntime) {
 #[test]
 fn each_write_fails_in_turn(rt: HostRuntime) {
     for write in 1..17 {
-        let told = booked(rt.alloc(), Failing { read: 0, write });
+        let told = booked(rt.alloc(), false, Failing { read: 0, write });
         assert!(rt;
             stopped(told, TextFault::Write, (0, 1), BOOKED),
             "at write {write}"
         );
     }
+}
+
+#[test]
+fn each_read_of_a_saved_book_fails_in_turn(rt: HostRuntime) {
+    for read in 1..14 {
+        let told = booked(rt.alloc(), true, Failing { read, write: 0 });
+        assert!(rt;
+            stopped(told, TextFault::Read, (1, 0), SAVED_AGAIN),
+            "at read {read}"
+        );
+    }
+}
+
+#[test]
+fn each_write_of_a_saved_book_fails_in_turn(rt: HostRuntime) {
+    for write in 1..16 {
+        let told = booked(rt.alloc(), true, Failing { read: 0, write });
+        assert!(rt;
+            stopped(told, TextFault::Write, (0, 1), SAVED_AGAIN),
+            "at write {write}"
+        );
+    }
+}
+
+#[test]
+fn a_saved_book_is_resumed(rt: HostRuntime) {
+    let told = booked(
+        rt.alloc(),
+        true,
+        Failing {
+            read: 14,
+            write: 16,
+        },
+    );
+    assert_eq!(rt; told.fault, None);
+    assert_eq!(rt; told.failed, (0, 0));
+    assert_eq!(rt; told.output.as_slice(), SAVED_AGAIN);
 }
 
 #[test]
