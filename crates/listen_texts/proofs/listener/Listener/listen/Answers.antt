@@ -16,7 +16,7 @@ loop-turn-init g c =
     }
 
 pub turn-requires-clause-room : goal.turn-requires-clause-room
-turn-requires-clause-room g c κs =
+turn-requires-clause-room g c κs met =
     tally_has_room c.loop-turn.turn c.args.turns c.loop-turn.listener.tally c.loop-turn.invariant.so_far.small
     c.loop-turn-test.true c.requires.turns.1
 
