@@ -1,4 +1,6 @@
 // The command line.
+use crate::listen_command::listen;
+use crate::listening::Listening;
 use clap::{Arg, ArgAction, ArgMatches, Command, value_parser};
 use std::alloc::{AllocError, Global};
 
@@ -27,6 +29,8 @@ pub enum Task {
     Run {
         workers: u8,
     },
+    /// Settings of a server, and a socket that tells what happens there.
+    Listen(Listening),
 }
 
 /// The command line that the program takes.
@@ -37,13 +41,14 @@ pub fn program<'a>(alloc: Global) -> Result<Command<'a>, AllocError> {
             "Airtime of LoRaWAN downlinks in EU868: how long they last, and when a gateway may send them.",
         )
         .after_help(
-            "Examples:\n  airbook toa 5 12\n  airbook book < examples/two-bookings.txt\n  airbook plan < examples/plan.txt\n  airbook run < examples/two-gateways.txt",
+            "Examples:\n  airbook toa 5 12\n  airbook book < examples/two-bookings.txt\n  airbook plan < examples/plan.txt\n  airbook run < examples/two-gateways.txt\n  airbook listen --port 1700 --turns 1 < examples/settings.toml",
         )
         .subcommand_required(true)
         .subcommand(toa(alloc)?)?
         .subcommand(book(alloc)?)?
         .subcommand(plan(alloc)?)?
-        .subcommand(run(alloc)?)
+        .subcommand(run(alloc)?)?
+        .subcommand(listen(alloc)?)
 }
 
 /// The arguments of `toa`.
@@ -169,6 +174,11 @@ pub fn task_of(matches: &ArgMatches<'_>) -> Option<Task> {
         Some(("run", run)) => Some(Task::Run {
             workers: run.get_one::<u8>("workers")?,
         }),
+        Some(("listen", listen)) => Some(Task::Listen(Listening {
+            port: listen.get_one::<u16>("port")?,
+            turns: listen.get_one::<u32>("turns")?,
+            workers: listen.get_one::<u8>("workers")?,
+        })),
         _ => None,
     }
 }

@@ -2,6 +2,8 @@
 #![tactic(auto)]
 
 mod arguments;
+mod listen_command;
+mod listening;
 mod tasks;
 
 use std::process::ExitCode;

@@ -1,9 +1,12 @@
 // The tasks of the program, over any runtime, and the status that each ends with.
 use crate::arguments::{Task, program, task_of};
+use crate::listening::{Stopped, listen};
 use airbook_text::{TextFault, book_text, plan_text, run_text, toa_text};
+use log::Log;
 use std::env::Env;
 use std::hash::RandomState;
 use std::io;
+use std::net::Net;
 use std::process::ExitCode;
 use std::random::RandomSource;
 use std::sync::Wait;
@@ -18,7 +21,7 @@ const FAULT: u8 = 2;
 
 /// Does what the arguments ask for. The status is 0; 1 where a line of the output begins with `no` or `bad`; 2 for
 /// wrong arguments, and for a fault, whose name is then the last line on standard error.
-pub fn run<R: AllocGlobal + Env + Input + Print + Eprint + RandomSource + Threads + Wait + Sync>(
+pub fn run<R: AllocGlobal + Env + Input + Print + Eprint + RandomSource + Threads + Wait + Sync + Net + Log>(
     rt: &R,
 ) -> ExitCode {
     let words = match words_of(rt) {
@@ -50,7 +53,7 @@ fn words_of<R: AllocGlobal + Env>(rt: &R) -> io::Result<Vec<String>> {
 }
 
 /// Does a task on standard input and output.
-fn perform<R: AllocGlobal + Input + Print + Eprint + RandomSource + Threads + Wait + Sync>(
+fn perform<R: AllocGlobal + Input + Print + Eprint + RandomSource + Threads + Wait + Sync + Net + Log>(
     rt: &R,
     task: Task,
 ) -> ExitCode {
@@ -68,6 +71,11 @@ fn perform<R: AllocGlobal + Input + Print + Eprint + RandomSource + Threads + Wa
         Task::Run { workers } => match RandomState::new(rt) {
             Ok(hasher) => run_text(rt, rt.alloc(), hasher, workers, &mut reader, &mut writer),
             Err(_) => Err(TextFault::Read),
+        },
+        Task::Listen(listening) => match listen(rt, listening, &mut reader, &mut writer) {
+            Ok(refused) => Ok(refused),
+            Err(Stopped::Text(stopped)) => Err(stopped),
+            Err(Stopped::Bind) => return fault(rt, "Bind"),
         },
     };
     match answered {

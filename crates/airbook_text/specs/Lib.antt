@@ -8,3 +8,7 @@ pub use Rattle.settings_text.specs.SettingsFaultName
 pub use Rattle.settings_text.specs.SettingsOfTable
 pub use Rattle.run_lines.specs.RunInput
 pub use Rattle.run_texts.specs.RunOutput
+pub use Rattle.run_lines.specs.Datagram
+pub use Rattle.listen_texts.specs.Receives
+pub use Rattle.listen_texts.specs.Turns
+pub use Rattle.listen_texts.specs.Listening

@@ -1,0 +1,173 @@
+// Worked turns: which datagrams are answered, and by which lines; and what is left where a call of the writer fails.
+use crate::datagrams::Datagrams;
+use airbook_text::{Settings, TURN_LIMIT, TextFault, listen_text, read_settings};
+use std::alloc::Global;
+use std::hash::{BuildHasherDefault, FoldHasher};
+use std::process::Abort;
+use std::sync::Wait;
+use std::test::Fail;
+use std::thread::Threads;
+use text_lines::MemoryOut;
+
+const SETTINGS: &str =
+    "[[gateway]]\nid = 1\n[[gateway]]\nid = 2\n[[device]]\naddr = \"26011bda\"\nnwkskey = \"2b7e151628aed2a6abf7158809cf4f3c\"\nappskey = \"000102030405060708090a0b0c0d0e0f\"\n";
+
+/// A confirmed uplink that two gateways hear, one that is to be made, and a receive that fails.
+const TURNS: [Option<&[u8]>; 6] = [
+    Some(b"hear 1 5000000 868100000 5 55 -90 1000 80da1b012600070009c89141"),
+    Some(b"hear 2 9000000 868100000 5 55 -80 1100 80da1b012600070009c89141\n"),
+    Some(b"pass 201000"),
+    Some(b"pass 201001"),
+    Some(b"hear 1 5000000 868100000 5 0 -100 0 @u:26011bda:8"),
+    None,
+];
+
+const ANSWERED: &[u8] =
+    b"opened 1\njoined 1 2\nsend 1 2 RX1 10000000 868100000 5 12\nframe 1 60da1b0126200000240347ca\nbad 5 Syntax\nbad 6 Read\ngateway 1 booked 0 cancelled 0 retired 0 kept 0\ngateway 2 booked 41216 cancelled 0 retired 0 kept 1\nbusiest 2 M 10000000 41216\nanswered 1 unanswered 0 silent 0\n";
+
+/// The report where nothing was booked.
+const NOTHING_BOOKED: &[u8] =
+    b"gateway 1 booked 0 cancelled 0 retired 0 kept 0\ngateway 2 booked 0 cancelled 0 retired 0 kept 0\nanswered 0 unanswered 0 silent 0\n";
+
+/// What was answered, how many receives were made, and what a writer took of whom call number `fails_at` fails.
+#[derive(Drop)]
+struct Heard {
+    answered: Result<bool, TextFault>,
+    receives: u64,
+    failed: u64,
+    output: Vec<u8>,
+}
+
+/// Listens to datagrams for so many turns.
+fn heard<R: Threads + Wait + Sync>(
+    rt: &R,
+    alloc: Global,
+    given: &[Option<&[u8]>],
+    workers: u8,
+    turns: u32,
+    fails_at: u64,
+) -> Result<Heard, Fail> {
+    let settings = read_settings(alloc, SETTINGS)?;
+    let hasher: BuildHasherDefault<FoldHasher> = BuildHasherDefault::new();
+    let mut source = Datagrams::new(given);
+    let mut writer = MemoryOut::failing(alloc, 16, fails_at);
+    let answered = listen_text(
+        rt,
+        alloc,
+        hasher,
+        &settings,
+        workers,
+        &mut source,
+        turns,
+        &mut writer,
+    );
+    Ok(Heard {
+        answered,
+        receives: source.receives,
+        failed: writer.failed,
+        output: writer.bytes,
+    })
+}
+
+#[test]
+fn turns_are_answered_and_reported(rt: HostRuntime) -> Result<(), Fail> {
+    let all = heard(&rt, rt.alloc(), &TURNS, 1, 6, 0)?;
+    assert_eq!(rt; all.answered, Ok(true));
+    assert_eq!(rt; all.receives, 6);
+    assert_eq!(rt; all.output.as_slice(), ANSWERED);
+    Ok(())
+}
+
+#[test]
+fn each_write_fails_in_turn(rt: HostRuntime) -> Result<(), Fail> {
+    for write in 1..24 {
+        let part = heard(&rt, rt.alloc(), &TURNS, 2, 6, write)?;
+        assert_eq!(rt; part.answered, Err(TextFault::Write), "at write {write}");
+        assert_eq!(rt; part.failed, 1, "at write {write}");
+        assert!(rt; ANSWERED.starts_with(part.output.as_slice()), "at write {write}");
+    }
+    Ok(())
+}
+
+#[test]
+fn workers_and_turns_are_refused_before_anything_is_received(rt: HostRuntime) -> Result<(), Fail> {
+    for (workers, turns, name) in [
+        (0, 6, "Workers"),
+        (17, 0, "Workers"),
+        (1, 0, "Turns"),
+        (16, TURN_LIMIT + 1, "Turns"),
+    ] {
+        let none = heard(&rt, rt.alloc(), &TURNS, workers, turns, 0)?;
+        assert_eq!(rt; none.answered, Err(TextFault::Settings(name)));
+        assert_eq!(rt; none.receives, 0);
+        assert_eq!(rt; none.output.len(), 0);
+    }
+    Ok(())
+}
+
+/// What is answered to one datagram, its report left out.
+fn answer_to<R: Threads + Wait + Sync>(
+    rt: &R,
+    alloc: Global,
+    datagram: &[u8],
+) -> Result<Vec<u8>, Fail> {
+    let one = heard(rt, alloc, &[Some(datagram)], 1, 1, 0)?;
+    let mut output = one.output;
+    let answer = output.len().saturating_sub(NOTHING_BOOKED.len());
+    output.truncate(answer);
+    Ok(output)
+}
+
+#[test]
+fn a_datagram_is_one_line(rt: HostRuntime) -> Result<(), Fail> {
+    for (datagram, answer) in [
+        (b"".as_slice(), b"".as_slice()),
+        (b"\n", b""),
+        (b"\r\n", b""),
+        (b" \t", b""),
+        (b"# cancel 1", b""),
+        (b"cancel 1", b"no cancel 1 NotHere\n"),
+        (b"cancel 1\n", b"no cancel 1 NotHere\n"),
+        (b"cancel 1\r\n", b"no cancel 1 NotHere\n"),
+        (b"cancel 1\r", b"bad 1 Syntax\n"),
+        (b"\r", b"bad 1 Syntax\n"),
+        (b"cancel 1\n\n", b"bad 1 Syntax\n"),
+        (b"\ncancel 1", b"bad 1 Syntax\n"),
+        (b"# cancel 1\ncancel 1", b"bad 1 Syntax\n"),
+        (b"cancel @", b"bad 1 Syntax\n"),
+        (b"x", b"bad 1 Syntax\n"),
+    ] {
+        let got = answer_to(&rt, rt.alloc(), datagram)?;
+        assert_eq!(rt; got.as_slice(), answer, "for {datagram:?}");
+    }
+    Ok(())
+}
+
+/// A line of so many bytes, blanks behind `cancel 1`, and its end.
+fn long_line(alloc: Global, len: usize, end: &[u8]) -> Result<Vec<u8>, Fail> {
+    let mut line = Vec::new(alloc);
+    line.extend_from_slice(b"cancel 1")?;
+    line.resize(len, b' ')?;
+    line.extend_from_slice(end)?;
+    Ok(line)
+}
+
+#[test]
+fn a_datagram_that_fills_its_room_is_malformed(rt: HostRuntime) -> Result<(), Fail> {
+    for (len, end, answer) in [
+        (1024, b"".as_slice(), b"no cancel 1 NotHere\n".as_slice()),
+        (1024, b"\n", b"no cancel 1 NotHere\n"),
+        (1024, b"\r\n", b"no cancel 1 NotHere\n"),
+        (1025, b"", b"bad 1 Syntax\n"),
+        (1025, b"\n", b"bad 1 Syntax\n"),
+        (1025, b"\r\n", b"bad 1 Syntax\n"),
+        (1026, b"", b"bad 1 Syntax\n"),
+        (1027, b"", b"bad 1 Syntax\n"),
+        (1500, b"", b"bad 1 Syntax\n"),
+    ] {
+        let line = long_line(rt.alloc(), len, end)?;
+        let got = answer_to(&rt, rt.alloc(), line.as_slice())?;
+        assert_eq!(rt; got.as_slice(), answer, "for {len} bytes and {end:?}");
+    }
+    Ok(())
+}

@@ -1,0 +1,258 @@
+-- What a server that listens has come to, turn by turn.
+use Rattle.std.proofs.Common.{◌≡◌, ℕ, ◌+◌, ◌*◌, ◌^◌, ◌≤◌, ◌<◌, ◌⊎◌, inl, inr, Bool, false, ◌||◌, Some, None, Result, Ok, Err, IfOk, IfErr, List, [], ◌∷◌, ◌++◌, length, Option}
+use Rattle.std.proofs.Common.{refl, sym, ap, ◌∙◌, arith, subst, append-nil}
+use Rattle.std.specs.Global.{Global}
+use Rattle.std.specs.Io.KnownBytes.{Appends}
+use Rattle.text_lines.specs.Line.{text_of}
+use Rattle.text_lines.specs.Writing.{WritesFront, WritesAllBut-refl, Appends-from_all}
+use Rattle.text_words.specs.Words.{has_refusal}
+use Rattle.server_desk.specs.declared.setting.DeviceSetting.{DeviceSetting}
+use Rattle.server_core.specs.declared.entry.Entry.{Entry}
+use Rattle.server_core.specs.declared.event.Event.{Event}
+use Rattle.run_lines.specs.Datagram.{datagram_event}
+use Rattle.run_lines.specs.ReplayText.{entry_lines}
+use Rattle.run_texts.specs.WorkersRun.{kept, IsDone}
+use Rattle.run_lines.specs.declared.tally.Tally.{Tally}
+use Rattle.run_lines.specs.Tally.{tally_of, tally_sum, tally_of-append, IsTallyUpTo}
+use Rattle.std.proofs.Math.Bool.{or-false}
+use Rattle.run_texts.specs.declared.receipts.Booking.{Booking}
+use Rattle.listen_texts.specs.Receives.{Received, Seen, AreMade}
+use Rattle.listen_texts.specs.Turns.{Said, nothing, said_both, IsAnswered, IsTurn, AreTurns}
+use Rattle.listen_texts.specs.Listening.{IsReport, IsHeard, IsHeardInPart, Hears, HearsInPart}
+use Rattle.listen_texts.specs.Steps.{Standing, opened, HasSaid, Says, SaysInPart, Turns, TurnsInPart, Reports, ReportsInPart}
+use Rattle.listen_texts.proofs.SourceLemmas.{made_none, made_more}
+use Rattle.listen_texts.proofs.SaidLemmas.{turns_more, appends_both, front_behind, front_alone, refused_both}
+
+-- so many turns have led here
+pub record HasListened (devices : List DeviceSetting) (turns : ℕ) (seen seen_now : Seen) (now : Standing)
+    (before after : Option (List ℕ)) : Type 0 where
+  pub received : List Received
+  pub made : AreMade turns seen seen_now received
+  pub said : Said
+  pub turned : AreTurns devices 1 received [] now.bookings said
+  pub tally : now.tally ≡ tally_of said.entries
+  pub small : IsTallyUpTo (turns * 2 ^ 64) now.tally
+  pub refused : now.refused ≡ has_refusal said.lines
+  pub written : Appends before after (text_of said.lines)
+
+pub listened_none : (devices : List DeviceSetting) (seen : Seen) (a : Option (List ℕ)) → HasListened devices 0 seen seen opened a a
+listened_none devices seen a =
+    record {
+      received = [];
+      made = made_none seen;
+      said = nothing;
+      turned = (refl, refl);
+      tally = refl;
+      small = record { sent = omega arith; unanswered = omega arith; silent = omega arith };
+      refused = refl;
+      written = Appends-from_all a a [] (WritesAllBut-refl a []);
+    }
+
+-- there is room for one turn more
+pub tally_has_room : (turns most : ℕ) (t : Tally) → IsTallyUpTo (turns * 2 ^ 64) t → turns < most → most ≤ 1000000
+    → IsTallyUpTo (2 ^ 126) t
+tally_has_room turns most t small less limit =
+    record {
+      sent = omega (arith, small.sent);
+      unanswered = omega (arith, small.unanswered);
+      silent = omega (arith, small.silent);
+    }
+
+small_more : (turns : ℕ) (t u v : Tally) → IsTallyUpTo (turns * 2 ^ 64) t → IsTallyUpTo (2 ^ 64) u → v ≡ tally_sum t u
+    → IsTallyUpTo ((turns + 1) * 2 ^ 64) v
+small_more turns t u v a b e =
+    subst (IsTallyUpTo ((turns + 1) * 2 ^ 64)) (sym e)
+    (record {
+      sent = omega (arith, a.sent, b.sent);
+      unanswered = omega (arith, a.unanswered, b.unanswered);
+      silent = omega (arith, a.silent, b.silent);
+    })
+
+module _ (devices : List DeviceSetting) (turns : ℕ) (s0 s1 : Seen) (t : Standing) (a b : Option (List ℕ))
+    (so_far : HasListened devices turns s0 s1 t a b) where
+  -- what is said in one turn more
+  next_turns : (r : Received) (bookings : List Booking) (more : Said) → IsTurn devices (turns + 1) r t.bookings bookings more
+      → AreTurns devices 1 (so_far.received ++ r ∷ []) [] bookings (said_both so_far.said more)
+  next_turns r bookings more turn =
+      turns_more devices 1 so_far.received r [] t.bookings bookings so_far.said more so_far.turned
+      (subst (λ n. IsTurn devices n r t.bookings bookings more) (omega (arith, so_far.made.number)) turn)
+
+  -- one turn more
+  pub listened_more : (s2 : Seen) (u : Standing) (c : Option (List ℕ))
+      → Turns (λ r. IsTurn devices (turns + 1) r t.bookings) s1 s2 t u b c → HasListened devices (turns + 1) s0 s2 u a c
+  listened_more s2 u c turned =
+      let more : Said = turned.2.0 in
+      let step = turned.2.2 in
+      record {
+        received = so_far.received ++ turned.0 ∷ [];
+        made = made_more turns s0 s1 s2 so_far.received turned.0 so_far.made turned.1;
+        said = said_both so_far.said more;
+        turned = next_turns turned.0 u.bookings more turned.2.1;
+        tally = step.tally ∙ ap (λ k. tally_sum k (tally_of more.entries)) so_far.tally
+            ∙ tally_of-append so_far.said.entries more.entries;
+        small = small_more turns t.tally (tally_of more.entries) u.tally so_far.small step.small step.tally;
+        refused = refused_both so_far.said.lines more.lines t.refused u.refused so_far.refused step.refused;
+        written = appends_both a b c so_far.said.lines more.lines so_far.written step.written;
+      }
+
+  -- all turns, and the report
+  pub listened_all : (ids : List ℕ) (c : Option (List ℕ)) (refused : Bool) → refused ≡ t.refused → Reports ids t b c
+      → Hears turns ids devices s0 s1 a c refused
+  listened_all ids c refused same reports =
+      let report : List (List ℕ) = reports.0 in (
+        so_far.received,
+        so_far.made,
+        record {
+          bookings = t.bookings;
+          said = so_far.said;
+          report = report;
+          turns = so_far.turned;
+          reported = subst (λ k. IsReport ids t.bookings k report) so_far.tally reports.1;
+          written = appends_both a b c so_far.said.lines report so_far.written reports.3;
+          told = refused_both so_far.said.lines report t.refused refused so_far.refused
+              (same ∙ sym (or-false t.refused) ∙ ap (λ k. t.refused || k) (sym reports.2));
+        },
+      )
+
+  -- all turns, and the report in part
+  pub listened_all_in_part : (ids : List ℕ) (c : Option (List ℕ)) → ReportsInPart ids t b c
+      → HearsInPart turns ids devices s0 s1 a c
+  listened_all_in_part ids c (inl same) = (
+    turns,
+    omega arith,
+    so_far.received,
+    so_far.made,
+    record {
+      first = so_far.received;
+      more = [];
+      parts = sym (append-nil so_far.received);
+      one = omega arith;
+      bookings = t.bookings;
+      said = so_far.said;
+      report = [];
+      turns = so_far.turned;
+      reported = inl refl;
+      written = front_alone a b c so_far.said.lines so_far.written same;
+    },
+  )
+  listened_all_in_part ids c (inr reports) = (
+    turns,
+    omega arith,
+    so_far.received,
+    so_far.made,
+    record {
+      first = so_far.received;
+      more = [];
+      parts = sym (append-nil so_far.received);
+      one = omega arith;
+      bookings = t.bookings;
+      said = so_far.said;
+      report = reports.0;
+      turns = so_far.turned;
+      reported = inr (subst (λ k. IsReport ids t.bookings k reports.0) so_far.tally reports.1);
+      written = front_behind a b c so_far.said.lines reports.0 so_far.written reports.2;
+    },
+  )
+
+  -- one turn more in part, of so many that are left
+  pub listened_more_in_part : (most : ℕ) (ids : List ℕ) (s2 : Seen) (c : Option (List ℕ)) → turns < most
+      → TurnsInPart (λ r. IsTurn devices (turns + 1) r t.bookings) s1 s2 b c → HearsInPart most ids devices s0 s2 a c
+  listened_more_in_part most ids s2 c less stopped = (
+    turns + 1,
+    omega arith,
+    so_far.received ++ stopped.0 ∷ [],
+    made_more turns s0 s1 s2 so_far.received stopped.0 so_far.made stopped.1,
+    part stopped.2,
+  ) where
+    part : SaysInPart (IsTurn devices (turns + 1) stopped.0 t.bookings) b c
+        → IsHeardInPart ids devices (so_far.received ++ stopped.0 ∷ []) a c
+    part (inl same) =
+        record {
+          first = so_far.received;
+          more = stopped.0 ∷ [];
+          parts = refl;
+          one = omega arith;
+          bookings = t.bookings;
+          said = so_far.said;
+          report = [];
+          turns = so_far.turned;
+          reported = inl refl;
+          written = front_alone a b c so_far.said.lines so_far.written same;
+        }
+    part (inr said) =
+        record {
+          first = so_far.received ++ stopped.0 ∷ [];
+          more = [];
+          parts = sym (append-nil (so_far.received ++ stopped.0 ∷ []));
+          one = omega arith;
+          bookings = said.0;
+          said = said_both so_far.said said.1;
+          report = [];
+          turns = next_turns stopped.0 said.0 said.1 said.2;
+          reported = inl refl;
+          written = subst (λ l. WritesFront a c (text_of l)) (sym (append-nil (so_far.said.lines ++ said.1.lines)))
+              (front_behind a b c so_far.said.lines said.1.lines so_far.written said.3);
+        }
+
+  -- the same of the call that writes the report
+  pub listened_closed : {E : Type 0} (ids same_ids : List ℕ) (c : Option (List ℕ)) (r : Result Bool E) → ids ≡ same_ids
+      → IfOk r (λ x. x ≡ t.refused) → IfOk r (λ x. Reports ids t b c) → IfOk r (Hears turns same_ids devices s0 s1 a c)
+  listened_closed ids same_ids c (Ok refused) e told reports =
+      subst (λ l. Hears turns l devices s0 s1 a c refused) e (listened_all ids c refused told reports)
+  listened_closed ids same_ids c (Err fault) e told reports = tt
+
+  pub listened_closed_in_part : {E : Type 0} (ids same_ids : List ℕ) (c : Option (List ℕ)) (r : Result Bool E) → ids ≡ same_ids
+      → IfErr r (λ x. ReportsInPart ids t b c) → IfErr r (λ x. HearsInPart turns same_ids devices s0 s1 a c)
+  listened_closed_in_part ids same_ids c (Ok refused) e reports = tt
+  listened_closed_in_part ids same_ids c (Err fault) e reports =
+      subst (λ l. HearsInPart turns l devices s0 s1 a c) e (listened_all_in_part ids c reports)
+
+abbrev tally_at : ℕ → ℕ → ℕ → Tally
+tally_at sent unanswered silent = record { sent = sent; unanswered = unanswered; silent = silent }
+
+tally_unchanged : (t : Tally) → t ≡ tally_sum t (tally_of {A = Global} [])
+tally_unchanged t =
+    let a : t.sent ≡ t.sent + 0 = omega arith in
+    let b : t.unanswered ≡ t.unanswered + 0 = omega arith in
+    let c : t.silent ≡ t.silent + 0 = omega arith in
+    ap (λ x. tally_at x t.unanswered t.silent) a ∙ ap (λ x. tally_at (t.sent + 0) x t.silent) b
+    ∙ ap (λ x. tally_at (t.sent + 0) (t.unanswered + 0) x) c
+
+-- nothing was said
+said_nothing : (s : Standing) (a : Option (List ℕ)) → HasSaid nothing s s a a
+said_nothing s a =
+    record {
+      tally = tally_unchanged s.tally;
+      small = record { sent = omega arith; unanswered = omega arith; silent = omega arith };
+      refused = sym (or-false s.refused);
+      written = Appends-from_all a a [] (WritesAllBut-refl a []);
+    }
+
+-- where nothing is asked for
+pub nothing_asked : (devices : List DeviceSetting) (turn : ℕ) (datagram : List ℕ) (event : Option (Event Global)) (s : Standing)
+    (a : Option (List ℕ)) → event ≡ datagram_event devices turn datagram → event ≡ None
+    → Says (IsTurn devices turn (Some datagram) s.bookings) s s a a
+nothing_asked devices turn datagram event s a asked none = (
+  nothing,
+  subst (λ e. IsAnswered turn e s.bookings s.bookings nothing) (sym none ∙ asked) (refl, refl),
+  said_nothing s a,
+)
+
+-- what is said in part to the event that a datagram asks for
+pub asked_in_part : {X E : Type 0} (devices : List DeviceSetting) (turn : ℕ) (datagram : List ℕ) (asked : Option (Event Global))
+    (event : Event Global) (bookings : List Booking) (a b : Option (List ℕ)) (r : Result X E)
+    → asked ≡ datagram_event devices turn datagram → asked ≡ Some event
+    → IfErr r (λ x. SaysInPart (IsAnswered turn (Some event) bookings) a b)
+    → IfErr r (λ x. SaysInPart (IsTurn devices turn (Some datagram) bookings) a b)
+asked_in_part devices turn datagram asked event bookings a b r is some h =
+    subst (λ e. IfErr r (λ x. SaysInPart (IsAnswered turn e bookings) a b)) (sym some ∙ is) h
+
+-- an event was answered by the lines that were told for it
+pub answered_by : (turn : ℕ) (event : Event Global) (old new : List Booking) (before told taken : List (Entry Global)) → before ≡ []
+    → IsDone turn event (kept old before) (kept new told) → taken ≡ told
+    → IsAnswered turn (Some event) old new (record { entries = taken; lines = entry_lines taken })
+answered_by turn event old new before told taken none done same = (
+  subst (λ l. IsDone turn event (kept old []) (kept new l)) (sym same)
+      (subst (λ l. IsDone turn event (kept old l) (kept new told)) none done),
+  refl,
+)

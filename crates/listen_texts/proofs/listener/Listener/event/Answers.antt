@@ -1,0 +1,49 @@
+use Rattle.std.proofs.Common.{◌≡◌, ◌^◌, ◌||◌, List, inr, subst, sym, ◌∙◌, ap, Global}
+use Rattle.std.specs.Io.KnownBytes.{Appends}
+use Rattle.text_lines.specs.Line.{text_of}
+use Rattle.text_lines.specs.Writing.{WritesFront}
+use Rattle.text_words.specs.Words.{has_refusal}
+use Rattle.server_core.specs.declared.entry.Entry.{Entry}
+use Rattle.run_lines.specs.ReplayText.{entry_lines}
+use Rattle.run_lines.specs.Tally.{tally_of, tally_sum, IsTallyUpTo}
+use Rattle.run_texts.specs.WorkersRun.{kept, IsDone}
+use Rattle.run_texts.specs.declared.receipts.Receipts.{Receipts}
+use Rattle.listen_texts.proofs.ListenLemmas.{answered_by}
+use Rattle.listen_texts.proofs.listener.Listener.event.Goals as goal
+
+pub returns-in-Err-clause-front : goal.returns-in-Err-clause-front
+returns-in-Err-clause-front g c =
+    let entries : List (Entry Global) = c.take_lines-entries.result.items in
+    inr (
+      c.in-Ok.shift.receipts.bookings.items,
+      record { entries = entries; lines = entry_lines entries },
+      answered_by c.args.turn c.args.event.now c.args.self.shift.receipts.bookings.items c.in-Ok.shift.receipts.bookings.items
+          c.args.self.shift.entries.items c.in-Ok.shift.entries.items entries c.args.self.written c.in-Ok.ensures.done
+          c.take_lines-entries.ensures.taken,
+      subst (λ l. WritesFront (g.W.ByteOut.taken c.args.writer.now) (g.W.ByteOut.taken c.write_entries.new.writer)
+          (text_of (entry_lines l))) c.as_slice.ensures.value c.in-Err.ensures.err,
+    )
+
+pub returns-in-Ok-write_entries-clause-ok : goal.returns-in-Ok-write_entries-clause-ok
+returns-in-Ok-write_entries-clause-ok g c =
+    let entries : List (Entry Global) = c.take_lines-entries.result.items in
+    let wrote = c.in-Ok-write_entries.ensures in
+    let counted : c.of.result ≡ tally_of entries =
+    c.of.ensures.tally ∙ ap (λ l. tally_of {A = Global} l) c.as_slice-in-Ok-write_entries.ensures.value in (
+      record { entries = entries; lines = entry_lines entries },
+      answered_by c.args.turn c.args.event.now c.args.self.shift.receipts.bookings.items
+          c.take_lines-entries.new.self.receipts.bookings.items c.args.self.shift.entries.items c.in-Ok.shift.entries.items
+          entries c.args.self.written
+          (subst (λ (r : Receipts). IsDone c.args.turn c.args.event.now
+          (kept c.args.self.shift.receipts.bookings.items c.args.self.shift.entries.items)
+          (kept r.bookings.items c.in-Ok.shift.entries.items)) (sym c.take_lines-entries.ensures.receipts) c.in-Ok.ensures.done)
+          c.take_lines-entries.ensures.taken,
+      record {
+        tally = c.add.ensures ∙ ap (tally_sum c.args.self.tally) counted;
+        small = subst (IsTallyUpTo (2 ^ 64)) counted c.of.ensures.small;
+        refused = c.either.ensures ∙ ap (λ t. c.args.self.refused || t)
+            (wrote.told ∙ ap (λ l. has_refusal (entry_lines l)) c.as_slice.ensures.value);
+        written = subst (λ l. Appends (g.W.ByteOut.taken c.args.writer.now) (g.W.ByteOut.taken c.write_entries.new.writer)
+            (text_of (entry_lines l))) c.as_slice.ensures.value wrote.ok;
+      },
+    )

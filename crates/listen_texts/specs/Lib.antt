@@ -1,0 +1,5 @@
+pub mod Settings
+pub mod Receives
+pub mod Turns
+pub mod Listening
+pub mod Steps

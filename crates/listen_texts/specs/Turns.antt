@@ -1,0 +1,47 @@
+use Rattle.std.specs.Prelude.{ℕ, ◌≡◌, ◌+◌, List, [], ◌∷◌, ◌++◌, codes, decimal, Option, Some, None}
+use Rattle.std.specs.Global.{Global}
+use Rattle.server_desk.specs.declared.setting.DeviceSetting.{DeviceSetting}
+use Rattle.server_core.specs.declared.entry.Entry.{Entry}
+use Rattle.server_core.specs.declared.event.Event.{Event}
+use Rattle.text_words.specs.Words.{spaced}
+use Rattle.run_lines.specs.Datagram.{datagram_event}
+use Rattle.run_lines.specs.ReplayText.{entry_lines}
+use Rattle.run_texts.specs.declared.receipts.Booking.{Booking}
+use Rattle.run_texts.specs.WorkersRun.{kept, IsDone}
+use Rattle.listen_texts.specs.Receives.{Received}
+
+-- What a server that listens answers, turn by turn (docs/FORMATS.md, "airbook listen").
+
+-- the line for a receive that failed
+abbrev pub unread_line : ℕ → List ℕ
+unread_line turn = spaced (codes "bad" ∷ decimal turn ∷ codes "Read" ∷ [])
+
+-- what was told in some turns, and the lines that were written
+pub record Said : Type 0 where
+  pub entries : List (Entry Global)
+  pub lines : List (List ℕ)
+
+abbrev pub nothing : Said
+nothing = record { entries = []; lines = [] }
+
+-- what was said in some turns, and then in others
+abbrev pub said_both : Said → Said → Said
+said_both first rest = record { entries = first.entries ++ rest.entries; lines = first.lines ++ rest.lines }
+
+-- what is said to an event, and what is booked then, is what a run with workers tells and books for it
+abbrev pub IsAnswered : ℕ → Option (Event Global) → List Booking → List Booking → Said → Type 0
+IsAnswered turn None old new said = (new ≡ old) × (said ≡ nothing)
+IsAnswered turn (Some event) old new said =
+    IsDone turn event (kept old []) (kept new said.entries) × (said.lines ≡ entry_lines said.entries)
+
+-- what is said in one turn, by what was received
+abbrev pub IsTurn : List DeviceSetting → ℕ → Received → List Booking → List Booking → Said → Type 0
+IsTurn devices turn None old new said = (new ≡ old) × (said ≡ record { entries = []; lines = unread_line turn ∷ [] })
+IsTurn devices turn (Some datagram) old new said = IsAnswered turn (datagram_event devices turn datagram) old new said
+
+-- the same of several turns, the first of them with this number, one after another
+abbrev pub AreTurns : List DeviceSetting → ℕ → List Received → List Booking → List Booking → Said → Type 0
+AreTurns devices turn [] old new said = (new ≡ old) × (said ≡ nothing)
+AreTurns devices turn (r ∷ rs) old new said =
+    (mid : List Booking) × (first : Said) × (rest : Said) × IsTurn devices turn r old mid first
+    × AreTurns devices (turn + 1) rs mid new rest × (said ≡ said_both first rest)

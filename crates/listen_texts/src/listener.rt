@@ -1,0 +1,250 @@
+// A server that listens, turn by turn.
+ghost use Rattle.std.specs.Prelude.{◌≡◌, ◌^◌, ◌||◌, [], Some, None, IfOk, IfErr};
+ghost use Rattle.text_words.specs.Fault.{CountsWrites};
+ghost use Rattle.server_station.specs.Stations.{AreInOrder};
+ghost use Rattle.run_lines.specs.Tally.{IsTallyUpTo};
+ghost use Rattle.run_texts.specs.PassAnswers.{IsStaffed};
+ghost use Rattle.listen_texts.specs.Turns.{IsAnswered, IsTurn};
+ghost use Rattle.listen_texts.specs.Listening.{Hears, HearsInPart, IsWithinLimit, IsListenFault};
+ghost use Rattle.listen_texts.specs.Steps.{standing, opened, Says, SaysInPart, Turns, TurnsInPart, Reports, ReportsInPart};
+
+use crate::source::Source;
+use crate::unread::write_unread;
+use run_lines::{DATAGRAM_ROOM, Tally, datagram_event, write_entries, write_report};
+use run_texts::Shift;
+use server_core::{DeviceSetting, Event, NoMemory, Settings};
+use server_workers::{Blank, Ledger, PARTS};
+use std::alloc::Global;
+use std::hash::BuildHasher;
+use std::sync::Wait;
+use std::thread::Threads;
+use text_lines::ByteOut;
+use text_words::TextFault;
+
+/// A station at work, whose lines were all written, how many uplinks were answered, and whether a line began with `no` or
+/// `bad`.
+#[derive(Drop)]
+pub(crate) struct Listener<B: Ledger, H: BuildHasher> {
+    shift: Shift<B, H>,
+    tally: Tally,
+    refused: bool,
+    ghost written: { shift.entries.items ≡ [] },
+}
+
+impl<B: Ledger, H: BuildHasher + Clone + Drop> Listener<B, H> {
+    /// A station with these settings that has heard nothing.
+    pub(crate) fn new(
+        alloc: Global,
+        hasher: H,
+        settings: &Settings<Global>,
+        workers: u8,
+        blank: Blank,
+    ) -> Result<Self, NoMemory>
+        requires name { blank.name ≡ B.name }
+        requires parts { blank.parts ≡ B.parts }
+        requires all { blank.parts ≡ PARTS }
+        requires staffed { IsStaffed workers }
+        ensures gateways { IfOk result (λ l. AreInOrder settings.now.gateways l.shift.station) }
+        ensures opened { IfOk result (λ l. standing l.shift.receipts.bookings.items l.tally l.refused ≡ opened) }
+    {
+        let shift = Shift::new(alloc, hasher, settings, workers, blank)?;
+        let tally = Tally {
+            sent: 0,
+            unanswered: 0,
+            silent: 0,
+        };
+        Ok(Listener {
+            shift,
+            tally,
+            refused: false,
+        })
+    }
+}
+
+impl<B: Ledger + Send + Sync, H: BuildHasher + Drop + Send + Sync> Listener<B, H>
+where
+    H::Hasher: Send + Sync,
+{
+    /// Makes so many receives, answers each at once, and writes the report.
+    pub(crate) fn listen<T: Threads + Wait + Sync, S: Source, W: ByteOut>(
+        self,
+        rt: &T,
+        alloc: Global,
+        devices: &[DeviceSetting],
+        source: &mut S,
+        turns: u32,
+        writer: &mut W,
+    ) -> Result<bool, TextFault>
+        requires opened { standing self.shift.receipts.bookings.items self.tally self.refused ≡ opened }
+        requires turns { IsWithinLimit turns }
+        ensures ok { IfOk result (Hears turns self.shift.station devices.now (S.seen source.old) (S.seen source.new)
+            (W.taken writer.old) (W.taken writer.new)) }
+        ensures front { IfErr result (λ _. HearsInPart turns self.shift.station devices.now (S.seen source.old)
+            (S.seen source.new) (W.taken writer.old) (W.taken writer.new)) }
+        ensures fault { IfErr result IsListenFault }
+        ensures write { CountsWrites (W.failed_calls writer.old) (W.failed_calls writer.new) result }
+    {
+        let mut listener = self;
+        for turn in 0..turns {
+            listener = match listener.turn(rt, alloc, devices, turn + 1, source, writer) {
+                Ok(listener) => listener,
+                Err(fault) => return Err(fault),
+            };
+        }
+        listener.close(alloc, writer)
+    }
+
+    /// Makes one receive, and answers it.
+    fn turn<T: Threads + Wait + Sync, S: Source, W: ByteOut>(
+        self,
+        rt: &T,
+        alloc: Global,
+        devices: &[DeviceSetting],
+        turn: u32,
+        source: &mut S,
+        writer: &mut W,
+    ) -> Result<Self, TextFault>
+        requires room { IsTallyUpTo (2 ^ 126) self.tally }
+        ensures station { IfOk result (λ l. l.shift.station ≡ self.shift.station) }
+        ensures ok { IfOk result (λ l. Turns (λ r. IsTurn devices.now turn r self.shift.receipts.bookings.items)
+            (S.seen source.old) (S.seen source.new) (standing self.shift.receipts.bookings.items self.tally self.refused)
+            (standing l.shift.receipts.bookings.items l.tally l.refused) (W.taken writer.old) (W.taken writer.new)) }
+        ensures front { IfErr result (λ _. TurnsInPart (λ r. IsTurn devices.now turn r self.shift.receipts.bookings.items)
+            (S.seen source.old) (S.seen source.new) (W.taken writer.old) (W.taken writer.new)) }
+        ensures fault { IfErr result IsListenFault }
+        ensures write { CountsWrites (W.failed_calls writer.old) (W.failed_calls writer.new) result }
+    {
+        let mut into = [0; DATAGRAM_ROOM];
+        match source.next(&mut into) {
+            Some(count) => self.datagram(rt, alloc, devices, turn, &into[..count], writer),
+            None => self.unread(turn, writer),
+        }
+    }
+
+    /// Tells that the receive of a turn failed.
+    fn unread<W: ByteOut>(self, turn: u32, writer: &mut W) -> Result<Self, TextFault>
+        ensures station { IfOk result (λ l. l.shift.station ≡ self.shift.station) }
+        ensures ok { IfOk result (λ l. Says (IsTurn [] turn None self.shift.receipts.bookings.items)
+            (standing self.shift.receipts.bookings.items self.tally self.refused)
+            (standing l.shift.receipts.bookings.items l.tally l.refused) (W.taken writer.old) (W.taken writer.new)) }
+        ensures front { IfErr result (λ _. SaysInPart (IsTurn [] turn None self.shift.receipts.bookings.items)
+            (W.taken writer.old) (W.taken writer.new)) }
+        ensures fault { IfErr result (λ fault. fault ≡ TextFault.Write) }
+        ensures write { CountsWrites (W.failed_calls writer.old) (W.failed_calls writer.new) result }
+    {
+        let Listener {
+            shift,
+            tally,
+            refused: _,
+        } = self;
+        match write_unread(turn as u64, writer) {
+            Err(_) => Err(TextFault::Write),
+            Ok(()) => Ok(Listener {
+                shift,
+                tally,
+                refused: true,
+            }),
+        }
+    }
+
+    /// Does what a datagram asks for, and writes the answer.
+    fn datagram<T: Threads + Wait + Sync, W: ByteOut>(
+        self,
+        rt: &T,
+        alloc: Global,
+        devices: &[DeviceSetting],
+        turn: u32,
+        datagram: &[u8],
+        writer: &mut W,
+    ) -> Result<Self, TextFault>
+        requires room { IsTallyUpTo (2 ^ 126) self.tally }
+        ensures station { IfOk result (λ l. l.shift.station ≡ self.shift.station) }
+        ensures ok { IfOk result (λ l. Says (IsTurn devices.now turn (Some datagram.now) self.shift.receipts.bookings.items)
+            (standing self.shift.receipts.bookings.items self.tally self.refused)
+            (standing l.shift.receipts.bookings.items l.tally l.refused) (W.taken writer.old) (W.taken writer.new)) }
+        ensures front { IfErr result (λ _. SaysInPart
+            (IsTurn devices.now turn (Some datagram.now) self.shift.receipts.bookings.items) (W.taken writer.old)
+            (W.taken writer.new)) }
+        ensures fault { IfErr result IsListenFault }
+        ensures write { CountsWrites (W.failed_calls writer.old) (W.failed_calls writer.new) result }
+    {
+        match datagram_event(alloc, devices, turn as u64, datagram) {
+            Err(_) => Err(TextFault::NoMemory),
+            Ok(None) => Ok(self),
+            Ok(Some(event)) => self.event(rt, alloc, turn, &event, writer),
+        }
+    }
+
+    /// Does what an event asks for, and writes the answer.
+    fn event<T: Threads + Wait + Sync, W: ByteOut>(
+        self,
+        rt: &T,
+        alloc: Global,
+        turn: u32,
+        event: &Event<Global>,
+        writer: &mut W,
+    ) -> Result<Self, TextFault>
+        requires room { IsTallyUpTo (2 ^ 126) self.tally }
+        ensures station { IfOk result (λ l. l.shift.station ≡ self.shift.station) }
+        ensures ok { IfOk result (λ l. Says (IsAnswered turn (Some event.now) self.shift.receipts.bookings.items)
+            (standing self.shift.receipts.bookings.items self.tally self.refused)
+            (standing l.shift.receipts.bookings.items l.tally l.refused) (W.taken writer.old) (W.taken writer.new)) }
+        ensures front { IfErr result (λ _. SaysInPart (IsAnswered turn (Some event.now) self.shift.receipts.bookings.items)
+            (W.taken writer.old) (W.taken writer.new)) }
+        ensures fault { IfErr result IsListenFault }
+        ensures write { CountsWrites (W.failed_calls writer.old) (W.failed_calls writer.new) result }
+    {
+        let Listener {
+            shift,
+            mut tally,
+            refused,
+        } = self;
+        let Ok(mut shift) = shift.answer(rt, alloc, turn as usize, event) else {
+            return Err(TextFault::NoMemory);
+        };
+        let entries = shift.take_lines(alloc);
+        match write_entries(entries.as_slice(), writer) {
+            Err(_) => Err(TextFault::Write),
+            Ok(bad) => {
+                tally.add(&Tally::of(entries.as_slice()));
+                Ok(Listener {
+                    shift,
+                    tally,
+                    refused: either(refused, bad),
+                })
+            }
+        }
+    }
+
+    /// Compares the books with what was answered, and writes the report.
+    fn close<W: ByteOut>(self, alloc: Global, writer: &mut W) -> Result<bool, TextFault>
+        ensures told { IfOk result (λ refused. refused ≡ self.refused) }
+        ensures ok { IfOk result (λ _. Reports self.shift.station
+            (standing self.shift.receipts.bookings.items self.tally self.refused) (W.taken writer.old) (W.taken writer.new)) }
+        ensures front { IfErr result (λ _. ReportsInPart self.shift.station
+            (standing self.shift.receipts.bookings.items self.tally self.refused) (W.taken writer.old) (W.taken writer.new)) }
+        ensures fault { IfErr result IsListenFault }
+        ensures write { CountsWrites (W.failed_calls writer.old) (W.failed_calls writer.new) result }
+    {
+        let Listener {
+            shift,
+            tally,
+            refused,
+        } = self;
+        let played = match shift.close(alloc) {
+            Err(fault) => return Err(fault),
+            Ok(played) => played,
+        };
+        match write_report(&tally, played.books.as_slice(), writer) {
+            Err(_) => Err(TextFault::Write),
+            Ok(()) => Ok(refused),
+        }
+    }
+}
+
+/// Whether one or the other is true.
+fn either(first: bool, second: bool) -> bool
+    ensures { result ≡ first || second }
+{
+    first || second
+}

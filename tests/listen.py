@@ -1,0 +1,240 @@
+#!/usr/bin/env python3
+"""Starts `airbook listen`, sends it datagrams over loopback, and compares what it writes.
+
+Usage: listen.py PROGRAM [DATAGRAMS [SEED]]     (5,000, 1: how many random datagrams)
+
+Each datagram is sent once the answers to those before it were read, so none is lost. What the random ones are answered is found
+here, as docs/FORMATS.md says. Every program that is started ends within a minute, or is stopped. A failing trial has a line; the
+last line is 'N passed, M failed'. The status is 0 where none failed, 1 where one did, 2 where nothing could be run.
+"""
+import os
+import pathlib
+import random
+import select
+import socket
+import subprocess
+import sys
+import time
+
+SECONDS = 60
+KEYS = 'nwkskey = "2b7e151628aed2a6abf7158809cf4f3c"\nappskey = "000102030405060708090a0b0c0d0e0f"\n'
+SETTINGS = f'[[gateway]]\nid = 1\n[[gateway]]\nid = 2\n[[device]]\naddr = "26011bda"\n{KEYS}'
+UPLINK = "80da1b012600070009c89141"
+NO_REPORT = [f"gateway {g} booked 0 cancelled 0 retired 0 kept 0" for g in (1, 2)] + ["answered 0 unanswered 0 silent 0"]
+
+
+def free_port():
+    with socket.socket(type=socket.SOCK_DGRAM) as probe:
+        probe.bind(("127.0.0.1", 0))
+        return probe.getsockname()[1]
+
+
+def is_bound(port):
+    with open("/proc/net/udp") as sockets:
+        return any(line.split()[1].endswith(f":{port:04X}") for line in list(sockets)[1:])
+
+
+class Server:
+    """A program that listens, and the end that sends to it."""
+
+    def __init__(self, program, turns, more=(), settings=SETTINGS):
+        self.port = free_port()
+        self.ends = time.monotonic() + SECONDS
+        self.read = b""
+        self.sender = socket.socket(type=socket.SOCK_DGRAM)
+        words = [program, "listen", "--port", str(self.port), "--turns", str(turns), *more]
+        pipes = {"stdin": subprocess.PIPE, "stdout": subprocess.PIPE, "stderr": subprocess.PIPE}
+        self.child = subprocess.Popen(words, **pipes)
+        self.child.stdin.write(settings.encode())
+        self.child.stdin.close()
+
+    def __enter__(self):
+        while not is_bound(self.port) and self.child.poll() is None and time.monotonic() < self.ends:
+            time.sleep(0.005)
+        return self
+
+    def __exit__(self, *_):
+        if self.child.poll() is None:
+            self.child.kill()
+        self.child.wait()
+        self.sender.close()
+        self.child.stdout.close()
+        self.child.stderr.close()
+
+    def send(self, datagram):
+        self.sender.sendto(datagram, ("127.0.0.1", self.port))
+
+    def lines(self, count):
+        """The next lines that are written, so many of them; fewer where no more come."""
+        while self.read.count(b"\n") < count:
+            left = self.ends - time.monotonic()
+            if left <= 0 or not select.select([self.child.stdout], [], [], left)[0]:
+                break
+            block = os.read(self.child.stdout.fileno(), 65536)
+            if not block:
+                break
+            self.read += block
+        parts = self.read.split(b"\n")
+        taken = parts[:-1][:count]
+        self.read = b"\n".join(parts[len(taken):])
+        return [line.decode("utf-8", "backslashreplace") for line in taken]
+
+    def rest(self):
+        """All lines that are still written, the status, and standard error."""
+        lines = self.lines(1 << 30)
+        try:
+            status = self.child.wait(max(0.1, self.ends - time.monotonic()))
+        except subprocess.TimeoutExpired:
+            return lines, None, ""
+        return lines, status, self.child.stderr.read().decode("utf-8", "backslashreplace")
+
+
+def exchange(program, turns, wanted_rest, wanted_status, more=()):
+    """Sends each datagram once its turn has come. What differs from what is wanted, if anything."""
+    with Server(program, len(turns), more) as server:
+        for turn, (datagram, answer) in enumerate(turns, 1):
+            server.send(datagram)
+            got = server.lines(len(answer))
+            if got != answer:
+                return f"turn {turn}, {datagram[:80]!r}: wanted {answer}, got {got}"
+        lines, status, errors = server.rest()
+        if lines != wanted_rest or status != wanted_status or errors:
+            return f"wanted {wanted_rest} and status {wanted_status}, got {lines}, {status} and {errors!r}"
+    return None
+
+
+def worked(program):
+    """Two gateways hear an uplink, and it is answered."""
+    turns = [
+        (f"hear 1 5000000 868100000 5 55 -90 1000 {UPLINK}".encode(), ["opened 1"]),
+        (f"hear 2 9000000 868100000 5 55 -80 1100 {UPLINK}\r\n".encode(), ["joined 1 2"]),
+        (b"pass 201000", []),
+        (b"pass 201001\n", ["send 1 2 RX1 10000000 868100000 5 12", "frame 1 60da1b0126200000240347ca"]),
+    ]
+    report = [
+        "gateway 1 booked 0 cancelled 0 retired 0 kept 0",
+        "gateway 2 booked 41216 cancelled 0 retired 0 kept 1",
+        "busiest 2 M 10000000 41216",
+        "answered 1 unanswered 0 silent 0",
+    ]
+    return exchange(program, turns, report, 0) or exchange(program, turns, report, 0, ["--workers", "16"])
+
+
+class Expected:
+    """What a server with these settings answers, as far as it is asked here."""
+
+    def __init__(self, chance):
+        self.chance = chance
+        self.floor = {1: 0, 2: 0}
+        self.queued = 0
+
+    def tick(self):
+        gateway, now = self.chance.choice([1, 2, 3]), self.chance.randrange(1 << 60)
+        if gateway == 3:
+            return f"tick 3 {now}", "no tick UnknownGateway"
+        self.floor[gateway] = max(self.floor[gateway], now)
+        return f"tick {gateway} {now}", f"floor {gateway} {self.floor[gateway]}"
+
+    def queue(self):
+        addr, port = self.chance.choice(["26011bda", "26011BDA", "00000001"]), self.chance.choice([0, 1, 223, 224])
+        line = f"queue {addr} {port} {self.chance.choice(['-', '00', 'aBcD'])}"
+        if addr == "00000001":
+            return line, "no queue UnknownDevice"
+        if port in (0, 224):
+            return line, "no queue Port"
+        if self.queued == 16:
+            return line, "no queue QueueFull"
+        self.queued += 1
+        return line, f"queued 26011bda {self.queued}"
+
+    def hear(self):
+        uplink = self.chance.choice(["40", "00" * 12, UPLINK[:-1] + "0"])
+        name = {2: "Short", 24: "NotData"}[len(uplink)] if uplink != UPLINK[:-1] + "0" else "BadMic"
+        return f"hear 1 5000000 868100000 5 0 -100 0 {uplink}", f"no hear {name}"
+
+    def cancel(self):
+        number = self.chance.randrange(1 << 64)
+        return f"cancel {number}", f"no cancel {number} NotHere"
+
+    def line(self):
+        """A line of the format, and its answer."""
+        return self.chance.choice([self.tick, self.queue, self.hear, self.cancel])()
+
+    def whole(self, turn):
+        line, answer = self.line()
+        spread = line.replace(" ", self.chance.choice([" ", "\t", "  "]))
+        return (spread + self.chance.choice(["", "\n", "\r\n"])).encode(), [answer]
+
+    def passed_over(self, turn):
+        text = self.chance.choice(["", " ", "\t \t", "# tick 1 5", "#" * 1024, "#@"])
+        return (text + self.chance.choice(["", "\n", "\r\n"])).encode(), []
+
+    def malformed(self, turn):
+        texts = [
+            "tick 1", "ticks 1 5", "tick 1 5 6", "tick 70000 5", "tick 1 5\r", "\r", "tick 1 5\n\n", "\ntick 1 5", "tick 1 5\ntick 2 5",
+            "hear 1 5000000 868100000 5 0 -100 0 @c:26011bda:7", "hear 1 5000000 868100000 5 0 -100 0 ", "cancel @", "---", "plan",
+            "cancel 1" + " " * 1017, "#" * 1025, " " * 1026, "#" * 1027, "tick 1 5" + " " * 1020, "#" * 3000,
+        ]
+        return self.chance.choice(texts).encode(), [f"bad {turn} Syntax"]
+
+    def noise(self, turn):
+        size = self.chance.randrange(1, 1400)
+        datagram = bytes(self.chance.choice(b"\x00\xff\x80xyz\n\r") for _ in range(size))
+        return b"x" + datagram, [f"bad {turn} Syntax"]
+
+    def turn(self, turn):
+        kinds = [self.whole, self.passed_over, self.malformed, self.noise]
+        return self.chance.choices(kinds, [6, 1, 2, 1])[0](turn)
+
+
+def at_random(program, datagrams, seed):
+    """Random datagrams, each answered by itself."""
+    expected = Expected(random.Random(seed))
+    return exchange(program, [expected.turn(turn) for turn in range(1, datagrams + 1)], NO_REPORT, 1)
+
+
+def refused(program, settings, name):
+    """Settings that are refused."""
+    with Server(program, 1, settings=settings) as server:
+        got = server.rest()
+    return None if got == ([], 2, f"airbook: {name}\n") else f"wanted {name}, got {got}"
+
+
+def port_taken(program):
+    """A port that another socket has."""
+    with Server(program, 1) as first:
+        words = [program, "listen", "--port", str(first.port), "--turns", "1"]
+        second = subprocess.run(words, input=SETTINGS.encode(), capture_output=True, timeout=SECONDS)
+        first.send(b"tick 1 5")
+        answered = first.rest()
+    if (second.returncode, second.stdout, second.stderr) != (2, b"", b"airbook: Bind\n"):
+        return f"the second program: {second}"
+    return None if answered[:2] == (["floor 1 5"] + NO_REPORT, 0) else f"the first program: {answered}"
+
+
+def main():
+    if len(sys.argv) < 2 or not pathlib.Path(sys.argv[1]).is_file():
+        print(__doc__.strip(), file=sys.stderr)
+        return 2
+    program = str(pathlib.Path(sys.argv[1]).resolve())
+    datagrams, seed = (int(word) for word in (sys.argv[2:] + ["5000", "1"][len(sys.argv) - 2:])[:2])
+    trials = [
+        ("worked turns", lambda: worked(program)),
+        (f"{datagrams} random datagrams", lambda: at_random(program, datagrams, seed)),
+        ("a port that is taken", lambda: port_taken(program)),
+        ("settings that are not TOML", lambda: refused(program, "gateway = [", "NotToml")),
+        ("settings with a line of dashes", lambda: refused(program, SETTINGS + "---\n", "NotToml")),
+        ("no settings", lambda: refused(program, "", "Count")),
+    ]
+    failed = 0
+    for name, trial in trials:
+        fault = trial()
+        if fault:
+            failed += 1
+            print(f"failed: {name}: {fault}")
+    print(f"{len(trials) - failed} passed, {failed} failed")
+    return 1 if failed else 0
+
+
+if __name__ == "__main__":
+    sys.exit(main())
