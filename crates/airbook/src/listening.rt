@@ -58,12 +58,7 @@ pub fn listen<
     R: AllocGlobal + RandomSource + Threads + Wait + Sync + Net + Log,
     I: ByteIn,
     W: ByteOut,
->(
-    rt: &R,
-    listening: Listening,
-    reader: &mut I,
-    writer: &mut W,
-) -> Result<bool, Stopped> {
+>(rt: &R, listening: Listening, reader: &mut I, writer: &mut W) -> Result<bool, Stopped> {
     let settings = match read_whole_settings(rt.alloc(), reader) {
         Ok(settings) => settings,
         Err(fault) => return Err(Stopped::Text(fault)),

@@ -21,9 +21,19 @@ const FAULT: u8 = 2;
 
 /// Does what the arguments ask for. The status is 0; 1 where a line of the output begins with `no` or `bad`; 2 for
 /// wrong arguments, and for a fault, whose name is then the last line on standard error.
-pub fn run<R: AllocGlobal + Env + Input + Print + Eprint + RandomSource + Threads + Wait + Sync + Net + Log>(
-    rt: &R,
-) -> ExitCode {
+pub fn run<
+    R: AllocGlobal
+        + Env
+        + Input
+        + Print
+        + Eprint
+        + RandomSource
+        + Threads
+        + Wait
+        + Sync
+        + Net
+        + Log,
+>(rt: &R) -> ExitCode {
     let words = match words_of(rt) {
         Ok(words) => words,
         Err(error) if error.kind() == io::ErrorKind::OutOfMemory => {
@@ -53,10 +63,9 @@ fn words_of<R: AllocGlobal + Env>(rt: &R) -> io::Result<Vec<String>> {
 }
 
 /// Does a task on standard input and output.
-fn perform<R: AllocGlobal + Input + Print + Eprint + RandomSource + Threads + Wait + Sync + Net + Log>(
-    rt: &R,
-    task: Task,
-) -> ExitCode {
+fn perform<
+    R: AllocGlobal + Input + Print + Eprint + RandomSource + Threads + Wait + Sync + Net + Log,
+>(rt: &R, task: Task) -> ExitCode {
     let mut reader = StdIn::new(rt.reader());
     let mut writer = StdOut::new(io::writer(rt));
     let answered = match task {

@@ -84,7 +84,10 @@ fn each_write_fails_in_turn(rt: HostRuntime) -> Result<(), Fail> {
         let part = heard(&rt, rt.alloc(), &TURNS, 2, 6, write)?;
         assert_eq!(rt; part.answered, Err(TextFault::Write), "at write {write}");
         assert_eq!(rt; part.failed, 1, "at write {write}");
-        assert!(rt; ANSWERED.starts_with(part.output.as_slice()), "at write {write}");
+        assert!(rt;
+            ANSWERED.starts_with(part.output.as_slice()),
+            "at write {write}"
+        );
     }
     Ok(())
 }
