@@ -18,4 +18,6 @@ mod radio;
 #[cfg(test)]
 mod roster;
 #[cfg(test)]
+mod saved;
+#[cfg(test)]
 mod unforgetting;
