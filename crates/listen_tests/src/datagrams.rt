@@ -1,5 +1,5 @@
 // Datagrams in memory.
-ghost use Rattle.std.specs.Prelude.{None};
+ghost use Rattle.std.specs.Prelude.{◌≤◌, length, None};
 
 use airbook_text::Source;
 
@@ -22,12 +22,20 @@ impl Source for Datagrams<'_> {
     ghost seen = { λ s. record { receives = s.receives; received = None } };
 
     fn next(&mut self, into: &mut [u8]) -> Option<usize> {
-        self.receives = self.receives.saturating_add(1);
-        let (first, rest) = self.given.split_first()?;
-        self.given = rest;
-        let datagram = (*first)?;
-        let count = datagram.len().min(into.len());
-        into[..count].copy_from_slice(&datagram[..count]);
-        Some(count)
+        let place = self.receives;
+        self.receives = place.saturating_add(1);
+        match self.given.get(place as usize) {
+            Some(Some(datagram)) => Some(put(datagram, into)),
+            _ => None,
+        }
     }
+}
+
+/// Puts as much of a datagram as there is room for into the front of `into`.
+fn put(datagram: &[u8], into: &mut [u8]) -> usize
+    ensures { result ≤ length into.new }
+{
+    let count = datagram.len().min(into.len());
+    into[..count].copy_from_slice(&datagram[..count]);
+    count
 }

@@ -39,7 +39,7 @@ struct Heard {
 }
 
 /// Listens to datagrams for so many turns.
-fn heard<R: Threads + Wait + Sync>(
+fn listened<R: Threads + Wait + Sync>(
     rt: &R,
     alloc: Global,
     given: &[Option<&[u8]>],
@@ -71,17 +71,20 @@ fn heard<R: Threads + Wait + Sync>(
 
 #[test]
 fn turns_are_answered_and_reported(rt: HostRuntime) -> Result<(), Fail> {
-    let all = heard(&rt, rt.alloc(), &TURNS, 1, 6, 0)?;
+    let all = listened(&rt, rt.alloc(), &TURNS, 1, 6, 0)?;
     assert_eq!(rt; all.answered, Ok(true));
     assert_eq!(rt; all.receives, 6);
     assert_eq!(rt; all.output.as_slice(), ANSWERED);
     Ok(())
 }
 
+/// How many writes of at most 16 bytes the answers take, each turn's by itself: 1, 1, 5, 1 and 1, and 10 for the report.
+const WRITES: u64 = 19;
+
 #[test]
 fn each_write_fails_in_turn(rt: HostRuntime) -> Result<(), Fail> {
-    for write in 1..24 {
-        let part = heard(&rt, rt.alloc(), &TURNS, 2, 6, write)?;
+    for write in 1..WRITES + 1 {
+        let part = listened(&rt, rt.alloc(), &TURNS, 2, 6, write)?;
         assert_eq!(rt; part.answered, Err(TextFault::Write), "at write {write}");
         assert_eq!(rt; part.failed, 1, "at write {write}");
         assert!(rt;
@@ -100,7 +103,7 @@ fn workers_and_turns_are_refused_before_anything_is_received(rt: HostRuntime) ->
         (1, 0, "Turns"),
         (16, TURN_LIMIT + 1, "Turns"),
     ] {
-        let none = heard(&rt, rt.alloc(), &TURNS, workers, turns, 0)?;
+        let none = listened(&rt, rt.alloc(), &TURNS, workers, turns, 0)?;
         assert_eq!(rt; none.answered, Err(TextFault::Settings(name)));
         assert_eq!(rt; none.receives, 0);
         assert_eq!(rt; none.output.len(), 0);
@@ -114,7 +117,7 @@ fn answer_to<R: Threads + Wait + Sync>(
     alloc: Global,
     datagram: &[u8],
 ) -> Result<Vec<u8>, Fail> {
-    let one = heard(rt, alloc, &[Some(datagram)], 1, 1, 0)?;
+    let one = listened(rt, alloc, &[Some(datagram)], 1, 1, 0)?;
     let mut output = one.output;
     let answer = output.len().saturating_sub(NOTHING_BOOKED.len());
     output.truncate(answer);

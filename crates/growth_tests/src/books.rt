@@ -1,0 +1,96 @@
+// Rosters and books.
+
+use crate::asks::{Kept, ask, book_of, booked_by};
+use crate::turns::{MOST_GROWTHS, Refuser, was_refused};
+use gateway_book::{GatewayBook, Refusal};
+use refusing_alloc::Refusing;
+use resv_list::{Roster, VecRoster};
+use resv_tree::TreeRoster;
+use std::process::Abort;
+use std::test::Fail;
+
+/// How many growths a booking takes, over any roster; each is refused once.
+fn growths_to_book<R: Roster>(
+    rt: &impl Abort,
+    alloc: &Refuser,
+    book: &mut GatewayBook<R>,
+) -> Result<u64, Fail> {
+    let before = book.totals();
+    for number in 1..=MOST_GROWTHS {
+        alloc.refuse(number);
+        let booked = book.book(ask(9, 9_000_000));
+        if !was_refused(rt, alloc, number, booked == Err(Refusal::NoMemory)) {
+            assert!(rt; booked.is_ok());
+            assert_eq!(rt; book.totals().kept, before.kept.saturating_add(1));
+            return Ok(number.saturating_sub(1));
+        }
+        assert_eq!(rt; book.totals(), before);
+    }
+    Err(Fail::from("no end of growths"))
+}
+
+#[test]
+fn a_booking(rt: HostRuntime) -> Result<(), Fail> {
+    let alloc = Refusing::new(rt.alloc());
+    for members in [0, 1, 2, 8] {
+        let mut tree = book_of(&rt, &alloc, members);
+        assert_eq!(rt; growths_to_book(&rt, &alloc, &mut tree)?, 1);
+        let mut sorted = booked_by(&rt, VecRoster::new(&alloc), members);
+        assert!(rt; growths_to_book(&rt, &alloc, &mut sorted)? <= 1);
+    }
+    Ok(())
+}
+
+/// How many growths the list of a book takes; each is refused once.
+fn growths_to_list(rt: &impl Abort, alloc: &Refuser, book: &Kept<'_>) -> Result<u64, Fail> {
+    for number in 1..=MOST_GROWTHS {
+        alloc.refuse(number);
+        let list = book.list(alloc);
+        if !was_refused(rt, alloc, number, list.is_err()) {
+            assert_eq!(rt; list?.len(), book.totals().kept);
+            return Ok(number.saturating_sub(1));
+        }
+    }
+    Err(Fail::from("no end of growths"))
+}
+
+#[test]
+fn the_list_of_a_book(rt: HostRuntime) -> Result<(), Fail> {
+    let alloc = Refusing::new(rt.alloc());
+    let book = book_of(&rt, &alloc, 5);
+    assert_eq!(rt; growths_to_list(&rt, &alloc, &book)?, 1);
+    Ok(())
+}
+
+/// How many growths the copy of a book takes; each is refused once.
+fn growths_to_copy(rt: &impl Abort, alloc: &Refuser, book: &Kept<'_>) -> Result<u64, Fail> {
+    let list = book.list(alloc)?;
+    let totals = book.totals();
+    for number in 1..=MOST_GROWTHS {
+        alloc.refuse(number);
+        let copy = GatewayBook::trial(
+            TreeRoster::new(alloc),
+            book.id(),
+            book.cap(),
+            book.gap(),
+            totals.floor,
+            totals.booked,
+            list.as_slice(),
+        );
+        if !was_refused(rt, alloc, number, copy.is_err()) {
+            assert_eq!(rt; copy?.totals(), totals);
+            return Ok(number.saturating_sub(1));
+        }
+    }
+    Err(Fail::from("no end of growths"))
+}
+
+#[test]
+fn a_copy_of_a_book(rt: HostRuntime) -> Result<(), Fail> {
+    let alloc = Refusing::new(rt.alloc());
+    for members in [1, 2, 5] {
+        let book = book_of(&rt, &alloc, members);
+        assert!(rt; growths_to_copy(&rt, &alloc, &book)? >= members);
+    }
+    Ok(())
+}
