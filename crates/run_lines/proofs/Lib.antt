@@ -2,6 +2,7 @@ pub mod PutLemmas
 pub mod OrderLemmas
 pub mod GatewayLemmas
 pub mod ReplayLemmas
+pub mod KeyLemmas
 pub mod EventLemmas
 pub mod InputLemmas
 pub mod Worked

@@ -3,6 +3,7 @@ pub mod EntryLine
 pub mod Tally
 pub mod ReplayText
 pub mod RunWords
+pub mod KeyRing
 pub mod RunEvents
 pub mod RunInput
 pub mod Datagram

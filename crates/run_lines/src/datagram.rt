@@ -4,6 +4,7 @@ ghost use Rattle.std.specs.List.{list_any};
 ghost use Rattle.text_lines.specs.Words.{words_of};
 ghost use Rattle.run_lines.specs.Datagram.{asks_for_uplink, sent_event, datagram_event};
 
+use crate::key_ring::KeyRing;
 use crate::run_events::line_event;
 use crate::run_input::next_line;
 use crate::run_words::NoMemory;
@@ -51,7 +52,8 @@ fn sent_event(
     if asks_for_uplink(line) {
         return Ok(Some(Event::Bad { line: number }));
     }
-    line_event(alloc, devices, number, line)
+    // No word asks for an uplink to be made, so no key is asked for.
+    line_event(alloc, &KeyRing::unexpanded(devices), number, line)
 }
 
 /// Whether a word of the line begins with `@`.

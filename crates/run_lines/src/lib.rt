@@ -5,6 +5,7 @@ mod datagram;
 mod entry_line;
 mod entry_name;
 mod gateway_report;
+mod key_ring;
 mod laws;
 mod part_text;
 mod replay_text;

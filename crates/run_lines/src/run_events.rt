@@ -7,6 +7,7 @@ ghost use Rattle.run_lines.specs.RunWords.{uplink_word};
 ghost use Rattle.run_lines.specs.RunEvents.{queue_event, heard_with, number_of, hear_with, hear_event, pass_event, tick_event};
 ghost use Rattle.run_lines.specs.RunEvents.{cancel_event, worded_event, line_event, events_of};
 
+use crate::key_ring::KeyRing;
 use crate::run_input::next_line;
 use crate::run_words::{NoMemory, addr_word, hex_word, uplink_word};
 use server_core::{DeviceSetting, Event, Heard1};
@@ -16,14 +17,14 @@ use text_lines::{
     number_u64,
 };
 
-/// What line number `number` asks for, its end left out, by the devices of the settings; None where it is passed over.
+/// What line number `number` asks for, its end left out, by the devices of the settings and their keys; None where it is passed over.
 pub(crate) fn line_event(
     alloc: Global,
-    devices: &[DeviceSetting],
+    ring: &KeyRing<'_>,
     number: u64,
     line: &[u8],
 ) -> Result<Option<Event<Global>>, NoMemory>
-    ensures { IfOk result (λ event. event ≡ line_event devices.now number line.now) }
+    ensures { IfOk result (λ event. event ≡ line_event ring.now.devices.now number line.now) }
 {
     if is_passed_over(line) {
         return Ok(None);
@@ -31,7 +32,7 @@ pub(crate) fn line_event(
     if is_too_long(line) {
         return Ok(Some(Event::Bad { line: number }));
     }
-    match worded_event(alloc, devices, Words::of(line).as_slice())? {
+    match worded_event(alloc, ring, Words::of(line).as_slice())? {
         Some(event) => Ok(Some(event)),
         None => Ok(Some(Event::Bad { line: number })),
     }
@@ -40,14 +41,14 @@ pub(crate) fn line_event(
 /// The event that the words are, if they are one.
 fn worded_event(
     alloc: Global,
-    devices: &[DeviceSetting],
+    ring: &KeyRing<'_>,
     words: &[&[u8]],
 ) -> Result<Option<Event<Global>>, NoMemory>
-    ensures { IfOk result (λ event. event ≡ worded_event devices.now (map (λ word. word.now) words.now)) }
+    ensures { IfOk result (λ event. event ≡ worded_event ring.now.devices.now (map (λ word. word.now) words.now)) }
 {
     match words {
         [name, rest @ ..] if is_word(name, b"queue") => queue_event(alloc, rest),
-        [name, rest @ ..] if is_word(name, b"hear") => hear_event(alloc, devices, rest),
+        [name, rest @ ..] if is_word(name, b"hear") => hear_event(alloc, ring, rest),
         [name, rest @ ..] if is_word(name, b"pass") => Ok(pass_event(rest)),
         [name, rest @ ..] if is_word(name, b"tick") => Ok(tick_event(rest)),
         [name, rest @ ..] if is_word(name, b"cancel") => Ok(cancel_event(rest)),
@@ -78,10 +79,10 @@ fn queue_event(alloc: Global, words: &[&[u8]]) -> Result<Option<Event<Global>>, 
 /// The copy of an uplink whose words follow `hear`.
 fn hear_event(
     alloc: Global,
-    devices: &[DeviceSetting],
+    ring: &KeyRing<'_>,
     words: &[&[u8]],
 ) -> Result<Option<Event<Global>>, NoMemory>
-    ensures { IfOk result (λ event. event ≡ hear_event devices.now (map (λ word. word.now) words.now)) }
+    ensures { IfOk result (λ event. event ≡ hear_event ring.now.devices.now (map (λ word. word.now) words.now)) }
 {
     if words.len() != 8 {
         return Ok(None);
@@ -90,19 +91,19 @@ fn hear_event(
         return Ok(None);
     };
     let heard = heard_with(gateway, at, freq_hz, rate, snr, rssi);
-    let event = hear_with(alloc, devices, heard, number_u64(arrived), uplink)?;
+    let event = hear_with(alloc, ring, heard, number_u64(arrived), uplink)?;
     Ok(event)
 }
 
 /// The copy with these numbers, and with the uplink that a word says.
 fn hear_with(
     alloc: Global,
-    devices: &[DeviceSetting],
+    ring: &KeyRing<'_>,
     heard: Option<Heard1>,
     arrived: Option<u64>,
     uplink: &[u8],
 ) -> Result<Option<Event<Global>>, NoMemory>
-    ensures { IfOk result (λ event. event ≡ hear_with heard arrived (uplink_word devices.now uplink.now)) }
+    ensures { IfOk result (λ event. event ≡ hear_with heard arrived (uplink_word ring.now.devices.now uplink.now)) }
 {
     let Some(heard) = heard else {
         return Ok(None);
@@ -110,7 +111,7 @@ fn hear_with(
     let Some(arrived) = arrived else {
         return Ok(None);
     };
-    match uplink_word(alloc, devices, uplink)? {
+    match uplink_word(alloc, ring, uplink)? {
         Some(bytes) => Ok(Some(Event::Hear {
             bytes,
             heard,
@@ -187,11 +188,19 @@ pub fn events_of(
 ) -> Result<Vec<Event<Global>>, NoMemory>
     ensures { IfOk result (λ events. events.items ≡ events_of devices.now (lines text.now)) }
 {
+    let ring = KeyRing::new(alloc, devices)?;
+    events_by(alloc, &ring, text)
+}
+
+/// The events that the lines of a text ask for, by these devices and their keys.
+fn events_by(alloc: Global, ring: &KeyRing<'_>, text: &[u8]) -> Result<Vec<Event<Global>>, NoMemory>
+    ensures { IfOk result (λ events. events.items ≡ events_of ring.now.devices.now (lines text.now)) }
+{
     let mut events = Vec::new(alloc);
     let mut number = 1;
     let mut left = text;
     while let Some((line, rest)) = next_line(left) {
-        append_event(&mut events, alloc, devices, number, line)?;
+        append_event(&mut events, alloc, ring, number, line)?;
         number += 1;
         left = rest;
     }
@@ -202,13 +211,13 @@ pub fn events_of(
 fn append_event(
     events: &mut Vec<Event<Global>>,
     alloc: Global,
-    devices: &[DeviceSetting],
+    ring: &KeyRing<'_>,
     number: u64,
     line: &[u8],
 ) -> Result<(), NoMemory>
-    ensures { OnOk result (events.new.items ≡ events.old.items ++ option_to_list (line_event devices.now number line.now)) }
+    ensures { OnOk result (events.new.items ≡ events.old.items ++ option_to_list (line_event ring.now.devices.now number line.now)) }
 {
-    let Some(event) = line_event(alloc, devices, number, line)? else {
+    let Some(event) = line_event(alloc, ring, number, line)? else {
         return Ok(());
     };
     events.push(event)?;

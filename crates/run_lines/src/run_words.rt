@@ -1,14 +1,14 @@
 // What the words of an event line say.
 ghost use Rattle.std.specs.Prelude.{◌≡◌, ◌^◌, ◌<◌, [], ◌∷◌, ◌++◌, None, length, IfOk};
 ghost use Rattle.std.specs.Option.{option_map};
-ghost use Rattle.run_lines.specs.RunWords.{addr_word, hex_word, Kind, kind_of, keys_for, bare_message, bare_uplink, made_word};
+ghost use Rattle.run_lines.specs.RunWords.{addr_word, hex_word, Kind, kind_of, bare_message, bare_uplink, made_word};
 ghost use Rattle.run_lines.specs.RunWords.{uplink_word};
 ghost use Rattle.lora_frame.specs.Frame.{with_mic, bit_worth, up_control};
 
+use crate::key_ring::KeyRing;
 use answer_ticket::Bytes;
 use hex::{FromHex, FromHexError};
-use lora_frame::{Key, Keys, Up, uplink_bytes, uplink_header};
-use server_core::DeviceSetting;
+use lora_frame::{Keys, Up, uplink_bytes, uplink_header};
 use std::alloc::{AllocError, Global};
 use text_lines::number_u32;
 
@@ -35,17 +35,6 @@ pub(crate) fn hex_word(alloc: Global, word: &[u8]) -> Result<Option<Bytes<Global
         Err(FromHexError::OutOfMemory) => Err(AllocError),
         Err(_) => Ok(None),
     }
-}
-
-/// The session keys of the device with this address, of at most 1,024 devices.
-fn keys_for(addr: u32, devices: &[DeviceSetting]) -> Option<Keys>
-    ensures { result ≡ keys_for addr devices.now }
-{
-    let device = devices.iter().find(|device| device.addr == addr)?;
-    Some(Keys {
-        nwk: Key::new(device.nwk),
-        app: Key::new(device.app),
-    })
 }
 
 /// A kind of uplink: whether it is confirmed, and whether it has ADRACKReq.
@@ -129,10 +118,10 @@ fn unsigned_uplink(
 /// The uplink that a word `@KIND:ADDR:COUNTER` asks to be made.
 fn made_word(
     alloc: Global,
-    devices: &[DeviceSetting],
+    ring: &KeyRing<'_>,
     word: &[u8],
 ) -> Result<Option<Bytes<Global>>, NoMemory>
-    ensures { IfOk result (λ bytes. bytes ≡ made_word devices.now word.now) }
+    ensures { IfOk result (λ bytes. bytes ≡ made_word ring.now.devices.now word.now) }
 {
     if word.len() <= 12 || word[2] != b':' || word[11] != b':' {
         return Ok(None);
@@ -146,20 +135,20 @@ fn made_word(
     let Some(counter) = number_u32(&word[12..]) else {
         return Ok(None);
     };
-    let bytes = bare_uplink(alloc, keys_for(addr, devices), kind, addr, counter)?;
+    let bytes = bare_uplink(alloc, ring.keys_for(addr), kind, addr, counter)?;
     Ok(Some(bytes))
 }
 
 /// The bytes of an uplink, given in hexadecimal digits, or made.
 pub(crate) fn uplink_word(
     alloc: Global,
-    devices: &[DeviceSetting],
+    ring: &KeyRing<'_>,
     word: &[u8],
 ) -> Result<Option<Bytes<Global>>, NoMemory>
-    ensures { IfOk result (λ bytes. bytes ≡ uplink_word devices.now word.now) }
+    ensures { IfOk result (λ bytes. bytes ≡ uplink_word ring.now.devices.now word.now) }
 {
     match word {
-        [b'@', ..] => made_word(alloc, devices, word),
+        [b'@', ..] => made_word(alloc, ring, word),
         _ => hex_word(alloc, word),
     }
 }

@@ -13,11 +13,16 @@ use crate::pass_ends::Ends;
 use crate::station_run::Shift;
 use answer_ticket::Receipt;
 use server_core::{Line, NoMemory};
-use server_workers::{Ledger, NoGate, PARTS, ServeCause, Served, Station, Till, serve};
+use server_workers::{
+    Ledger, MAX_WORKERS, NoGate, PARTS, ServeCause, Served, Station, Till, serve,
+};
 use std::alloc::Global;
 use std::hash::BuildHasher;
 use std::sync::Wait;
 use std::thread::Threads;
+
+/// How many numbers are worth a thread.
+const NUMBERS_EACH: usize = 32;
 
 impl<B: Ledger + Send + Sync, S: BuildHasher + Drop + Send + Sync> Shift<B, S>
 where
@@ -143,8 +148,8 @@ struct Shared<B: Ledger> {
     ends: Ends,
 }
 
-/// Answers the uplinks with these numbers by so many workers. What they did not end, and all where none could work, the
-/// calling thread takes up once more.
+/// Answers the uplinks with these numbers by as many of so many workers as there is work for. What they did not end, and all
+/// where none could work, the calling thread takes up once more.
 pub fn answer_with_workers<
     B: Ledger + Send + Sync,
     S: BuildHasher + Send + Sync,
@@ -169,9 +174,33 @@ where
         mut till,
         ran,
         ends,
-    } = shared_out(rt, alloc, station, numbers, till, workers);
+    } = shared_out(
+        rt,
+        alloc,
+        station,
+        numbers,
+        till,
+        wanted(workers, numbers.len()),
+    );
     let told = told_of(rt, alloc, station, numbers, &mut till, ends);
     Answered { till, ran, told }
+}
+
+/// How many of so many workers so many numbers want: one for each 32 numbers, as a thread costs what some answers cost, and one at
+/// least. A number of workers that no station has stays as it is.
+fn wanted(workers: u8, count: usize) -> u8
+    ensures fewer { result ≤ workers }
+    ensures outside { IsOutside result ↔ IsOutside workers }
+{
+    if workers > MAX_WORKERS {
+        return workers;
+    }
+    let most = count / NUMBERS_EACH + 1;
+    if most < usize::from(workers) {
+        most as u8
+    } else {
+        workers
+    }
 }
 
 /// What so many workers make of the uplinks with these numbers.

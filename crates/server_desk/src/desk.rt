@@ -17,7 +17,7 @@ use crate::opening::{addrs_of, airtimes_of, devices_of, ids_of};
 use crate::verdict::{NewUplink, Verdict};
 use crate::{DeskFault, DeskHeard, Heard1, QueueFault, Settings};
 use indexmap::IndexSet;
-use lora_frame::{Key, Uplink, check_mic, infer, read_uplink};
+use lora_frame::{Uplink, check_mic, infer, read_uplink};
 use std::alloc::{AllocError, Allocator, Global};
 use std::hash::BuildHasher;
 use std::marker::Model;
@@ -228,7 +228,7 @@ impl<S: BuildHasher, A: Allocator> Desk<S, A> {
         let Some(counter) = infer(device.up, uplink.low) else {
             return Verdict::Refuse(DeskFault::BadMic);
         };
-        if !check_mic(bytes, &Key::new(device.setting.nwk), counter) {
+        if !check_mic(bytes, device.nwk(), counter) {
             return Verdict::Refuse(DeskFault::BadMic);
         }
         if self.gather.is_crowded() {

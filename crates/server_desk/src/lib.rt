@@ -6,6 +6,7 @@ mod airtimes;
 mod answers;
 mod desk;
 mod device;
+mod device_calls;
 mod faults;
 mod heard;
 mod hearing;

@@ -35,7 +35,8 @@ struct Outfit<K: Room, B: Ledger, A: Allocator> {
 }
 
 /// Has some workers, 1 to 16, take, try and settle these numbers of a station, as `work` does, each with a part of a till
-/// that has more than 16. Some of the workers may not be started; the others do all the work. After a fault no number was
+/// that has more than 16. One worker works on the calling thread, and several on threads of their own, of which some may not
+/// be started; the others do all the work. After a fault no number was
 /// taken, and the till is handed back as it was given: `Workers` for another number of workers, `NoMemory` where a growth was
 /// refused before any worker was started, `NoThread` where none could be started.
 pub fn serve<
@@ -151,7 +152,7 @@ where
     let parts = till.parts();
     prove!(parts <= PARTS); // So they fit when they are joined again.
     let mut crew = hired(&mut till, outfit.lists, outfit.crew);
-    run(rt, station, &outfit.numbers, gate, crew.as_mut_slice());
+    work_together(rt, station, &outfit.numbers, gate, crew.as_mut_slice());
     summed_up(till, outfit.all, crew)
 }
 
@@ -215,6 +216,31 @@ fn hired<K: Room, B: Ledger, A: Allocator>(
         crew.push_reserved(Member::new(Worked::idle(till.split(), own)));
     }
     crew
+}
+
+/// Has a crew work: one worker alone on the calling thread, and several on threads of their own.
+fn work_together<
+    K: Room + Send + Sync,
+    R: Threads + Wait + Sync,
+    B: Ledger + Send + Sync,
+    S: BuildHasher + Send + Sync,
+    A: Allocator + Copy + Send + Sync,
+    G: Gate + Sync,
+>(
+    rt: &R,
+    station: &Station<B, S, A>,
+    numbers: &Numbers<K, A>,
+    gate: &G,
+    crew: &mut [Member<K, B, A>],
+)
+where
+    S::Hasher: Send + Sync,
+{
+    if crew.len() == 1 {
+        crew[0].work(rt, station, numbers, gate);
+    } else {
+        run(rt, station, numbers, gate, crew);
+    }
 }
 
 /// Has a crew work on threads of their own, and waits for them. One that can't be started stays as it is.

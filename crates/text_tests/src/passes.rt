@@ -143,11 +143,13 @@ fn held<B: Ledger + Send + Sync, R: Threads + Wait + Sync>(
     Ok((text, pass_text(alloc, after.told)?))
 }
 
-/// How many of so many workers are started for three uplinks, and what is told of these.
+/// How many of so many workers are started for the numbers 1 to `last`, of which the first three are uplinks that were heard, and
+/// what is told of all.
 fn answered<B: Ledger + Send + Sync, R: Threads + Wait + Sync>(
     rt: &R,
     alloc: Global,
     workers: u8,
+    last: u64,
     blank: Blank,
 ) -> Result<(Result<u8, ServeCause>, Text), Fail>
     requires name { blank.name ≡ B.name }
@@ -155,11 +157,15 @@ fn answered<B: Ledger + Send + Sync, R: Threads + Wait + Sync>(
     requires all { blank.parts ≡ PARTS }
 {
     let (station, till) = station_that_heard::<B, R>(rt, alloc, AT_ONCE, blank)?;
+    let mut numbers = Vec::new(alloc);
+    for number in 1..=last {
+        numbers.push(number)?;
+    }
     let Answered { till: _, ran, told } = answer_with_workers(
         rt,
         alloc,
         &station,
-        &[1, 2, 3],
+        numbers.as_slice(),
         till,
         workers,
     );
@@ -182,7 +188,7 @@ fn what_is_skipped_is_answered_once_more(rt: HostRuntime) -> Result<(), Fail> {
 #[test]
 fn calling_thread_answers_where_nobody_works(rt: HostRuntime) -> Result<(), Fail> {
     let blank = Blank::new(PARTS as u64);
-    let (ran, (refused, text)) = answered::<Brand, _>(&rt, rt.alloc(), 17, blank)?;
+    let (ran, (refused, text)) = answered::<Brand, _>(&rt, rt.alloc(), 17, 3, blank)?;
     assert_eq!(rt; ran, Err(ServeCause::Workers));
     assert!(rt; !refused);
     assert_eq!(rt; text.as_slice(), ANSWERED_HERE);
@@ -190,11 +196,18 @@ fn calling_thread_answers_where_nobody_works(rt: HostRuntime) -> Result<(), Fail
 }
 
 #[test]
-fn as_many_workers_start_as_are_asked_for(rt: HostRuntime) -> Result<(), Fail> {
-    let two = answered::<Brand, _>(&rt, rt.alloc(), 2, Blank::new(PARTS as u64))?;
-    assert_eq!(rt; two.0, Ok(2));
-    let sixteen = answered::<Brand, _>(&rt, rt.alloc(), 16, Blank::new(PARTS as u64))?;
-    assert_eq!(rt; sixteen.0, Ok(16));
+fn as_many_workers_start_as_there_is_work_for(rt: HostRuntime) -> Result<(), Fail> {
+    for (workers, last, wanted) in [
+        (2, 600, 2),
+        (16, 600, 16),
+        (16, 64, 3),
+        (16, 3, 1),
+        (1, 3, 1),
+    ] {
+        let blank = Blank::new(PARTS as u64);
+        let (ran, _) = answered::<Brand, _>(&rt, rt.alloc(), workers, last, blank)?;
+        assert_eq!(rt; ran, Ok(wanted));
+    }
     Ok(())
 }
 

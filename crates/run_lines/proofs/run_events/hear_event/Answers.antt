@@ -7,5 +7,5 @@ returns-then-words-ne8 c = sym (hear_event-other _ _ c.args.words.now c.if-words
 
 pub returns : goal.returns
 returns c =
-    hear_event-by (λ word. word.now) c.args.devices.now c.args.words.now _ c.heard_with-heard.result c.number_u64.result
+    hear_event-by (λ word. word.now) c.args.ring.now.devices.now c.args.words.now _ c.heard_with-heard.result c.number_u64.result
     c.in_ok-event.event c.if-words-ne8.false c.heard_with-heard.ensures c.number_u64.ensures c.in_ok-event.ensures

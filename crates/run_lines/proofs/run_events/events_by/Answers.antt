@@ -1,6 +1,6 @@
 use Rattle.std.proofs.Common.{arith}
 use Rattle.run_lines.proofs.EventLemmas.{events-so_far, events-all}
-use Rattle.run_lines.proofs.run_events.events_of.Goals as goal
+use Rattle.run_lines.proofs.run_events.events_by.Goals as goal
 
 pub loop-line-preserved : goal.loop-line-preserved
 loop-line-preserved c =
