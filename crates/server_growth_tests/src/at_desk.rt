@@ -19,9 +19,9 @@ pub(crate) struct AtDesk<'a> {
     book: GatewayBook<TreeRoster<&'a Refuser>>,
 }
 
-/// The desk of gateways 1 and 2 and of one device, and the empty book of gateway 1.
+/// The desk of gateways 1 and 2 and of two devices, and the empty book of gateway 1.
 pub(crate) fn at_desk<'a>(global: Global, alloc: &'a Refuser) -> Result<AtDesk<'a>, Fail> {
-    let settings = settings_of(global, &[device(ADDR)])?;
+    let settings = settings_of(global, &[device(ADDR), device(2)])?;
     Ok(AtDesk {
         desk: Desk::new(alloc, hasher(), &settings, AMPLE)?,
         book: GatewayBook::new(TreeRoster::new(alloc), 1, 4_096, 0)?,

@@ -19,7 +19,7 @@ pub(crate) struct AtStation<'a, B: Ledger> {
     till: Till<B>,
 }
 
-/// The station of gateways 1 and 2 and of one device.
+/// The station of gateways 1 and 2 and of two devices.
 pub(crate) fn at_station<'a, B: Ledger>(
     global: Global,
     alloc: &'a Refuser,
@@ -29,7 +29,7 @@ pub(crate) fn at_station<'a, B: Ledger>(
     requires parts { blank.parts ≡ B.parts }
     requires all { blank.parts ≡ PARTS }
 {
-    let (station, till) = station_of(global, alloc, ADDR, blank)?;
+    let (station, till) = station_of(global, alloc, 2, blank)?;
     Ok(AtStation { station, till })
 }
 

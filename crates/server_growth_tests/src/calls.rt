@@ -6,17 +6,17 @@ use std::alloc::{Allocator, Global};
 use std::process::Abort;
 use std::sync::Wait;
 use std::test::Fail;
-use worked_inputs::{copy_at, uplink};
+use worked_inputs::{COPY, copy_at, uplink};
 
-/// The address of the only device.
+/// The addresses of the devices are 1 and 2; payloads are queued for the first.
 pub(crate) const ADDR: u32 = 1;
 
 /// The number of a ticket, its gateway, and its downlink counter.
 pub(crate) type Given = (u64, u16, u32);
 
-/// Where uplinks of one device are heard and answered.
+/// Where uplinks are heard and answered.
 pub(crate) trait Server {
-    /// Queues a payload for the device.
+    /// Queues a payload for the first device.
     fn queue<R: Wait>(&mut self, rt: &R, payload: &[u8]) -> Result<usize, QueueFault>;
 
     /// Hears a copy of an uplink, at moment 0 of the server's clock.
@@ -40,8 +40,10 @@ pub(crate) trait Server {
 pub(crate) enum Call {
     /// Three bytes are queued.
     Queue,
-    /// This gateway hears the confirmed uplink with this counter.
+    /// This gateway hears the first device's confirmed uplink with this counter.
     Hear(u16, u32),
+    /// Gateway 1 hears the second device's first uplink, which is confirmed.
+    HearOther,
     /// Time passes, until this moment.
     Pass(u64),
     /// A ticket is taken for this number, given up and settled.
@@ -55,10 +57,20 @@ pub(crate) enum Call {
 /// What it answers.
 #[derive(Clone, Copy, Debug, PartialEq, Eq)]
 pub(crate) enum Answer {
-    Queued(Result<usize, QueueFault>),
-    Heard(Result<DeskHeard, DeskFault>),
+    /// So many payloads wait.
+    Queued(usize),
+    NotQueued(QueueFault),
+    /// The copy opened the gathering with this number, whose uplink had a new counter.
+    Opened(u64),
+    /// It opened one whose uplink had the counter of its device's last.
+    Repeated(u64),
+    /// It joined this gathering, which has so many copies.
+    Joined(u64, usize),
+    NotHeard(DeskFault),
     Passed(Option<u64>),
-    Taken(Result<Given, TakeFault>),
+    /// A ticket was given, with this number, this gateway and this downlink counter.
+    Given(u64, u16, u32),
+    NotGiven(TakeFault),
     Answered(Option<usize>),
     Airtime(Option<u64>),
 }
@@ -71,9 +83,9 @@ impl Answer {
     pub(crate) fn is_starved(self) -> bool {
         matches!(
             self,
-            Answer::Queued(Err(QueueFault::NoMemory))
-                | Answer::Heard(Err(DeskFault::NoMemory))
-                | Answer::Taken(Err(TakeFault::NoMemory))
+            Answer::NotQueued(QueueFault::NoMemory)
+                | Answer::NotHeard(DeskFault::NoMemory)
+                | Answer::NotGiven(TakeFault::NoMemory)
         )
     }
 }
@@ -100,15 +112,42 @@ pub(crate) fn answer_to<S: Server, R: Wait>(
     call: Call,
 ) -> Result<Answer, Fail> {
     match call {
-        Call::Queue => Ok(Answer::Queued(server.queue(rt, &[1, 2, 3]))),
+        Call::Queue => Ok(queue(rt, server)),
         Call::Hear(gateway, counter) => {
             let bytes = uplink(global, true, ADDR, counter)?;
-            Ok(Answer::Heard(server.hear(rt, &bytes, copy_at(gateway))))
+            Ok(hear(rt, server, &bytes, copy_at(gateway)))
+        }
+        Call::HearOther => {
+            let bytes = uplink(global, true, 2, 0)?;
+            Ok(hear(rt, server, &bytes, COPY))
         }
         Call::Pass(now) => Ok(Answer::Passed(server.pass(rt, now))),
-        Call::Take(number) => Ok(Answer::Taken(server.take(rt, number))),
+        Call::Take(number) => Ok(take(rt, server, number)),
         Call::Answer(number) => Ok(Answer::Answered(server.answer(rt, number))),
         Call::Airtime(gateway) => Ok(Answer::Airtime(server.airtime(rt, gateway))),
+    }
+}
+
+fn queue<S: Server, R: Wait>(rt: &R, server: &mut S) -> Answer {
+    match server.queue(rt, &[1, 2, 3]) {
+        Ok(count) => Answer::Queued(count),
+        Err(fault) => Answer::NotQueued(fault),
+    }
+}
+
+fn hear<S: Server, R: Wait>(rt: &R, server: &mut S, bytes: &[u8], copy: Heard1) -> Answer {
+    match server.hear(rt, bytes, copy) {
+        Ok(DeskHeard::Opened { n, repeat: false }) => Answer::Opened(n),
+        Ok(DeskHeard::Opened { n, repeat: true }) => Answer::Repeated(n),
+        Ok(DeskHeard::Joined { n, copies }) => Answer::Joined(n, copies),
+        Err(fault) => Answer::NotHeard(fault),
+    }
+}
+
+fn take<S: Server, R: Wait>(rt: &R, server: &mut S, number: u64) -> Answer {
+    match server.take(rt, number) {
+        Ok((number, gateway, counter)) => Answer::Given(number, gateway, counter),
+        Err(fault) => Answer::NotGiven(fault),
     }
 }
 
