@@ -1,7 +1,7 @@
 // A station that is finished.
 ghost use Rattle.std.specs.Prelude.{◌≡◌, ◌<◌, IfOk};
 
-use crate::stations::{RefusedStation, booked_at, heard_by, station_of};
+use crate::stations::{RefusedStation, heard_by, station_of, totals_at};
 use crate::turns::{MOST_GROWTHS, Refuser, was_refused};
 use answer_ticket::Receipt;
 use refusing_alloc::Refusing;
@@ -116,6 +116,7 @@ fn is_refused_at<'a, B: Ledger, R: Abort + Wait>(
         tills,
         receipts,
     } = ready;
+    let before = totals_at(rt, &station);
     alloc.refuse(number);
     match finished(alloc, station, tills, &receipts) {
         Ok(closing) => {
@@ -125,7 +126,7 @@ fn is_refused_at<'a, B: Ledger, R: Abort + Wait>(
         Err(fault) => {
             was_refused(rt, alloc, number, fault.cause == FinishCause::NoMemory);
             assert_eq!(rt; parts_of(&fault.tills), (2, Some(65_535), Some(1)));
-            assert_eq!(rt; booked_at(rt, &fault.station), Some((TWICE, 2)));
+            assert_eq!(rt; totals_at(rt, &fault.station), before);
             is_finished(rt, alloc, fault, &receipts);
             Ok(true)
         }

@@ -130,6 +130,22 @@ fn tells<R: Abort>(rt: &R, replay: &Replay<&Refuser>) {
     assert_eq!(rt; replay.books.len(), 2);
 }
 
+/// One growth of a run is refused, and none after it: where something asks for less then, the run answers as ever.
+fn is_whole_or_starved<R: Abort>(
+    rt: &R,
+    alloc: &Refuser,
+    settings: &Settings<Global>,
+    events: &[Event<&Refuser>],
+    number: u64,
+) {
+    alloc.refuse(number);
+    let refused = replayed(alloc, settings, events);
+    alloc.grant();
+    if let Ok(replay) = refused {
+        tells(rt, &replay);
+    }
+}
+
 #[test]
 fn a_run_is_replayed(rt: HostRuntime) -> Result<(), Fail> {
     let alloc = Refusing::new(rt.alloc());
@@ -144,6 +160,7 @@ fn a_run_is_replayed(rt: HostRuntime) -> Result<(), Fail> {
             return Ok(());
         }
         tells(&rt, &replayed(&alloc, &settings, &events)?);
+        is_whole_or_starved(&rt, &alloc, &settings, &events, number);
     }
     Err(Fail::from("no end of growths"))
 }

@@ -2,6 +2,7 @@
 ghost use Rattle.std.specs.Prelude.{◌≡◌, IfOk};
 
 use crate::turns::Refuser;
+use gateway_book::Totals;
 use server_desk::{DeviceSetting, Heard1};
 use server_workers::{Blank, Ledger, PARTS, Station, Till};
 use std::alloc::Global;
@@ -64,15 +65,10 @@ pub(crate) fn heard_by<B: Ledger, R: Wait>(
     Ok(numbers)
 }
 
-/// What the gateways have booked, together, and how many reservations they keep.
-pub(crate) fn booked_at<B: Ledger, R: Wait>(
+/// What the books of both gateways have counted.
+pub(crate) fn totals_at<B: Ledger, R: Wait>(
     rt: &R,
     station: &RefusedStation<'_, B>,
-) -> Option<(u64, usize)> {
-    let one = station.totals(rt, 1, 0).ok()?;
-    let two = station.totals(rt, 2, 0).ok()?;
-    Some((
-        one.booked.saturating_add(two.booked),
-        one.kept.saturating_add(two.kept),
-    ))
+) -> [Option<Totals>; 2] {
+    [station.totals(rt, 1, 0).ok(), station.totals(rt, 2, 0).ok()]
 }

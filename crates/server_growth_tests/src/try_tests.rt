@@ -1,7 +1,7 @@
 // A ticket that is tried at its station.
 ghost use Rattle.std.specs.Prelude.{◌≡◌};
 
-use crate::stations::{RefusedStation, booked_at, heard_by, station_of};
+use crate::stations::{RefusedStation, heard_by, station_of, totals_at};
 use crate::turns::{MOST_GROWTHS, Refuser, was_refused};
 use answer_ticket::{Stub, Ticket, Tried};
 use refusing_alloc::Refusing;
@@ -80,6 +80,7 @@ fn tried<'a, B: Ledger, R: Abort + Wait>(
     station: &RefusedStation<'a, B>,
     number: u64,
 ) -> (bool, Option<(u64, u16, u32)>, Option<usize>) {
+    let before = totals_at(rt, station);
     let Some(ticket) = taken(rt, station, 2) else {
         return (false, None, None);
     };
@@ -88,7 +89,7 @@ fn tried<'a, B: Ledger, R: Abort + Wait>(
         Ended::Starved(back) => {
             let shown = shown(&back);
             let is_starved = was_refused(rt, alloc, number, true);
-            assert_eq!(rt; booked_at(rt, station), Some((0, 0)));
+            assert_eq!(rt; totals_at(rt, station), before);
             let len = booked_len(tried_once(rt, station, back));
             (is_starved, Some(shown), len)
         }
@@ -116,7 +117,8 @@ fn is_refused<B: Ledger, R: Abort + Wait>(
     let (is_starved, shown, len) = tried(rt, &alloc, &station, number);
     assert_eq!(rt; shown, is_starved.then_some((2, 1, 0)));
     assert_eq!(rt; len, Some(12));
-    assert_eq!(rt; booked_at(rt, &station), Some((41_216, 1)));
+    let booked = totals_at(rt, &station).map(|totals| totals.map(|totals| totals.booked));
+    assert_eq!(rt; booked, [Some(41_216), Some(0)]);
     Ok(is_starved)
 }
 
