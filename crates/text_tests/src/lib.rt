@@ -7,3 +7,7 @@ mod failing_calls;
 mod passes;
 #[cfg(test)]
 mod settings;
+#[cfg(test)]
+mod text_calls;
+#[cfg(test)]
+mod worked_texts;
