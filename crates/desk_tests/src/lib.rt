@@ -6,6 +6,8 @@ mod calls;
 #[cfg(test)]
 mod hearing;
 #[cfg(test)]
+mod room;
+#[cfg(test)]
 mod settings;
 #[cfg(test)]
 mod settling;

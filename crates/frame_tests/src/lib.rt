@@ -4,6 +4,8 @@
 #[cfg(test)]
 mod codes;
 #[cfg(test)]
+mod cuts;
+#[cfg(test)]
 mod frames;
 #[cfg(test)]
 mod growths;
