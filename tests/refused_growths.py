@@ -1,0 +1,200 @@
+#!/usr/bin/env python3
+"""Refuses each growth of the program in turn, on cases of cases/, and looks how it ends.
+
+Usage: tests/refused_growths.py [PROGRAM [NAME ..]]      (the program that the gate leaves; the cases of CASES below)
+
+It is for the texts that take the global allocator, which no test can replace: a library that is loaded before the C library
+refuses what the program itself asks of `malloc`, `realloc` and `posix_memalign`, by its number. A C compiler makes it, `cc` or
+that of CC. Each growth is refused alone, and then with all that follow, until there is none of that number. The program has
+to end within SECONDS, by no signal, and
+    with status 2    a fault is named on standard error, and what was written is a front of what is written with memory
+    with 0 or 1      output and status are as with memory, or a line of the output ends in NoMemory
+Prints a line for each run that ends otherwise, and one for each case with the number of its growths and how often each answer
+came. The status is 0 where none ended otherwise, 1 where one did, 2 where nothing could be run.
+"""
+import collections
+import os
+import pathlib
+import re
+import socket
+import subprocess
+import sys
+import tempfile
+import time
+
+sys.dont_write_bytecode = True
+from cases import CASES as FOLDER, TOP, input_of, words_in
+from listen import SETTINGS, UPLINK, free_port, is_bound
+
+CASES = [
+    ("run_two_gateways", ""), ("run_two_gateways", "--workers 1"), ("run_two_gateways", "--workers 2"),
+    ("run_three_devices_at_once", ""), ("run_three_devices_at_once", "--workers 1"), ("run_payload_in_rx1", ""),
+    ("run_queue_refusals", ""), ("run_settings_alone", ""), ("run_settings_not_toml", ""), ("book_two_bookings_example", ""),
+    ("book_resume_example", ""), ("plan_earliest_example", ""), ("toa_dr5_12_bytes", ""), ("listen", "--workers 1"),
+]
+# What is sent to a server that listens: two gateways hear an uplink, a payload is queued, and the uplink is answered.
+DATAGRAMS = [
+    f"hear 1 5000000 868100000 5 55 -90 1000 {UPLINK}", f"hear 2 9000000 868100000 5 55 -80 1100 {UPLINK}",
+    "queue 26011bda 9 0102", "pass 201001",
+]
+Ended = collections.namedtuple("Ended", "status out err")
+SECONDS = 20
+MOST = 20_000
+ALL = 1 << 62
+SHIM = r"""
+#define _GNU_SOURCE
+#include <dlfcn.h>
+#include <errno.h>
+#include <link.h>
+#include <stdatomic.h>
+#include <stdlib.h>
+#include <unistd.h>
+
+static atomic_long asked;
+static long first, last, tell;
+static char *low, *high;
+
+static int own(struct dl_phdr_info *info, size_t size, void *data) {
+    for (int i = 0; i < info->dlpi_phnum; i++)
+        if (info->dlpi_phdr[i].p_type == PT_LOAD && (info->dlpi_phdr[i].p_flags & PF_X)) {
+            low = (char *)info->dlpi_addr + info->dlpi_phdr[i].p_vaddr;
+            high = low + info->dlpi_phdr[i].p_memsz;
+        }
+    return 1; /* the program is the first */
+}
+
+__attribute__((constructor)) static void begin(void) {
+    first = atol(getenv("REFUSE_FIRST"));
+    last = atol(getenv("REFUSE_LAST"));
+    tell = atol(getenv("REFUSE_TELL"));
+    dl_iterate_phdr(own, 0);
+}
+
+static int refused(void *caller) {
+    if ((char *)caller < low || (char *)caller >= high) return 0;
+    long number = atomic_fetch_add(&asked, 1) + 1;
+    if (number < first || number > last) return 0;
+    if (write(tell, "x", 1)) {}
+    return 1;
+}
+
+void *malloc(size_t size) {
+    static void *(*real)(size_t);
+    if (!real) real = (void *(*)(size_t))dlsym(RTLD_NEXT, "malloc");
+    return refused(__builtin_return_address(0)) ? 0 : real(size);
+}
+
+void *realloc(void *old, size_t size) {
+    static void *(*real)(void *, size_t);
+    if (!real) real = (void *(*)(void *, size_t))dlsym(RTLD_NEXT, "realloc");
+    return refused(__builtin_return_address(0)) ? 0 : real(old, size);
+}
+
+int posix_memalign(void **made, size_t align, size_t size) {
+    static int (*real)(void **, size_t, size_t);
+    if (!real) real = (int (*)(void **, size_t, size_t))dlsym(RTLD_NEXT, "posix_memalign");
+    return refused(__builtin_return_address(0)) ? ENOMEM : real(made, align, size);
+}
+"""
+
+
+def shim_in(folder):
+    """The library that refuses."""
+    source, library = folder / "shim.c", folder / "shim.so"
+    source.write_text(SHIM)
+    compiler = os.environ.get("CC", "cc").split()
+    subprocess.run([*compiler, "-O1", "-shared", "-fPIC", "-o", library, source, "-ldl"], check=True)
+    return library
+
+
+def opened(name, more, folder):
+    """The arguments of a case, its standard input, and the port that it listens to, if it does."""
+    if name != "listen":
+        return [*words_in(FOLDER / name / "args"), *more.split()], input_of(FOLDER / name, [], folder), None
+    port = free_port()
+    (folder / "settings").write_text(SETTINGS)
+    words = ["listen", "--port", str(port), "--turns", str(len(DATAGRAMS)), *more.split()]
+    return words, os.open(folder / "settings", os.O_RDONLY), port
+
+
+def ended(child, port):
+    """How a program ended: its status, and what it wrote to standard output and error; no status where it didn't in time."""
+    ends = time.monotonic() + SECONDS
+    if port is not None:
+        while not is_bound(port) and child.poll() is None and time.monotonic() < ends:
+            time.sleep(0.001)
+        with socket.socket(type=socket.SOCK_DGRAM) as sender:
+            for datagram in DATAGRAMS:
+                sender.sendto(datagram.encode(), ("127.0.0.1", port))
+    try:
+        out, err = child.communicate(timeout=SECONDS)
+        return Ended(child.returncode, out, err)
+    except subprocess.TimeoutExpired:
+        child.kill()
+        return Ended(None, *child.communicate())
+
+
+def run(program, library, folder, case, first, last):
+    """Runs a case with these growths refused: how many were, and how it ended."""
+    words, given, port = opened(*case, folder)
+    read, write = os.pipe()
+    env = {"LD_PRELOAD": str(library), "REFUSE_FIRST": str(first), "REFUSE_LAST": str(last), "REFUSE_TELL": str(write)}
+    child = subprocess.Popen(
+        [program, *words], stdin=given, stdout=subprocess.PIPE, stderr=subprocess.PIPE, env=env, pass_fds=[write], cwd=folder
+    )
+    os.close(write)
+    os.close(given)
+    how = ended(child, port)
+    with os.fdopen(read, "rb") as told:
+        return len(told.read()), how
+
+
+def answer(how, ordinary):
+    """What a run answered, in a word or two; nothing where it had to end otherwise."""
+    if how.status == 2:
+        fault = re.search(rb"(?m)^(airbook: \w+|error: .*)$", how.err)
+        return fault[1].decode() if fault and ordinary.out.startswith(how.out) else None
+    if how.status not in (0, 1):
+        return None
+    if how == ordinary:
+        return "as with memory"
+    return "a line with NoMemory" if re.search(rb"(?m) NoMemory$", how.out) else None
+
+
+def refuse_each(program, library, folder, case):
+    """Refuses each growth of a case: how many there are, how often each answer came, and how many runs ended otherwise."""
+    _, ordinary = run(program, library, folder, case, ALL, ALL)
+    answers, wrong = collections.Counter(), 0
+    for number in range(1, MOST):
+        for last in (number, ALL):
+            count, how = run(program, library, folder, case, number, last)
+            if count == 0:
+                return number - 1, answers, wrong
+            found = answer(how, ordinary)
+            answers[found or "otherwise"] += 1
+            if found is None:
+                wrong += 1
+                print(f"{' '.join(case)}: growth {number}{' and all after it' * (last == ALL)} refused: {how}", flush=True)
+    return MOST, answers, wrong
+
+
+def main(words):
+    program = pathlib.Path(words[0] if words else TOP / "crates/airbook/out/airbook").resolve()
+    if not program.is_file():
+        print(f"refused_growths.py: no program at {program}", file=sys.stderr)
+        return 2
+    chosen = [(name, "") for name in words[1:]] or CASES
+    wrong = 0
+    with tempfile.TemporaryDirectory() as made:
+        folder = pathlib.Path(made)
+        library = shim_in(folder)
+        for case in chosen:
+            growths, answers, otherwise = refuse_each(program, library, folder, case)
+            wrong += otherwise
+            counts = ", ".join(f"{count} {found}" for found, count in answers.most_common())
+            print(f"{' '.join(case).strip()}: {growths} growths: {counts}", flush=True)
+    return 1 if wrong else 0
+
+
+if __name__ == "__main__":
+    sys.exit(main(sys.argv[1:]))
