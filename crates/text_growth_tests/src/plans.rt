@@ -23,6 +23,17 @@ const BOOKING: u64 = 1;
 
 const LIST: u64 = 2;
 
+/// What is answered to the booking before the plan.
+const BOOKED: &[u8] = b"ok 1 10000000 10041216\n";
+
+/// What is answered to the question for the earliest start, with a copy of the book and without.
+const FOUND: &[u8] = b"if at 6 10041216\n";
+
+const NOT_FOUND: &[u8] = b"if no 6 NoMemory\n";
+
+const REPORT: &[u8] =
+    b"booked 41216\ncancelled 0\nretired 0\nkept 1 41216\nfloor 0\nbusiest M 10000000 41216\n";
+
 /// What is answered to each booking of the plan, with memory and without.
 static ANSWERS: [(&[u8], &[u8]); 4] = [
     (b"if ok 2 20000000 20041216\n", b"if no 2 NoMemory\n"),
@@ -34,18 +45,12 @@ static ANSWERS: [(&[u8], &[u8]); 4] = [
 /// What is written where the first bookings of the plan, so many, find memory; where the book can't be copied none does.
 fn written(alloc: Global, is_copied: bool, accepted: usize) -> Result<Vec<u8>, AllocError> {
     let mut text = Vec::new(alloc);
-    text.extend_from_slice(b"ok 1 10000000 10041216\n")?;
+    text.extend_from_slice(BOOKED)?;
     for (place, (taken, starved)) in ANSWERS.iter().enumerate() {
         text.extend_from_slice(if place < accepted { taken } else { starved })?;
     }
-    text.extend_from_slice(if is_copied {
-        b"if at 6 10041216\n"
-    } else {
-        b"if no 6 NoMemory\n"
-    })?;
-    text.extend_from_slice(
-        b"booked 41216\ncancelled 0\nretired 0\nkept 1 41216\nfloor 0\nbusiest M 10000000 41216\n",
-    )?;
+    text.extend_from_slice(if is_copied { FOUND } else { NOT_FOUND })?;
+    text.extend_from_slice(REPORT)?;
     Ok(text)
 }
 
