@@ -1,7 +1,7 @@
 -- Session keys by address: one device after another.
 use Rattle.std.proofs.Common.{ℕ, ◌≡◌, ◌+◌, ◌<◌, nat_eq, Bool, true, false, List, [], ◌∷◌, ◌++◌, take, length, get_or, find}
-use Rattle.std.proofs.Common.{Option, Some, None, refl, sym, ap, subst, ◌∙◌, cond, arith}
-use Rattle.std.specs.Option.{option_map, option_or}
+use Rattle.std.proofs.Common.{Option, Some, None, Bor, is_some, not, true≢false, refl, sym, ap, ◌∙◌, cond, arith}
+use Rattle.std.specs.Option.{option_map, option_or, option_copied}
 use Rattle.std.proofs.lemmas.List.{take_more}
 use Rattle.std.proofs.lemmas.List.Folds.{find-append}
 use Rattle.indexmap.specs.IndexMap.{IndexMap, get, Updates}
@@ -32,7 +32,7 @@ same a b e = grind (arith, e)
 
 module _ {S : Type 0} (devices : List DeviceSetting) (i : ℕ) (d : DeviceSetting) (h : i < length devices)
     (m : IndexMap ℕ Keys S) (so_far : KeepsKeys (take i devices) m) where
-  here : DeviceSetting
+  abbrev pub here : DeviceSetting
   here = get_or devices i d
 
   more : (addr : ℕ) → keys_for addr (take (i + 1) devices)
@@ -60,3 +60,13 @@ module _ {S : Type 0} (devices : List DeviceSetting) (i : ℕ) (d : DeviceSettin
       by true s = let none : get nat_eq m addr ≡ None = ap (get nat_eq m) (sym (same here.addr addr s)) ∙ e in
           rw none refl
       by false s = or_none (get nat_eq m addr)
+
+-- what a look-up by a borrow found
+pub none_found : (o : Option (Bor Keys)) (r : Option Keys) (b : Bool) → option_copied o ≡ r → is_some o ≡ not b → b ≡ true → r ≡ None
+none_found None r b e s t = sym e
+none_found (Some x) r b e s t = absurd (true≢false (s ∙ ap not t))
+
+pub some_found : (o : Option (Bor Keys)) (r : Option Keys) (b : Bool) → option_copied o ≡ r → is_some o ≡ not b → b ≡ false
+    → (k : Keys) × (r ≡ Some k)
+some_found None r b e s t = absurd (true≢false (sym (s ∙ ap not t)))
+some_found (Some x) r b e s t = (x.now, sym e)

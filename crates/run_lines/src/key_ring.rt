@@ -1,5 +1,6 @@
 // The session keys of the devices, each expanded once.
-ghost use Rattle.std.specs.Prelude.{◌≡◌, IfOk, IfSome};
+ghost use Rattle.std.specs.Prelude.{◌≡◌, IfOk};
+ghost use Rattle.std.specs.Option.{ForSome};
 ghost use Rattle.server_core.specs.Taking.{keys_of};
 ghost use Rattle.run_lines.specs.RunWords.{keys_for};
 ghost use Rattle.run_lines.specs.KeyRing.{KeepsKeys};
@@ -20,7 +21,7 @@ pub(crate) struct KeyRing<'a> {
     devices: &'a [DeviceSetting],
     /// The keys, expanded; None where they are expanded as they are asked for.
     keys: Option<ByAddress>,
-    ghost kept: { IfSome keys (KeepsKeys devices.now) },
+    ghost kept: { ForSome keys (KeepsKeys devices.now) },
 }
 
 impl<'a> KeyRing<'a> {

@@ -4,6 +4,7 @@
 mod datagram;
 mod entry_line;
 mod entry_name;
+mod event_halves;
 mod gateway_report;
 mod key_ring;
 mod laws;
@@ -15,6 +16,7 @@ mod run_words;
 mod tally;
 
 pub use datagram::{DATAGRAM_ROOM, datagram_event};
+pub use event_halves::events_by_threads;
 pub use laws::law_lines_are_whole;
 pub use part_text::{write_entries, write_report};
 pub use replay_text::write_lines;

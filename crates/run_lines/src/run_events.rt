@@ -208,7 +208,7 @@ fn events_by(alloc: Global, ring: &KeyRing<'_>, text: &[u8]) -> Result<Vec<Event
 }
 
 /// Puts what a line asks for behind the events, if it asks for something.
-fn append_event(
+pub(crate) fn append_event(
     events: &mut Vec<Event<Global>>,
     alloc: Global,
     ring: &KeyRing<'_>,

@@ -12,7 +12,7 @@ ghost use Rattle.run_texts.specs.PassAnswers.{IsStaffed};
 use crate::run_alone::tell_alone;
 use crate::run_settings::settings_in;
 use crate::station_run::{Played, play};
-use run_lines::{events_of, parts_of, read_all, write_lines};
+use run_lines::{events_by_threads, parts_of, read_all, write_lines};
 use server_core::Settings;
 use server_workers::{Blank, MAX_WORKERS, PARTS};
 use std::alloc::Global;
@@ -133,7 +133,7 @@ where
         played.entries.items played.totals.items played.books.items) }
     ensures fault { IfErr result IsPlayFault }
 {
-    let events = match events_of(alloc, settings.devices(), text) {
+    let events = match events_by_threads(rt, alloc, settings.devices(), text, workers) {
         Err(_) => return Err(TextFault::NoMemory),
         Ok(events) => events,
     };

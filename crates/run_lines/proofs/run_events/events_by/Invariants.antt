@@ -6,7 +6,7 @@ use Rattle.run_lines.proofs.run_events.events_by.Given as goal
 abbrev pub invariant-loop-line : goal.invariant-loop-line
 invariant-loop-line l = record {
   within : l.number + length l.left ≤ 1 + length l.text;
-  so_far : events_of {A = Global} l.ring.devices (lines l.text) ≡ l.events.items ++ events_from l.ring.devices l.number (lines l.left);
+  so_far : events_of {A = Global} l.ring.devices.now (lines l.text) ≡ l.events.items ++ events_from l.ring.devices.now l.number (lines l.left);
 }
 
 abbrev pub decreases-loop-line : goal.decreases-loop-line

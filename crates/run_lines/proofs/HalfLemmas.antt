@@ -1,0 +1,71 @@
+-- The events of lines that are cut in two.
+use Rattle.std.proofs.Common.{ℕ, ◌≡◌, ◌+◌, ◌<◌, ◌≤◌, List, [], ◌∷◌, ◌++◌, length, map, take, drop, get_or, refl, sym, ap, ◌∙◌, arith}
+use Rattle.std.proofs.Common.{Result, Ok, Err, IfOk, subst, append_assoc, append-nil}
+use Rattle.std.specs.Option.{option_to_list}
+use Rattle.std.proofs.lemmas.List.{length-map, length-take-le, map-append, map_more, map_push, take-append-drop}
+use Rattle.server_core.specs.declared.event.Event.{Event}
+use Rattle.server_desk.specs.declared.setting.DeviceSetting.{DeviceSetting}
+use Rattle.run_lines.specs.RunEvents.{line_event, events_from}
+
+-- the events of some lines, and then those of the lines behind them
+pub events-append : {A : Type 0} (devices : List DeviceSetting) (number : ℕ) (front back : List (List ℕ))
+    → events_from {A = A} devices number (front ++ back)
+    ≡ events_from devices number front ++ events_from devices (number + length front) back
+unfolding events_from
+events-append devices number [] back = ap (λ n. events_from devices n back) (omega arith)
+events-append devices number (line ∷ front) back =
+    ap (λ l. option_to_list (line_event devices number line) ++ l) (events-append devices (number + 1) front back)
+    ∙ sym (append_assoc (option_to_list (line_event devices number line)) (events_from devices (number + 1) front)
+    (events_from devices (number + 1 + length front) back))
+    ∙ ap (λ n. (option_to_list (line_event devices number line) ++ events_from devices (number + 1) front)
+    ++ events_from devices n back) (omega arith)
+
+-- one line more is cut off
+pub cut_more : {X : Type 0} (f : X → List ℕ) (all text rest : List (List ℕ)) (old new : List X) (line : X)
+    → all ≡ map f old ++ text → text ≡ f line ∷ rest → new ≡ old ++ line ∷ [] → all ≡ map f new ++ rest
+cut_more f all text rest old new line a t n =
+    a ∙ ap (λ l. map f old ++ l) t ∙ sym (append_assoc (map f old) (f line ∷ []) rest)
+    ∙ ap (λ l. l ++ rest) (sym (map_push f old line)) ∙ ap (λ l. map f l ++ rest) (sym n)
+
+module _ {A X : Type 0} (devices : List DeviceSetting) (number : ℕ) (f : X → List ℕ) (lines : List X) where
+  one : (n : ℕ) (line : List ℕ) → events_from {A = A} devices n (line ∷ []) ≡ option_to_list (line_event devices n line)
+  unfolding events_from
+  one n line = append-nil (option_to_list (line_event devices n line))
+
+  -- the events of one line more
+  pub events_more : (place : ℕ) (d : X) (old new : List (Event A)) → place < length lines
+      → old ≡ events_from devices number (map f (take place lines))
+      → new ≡ old ++ option_to_list (line_event devices (number + place) (f (get_or lines place d)))
+      → new ≡ events_from devices number (map f (take (place + 1) lines))
+  events_more place d old new h o n =
+      let front = map f (take place lines) in
+      let line = f (get_or lines place d) in
+      let many : length front ≡ place = length-map (take place lines) f ∙ length-take-le place lines (omega (arith, h)) in
+      n ∙ ap (λ l. l ++ option_to_list (line_event devices (number + place) line)) o
+      ∙ ap (λ l. events_from devices number front ++ l) (sym (one (number + place) line)
+      ∙ ap (λ k. events_from devices (number + k) (line ∷ [])) (sym many))
+      ∙ sym (events-append devices number front (line ∷ []))
+      ∙ ap (events_from devices number) (sym (map_more f lines place d h))
+
+  -- the events of both halves
+  pub events_joined : (mid behind : ℕ) (first second all : List (Event A)) → mid ≤ length lines → behind ≡ number + mid
+      → first ≡ events_from devices number (map f (take mid lines))
+      → second ≡ events_from devices behind (map f (drop mid lines))
+      → all ≡ first ++ second → all ≡ events_from devices number (map f lines)
+  events_joined mid behind first second all h b e1 e2 e =
+      let front = map f (take mid lines) in
+      let back = map f (drop mid lines) in
+      let many : length front ≡ mid = length-map (take mid lines) f ∙ length-take-le mid lines h in
+      e ∙ ap (λ l. l ++ second) e1 ∙ ap (λ l. events_from devices number front ++ l)
+      (e2 ∙ ap (λ k. events_from devices k back) (b ∙ ap (λ k. number + k) (sym many)))
+      ∙ sym (events-append devices number front back)
+      ∙ ap (events_from devices number) (sym (map-append f (take mid lines) (drop mid lines)) ∙ ap (map f) (take-append-drop mid lines))
+
+-- what holds of an Ok
+pub ok_weaker : {X E : Type 0} (P Q : X → Type 0) → ((x : X) → P x → Q x) → (r : Result X E) → IfOk r P → IfOk r Q
+ok_weaker P Q f (Ok x) p = f x p
+ok_weaker P Q f (Err e) p = p
+
+-- what is known of a result holds of what it has
+pub ok_has : {X E : Type 0} (P : X → Type 0) (r : Result X E) (x : X) → r ≡ Ok x → IfOk r P → P x
+ok_has P r x e p = subst (λ s. IfOk s P) e p
