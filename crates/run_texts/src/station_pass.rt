@@ -174,14 +174,7 @@ where
         mut till,
         ran,
         ends,
-    } = shared_out(
-        rt,
-        alloc,
-        station,
-        numbers,
-        till,
-        wanted(workers, numbers.len()),
-    );
+    } = shared_out(rt, alloc, station, numbers, till, workers);
     let told = told_of(rt, alloc, station, numbers, &mut till, ends);
     Answered { till, ran, told }
 }
@@ -192,18 +185,14 @@ fn wanted(workers: u8, count: usize) -> u8
     ensures fewer { result ≤ workers }
     ensures outside { IsOutside result ↔ IsOutside workers }
 {
-    if workers > MAX_WORKERS {
+    let most = count / NUMBERS_EACH + 1;
+    if workers > MAX_WORKERS || usize::from(workers) <= most {
         return workers;
     }
-    let most = count / NUMBERS_EACH + 1;
-    if most < usize::from(workers) {
-        most as u8
-    } else {
-        workers
-    }
+    most as u8
 }
 
-/// What so many workers make of the uplinks with these numbers.
+/// What as many of so many workers as there is work for make of the uplinks with these numbers.
 fn shared_out<B: Ledger + Send + Sync, S: BuildHasher + Send + Sync, R: Threads + Wait + Sync>(
     rt: &R,
     alloc: Global,
@@ -221,7 +210,8 @@ where
     ensures outside { IsErrAnd result.ran (λ cause. cause ≡ ServeCause.Workers) ↔ IsOutside workers }
     ensures nobody { IfErr result.ran (λ cause. AreNone result.ends) }
 {
-    match serve(rt, alloc, station, numbers, till, workers, &NoGate) {
+    let asked = wanted(workers, numbers.len());
+    match serve(rt, alloc, station, numbers, till, asked, &NoGate) {
         Ok(served) => joined_in(served),
         Err(fault) => Shared {
             till: fault.till,
