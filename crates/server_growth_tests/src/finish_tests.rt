@@ -1,5 +1,5 @@
 // A station that is finished.
-ghost use Rattle.std.specs.Prelude.{◌≡◌, ◌<◌, IfOk};
+ghost use Rattle.std.specs.Prelude.{◌≡◌};
 
 use crate::stations::{RefusedStation, heard_by, station_of, totals_at};
 use crate::turns::{MOST_GROWTHS, Refuser, was_refused};
@@ -120,21 +120,21 @@ fn is_refused_at<'a, B: Ledger, R: Abort + Wait>(
     alloc.refuse(number);
     match finished(alloc, station, tills, &receipts) {
         Ok(closing) => {
-            is_closed(rt, &closing);
+            closes(rt, &closing);
             Ok(was_refused(rt, alloc, number, false))
         }
         Err(fault) => {
             was_refused(rt, alloc, number, fault.cause == FinishCause::NoMemory);
             assert_eq!(rt; parts_of(&fault.tills), (2, Some(65_535), Some(1)));
             assert_eq!(rt; totals_at(rt, &fault.station), before);
-            is_finished(rt, alloc, fault, &receipts);
+            finishes(rt, alloc, fault, &receipts);
             Ok(true)
         }
     }
 }
 
-/// A station is finished that was handed back.
-fn is_finished<'a, B: Ledger, R: Abort>(
+/// Finishes a station that was handed back.
+fn finishes<'a, B: Ledger, R: Abort>(
     rt: &R,
     alloc: &'a Refuser,
     fault: FinishFault<B, WorkedHasher, &'a Refuser>,
@@ -146,11 +146,11 @@ fn is_finished<'a, B: Ledger, R: Abort>(
         tills,
     } = fault;
     let again = finished(alloc, station, tills, receipts).ok();
-    is_closed(rt, &again.expect(rt, "it is finished"));
+    closes(rt, &again.expect(rt, "it is finished"));
 }
 
-/// The airtime that was booked, and what the books and the desk say of it.
-fn is_closed<R: Abort>(rt: &R, closing: &Closing<WorkedHasher, &Refuser>) {
+/// What a station came to: the airtime that was booked, and what the books and the desk say of it.
+fn closes<R: Abort>(rt: &R, closing: &Closing<WorkedHasher, &Refuser>) {
     assert_eq!(rt; closing.booked, TWICE);
     assert_eq!(rt; closing.totals.len(), 2);
     assert_eq!(rt; closing.books.len(), 2);

@@ -95,7 +95,7 @@ fn booked_of(closing: &Closing<WorkedHasher, &Refuser>) -> u64 {
 }
 
 /// Finishes a station with the till of those who served and with their receipts, which account for all that was booked.
-fn is_finished<'a, B: Ledger, R: Abort>(
+fn finishes<'a, B: Ledger, R: Abort>(
     rt: &R,
     alloc: &'a Refuser,
     station: RefusedStation<'a, B>,
@@ -128,14 +128,14 @@ fn is_refused_at<'a, B: Ledger + Send + Sync, R: Abort + Threads + Wait + Sync>(
             let answered = answered_of(rt, &served, numbers);
             assert!(rt; answered >= least, "{answered} answered");
             let is_starved = was_refused(rt, alloc, number, answered < numbers.len());
-            is_finished(rt, alloc, station, served)?;
+            finishes(rt, alloc, station, served)?;
             Ok(is_starved)
         }
         Err(fault) => {
             let is_starved = was_refused(rt, alloc, number, true);
             let served = served_again(rt, alloc, &station, numbers, fault)?;
             assert_eq!(rt; answered_of(rt, &served, numbers), numbers.len());
-            is_finished(rt, alloc, station, served)?;
+            finishes(rt, alloc, station, served)?;
             Ok(is_starved)
         }
     }
