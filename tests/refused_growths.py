@@ -8,7 +8,8 @@ refuses what the program itself asks of `malloc`, `realloc` and `posix_memalign`
 that of CC. Each growth is refused alone, and then with all that follow, until there is none of that number. The program has
 to end within SECONDS, by no signal, and
     with status 2    a fault is named on standard error, and what was written is a front of what is written with memory
-    with 0 or 1      output and status are as with memory, or a line of the output ends in NoMemory
+    with 0 or 1      output and status are as with memory, or a line of the output ends in NoMemory; with workers only the report
+                     has to be as with memory, since what a worker finds no memory for is answered after the others
 Prints a line for each run that ends otherwise, and one for each case with the number of its growths and how often each answer
 came. The status is 0 where none ended otherwise, 1 where one did, 2 where nothing could be run.
 """
@@ -28,7 +29,7 @@ from listen import SETTINGS, UPLINK, free_port, is_bound
 
 CASES = [
     ("run_two_gateways", ""), ("run_two_gateways", "--workers 1"), ("run_two_gateways", "--workers 2"),
-    ("run_three_devices_at_once", ""), ("run_three_devices_at_once", "--workers 1"), ("run_payload_in_rx1", ""),
+    ("run_three_devices_at_once", ""), ("run_three_devices_at_once", "--workers 1"), ("run_payload_in_rx1", "--workers 1"),
     ("run_queue_refusals", ""), ("run_settings_alone", ""), ("run_settings_not_toml", ""), ("book_two_bookings_example", ""),
     ("book_resume_example", ""), ("plan_earliest_example", ""), ("toa_dr5_12_bytes", ""), ("listen", "--workers 1"),
 ]
@@ -149,7 +150,11 @@ def run(program, library, folder, case, first, last):
         return len(told.read()), how
 
 
-def answer(how, ordinary):
+def report_of(out):
+    return [line for line in out.splitlines() if line.startswith((b"gateway ", b"busiest ", b"answered "))]
+
+
+def answer(case, how, ordinary):
     """What a run answered, in a word or two; nothing where it had to end otherwise."""
     if how.status == 2:
         fault = re.search(rb"(?m)^(airbook: \w+|error: .*)$", how.err)
@@ -158,7 +163,10 @@ def answer(how, ordinary):
         return None
     if how == ordinary:
         return "as with memory"
-    return "a line with NoMemory" if re.search(rb"(?m) NoMemory$", how.out) else None
+    if re.search(rb"(?m) NoMemory$", how.out):
+        return "a line with NoMemory"
+    is_moved = "--workers" in case[1] and how.status == ordinary.status and report_of(how.out) == report_of(ordinary.out)
+    return "in another order" if is_moved else None
 
 
 def refuse_each(program, library, folder, case):
@@ -170,7 +178,7 @@ def refuse_each(program, library, folder, case):
             count, how = run(program, library, folder, case, number, last)
             if count == 0:
                 return number - 1, answers, wrong
-            found = answer(how, ordinary)
+            found = answer(case, how, ordinary)
             answers[found or "otherwise"] += 1
             if found is None:
                 wrong += 1
