@@ -131,18 +131,19 @@ fn tells<R: Abort>(rt: &R, replay: &Replay<&Refuser>) {
 }
 
 /// One growth of a run is refused, and none after it: where something asks for less then, the run answers as ever.
-fn is_whole_or_starved<R: Abort>(
+fn is_whole_or_starved<'a, R: Abort>(
     rt: &R,
-    alloc: &Refuser,
+    alloc: &'a Refuser,
     settings: &Settings<Global>,
-    events: &[Event<&Refuser>],
+    events: &[Event<&'a Refuser>],
     number: u64,
 ) {
     alloc.refuse(number);
     let refused = replayed(alloc, settings, events);
     alloc.grant();
-    if let Ok(replay) = refused {
-        tells(rt, &replay);
+    match refused {
+        Ok(replay) => tells(rt, &replay),
+        Err(_) => {}
     }
 }
 

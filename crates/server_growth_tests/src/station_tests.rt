@@ -17,27 +17,22 @@ use std::test::Fail;
 use worked_inputs::{device, hasher, settings_of};
 
 /// Refuses the growth of this number of a call of a station: whether there was one.
-fn is_refused_there<B: Ledger, R: Abort + Wait>(
+fn is_refused_there<R: Abort + Wait>(
     rt: &R,
     global: Global,
-    blank: Blank,
     case: &Case,
     number: u64,
-) -> Result<bool, Fail>
-    requires name { blank.name ≡ B.name }
-    requires parts { blank.parts ≡ B.parts }
-    requires all { blank.parts ≡ PARTS }
-{
+) -> Result<bool, Fail> {
     let alloc = Refusing::new(global);
-    let mut at = at_station::<B>(global, &alloc, blank)?;
+    let blank = Blank::new(PARTS as u64);
+    let mut at = at_station::<Brand>(global, &alloc, blank)?;
     is_refused(rt, global, &alloc, &mut at, case, number)
 }
 
 /// How many growths a call of a station takes; each is refused once, and leaves the station as it was.
 fn growths_of<R: Abort + Wait>(rt: &R, global: Global, case: &Case) -> Result<u64, Fail> {
     for number in 1..=MOST_GROWTHS {
-        let blank = Blank::new(PARTS as u64);
-        if !is_refused_there::<Brand, _>(rt, global, blank, case, number)? {
+        if !is_refused_there(rt, global, case, number)? {
             return Ok(number.saturating_sub(1));
         }
     }
