@@ -9,16 +9,16 @@ use std::test::Fail;
 
 /// A call whose growths are refused.
 #[derive(Clone, Copy)]
-pub(crate) struct Case {
+pub(crate) struct Case<'c> {
     /// The calls before it.
-    pub(crate) before: &'static [Row],
+    pub(crate) before: &'c [Row],
     pub(crate) call: Row,
     /// How many growths it takes.
     pub(crate) growths: u64,
     /// Calls that change nothing: what they answer before it, and once it was refused.
-    pub(crate) still: &'static [Row],
+    pub(crate) still: &'c [Row],
     /// The calls after it.
-    pub(crate) after: &'static [Row],
+    pub(crate) after: &'c [Row],
 }
 
 /// Refuses the growth of this number of a call: whether there was one. The call then answers as ever, and so do those after it.
@@ -27,7 +27,7 @@ pub(crate) fn is_refused<S: Server, R: Abort + Wait>(
     global: Global,
     alloc: &Refuser,
     server: &mut S,
-    case: &Case,
+    case: &Case<'_>,
     number: u64,
 ) -> Result<bool, Fail> {
     let (call, answer) = case.call;

@@ -84,7 +84,7 @@ const QUEUES_5: Row = (Call::Queue, Answer::Queued(5));
 const QUEUES_6: Row = (Call::Queue, Answer::Queued(6));
 
 /// A payload is queued: the first, and one behind others.
-pub(crate) static QUEUED: [Case; 2] = [
+pub(crate) static QUEUED: [Case<'static>; 2] = [
     Case {
         before: &[],
         call: QUEUES_1,
@@ -108,7 +108,7 @@ pub(crate) static QUEUED: [Case; 2] = [
 ];
 
 /// A copy of an uplink opens a gathering: the first, the second, and the fifth.
-pub(crate) static OPENED: [Case; 3] = [
+pub(crate) static OPENED: [Case<'static>; 3] = [
     Case {
         before: &[],
         call: OPENS_1,
@@ -163,7 +163,7 @@ pub(crate) static OPENED: [Case; 3] = [
 ];
 
 /// A copy of an uplink joins a gathering.
-pub(crate) static JOINED: [Case; 1] = [Case {
+pub(crate) static JOINED: [Case<'static>; 1] = [Case {
     before: &[OPENS_1],
     call: JOINS_1,
     growths: 1,
@@ -177,7 +177,7 @@ pub(crate) static JOINED: [Case; 1] = [Case {
 }];
 
 /// A ticket is taken: the first, and one with a payload after an answer.
-pub(crate) static GIVEN: [Case; 2] = [
+pub(crate) static GIVEN: [Case<'static>; 2] = [
     Case {
         before: &[OPENS_1, CLOSES_1],
         call: GIVES_1,

@@ -14,7 +14,7 @@ use std::test::Fail;
 use worked_inputs::{AMPLE, device, hasher, settings_of};
 
 /// How many growths a call of a desk takes; each is refused once, and leaves the desk as it was.
-fn growths_of<R: Abort + Wait>(rt: &R, global: Global, case: &Case) -> Result<u64, Fail> {
+fn growths_of<R: Abort + Wait>(rt: &R, global: Global, case: &Case<'_>) -> Result<u64, Fail> {
     let alloc = Refusing::new(global);
     for number in 1..=MOST_GROWTHS {
         let mut desk = at_desk(global, &alloc)?;
@@ -26,7 +26,11 @@ fn growths_of<R: Abort + Wait>(rt: &R, global: Global, case: &Case) -> Result<u6
 }
 
 /// Refuses the growths of these calls.
-fn each_is_refused<R: Abort + Wait>(rt: &R, global: Global, cases: &[Case]) -> Result<(), Fail> {
+fn each_is_refused<R: Abort + Wait>(
+    rt: &R,
+    global: Global,
+    cases: &[Case<'_>],
+) -> Result<(), Fail> {
     for (place, case) in cases.iter().enumerate() {
         assert_eq!(rt; growths_of(rt, global, case)?, case.growths, "at {place}");
     }

@@ -17,22 +17,27 @@ use std::test::Fail;
 use worked_inputs::{device, hasher, settings_of};
 
 /// Refuses the growth of this number of a call of a station: whether there was one.
-fn is_refused_there<R: Abort + Wait>(
+fn is_refused_there<B: Ledger, R: Abort + Wait>(
     rt: &R,
     global: Global,
-    case: &Case,
+    blank: Blank,
+    case: &Case<'_>,
     number: u64,
-) -> Result<bool, Fail> {
+) -> Result<bool, Fail>
+    requires name { blank.name ≡ B.name }
+    requires parts { blank.parts ≡ B.parts }
+    requires all { blank.parts ≡ PARTS }
+{
     let alloc = Refusing::new(global);
-    let blank = Blank::new(PARTS as u64);
-    let mut at = at_station::<Brand>(global, &alloc, blank)?;
+    let mut at = at_station::<B>(global, &alloc, blank)?;
     is_refused(rt, global, &alloc, &mut at, case, number)
 }
 
 /// How many growths a call of a station takes; each is refused once, and leaves the station as it was.
-fn growths_of<R: Abort + Wait>(rt: &R, global: Global, case: &Case) -> Result<u64, Fail> {
+fn growths_of<R: Abort + Wait>(rt: &R, global: Global, case: &Case<'_>) -> Result<u64, Fail> {
     for number in 1..=MOST_GROWTHS {
-        if !is_refused_there(rt, global, case, number)? {
+        let blank = Blank::new(PARTS as u64);
+        if !is_refused_there::<Brand, _>(rt, global, blank, case, number)? {
             return Ok(number.saturating_sub(1));
         }
     }
@@ -40,7 +45,11 @@ fn growths_of<R: Abort + Wait>(rt: &R, global: Global, case: &Case) -> Result<u6
 }
 
 /// Refuses the growths of these calls.
-fn each_is_refused<R: Abort + Wait>(rt: &R, global: Global, cases: &[Case]) -> Result<(), Fail> {
+fn each_is_refused<R: Abort + Wait>(
+    rt: &R,
+    global: Global,
+    cases: &[Case<'_>],
+) -> Result<(), Fail> {
     for (place, case) in cases.iter().enumerate() {
         assert_eq!(rt; growths_of(rt, global, case)?, case.growths, "at {place}");
     }
