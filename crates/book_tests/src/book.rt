@@ -9,6 +9,7 @@ use resv_tree::TreeRoster;
 use std::alloc::Global;
 use std::process::Abort;
 use std::test::Fail;
+use test_asserts::{equal, equal_at};
 
 /// A call, and what it is to answer; an ask answers when its reservation ends.
 #[derive(Clone, Copy)]
@@ -185,30 +186,32 @@ fn worked<'a>() -> [Worked<'a>; 7] {
 }
 
 /// Runs a book's steps over an empty roster.
-fn run_worked<R: Roster + Drop>(rt: &impl Abort, roster: R, worked: Worked<'_>)
+fn run_worked<R: Roster + Drop>(rt: &impl Abort, roster: R, worked: Worked<'_>) -> Result<(), Fail>
     requires { R.list roster ≡ [] }
 {
     let (name, cap, steps, all, cancelled, retired) = worked;
     let mut book = opened(rt, roster, 1, cap);
-    assert_eq!(rt; first_wrong(&mut book, steps), None, "step of: {name}");
+    equal_at(&name, &first_wrong(&mut book, steps), &None)?;
     let (_, _, totals) = told(&book);
-    assert_eq!(rt;
-        (totals.booked, totals.cancelled, totals.retired),
-        (all, cancelled, retired),
-        "{name}"
-    );
+    equal_at(
+        &name,
+        &(totals.booked, totals.cancelled, totals.retired),
+        &(all, cancelled, retired),
+    )?;
+    Ok(())
 }
 
 #[test]
-fn worked_books(rt: HostRuntime) {
+fn worked_books(rt: HostRuntime) -> Result<(), Fail> {
     for steps in worked() {
-        run_worked(&rt, VecRoster::new(rt.alloc()), steps);
-        run_worked(&rt, TreeRoster::new(rt.alloc()), steps);
+        run_worked(&rt, VecRoster::new(rt.alloc()), steps)?;
+        run_worked(&rt, TreeRoster::new(rt.alloc()), steps)?;
     }
+    Ok(())
 }
 
 /// Books a thousand transmissions an hour and a microsecond apart, where one may be kept.
-fn retires_a_thousand<R: Roster + Drop>(rt: &impl Abort, roster: R)
+fn retires_a_thousand<R: Roster + Drop>(rt: &impl Abort, roster: R) -> Result<(), Fail>
     requires { R.list roster ≡ [] }
 {
     let mut book = opened(rt, roster, 1, 1);
@@ -216,7 +219,7 @@ fn retires_a_thousand<R: Roster + Drop>(rt: &impl Abort, roster: R)
         let start = number * 3_600_000_001;
         book.tick(start);
         let wanted = Ok(start + 41_216);
-        assert_eq!(rt; end_of(&mut book, ask_in_m(number, start)), wanted);
+        equal(&end_of(&mut book, ask_in_m(number, start)), &wanted)?;
     }
     let wanted = Totals {
         booked: 41_216_000,
@@ -226,18 +229,20 @@ fn retires_a_thousand<R: Roster + Drop>(rt: &impl Abort, roster: R)
         kept: 1,
         floor: 3_596_400_000_999,
     };
-    assert_eq!(rt; book.totals(), wanted);
-    assert_eq!(rt; book.busiest(Band::M), Some((3_596_400_000_999, 41_216)));
+    equal(&book.totals(), &wanted)?;
+    equal(&book.busiest(Band::M), &Some((3_596_400_000_999, 41_216)))?;
+    Ok(())
 }
 
 #[test]
-fn a_cap_of_one_takes_a_thousand_hours(rt: HostRuntime) {
-    retires_a_thousand(&rt, VecRoster::new(rt.alloc()));
-    retires_a_thousand(&rt, TreeRoster::new(rt.alloc()));
+fn a_cap_of_one_takes_a_thousand_hours(rt: HostRuntime) -> Result<(), Fail> {
+    retires_a_thousand(&rt, VecRoster::new(rt.alloc()))?;
+    retires_a_thousand(&rt, TreeRoster::new(rt.alloc()))?;
+    Ok(())
 }
 
 #[test]
-fn opens_with_a_cap_and_a_gap_in_range(rt: HostRuntime) {
+fn opens_with_a_cap_and_a_gap_in_range(rt: HostRuntime) -> Result<(), Fail> {
     let cases = [
         (0, 0, Some(OpenFault::BadCap)),
         (1, 0, None),
@@ -252,8 +257,9 @@ fn opens_with_a_cap_and_a_gap_in_range(rt: HostRuntime) {
         let opened = GatewayBook::new(VecRoster::new(rt.alloc()), 7, cap, gap);
         let told = opened.map(|book| (book.id(), book.cap(), book.gap()));
         let wanted = fault.map_or(Ok((7, cap, gap)), Err);
-        assert_eq!(rt; told, wanted, "at {cap} with {gap}");
+        equal_at(&(cap, gap), &told, &wanted)?;
     }
+    Ok(())
 }
 
 const NEIGHBOURS: [Step; 3] = [
@@ -269,10 +275,10 @@ fn keeps_two<R: Roster + Drop>(rt: &impl Abort, roster: R, alloc: Global) -> Res
     let mut book = opened(rt, roster, 7, 65_536);
     let first = booked(&mut book, ask_in_m(1, 10_000_000))?;
     let second = booked(&mut book, ask_in_m(2, 10_041_216))?;
-    assert_eq!(rt; (first.end(), second.end()), (10_041_216, 10_082_432));
-    assert_eq!(rt; first_wrong(&mut book, &NEIGHBOURS), None);
+    equal(&(first.end(), second.end()), &(10_041_216, 10_082_432))?;
+    equal(&first_wrong(&mut book, &NEIGHBOURS), &None)?;
     let members = book.list(alloc)?;
-    assert_eq!(rt; members.as_slice(), [first, second].as_slice());
+    equal(&members.as_slice(), &[first, second].as_slice())?;
     let totals = Totals {
         booked: 82_432,
         cancelled: 0,
@@ -281,7 +287,7 @@ fn keeps_two<R: Roster + Drop>(rt: &impl Abort, roster: R, alloc: Global) -> Res
         kept: 2,
         floor: 0,
     };
-    assert_eq!(rt; told(&book), (7, 65_536, totals));
+    equal(&told(&book), &(7, 65_536, totals))?;
     Ok(())
 }
 

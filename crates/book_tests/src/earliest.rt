@@ -4,7 +4,8 @@ use gateway_book::{Ask, GatewayBook};
 use radio_airtime::DataRate;
 use resv_list::{Roster, VecRoster};
 use resv_tree::TreeRoster;
-use std::process::Abort;
+use std::test::Fail;
+use test_asserts::{equal, equal_at, holds};
 
 /// Twelve bytes in sub-band K, where three fill an hour.
 fn in_k(start: u64) -> Ask {
@@ -29,21 +30,22 @@ fn in_m(start: u64) -> Ask {
 }
 
 /// Three that fill an hour of sub-band K, and what may come next.
-fn answers_rows<R: Roster>(rt: &impl Abort, book: &mut GatewayBook<R>) {
+fn answers_rows<R: Roster>(book: &mut GatewayBook<R>) -> Result<(), Fail> {
     for start in [0, 1_000_000, 2_000_000] {
-        assert!(rt; book.book(in_k(start)).is_ok());
+        holds(book.book(in_k(start)).is_ok())?;
     }
     let k = in_k(7);
-    assert_eq!(rt; book.earliest(k, 0, u64::MAX), Some(3_600_000_000));
-    assert_eq!(rt; book.earliest(k, 0, 3_600_000_000), Some(3_600_000_000));
-    assert_eq!(rt; book.earliest(k, 0, 3_599_999_999), None);
+    equal(&book.earliest(k, 0, u64::MAX), &Some(3_600_000_000))?;
+    equal(&book.earliest(k, 0, 3_600_000_000), &Some(3_600_000_000))?;
+    equal(&book.earliest(k, 0, 3_599_999_999), &None)?;
     let m = in_m(u64::MAX);
-    assert_eq!(rt; book.earliest(m, 0, 10_000_000), Some(2_991_232));
-    assert_eq!(rt; book.earliest(m, 9, 8), None);
-    assert_eq!(rt; book.earliest(m, u64::MAX, u64::MAX), None);
+    equal(&book.earliest(m, 0, 10_000_000), &Some(2_991_232))?;
+    equal(&book.earliest(m, 9, 8), &None)?;
+    equal(&book.earliest(m, u64::MAX, u64::MAX), &None)?;
     book.tick(5_000_000);
-    assert_eq!(rt; book.earliest(m, 0, 4_999_999), None);
-    assert_eq!(rt; book.earliest(m, 0, 5_000_000), Some(5_000_000));
+    equal(&book.earliest(m, 0, 4_999_999), &None)?;
+    equal(&book.earliest(m, 0, 5_000_000), &Some(5_000_000))?;
+    Ok(())
 }
 
 /// What is asked for at another start.
@@ -68,7 +70,7 @@ fn tried<R: Roster>(book: &mut GatewayBook<R>, ask: Ask, from: u64, to: u64) -> 
 }
 
 /// Random asks within two hours, each booked at the first start of a small stretch that is accepted.
-fn answers_alike<R: Roster>(rt: &impl Abort, book: &mut GatewayBook<R>) {
+fn answers_alike<R: Roster>(book: &mut GatewayBook<R>) -> Result<(), Fail> {
     let mut drawn = 1;
     for turn in 0..300 {
         drawn = drawn_after(drawn);
@@ -84,34 +86,37 @@ fn answers_alike<R: Roster>(rt: &impl Abort, book: &mut GatewayBook<R>) {
         let from = not_before.max(free.saturating_sub(20));
         let found = book.earliest(ask, from, free.saturating_add(5));
         let wanted = tried(book, ask, from, free.saturating_add(6));
-        assert_eq!(rt; found, wanted, "in turn {turn}");
+        equal_at(&turn, &found, &wanted)?;
     }
+    Ok(())
 }
 
 #[test]
-fn names_the_earliest_start(rt: HostRuntime) {
+fn names_the_earliest_start(rt: HostRuntime) -> Result<(), Fail> {
     let mut slow = GatewayBook::new(VecRoster::new(rt.alloc()), 1, 200, 0).expect(
         &rt,
         "the cap is in range",
     );
-    answers_rows(&rt, &mut slow);
+    answers_rows(&mut slow)?;
     let mut tree = GatewayBook::new(TreeRoster::new(rt.alloc()), 1, 200, 0).expect(
         &rt,
         "the cap is in range",
     );
-    answers_rows(&rt, &mut tree);
+    answers_rows(&mut tree)?;
+    Ok(())
 }
 
 #[test]
-fn earliest_is_that_of_a_search_of_all(rt: HostRuntime) {
+fn earliest_is_that_of_a_search_of_all(rt: HostRuntime) -> Result<(), Fail> {
     let mut slow = GatewayBook::new(VecRoster::new(rt.alloc()), 1, 200, 0).expect(
         &rt,
         "the cap is in range",
     );
-    answers_alike(&rt, &mut slow);
+    answers_alike(&mut slow)?;
     let mut tree = GatewayBook::new(TreeRoster::new(rt.alloc()), 1, 200, 0).expect(
         &rt,
         "the cap is in range",
     );
-    answers_alike(&rt, &mut tree);
+    answers_alike(&mut tree)?;
+    Ok(())
 }

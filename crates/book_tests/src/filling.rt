@@ -11,6 +11,7 @@ use resv_tree::TreeRoster;
 use std::alloc::{AllocError, Global};
 use std::process::Abort;
 use std::test::Fail;
+use test_asserts::{equal, equal_at};
 
 /// An ask within four hours, in one of three sub-bands, at DR0.
 fn drawn_ask(number: u64, drawn: u64) -> Ask {
@@ -54,17 +55,18 @@ where
 }
 
 /// The roster holds just these members.
-fn lists<R: Roster>(rt: &impl Abort, roster: &R, members: &[Reservation]) {
-    assert_eq!(rt; roster.len(), members.len());
+fn lists<R: Roster>(roster: &R, members: &[Reservation]) -> Result<(), Fail> {
+    equal(&roster.len(), &members.len())?;
     let mut from = 0;
     for member in members {
-        assert_eq!(rt; roster.first_from(from), Some(*member));
+        equal(&roster.first_from(from), &Some(*member))?;
         from = member.start.saturating_add(1);
     }
+    Ok(())
 }
 
 /// The same random questions to two rosters of the same members.
-fn answers_alike<R: Roster, S: Roster>(rt: &impl Abort, one: &R, other: &S) {
+fn answers_alike<R: Roster, S: Roster>(one: &R, other: &S) -> Result<(), Fail> {
     let mut drawn = 1;
     for turn in 0..400 {
         drawn = drawn_after(drawn);
@@ -72,17 +74,14 @@ fn answers_alike<R: Roster, S: Roster>(rt: &impl Abort, one: &R, other: &S) {
         let to = (drawn >> 20) % 16_000 * 1_000_000;
         let band = [Band::K, Band::M, Band::P][(drawn >> 60) as usize % 3];
         let most = one.most(band);
-        assert_eq!(rt; most, other.most(band), "in turn {turn}");
+        equal_at(&turn, &most, &other.most(band))?;
         let spent = one.spent(band, from, to);
-        assert_eq!(rt; spent, other.spent(band, from, to), "in turn {turn}");
+        equal_at(&turn, &spent, &other.spent(band, from, to))?;
         let less = most.saturating_sub((drawn >> 14) % 40 * 500_000);
         let over = one.first_over(band, from, to, less);
-        assert_eq!(rt;
-            over,
-            other.first_over(band, from, to, less),
-            "in turn {turn}"
-        );
+        equal_at(&turn, &over, &other.first_over(band, from, to, less))?;
     }
+    Ok(())
 }
 
 #[test]
@@ -92,14 +91,14 @@ fn a_roster_that_is_made_at_once_is_as_one_by_one(rt: HostRuntime) -> Result<(),
         let members = book.list(rt.alloc())?;
         let mut put_in = TreeRoster::new(rt.alloc());
         for member in &members {
-            assert_eq!(&rt; put(&rt, &mut put_in, *member), Ok(()));
+            equal(&put(&rt, &mut put_in, *member), &Ok(()))?;
         }
         let slow = filled(VecRoster::new(rt.alloc()), &members)?;
         let tree = filled(TreeRoster::new(rt.alloc()), &members)?;
-        lists(&rt, &slow, &members);
-        lists(&rt, &tree, &members);
-        answers_alike(&rt, &put_in, &slow);
-        answers_alike(&rt, &put_in, &tree);
+        lists(&slow, &members)?;
+        lists(&tree, &members)?;
+        answers_alike(&put_in, &slow)?;
+        answers_alike(&put_in, &tree)?;
     }
     Ok(())
 }

@@ -11,6 +11,7 @@ use resv_tree::TreeRoster;
 use std::alloc::Global;
 use std::process::Abort;
 use std::test::Fail;
+use test_asserts::{equal, holds};
 
 /// More than these rosters take.
 const AMPLE_BYTES: usize = 1 << 20;
@@ -69,16 +70,16 @@ fn only_a_new_member_takes_memory(rt: HostRuntime) -> Result<(), Fail> {
     let arena = Bump::try_with_capacity(rt.alloc(), AMPLE_BYTES)?;
     let free = arena.chunk_capacity();
     let mut roster = TreeRoster::new(&arena);
-    assert_eq!(rt; arena.chunk_capacity(), free);
+    equal(&arena.chunk_capacity(), &free)?;
     let starts = [
         7_000_000, 1_000_000, 3_000_000, 9_000_000, 2_000_000, 8_000_000, 4_000_000,
     ];
-    assert!(rt; taken_by_members(&rt, &arena, &mut roster, &starts).is_some());
+    holds(taken_by_members(&rt, &arena, &mut roster, &starts).is_some())?;
     let left = arena.chunk_capacity();
-    assert!(rt; roster.remove(3_000_000).is_some());
-    assert!(rt; roster.remove(3_000_000).is_none());
-    assert_eq!(rt; roster.drop_before(6_000_000).count, 3);
-    assert!(rt; arena.chunk_capacity() >= left);
+    holds(roster.remove(3_000_000).is_some())?;
+    holds(roster.remove(3_000_000).is_none())?;
+    equal(&roster.drop_before(6_000_000).count, &3)?;
+    holds(arena.chunk_capacity() >= left)?;
     Ok(())
 }
 
@@ -88,46 +89,46 @@ fn only_what_a_book_accepts_takes_memory(rt: HostRuntime) -> Result<(), Fail> {
     let mut book = GatewayBook::new(TreeRoster::new(&arena), 1, 2, 0)?;
     for start in [0, 3_000_000] {
         let free = arena.chunk_capacity();
-        assert!(rt; book.book(ask(start, start)).is_ok());
-        assert!(rt; arena.chunk_capacity() < free);
+        holds(book.book(ask(start, start)).is_ok())?;
+        holds(arena.chunk_capacity() < free)?;
     }
     let left = arena.chunk_capacity();
     for start in [0, 1_000_000, 6_000_000, 1 << 61] {
-        assert!(rt; book.book(ask(9, start)).is_err());
+        holds(book.book(ask(9, start)).is_err())?;
     }
     book.totals();
     book.busiest(Band::M);
-    assert!(rt; book.cancel(9, 0).is_err());
-    assert_eq!(rt; arena.chunk_capacity(), left);
-    assert!(rt; book.cancel(3_000_000, 3_000_000).is_ok());
+    holds(book.cancel(9, 0).is_err())?;
+    equal(&arena.chunk_capacity(), &left)?;
+    holds(book.cancel(3_000_000, 3_000_000).is_ok())?;
     book.tick(7_200_000_000);
-    assert!(rt; arena.chunk_capacity() >= left);
+    holds(arena.chunk_capacity() >= left)?;
     Ok(())
 }
 
 /// How many bytes an arena gave for the list of a book with so many members.
-fn taken_by_list(rt: &impl Abort, alloc: Global, count: u64) -> Result<usize, Fail> {
+fn taken_by_list(alloc: Global, count: u64) -> Result<usize, Fail> {
     let arena = Bump::try_with_capacity(alloc, AMPLE_BYTES)?;
     let mut book = GatewayBook::new(TreeRoster::new(alloc), 1, 100, 0)?;
     for number in 0..count {
-        assert!(rt;
+        holds(
             book.book(ask(number, number.saturating_mul(100_000_000)))
-                .is_ok()
-        );
+                .is_ok(),
+        )?;
     }
     let free = arena.chunk_capacity();
     let members = book.list(&arena)?;
-    assert_eq!(rt; members.len() as u64, count);
+    equal(&(members.len() as u64), &count)?;
     Ok(free.saturating_sub(arena.chunk_capacity()))
 }
 
 #[test]
 fn a_list_takes_one_growth_for_its_members(rt: HostRuntime) -> Result<(), Fail> {
-    let each = taken_by_list(&rt, rt.alloc(), 1)?;
-    assert!(rt; each > 0);
+    let each = taken_by_list(rt.alloc(), 1)?;
+    holds(each > 0)?;
     for count in [2, 3, 5, 9, 30] {
-        let all = taken_by_list(&rt, rt.alloc(), count)?;
-        assert_eq!(rt; all as u64, (each as u64).saturating_mul(count));
+        let all = taken_by_list(rt.alloc(), count)?;
+        equal(&(all as u64), &(each as u64).saturating_mul(count))?;
     }
     Ok(())
 }

@@ -7,6 +7,7 @@ use resv_tree::TreeRoster;
 use std::alloc::{AllocError, Global};
 use std::process::Abort;
 use std::test::Fail;
+use test_asserts::{equal, equal_at, holds};
 
 /// The start of what is found first over so much.
 fn found<R: Roster>(roster: &R, band: Band, from: u64, to: u64, most: u64) -> Option<u64> {
@@ -58,29 +59,31 @@ const ROWS: [(Band, u64, u64, u64, Option<u64>); 16] = [
 ];
 
 /// Asks for hours of no member, of four, and of three.
-fn answers_rows<R: Roster>(rt: &impl Abort, roster: &mut R) {
-    assert_eq!(rt; found(roster, Band::K, 0, u64::MAX, 0), None);
-    assert_eq!(rt; fullest(roster), [0, 0, 0]);
+fn answers_rows<R: Roster>(rt: &impl Abort, roster: &mut R) -> Result<(), Fail> {
+    equal(&found(roster, Band::K, 0, u64::MAX, 0), &None)?;
+    equal(&fullest(roster), &[0, 0, 0])?;
     for start in STARTS {
-        assert_eq!(rt; put(rt, roster, mixed_at(rt, start)), Ok(()));
+        equal(&put(rt, roster, mixed_at(rt, start)), &Ok(()))?;
     }
     for (band, from, to, most, wanted) in ROWS {
         let start = found(roster, band, from, to, most);
-        assert_eq!(rt; start, wanted, "{band:?} from {from} to {to} over {most}");
+        equal_at(&(band, from, to, most), &start, &wanted)?;
     }
-    assert_eq!(rt; fullest(roster), [1_982_464, 41_216, 0]);
-    assert!(rt; roster.is_within(Band::K, 0, HOUR, 1_982_464));
-    assert!(rt; !roster.is_within(Band::K, 0, HOUR, 1_982_463));
-    assert!(rt; !roster.is_within(Band::K, 0, HOUR + 1, 1_982_464));
-    assert!(rt; roster.is_within(Band::K, 1, HOUR + 1, 1_982_464));
-    assert!(rt; roster.remove(3_599_999_997).is_some());
-    assert_eq!(rt; fullest(roster), [991_232, 41_216, 0]);
+    equal(&fullest(roster), &[1_982_464, 41_216, 0])?;
+    holds(roster.is_within(Band::K, 0, HOUR, 1_982_464))?;
+    holds(!roster.is_within(Band::K, 0, HOUR, 1_982_463))?;
+    holds(!roster.is_within(Band::K, 0, HOUR + 1, 1_982_464))?;
+    holds(roster.is_within(Band::K, 1, HOUR + 1, 1_982_464))?;
+    holds(roster.remove(3_599_999_997).is_some())?;
+    equal(&fullest(roster), &[991_232, 41_216, 0])?;
+    Ok(())
 }
 
 #[test]
-fn finds_the_hours_that_members_open(rt: HostRuntime) {
-    answers_rows(&rt, &mut VecRoster::new(rt.alloc()));
-    answers_rows(&rt, &mut TreeRoster::new(rt.alloc()));
+fn finds_the_hours_that_members_open(rt: HostRuntime) -> Result<(), Fail> {
+    answers_rows(&rt, &mut VecRoster::new(rt.alloc()))?;
+    answers_rows(&rt, &mut TreeRoster::new(rt.alloc()))?;
+    Ok(())
 }
 
 /// The airtime of those of the sub-band that begin in the hour that opens at `from`.

@@ -3,9 +3,11 @@
 use radio_airtime::{DataRate, airtime};
 use radio_bands::{Band, limit_us};
 use resv_list::Reservation;
+use std::test::Fail;
+use test_asserts::{equal, equal_at};
 
 #[test]
-fn times_on_air(rt: HostRuntime) {
+fn times_on_air() -> Result<(), Fail> {
     // the shortest downlink at each rate, and the longest and the shortest frames
     let cases = [
         (DataRate::Dr0, 12, 991_232),
@@ -20,12 +22,13 @@ fn times_on_air(rt: HostRuntime) {
         (DataRate::Dr5, 0, 20_736),
     ];
     for (rate, len, time_us) in cases {
-        assert_eq!(rt; airtime(rate, len), time_us, "at {rate:?} with {len} bytes");
+        equal_at(&(rate, len), &airtime(rate, len), &time_us)?;
     }
+    Ok(())
 }
 
 #[test]
-fn bands_of_channels_at_the_edges(rt: HostRuntime) {
+fn bands_of_channels_at_the_edges() -> Result<(), Fail> {
     let cases = [
         (868_537_500, DataRate::Dr5, Some(Band::M)),
         (868_537_501, DataRate::Dr5, None),
@@ -34,12 +37,9 @@ fn bands_of_channels_at_the_edges(rt: HostRuntime) {
         (869_525_000, DataRate::Dr0, Some(Band::P)),
     ];
     for (freq_hz, rate, band) in cases {
-        assert_eq!(rt;
-            Band::of(freq_hz, rate),
-            band,
-            "at {freq_hz} Hz and {rate:?}"
-        );
+        equal_at(&(freq_hz, rate), &Band::of(freq_hz, rate), &band)?;
     }
+    Ok(())
 }
 
 /// The sub-bands' edges in Hz (ETSI EN 300 220-2, annex B, as this project's profile has them).
@@ -53,36 +53,21 @@ const EDGES: [(Band, u32, u32); 6] = [
 ];
 
 #[test]
-fn channels_keep_within_the_edges_of_their_bands(rt: HostRuntime) {
+fn channels_keep_within_the_edges_of_their_bands() -> Result<(), Fail> {
     // half the bandwidth to either side of the centre
     for (rate, half_hz) in [(DataRate::Dr5, 62_500), (DataRate::Dr6, 125_000)] {
         for (band, low_hz, high_hz) in EDGES {
-            assert_eq!(rt;
-                Band::of(low_hz + half_hz, rate),
-                Some(band),
-                "lowest, {rate:?}"
-            );
-            assert_eq!(rt;
-                Band::of(low_hz + half_hz - 1, rate),
-                None,
-                "below {band:?}"
-            );
-            assert_eq!(rt;
-                Band::of(high_hz - half_hz, rate),
-                Some(band),
-                "highest, {rate:?}"
-            );
-            assert_eq!(rt;
-                Band::of(high_hz - half_hz + 1, rate),
-                None,
-                "above {band:?}"
-            );
+            equal_at(&rate, &(Band::of(low_hz + half_hz, rate)), &Some(band))?;
+            equal_at(&band, &(Band::of(low_hz + half_hz - 1, rate)), &None)?;
+            equal_at(&rate, &(Band::of(high_hz - half_hz, rate)), &Some(band))?;
+            equal_at(&band, &(Band::of(high_hz - half_hz + 1, rate)), &None)?;
         }
     }
+    Ok(())
 }
 
 #[test]
-fn data_rates_by_their_numbers(rt: HostRuntime) {
+fn data_rates_by_their_numbers() -> Result<(), Fail> {
     // bandwidth in Hz and the greatest PHYPayload in bytes (RP002, EU863-870, as this project's profile has them)
     let rows = [
         (0, DataRate::Dr0, 125_000, 64),
@@ -94,16 +79,17 @@ fn data_rates_by_their_numbers(rt: HostRuntime) {
         (6, DataRate::Dr6, 250_000, 255),
     ];
     for (number, rate, bandwidth_hz, max_phy) in rows {
-        assert_eq!(rt; DataRate::from_number(number), Some(rate));
-        assert_eq!(rt; rate.number(), number);
-        assert_eq!(rt; rate.bandwidth_hz(), bandwidth_hz, "at {rate:?}");
-        assert_eq!(rt; rate.max_phy(), max_phy, "at {rate:?}");
+        equal(&DataRate::from_number(number), &Some(rate))?;
+        equal(&rate.number(), &number)?;
+        equal_at(&rate, &rate.bandwidth_hz(), &bandwidth_hz)?;
+        equal_at(&rate, &rate.max_phy(), &max_phy)?;
     }
-    assert_eq!(rt; DataRate::from_number(7), None);
+    equal(&DataRate::from_number(7), &None)?;
+    Ok(())
 }
 
 #[test]
-fn limits_of_bands(rt: HostRuntime) {
+fn limits_of_bands() -> Result<(), Fail> {
     let cases = [
         (Band::K, 3_600_000),
         (Band::L, 36_000_000),
@@ -113,12 +99,13 @@ fn limits_of_bands(rt: HostRuntime) {
         (Band::Q, 36_000_000),
     ];
     for (band, limit) in cases {
-        assert_eq!(rt; limit_us(band), limit, "in {band:?}");
+        equal_at(&band, &limit_us(band), &limit)?;
     }
+    Ok(())
 }
 
 #[test]
-fn reservations_are_made_where_they_are_fit(rt: HostRuntime) {
+fn reservations_are_made_where_they_are_fit() -> Result<(), Fail> {
     // (start, freq_hz, rate, len, whether it is fit); the first ends at 2^61, the end of time
     let cases = [
         (
@@ -141,12 +128,9 @@ fn reservations_are_made_where_they_are_fit(rt: HostRuntime) {
     ];
     for (start, freq_hz, rate, len, is_fit) in cases {
         let made = Reservation::new(1, start, freq_hz, rate, len);
-        assert_eq!(rt;
-            made.is_some(),
-            is_fit,
-            "at {start}, {freq_hz} Hz, {rate:?}, {len} bytes"
-        );
+        equal_at(&(start, freq_hz, rate, len), &made.is_some(), &is_fit)?;
     }
+    Ok(())
 }
 
 #[test]

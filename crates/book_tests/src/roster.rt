@@ -8,6 +8,7 @@ use resv_list::{Dropped, Reservation, Roster, RosterFault, VecRoster};
 use resv_tree::TreeRoster;
 use std::process::Abort;
 use std::test::Fail;
+use test_asserts::{equal, equal_at, holds, holds_at};
 
 /// Twelve bytes on 868.1 MHz, with its start as its number.
 fn reservation_at(rt: &impl Abort, start: u64) -> Reservation
@@ -52,13 +53,13 @@ fn nearest<R: Roster>(roster: &R, start: u64) -> (Option<Reservation>, Option<Re
 }
 
 /// Three members, and what stands round the moments between them.
-fn keeps_by_start<R: Roster>(rt: &impl Abort, roster: &mut R) {
-    assert_eq!(rt; roster.len(), 0);
-    assert_eq!(rt; nearest(roster, 0), (None, None));
+fn keeps_by_start<R: Roster>(rt: &impl Abort, roster: &mut R) -> Result<(), Fail> {
+    equal(&roster.len(), &0)?;
+    equal(&nearest(roster, 0), &(None, None))?;
     for start in [20, 0, 10] {
-        assert_eq!(rt; put(rt, roster, reservation_at(rt, start)), Ok(()));
+        equal(&put(rt, roster, reservation_at(rt, start)), &Ok(()))?;
     }
-    assert_eq!(rt; roster.len(), 3);
+    equal(&roster.len(), &3)?;
     // (start, the greatest below it, the least not below it)
     let cases = [
         (0, None, Some(0)),
@@ -70,55 +71,60 @@ fn keeps_by_start<R: Roster>(rt: &impl Abort, roster: &mut R) {
     for (start, before, from) in cases {
         let before = before.map(|s| reservation_at(rt, s));
         let from = from.map(|s| reservation_at(rt, s));
-        assert_eq!(rt; nearest(roster, start), (before, from), "round {start}");
+        equal_at(&start, &nearest(roster, start), &(before, from))?;
     }
+    Ok(())
 }
 
 #[test]
-fn keeps_reservations_by_start(rt: HostRuntime) {
-    keeps_by_start(&rt, &mut VecRoster::new(rt.alloc()));
-    keeps_by_start(&rt, &mut TreeRoster::new(rt.alloc()));
+fn keeps_reservations_by_start(rt: HostRuntime) -> Result<(), Fail> {
+    keeps_by_start(&rt, &mut VecRoster::new(rt.alloc()))?;
+    keeps_by_start(&rt, &mut TreeRoster::new(rt.alloc()))?;
+    Ok(())
 }
 
 /// Puts a thousand members into the roster, their starts rising or falling.
-fn put_thousand<R: Roster>(rt: &impl Abort, roster: &mut R, falls: bool) {
+fn put_thousand<R: Roster>(rt: &impl Abort, roster: &mut R, falls: bool) -> Result<(), Fail> {
     for place in 0..1_000 {
         let start = if falls { 999 - place } else { place };
-        assert_eq!(rt; put(rt, roster, reservation_at(rt, start)), Ok(()));
+        equal(&put(rt, roster, reservation_at(rt, start)), &Ok(()))?;
     }
-    assert_eq!(rt; roster.spent(Band::M, 0, 1_000), 41_216_000);
-    assert_eq!(rt; roster.spent(Band::K, 0, 1_000), 0);
+    equal(&roster.spent(Band::M, 0, 1_000), &41_216_000)?;
+    equal(&roster.spent(Band::K, 0, 1_000), &0)?;
+    Ok(())
 }
 
 /// Takes out those of them that have even starts.
-fn take_even<R: Roster>(rt: &impl Abort, roster: &mut R) {
+fn take_even<R: Roster>(rt: &impl Abort, roster: &mut R) -> Result<(), Fail> {
     for half in 0..500 {
         let member = reservation_at(rt, 2 * half);
-        assert_eq!(rt; roster.remove(2 * half), Some(member));
-        assert_eq!(rt; roster.remove(2 * half), None);
+        equal(&roster.remove(2 * half), &Some(member))?;
+        equal(&roster.remove(2 * half), &None)?;
     }
-    assert_eq!(rt; roster.len(), 500);
-    assert_eq!(rt; roster.spent(Band::M, 0, 1_000), 20_608_000);
-    assert_eq!(rt; roster.spent(Band::M, 0, 1), 0);
-    assert_eq!(rt; roster.spent(Band::M, 1, 2), 41_216);
+    equal(&roster.len(), &500)?;
+    equal(&roster.spent(Band::M, 0, 1_000), &20_608_000)?;
+    equal(&roster.spent(Band::M, 0, 1), &0)?;
+    equal(&roster.spent(Band::M, 1, 2), &41_216)?;
+    Ok(())
 }
 
 #[test]
-fn sums_a_thousand_and_half_of_them(rt: HostRuntime) {
+fn sums_a_thousand_and_half_of_them(rt: HostRuntime) -> Result<(), Fail> {
     for falls in [false, true] {
         let mut slow = VecRoster::new(rt.alloc());
-        put_thousand(&rt, &mut slow, falls);
-        take_even(&rt, &mut slow);
+        put_thousand(&rt, &mut slow, falls)?;
+        take_even(&rt, &mut slow)?;
         let mut tree = TreeRoster::new(rt.alloc());
-        put_thousand(&rt, &mut tree, falls);
-        assert!(rt; tree.height() <= 19, "the height is {}", tree.height());
-        take_even(&rt, &mut tree);
-        assert!(rt; tree.height() <= 17, "the height is {}", tree.height());
+        put_thousand(&rt, &mut tree, falls)?;
+        holds_at(&tree.height(), tree.height() <= 19)?;
+        take_even(&rt, &mut tree)?;
+        holds_at(&tree.height(), tree.height() <= 17)?;
     }
+    Ok(())
 }
 
 /// Drops a thousand members in three goes.
-fn drop_all<R: Roster>(rt: &impl Abort, roster: &mut R) {
+fn drop_all<R: Roster>(rt: &impl Abort, roster: &mut R) -> Result<(), Fail> {
     // (before this start, how many go, their airtime, how many are left)
     let cases = [
         (0, 0, 0, 1_000),
@@ -129,43 +135,47 @@ fn drop_all<R: Roster>(rt: &impl Abort, roster: &mut R) {
     ];
     for (before, count, airtime, left) in cases {
         let dropped = roster.drop_before(before);
-        assert_eq!(rt; dropped, Dropped { count, airtime }, "before {before}");
-        assert_eq!(rt; roster.len(), left, "before {before}");
+        equal_at(&before, &dropped, &Dropped { count, airtime })?;
+        equal_at(&before, &roster.len(), &left)?;
         let first = if left == 0 {
             None
         } else {
             Some(reservation_at(rt, before))
         };
-        assert_eq!(rt; roster.first_from(0), first, "before {before}");
-        assert_eq!(rt; roster.spent(Band::M, 0, before), 0);
+        equal_at(&before, &roster.first_from(0), &first)?;
+        equal(&roster.spent(Band::M, 0, before), &0)?;
     }
+    Ok(())
 }
 
 #[test]
-fn drops_what_begins_before_a_moment(rt: HostRuntime) {
+fn drops_what_begins_before_a_moment(rt: HostRuntime) -> Result<(), Fail> {
     let mut slow = VecRoster::new(rt.alloc());
-    put_thousand(&rt, &mut slow, false);
-    drop_all(&rt, &mut slow);
+    put_thousand(&rt, &mut slow, false)?;
+    drop_all(&rt, &mut slow)?;
     let mut tree = TreeRoster::new(rt.alloc());
-    put_thousand(&rt, &mut tree, true);
-    drop_all(&rt, &mut tree);
-    assert_eq!(rt; tree.height(), 0);
+    put_thousand(&rt, &mut tree, true)?;
+    drop_all(&rt, &mut tree)?;
+    equal(&tree.height(), &0)?;
+    Ok(())
 }
 
 /// Fills the roster to its greatest number, and asks for one more.
-fn fill<R: Roster>(rt: &impl Abort, roster: &mut R) {
+fn fill<R: Roster>(rt: &impl Abort, roster: &mut R) -> Result<(), Fail> {
     for start in 0..65_536 {
-        assert_eq!(rt; put(rt, roster, reservation_at(rt, start)), Ok(()));
+        equal(&put(rt, roster, reservation_at(rt, start)), &Ok(()))?;
     }
     let more = reservation_at(rt, 65_536);
-    assert_eq!(rt; put(rt, roster, more), Err((RosterFault::Full, more)));
-    assert_eq!(rt; roster.len(), 65_536);
+    equal(&put(rt, roster, more), &Err((RosterFault::Full, more)))?;
+    equal(&roster.len(), &65_536)?;
+    Ok(())
 }
 
 #[test]
-fn is_full_at_its_greatest_number(rt: HostRuntime) {
-    fill(&rt, &mut VecRoster::new(rt.alloc()));
-    fill(&rt, &mut TreeRoster::new(rt.alloc()));
+fn is_full_at_its_greatest_number(rt: HostRuntime) -> Result<(), Fail> {
+    fill(&rt, &mut VecRoster::new(rt.alloc()))?;
+    fill(&rt, &mut TreeRoster::new(rt.alloc()))?;
+    Ok(())
 }
 
 /// Takes out what begins at `start`, or puts one in where nothing does.
@@ -185,27 +195,28 @@ pub(crate) fn drawn_after(number: u64) -> u64 {
 }
 
 #[test]
-fn the_tree_is_as_the_vector(rt: HostRuntime) {
+fn the_tree_is_as_the_vector(rt: HostRuntime) -> Result<(), Fail> {
     let mut slow = VecRoster::new(rt.alloc());
     let mut tree = TreeRoster::new(rt.alloc());
     let mut drawn = 1;
     for _turn in 0..10_000 {
         drawn = drawn_after(drawn);
         let (start, from) = ((drawn >> 55) % 512, (drawn >> 46) % 512);
-        assert_eq!(rt;
-            toggle(&rt, &mut tree, start),
-            toggle(&rt, &mut slow, start)
-        );
+        equal(
+            &toggle(&rt, &mut tree, start),
+            &toggle(&rt, &mut slow, start),
+        )?;
         if drawn % 64 == 0 {
-            assert_eq!(rt; tree.drop_before(from), slow.drop_before(from));
+            equal(&tree.drop_before(from), &slow.drop_before(from))?;
         }
-        assert_eq!(rt; tree.len(), slow.len());
-        assert_eq!(rt; nearest(&tree, from), nearest(&slow, from));
+        equal(&tree.len(), &slow.len())?;
+        equal(&nearest(&tree, from), &nearest(&slow, from))?;
         let band = [Band::K, Band::M, Band::P][(drawn % 3) as usize];
-        assert_eq!(rt;
-            tree.spent(band, from, start),
-            slow.spent(band, from, start)
-        );
+        equal(
+            &tree.spent(band, from, start),
+            &slow.spent(band, from, start),
+        )?;
     }
-    assert!(rt; 0 < tree.height() && tree.height() <= 12);
+    holds(0 < tree.height() && tree.height() <= 12)?;
+    Ok(())
 }

@@ -9,6 +9,7 @@ use resv_tree::TreeRoster;
 use std::alloc::Global;
 use std::process::Abort;
 use std::test::Fail;
+use test_asserts::{equal, equal_at, holds, holds_at};
 
 /// Two transmissions that touch, as the first version saved them.
 const FIRST: &[u8; 89] =
@@ -50,32 +51,30 @@ fn ask(number: u64, start: u64) -> Ask {
 fn a_book_is_saved_and_loaded(rt: HostRuntime) -> Result<(), Fail> {
     let mut book = GatewayBook::new(VecRoster::new(rt.alloc()), 1, 4_096, 0)?;
     for (number, start) in [(1, 10_000_000), (2, 10_041_216)] {
-        assert!(rt; book.book(ask(number, start)).is_ok());
+        holds(book.book(ask(number, start)).is_ok())?;
     }
-    assert!(rt; is_saved(&rt, rt.alloc(), &book, SECOND));
+    holds(is_saved(&rt, rt.alloc(), &book, SECOND))?;
     for text in [FIRST.as_slice(), SECOND.as_slice()] {
         let again = loaded(rt.alloc(), text)?;
         let totals = again.totals();
-        assert_eq!(rt;
-            (totals.booked, totals.cancelled, totals.retired),
-            (82_432, 0, 0)
-        );
-        assert!(rt; is_saved(&rt, rt.alloc(), &again, SECOND));
+        equal(
+            &(totals.booked, totals.cancelled, totals.retired),
+            &(82_432, 0, 0),
+        )?;
+        holds(is_saved(&rt, rt.alloc(), &again, SECOND))?;
     }
     Ok(())
 }
 
 #[test]
-fn a_text_that_is_cut_is_no_saved_book(rt: HostRuntime) {
+fn a_text_that_is_cut_is_no_saved_book(rt: HostRuntime) -> Result<(), Fail> {
     for text in [FIRST.as_slice(), SECOND.as_slice()] {
         for cut in 0..text.len() {
             let answer = loaded(rt.alloc(), &text[..cut]).map(|_| ());
-            assert!(rt;
-                matches!(answer, Err(LoadFault::Syntax { .. })),
-                "after {cut} bytes"
-            );
+            holds_at(&cut, matches!(answer, Err(LoadFault::Syntax { .. })))?;
         }
     }
+    Ok(())
 }
 
 #[test]
@@ -85,12 +84,12 @@ fn what_follows_the_last_line_is_left(rt: HostRuntime) -> Result<(), Fail> {
     );
     let roster = VecRoster::new(rt.alloc());
     let (book, count) = GatewayBook::load_counted(&mut reader, roster)?;
-    assert_eq!(rt; (book.id(), book.cap(), book.gap(), count), (7, 1, 0, 62));
-    assert_eq!(rt;
-        (book.totals().floor, book.totals().kept),
-        (3_600_000_000, 1)
-    );
-    assert_eq!(rt; reader.bytes, b"book 2 ".as_slice());
+    equal(&(book.id(), book.cap(), book.gap(), count), &(7, 1, 0, 62))?;
+    equal(
+        &(book.totals().floor, book.totals().kept),
+        &(3_600_000_000, 1),
+    )?;
+    equal(&reader.bytes, &b"book 2 ".as_slice())?;
     Ok(())
 }
 
@@ -167,7 +166,7 @@ const FAULTS: [(&[u8], LoadFault); 17] = [
 fn the_first_line_at_fault_is_told(rt: HostRuntime) -> Result<(), Fail> {
     for (place, (text, fault)) in FAULTS.iter().enumerate() {
         let answer = loaded(rt.alloc(), text).map(|_| ());
-        assert_eq!(rt; answer, Err(*fault), "text {place}");
+        equal_at(&place, &answer, &Err(*fault))?;
     }
     for (last, fault) in [
         (
@@ -179,7 +178,10 @@ fn the_first_line_at_fault_is_told(rt: HostRuntime) -> Result<(), Fail> {
         let mut text = Vec::new(rt.alloc());
         text.extend_from_slice(FULL_HOUR)?;
         text.extend_from_slice(last)?;
-        assert_eq!(rt; loaded(rt.alloc(), text.as_slice()).map(|_| ()), Err(fault));
+        equal(
+            &loaded(rt.alloc(), text.as_slice()).map(|_| ()),
+            &Err(fault),
+        )?;
     }
     Ok(())
 }
@@ -189,24 +191,21 @@ fn each_failed_call_is_told(rt: HostRuntime) -> Result<(), Fail> {
     let book = loaded(rt.alloc(), SECOND)?;
     for call in 1..92 {
         let mut writer = MemoryOut::failing(rt.alloc(), 1, call as u64);
-        assert_eq!(rt; book.save(&mut writer), Err(SaveFault::Write));
-        assert!(rt;
-            writer.bytes.as_slice() == &SECOND[..call - 1],
-            "at call {call}"
-        );
+        equal(&book.save(&mut writer), &Err(SaveFault::Write))?;
+        holds_at(&call, writer.bytes.as_slice() == &SECOND[..call - 1])?;
         let mut reader = MemoryIn::failing(SECOND, 1, call as u64);
         let answer = GatewayBook::load(&mut reader, VecRoster::new(rt.alloc())).map(|_| ());
-        assert_eq!(rt; answer, Err(LoadFault::Read));
-        assert_eq!(rt; reader.bytes.len(), 92 - call);
+        equal(&answer, &Err(LoadFault::Read))?;
+        equal(&reader.bytes.len(), &(92 - call))?;
     }
     Ok(())
 }
 
 /// A saved book of forty transmissions.
-fn forty(rt: &impl Abort, alloc: Global) -> Result<Vec<u8, Global>, Fail> {
+fn forty(alloc: Global) -> Result<Vec<u8, Global>, Fail> {
     let mut book = GatewayBook::new(VecRoster::new(alloc), 1, 64, 0)?;
     for number in 0..40 {
-        assert!(rt; book.book(ask(number, number * 100_000_000)).is_ok());
+        holds(book.book(ask(number, number * 100_000_000)).is_ok())?;
     }
     let mut writer = MemoryOut::new(alloc);
     book.save(&mut writer)?;
@@ -240,7 +239,7 @@ fn arena_of(alloc: Global, bytes: usize) -> Result<Bump<Global>, Fail> {
 
 #[test]
 fn each_growth_that_is_refused_is_told(rt: HostRuntime) -> Result<(), Fail> {
-    let text = forty(&rt, rt.alloc())?;
+    let text = forty(rt.alloc())?;
     let mut loads = (false, false);
     for step in 0..256 {
         let vector = arena_of(rt.alloc(), 64 * step)?;
@@ -249,28 +248,29 @@ fn each_growth_that_is_refused_is_told(rt: HostRuntime) -> Result<(), Fail> {
             is_loaded(&rt, text.as_slice(), VecRoster::new(&vector)),
             is_loaded(&rt, text.as_slice(), TreeRoster::new(&tree)),
         );
-        assert!(rt; step > 1 || next == (false, false));
-        assert!(rt; (next.0 || !loads.0) && (next.1 || !loads.1), "{step}");
+        holds(step > 1 || next == (false, false))?;
+        holds_at(&step, (next.0 || !loads.0) && (next.1 || !loads.1))?;
         loads = next;
     }
-    assert_eq!(rt; loads, (true, true));
+    equal(&loads, &(true, true))?;
     Ok(())
 }
 
 #[test]
-fn a_changed_byte_makes_a_fault_or_another_saved_book(rt: HostRuntime) {
+fn a_changed_byte_makes_a_fault_or_another_saved_book(rt: HostRuntime) -> Result<(), Fail> {
     let mut books: u64 = 0;
     for place in 0..91 {
         for byte in b"\0\t\n\r #-./0123456789:aegn" {
             let mut text = *SECOND;
             text[place] = *byte;
             if let Ok(book) = loaded(rt.alloc(), &text) {
-                assert!(rt; is_saved(&rt, rt.alloc(), &book, &text), "at {place}");
+                holds_at(&place, is_saved(&rt, rt.alloc(), &book, &text))?;
                 books = books.saturating_add(1);
             }
         }
     }
-    assert!(rt; books > 91);
+    holds(books > 91)?;
+    Ok(())
 }
 
 /// The next of some numbers that look random (Knuth's MMIX).
@@ -293,9 +293,9 @@ fn random_books_are_the_same_again(rt: HostRuntime) -> Result<(), Fail> {
         let mut writer = MemoryOut::new(rt.alloc());
         book.save(&mut writer)?;
         let again = loaded(rt.alloc(), writer.bytes.as_slice())?;
-        assert!(rt; is_saved(&rt, rt.alloc(), &again, writer.bytes.as_slice()));
-        assert_eq!(rt; again.totals().booked, book.totals().kept_airtime);
-        assert!(rt; book.totals().kept > 10);
+        holds(is_saved(&rt, rt.alloc(), &again, writer.bytes.as_slice()))?;
+        equal(&again.totals().booked, &book.totals().kept_airtime)?;
+        holds(book.totals().kept > 10)?;
     }
     Ok(())
 }

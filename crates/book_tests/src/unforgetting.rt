@@ -8,6 +8,8 @@ use resv_list::{Roster, VecRoster};
 use resv_tree::TreeRoster;
 use std::alloc::{AllocError, Global};
 use std::process::Abort;
+use std::test::Fail;
+use test_asserts::{equal, equal_at, holds};
 
 /// How many transmissions a book may keep here.
 const CAP: u32 = 24;
@@ -177,16 +179,21 @@ fn drawn_command(plain: &Plain, drawn: u64) -> Told {
 }
 
 /// What the book has counted is what the list comes to.
-fn counts_alike<R: Roster>(rt: &impl Abort, book: &GatewayBook<R>, plain: &Plain) {
+fn counts_alike<R: Roster>(book: &GatewayBook<R>, plain: &Plain) -> Result<(), Fail> {
     let totals = book.totals();
-    assert_eq!(rt; totals.kept, plain.kept());
-    assert_eq!(rt; totals.kept_airtime, plain.kept_airtime());
-    assert_eq!(rt; totals.cancelled, plain.cancelled);
-    assert_eq!(rt; totals.booked, plain.booked);
+    equal(&totals.kept, &plain.kept())?;
+    equal(&totals.kept_airtime, &plain.kept_airtime())?;
+    equal(&totals.cancelled, &plain.cancelled)?;
+    equal(&totals.booked, &plain.booked)?;
+    Ok(())
 }
 
 /// Random commands to a book and to the list: both answer alike, and keep as much.
-fn answers_alike<R: Roster + Drop>(rt: &impl Abort, roster: R, plain: &mut Plain)
+fn answers_alike<R: Roster + Drop>(
+    rt: &impl Abort,
+    roster: R,
+    plain: &mut Plain,
+) -> Result<(), Fail>
     requires { R.list roster ≡ [] }
 {
     let mut book = GatewayBook::new(roster, 1, CAP, 0).expect(rt, "the cap is in range");
@@ -200,34 +207,36 @@ fn answers_alike<R: Roster + Drop>(rt: &impl Abort, roster: R, plain: &mut Plain
             }
             Told::Cancel(named, start) => {
                 let wanted = plain.cancel(named, start);
-                assert_eq!(rt; book.cancel(named, start), wanted, "{number}");
+                equal_at(&number, &book.cancel(named, start), &wanted)?;
             }
             Told::Book(start) => {
                 let ask = drawn_ask(number, start);
                 let wanted = plain.book(ask).expect(rt, "there is memory");
-                assert_eq!(rt; book.book(ask).err(), wanted, "{number}");
+                equal_at(&number, &book.book(ask).err(), &wanted)?;
             }
         }
-        counts_alike(rt, &book, plain);
+        counts_alike(&book, plain)?;
     }
     // Some was retired, so the two lists were not the same.
-    assert!(rt; plain.kept() < plain.asks.len());
+    holds(plain.kept() < plain.asks.len())?;
+    Ok(())
 }
 
 #[test]
-fn what_is_retired_is_not_seen(rt: HostRuntime) {
+fn what_is_retired_is_not_seen(rt: HostRuntime) -> Result<(), Fail> {
     let mut plain = Plain {
         asks: Vec::new(rt.alloc()),
         floor: 0,
         booked: 0,
         cancelled: 0,
     };
-    answers_alike(&rt, VecRoster::new(rt.alloc()), &mut plain);
+    answers_alike(&rt, VecRoster::new(rt.alloc()), &mut plain)?;
     let mut again = Plain {
         asks: Vec::new(rt.alloc()),
         floor: 0,
         booked: 0,
         cancelled: 0,
     };
-    answers_alike(&rt, TreeRoster::new(rt.alloc()), &mut again);
+    answers_alike(&rt, TreeRoster::new(rt.alloc()), &mut again)?;
+    Ok(())
 }

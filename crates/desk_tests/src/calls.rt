@@ -3,8 +3,8 @@
 use answer_ticket::{Stub, Ticket};
 use server_desk::{DeskFault, DeskHeard, Limits, QueueFault, TakeFault};
 use std::alloc::Global;
-use std::process::Abort;
 use std::test::Fail;
+use test_asserts::equal_at;
 use worked_inputs::{
     ADDR, COPY, DEVICE, WorkedDesk, answered, desk_of, given_up, heard, passed, queued, settled,
     taken, uplink,
@@ -62,27 +62,17 @@ pub(crate) const OPENED_2: Answer = Answer::Heard(Ok(DeskHeard::Opened {
 }));
 
 /// A desk of the gateways 1 and 2 and of one device, after these calls, of which each answer was compared.
-pub(crate) fn desk_after<R: Abort>(
-    rt: &R,
-    alloc: Global,
-    limits: Limits,
-    table: &[Row],
-) -> Result<WorkedDesk, Fail> {
+pub(crate) fn desk_after(alloc: Global, limits: Limits, table: &[Row]) -> Result<WorkedDesk, Fail> {
     let mut desk = desk_of(alloc, limits, DEVICE)?;
-    answers(rt, alloc, &mut desk, table)?;
+    answers(alloc, &mut desk, table)?;
     Ok(desk)
 }
 
 /// Makes these calls of a desk, one after another, and compares each answer.
-pub(crate) fn answers<R: Abort>(
-    rt: &R,
-    alloc: Global,
-    desk: &mut WorkedDesk,
-    table: &[Row],
-) -> Result<(), Fail> {
+pub(crate) fn answers(alloc: Global, desk: &mut WorkedDesk, table: &[Row]) -> Result<(), Fail> {
     for (place, (call, answer)) in table.iter().enumerate() {
         let found = answer_to(alloc, desk, *call)?;
-        assert_eq!(rt; found, *answer, "at {place}");
+        equal_at(&place, &found, answer)?;
     }
     Ok(())
 }

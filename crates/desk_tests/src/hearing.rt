@@ -22,6 +22,6 @@ static MIC_BEFORE_ROOM: [Row; 6] = [
 
 #[test]
 fn looks_at_the_mic_before_the_room(rt: HostRuntime) -> Result<(), Fail> {
-    desk_after(&rt, rt.alloc(), ONE_OPEN, &MIC_BEFORE_ROOM)?;
+    desk_after(rt.alloc(), ONE_OPEN, &MIC_BEFORE_ROOM)?;
     Ok(())
 }

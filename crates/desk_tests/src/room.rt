@@ -2,8 +2,8 @@
 
 use server_desk::{Desk, DeskFault, DeskHeard, Limits};
 use std::alloc::Global;
-use std::process::Abort;
 use std::test::Fail;
+use test_asserts::{equal, equal_at};
 use worked_inputs::{COPY, WorkedDesk, device, hasher, heard, passed, settings_of, uplink};
 
 /// One uplink at a time, and two in all.
@@ -30,15 +30,10 @@ const fn opened(n: u64) -> Result<DeskHeard, DeskFault> {
 const CROWDED: Result<DeskHeard, DeskFault> = Err(DeskFault::Crowded);
 
 /// Compares what the desk answers to these uplinks, one after another.
-fn hear_all(
-    rt: &impl Abort,
-    alloc: Global,
-    desk: &mut WorkedDesk,
-    rows: &[Row],
-) -> Result<(), Fail> {
+fn hear_all(alloc: Global, desk: &mut WorkedDesk, rows: &[Row]) -> Result<(), Fail> {
     for (addr, wanted) in rows {
         let frame = uplink(alloc, false, *addr, 0)?;
-        assert_eq!(rt; heard(desk, &frame, COPY, 0), *wanted, "of device {addr}");
+        equal_at(&addr, &heard(desk, &frame, COPY, 0), wanted)?;
     }
     Ok(())
 }
@@ -46,9 +41,9 @@ fn hear_all(
 #[test]
 fn a_desk_has_room_as_its_limits_say(rt: HostRuntime) -> Result<(), Fail> {
     let mut desk = scarce_desk(rt.alloc())?;
-    hear_all(&rt, rt.alloc(), &mut desk, &[(1, opened(1)), (2, CROWDED)])?;
-    assert_eq!(rt; passed(&mut desk, 200_001), Some(1));
-    hear_all(&rt, rt.alloc(), &mut desk, &[(2, opened(2)), (3, CROWDED)])?;
-    assert_eq!(rt; passed(&mut desk, 200_001), Some(2));
-    hear_all(&rt, rt.alloc(), &mut desk, &[(3, CROWDED)])
+    hear_all(rt.alloc(), &mut desk, &[(1, opened(1)), (2, CROWDED)])?;
+    equal(&passed(&mut desk, 200_001), &Some(1))?;
+    hear_all(rt.alloc(), &mut desk, &[(2, opened(2)), (3, CROWDED)])?;
+    equal(&passed(&mut desk, 200_001), &Some(2))?;
+    hear_all(rt.alloc(), &mut desk, &[(3, CROWDED)])
 }

@@ -3,6 +3,7 @@
 use server_desk::{DeviceSetting, GatewaySetting, Settings, SettingsFault};
 use std::alloc::Global;
 use std::test::Fail;
+use test_asserts::{equal, holds};
 use worked_inputs::{DEVICE, settings_of};
 
 const GATEWAY: GatewaySetting = GatewaySetting {
@@ -45,9 +46,9 @@ fn settings_show_the_lists_as_given(rt: HostRuntime) -> Result<(), Fail> {
     };
     let gateways = [GATEWAY, last];
     let settings = settings_without_devices(rt.alloc(), &gateways)?;
-    assert_eq!(rt; settings.gateways(), gateways.as_slice());
+    equal(&settings.gateways(), &gateways.as_slice())?;
     let settings = settings_of(rt.alloc(), &[DEVICE])?;
-    assert_eq!(rt; settings.devices(), [DEVICE].as_slice());
+    equal(&settings.devices(), &[DEVICE].as_slice())?;
     Ok(())
 }
 
@@ -77,7 +78,7 @@ fn the_first_fault_of_the_gateways_is_named(rt: HostRuntime) -> Result<(), Fail>
         (&[slow], "Range"),
     ];
     for (gateways, name) in cases {
-        assert_eq!(rt; fault_of(rt.alloc(), gateways, &[])?, Some(name));
+        equal(&fault_of(rt.alloc(), gateways, &[])?, &Some(name))?;
     }
     Ok(())
 }
@@ -105,7 +106,7 @@ fn the_first_fault_of_the_devices_is_named(rt: HostRuntime) -> Result<(), Fail> 
         (&[DEVICE; 1_025], "Count"),
     ];
     for (devices, name) in cases {
-        assert_eq!(rt; fault_of(rt.alloc(), &[GATEWAY], devices)?, Some(name));
+        equal(&fault_of(rt.alloc(), &[GATEWAY], devices)?, &Some(name))?;
     }
     Ok(())
 }
@@ -113,9 +114,9 @@ fn the_first_fault_of_the_devices_is_named(rt: HostRuntime) -> Result<(), Fail> 
 #[test]
 fn a_device_is_shown_without_its_keys(rt: HostRuntime) -> Result<(), Fail> {
     let shown = format!(in rt.alloc(); "{DEVICE:?}")?;
-    assert!(rt; shown.as_str().starts_with("DeviceSetting { addr: "));
-    assert!(rt; shown.as_str().ends_with(", .. }"));
-    assert!(rt; !shown.as_str().contains("nwk"));
-    assert!(rt; !shown.as_str().contains("["));
+    holds(shown.as_str().starts_with("DeviceSetting { addr: "))?;
+    holds(shown.as_str().ends_with(", .. }"))?;
+    holds(!shown.as_str().contains("nwk"))?;
+    holds(!shown.as_str().contains("["))?;
     Ok(())
 }

@@ -4,8 +4,8 @@ use crate::calls::{Answer, Call, OPENED_1, OPENED_2, Row, answers, desk_after};
 use answer_ticket::{Ending, Outcome, Receipt};
 use rx_windows::Window;
 use std::alloc::Global;
-use std::process::Abort;
 use std::test::Fail;
+use test_asserts::equal;
 use worked_inputs::{
     ADDR, AMPLE, WorkedBook, WorkedDesk, book_of, booked, queued, settled, taken, tried_on,
 };
@@ -34,14 +34,13 @@ fn shown(receipt: &Receipt<Global>) -> Booked {
 }
 
 /// The answer to uplink 1 is booked, and settled after nothing was on air yet: its outcome, and what was booked.
-fn first_answered<R: Abort>(
-    rt: &R,
+fn first_answered(
     alloc: Global,
     desk: &mut WorkedDesk,
     book: &mut WorkedBook,
 ) -> Result<(Option<Outcome>, Booked), Fail> {
     let (stub, receipt) = booked(tried_on(taken(desk, 1)?, book)).ok_or("it is booked")?;
-    let before = answers(rt, alloc, desk, &NOT_ON_AIR);
+    let before = answers(alloc, desk, &NOT_ON_AIR);
     let outcome = settled(desk, stub);
     before?;
     Ok((outcome, shown(&receipt)))
@@ -68,13 +67,13 @@ static PAYLOAD_IS_GONE: [Row; 2] = [
 
 #[test]
 fn first_window_takes_the_payload_along(rt: HostRuntime) -> Result<(), Fail> {
-    let mut desk = desk_after(&rt, rt.alloc(), AMPLE, &HEARD)?;
+    let mut desk = desk_after(rt.alloc(), AMPLE, &HEARD)?;
     let mut book = book_of(rt.alloc(), 1)?;
     queued(&mut desk, ADDR, 9, &[0x40; 100])?;
-    let (outcome, booked) = first_answered(&rt, rt.alloc(), &mut desk, &mut book)?;
-    assert_eq!(rt; outcome, in_first_window(189_696, true));
-    assert_eq!(rt; booked, (6_000_000, 113, 189_696, Some(0x20)));
-    answers(&rt, rt.alloc(), &mut desk, &PAYLOAD_IS_GONE)
+    let (outcome, booked) = first_answered(rt.alloc(), &mut desk, &mut book)?;
+    equal(&outcome, &in_first_window(189_696, true))?;
+    equal(&booked, &(6_000_000, 113, 189_696, Some(0x20)))?;
+    answers(rt.alloc(), &mut desk, &PAYLOAD_IS_GONE)
 }
 
 static ON_AIR: [Row; 5] = [
@@ -87,9 +86,9 @@ static ON_AIR: [Row; 5] = [
 
 #[test]
 fn adds_up_how_long_each_gateway_was_on_air(rt: HostRuntime) -> Result<(), Fail> {
-    let mut desk = desk_after(&rt, rt.alloc(), AMPLE, &HEARD)?;
+    let mut desk = desk_after(rt.alloc(), AMPLE, &HEARD)?;
     let mut book = book_of(rt.alloc(), 1)?;
-    let (outcome, _) = first_answered(&rt, rt.alloc(), &mut desk, &mut book)?;
-    assert_eq!(rt; outcome, in_first_window(41_216, false));
-    answers(&rt, rt.alloc(), &mut desk, &ON_AIR)
+    let (outcome, _) = first_answered(rt.alloc(), &mut desk, &mut book)?;
+    equal(&outcome, &in_first_window(41_216, false))?;
+    answers(rt.alloc(), &mut desk, &ON_AIR)
 }

@@ -4,6 +4,7 @@ use crate::calls::{Answer, Call, OPENED_1, OPENED_2, Row, answers, desk_after};
 use answer_ticket::Outcome;
 use server_desk::TakeFault;
 use std::test::Fail;
+use test_asserts::equal;
 use worked_inputs::{AMPLE, WorkedDesk, given_up, settled, taken};
 
 const CLOSED_1: Answer = Answer::Passed(Some(1));
@@ -24,7 +25,7 @@ static NOTHING_IS_OWED: [Row; 7] = [
 
 #[test]
 fn owes_nothing_to_a_silent_uplink(rt: HostRuntime) -> Result<(), Fail> {
-    desk_after(&rt, rt.alloc(), AMPLE, &NOTHING_IS_OWED)?;
+    desk_after(rt.alloc(), AMPLE, &NOTHING_IS_OWED)?;
     Ok(())
 }
 
@@ -40,7 +41,7 @@ static CLOSED_ALONE: [Row; 7] = [
 
 #[test]
 fn answers_closed_uplinks_alone(rt: HostRuntime) -> Result<(), Fail> {
-    desk_after(&rt, rt.alloc(), AMPLE, &CLOSED_ALONE)?;
+    desk_after(rt.alloc(), AMPLE, &CLOSED_ALONE)?;
     Ok(())
 }
 
@@ -58,7 +59,7 @@ static ONE_AT_A_TIME: [Row; 9] = [
 
 #[test]
 fn answers_one_uplink_of_a_device_at_a_time(rt: HostRuntime) -> Result<(), Fail> {
-    desk_after(&rt, rt.alloc(), AMPLE, &ONE_AT_A_TIME)?;
+    desk_after(rt.alloc(), AMPLE, &ONE_AT_A_TIME)?;
     Ok(())
 }
 
@@ -77,8 +78,8 @@ fn strayed(other: &mut WorkedDesk, desk: &mut WorkedDesk) -> Result<Option<Outco
 
 #[test]
 fn hands_a_stub_back_that_is_not_out(rt: HostRuntime) -> Result<(), Fail> {
-    let mut desk = desk_after(&rt, rt.alloc(), AMPLE, &HEARD)?;
-    let mut other = desk_after(&rt, rt.alloc(), AMPLE, &HEARD)?;
-    assert_eq!(rt; strayed(&mut other, &mut desk)?, None);
-    answers(&rt, rt.alloc(), &mut desk, &STILL_GIVEN)
+    let mut desk = desk_after(rt.alloc(), AMPLE, &HEARD)?;
+    let mut other = desk_after(rt.alloc(), AMPLE, &HEARD)?;
+    equal(&strayed(&mut other, &mut desk)?, &None)?;
+    answers(rt.alloc(), &mut desk, &STILL_GIVEN)
 }

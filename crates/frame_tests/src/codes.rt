@@ -2,6 +2,7 @@
 
 use aes_cmac::{Cmac, Key, cmac, encrypt};
 use std::test::Fail;
+use test_asserts::{holds, holds_at};
 
 const KEY: [u8; 16] = [
     0x2b, 0x7e, 0x15, 0x16, 0x28, 0xae, 0xd2, 0xa6, 0xab, 0xf7, 0x15, 0x88, 0x09, 0xcf, 0x4f, 0x3c,
@@ -31,7 +32,7 @@ const CODE_OF_64: [u8; 16] = [
 ];
 
 #[test]
-fn encrypts(rt: HostRuntime) {
+fn encrypts() -> Result<(), Fail> {
     // appendix C.1
     let counting = [
         0x00, 0x01, 0x02, 0x03, 0x04, 0x05, 0x06, 0x07, 0x08, 0x09, 0x0a, 0x0b, 0x0c, 0x0d, 0x0e,
@@ -45,7 +46,7 @@ fn encrypts(rt: HostRuntime) {
         0x69, 0xc4, 0xe0, 0xd8, 0x6a, 0x7b, 0x04, 0x30, 0xd8, 0xcd, 0xb7, 0x80, 0x70, 0xb4, 0xc5,
         0x5a,
     ];
-    assert!(rt; encrypt(&Key::new(counting), doubles) == wanted);
+    holds(encrypt(&Key::new(counting), doubles) == wanted)?;
     // appendix B
     let block = [
         0x32, 0x43, 0xf6, 0xa8, 0x88, 0x5a, 0x30, 0x8d, 0x31, 0x31, 0x98, 0xa2, 0xe0, 0x37, 0x07,
@@ -55,11 +56,12 @@ fn encrypts(rt: HostRuntime) {
         0x39, 0x25, 0x84, 0x1d, 0x02, 0xdc, 0x09, 0xfb, 0xdc, 0x11, 0x85, 0x97, 0x19, 0x6a, 0x0b,
         0x32,
     ];
-    assert!(rt; encrypt(&Key::new(KEY), block) == wanted);
+    holds(encrypt(&Key::new(KEY), block) == wanted)?;
+    Ok(())
 }
 
 #[test]
-fn codes_of_whole_messages(rt: HostRuntime) {
+fn codes_of_whole_messages() -> Result<(), Fail> {
     let key = Key::new(KEY);
     for (length, wanted) in [
         (0, CODE_OF_NONE),
@@ -68,12 +70,10 @@ fn codes_of_whole_messages(rt: HostRuntime) {
         (64, CODE_OF_64),
     ] {
         let length: usize = length;
-        assert!(rt; length <= 64);
-        assert!(rt;
-            cmac(&key, &MESSAGE[..length]) == wanted,
-            "of {length} bytes"
-        );
+        holds(length <= 64)?;
+        holds_at(&length, cmac(&key, &MESSAGE[..length]) == wanted)?;
     }
+    Ok(())
 }
 
 /// The code of a message in three pieces.
@@ -86,7 +86,7 @@ fn code_of_three(key: &Key, first: &[u8], second: &[u8], third: &[u8]) -> [u8; 1
 }
 
 #[test]
-fn codes_of_pieces(rt: HostRuntime) {
+fn codes_of_pieces() -> Result<(), Fail> {
     let key = Key::new(KEY);
     for (first, second) in [
         (0, 0),
@@ -99,20 +99,21 @@ fn codes_of_pieces(rt: HostRuntime) {
     ] {
         let first: usize = first;
         let second: usize = second;
-        assert!(rt; first <= second && second <= 40);
+        holds(first <= second && second <= 40)?;
         let code = code_of_three(
             &key,
             &MESSAGE[..first],
             &MESSAGE[first..second],
             &MESSAGE[second..40],
         );
-        assert!(rt; code == CODE_OF_40, "cut at {first} and {second}");
+        holds_at(&(first, second), code == CODE_OF_40)?;
     }
     let mut state = Cmac::new(&key);
     for byte in &MESSAGE {
         state.update(&[*byte]);
     }
-    assert!(rt; state.finish() == CODE_OF_64);
+    holds(state.finish() == CODE_OF_64)?;
+    Ok(())
 }
 
 #[test]
@@ -121,6 +122,6 @@ fn keys_are_not_shown(rt: HostRuntime) -> Result<(), Fail> {
     let mut state = Cmac::new(&key);
     state.update(&MESSAGE);
     let shown = format!(in rt.alloc(); "{key:?} {state:?}")?;
-    assert!(rt; shown.as_str() == "Key { .. } Cmac { .. }");
+    holds(shown.as_str() == "Key { .. } Cmac { .. }")?;
     Ok(())
 }

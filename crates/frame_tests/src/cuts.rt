@@ -3,6 +3,7 @@
 use lora_frame::{Body, FrameFault, Key, Keys, Up, UpFault, read_uplink, uplink_bytes};
 use std::alloc::Global;
 use std::test::Fail;
+use test_asserts::{equal, equal_at};
 
 /// How long the uplink of this test is.
 const LEN: usize = 228;
@@ -37,7 +38,7 @@ fn port_in(bytes: &[u8]) -> Result<Option<u8>, FrameFault> {
 #[test]
 fn an_uplink_is_read_from_its_options_on(rt: HostRuntime) -> Result<(), Fail> {
     let frame = long_uplink(rt.alloc())?;
-    assert_eq!(rt; frame.len(), LEN);
+    equal(&frame.len(), &LEN)?;
     for len in 0..=LEN {
         let wanted = match len {
             0..=11 => Err(FrameFault::Short),
@@ -45,7 +46,7 @@ fn an_uplink_is_read_from_its_options_on(rt: HostRuntime) -> Result<(), Fail> {
             27 => Ok(None),
             _ => Ok(Some(1)),
         };
-        assert_eq!(rt; port_in(&frame.as_slice()[..len]), wanted, "{len} bytes");
+        equal_at(&len, &port_in(&frame.as_slice()[..len]), &wanted)?;
     }
     Ok(())
 }

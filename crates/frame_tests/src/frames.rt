@@ -6,6 +6,7 @@ use lora_frame::{
 };
 use std::alloc::Global;
 use std::test::Fail;
+use test_asserts::{equal, equal_at, holds};
 
 const NWK: [u8; 16] = [
     0x2b, 0x7e, 0x15, 0x16, 0x28, 0xae, 0xd2, 0xa6, 0xab, 0xf7, 0x15, 0x88, 0x09, 0xcf, 0x4f, 0x3c,
@@ -60,15 +61,15 @@ fn up(alloc: Global, up: &Up) -> Result<Vec<u8>, UpFault> {
 #[test]
 fn downlinks(rt: HostRuntime) -> Result<(), Fail> {
     let frame = down(rt.alloc(), &empty_down())?;
-    assert_eq!(rt; frame.len(), 12);
-    assert!(rt; frame.as_slice()[..8] == [0x60, 0xda, 0x1b, 0x01, 0x26, 0x20, 0x00, 0x00]);
+    equal(&frame.len(), &12)?;
+    holds(frame.as_slice()[..8] == [0x60, 0xda, 0x1b, 0x01, 0x26, 0x20, 0x00, 0x00])?;
     let more = Down {
         pending: true,
         ..empty_down()
     };
     let frame = down(rt.alloc(), &more)?;
-    assert_eq!(rt; frame.len(), 12);
-    assert_eq!(rt; frame[5], 0x30);
+    equal(&frame.len(), &12)?;
+    equal(&frame[5], &0x30)?;
     let zeros = [0u8; 243];
     for (port, size, wanted) in [
         (9, 100, Ok(113)),
@@ -79,7 +80,7 @@ fn downlinks(rt: HostRuntime) -> Result<(), Fail> {
         (0, 243, Err(DownFault::Port)),
     ] {
         let size: usize = size;
-        assert!(rt; size <= 243);
+        holds(size <= 243)?;
         let body = Some(Body {
             port,
             payload: &zeros[..size],
@@ -89,7 +90,7 @@ fn downlinks(rt: HostRuntime) -> Result<(), Fail> {
             ..empty_down()
         };
         let found = down(rt.alloc(), &full).map(|frame| frame.len());
-        assert_eq!(rt; found, wanted, "port {port} and {size} bytes");
+        equal_at(&(port, size), &found, &wanted)?;
     }
     Ok(())
 }
@@ -97,8 +98,8 @@ fn downlinks(rt: HostRuntime) -> Result<(), Fail> {
 #[test]
 fn uplinks(rt: HostRuntime) -> Result<(), Fail> {
     let frame = up(rt.alloc(), &empty_up())?;
-    assert_eq!(rt; frame.len(), 12);
-    assert!(rt; frame.as_slice()[..8] == [0x80, 0xda, 0x1b, 0x01, 0x26, 0x00, 0x07, 0x00]);
+    equal(&frame.len(), &12)?;
+    holds(frame.as_slice()[..8] == [0x80, 0xda, 0x1b, 0x01, 0x26, 0x00, 0x07, 0x00])?;
     let zeros = [0u8; 243];
     for (port, options, size, wanted) in [
         (224, 0, 0, Err(UpFault::Port)),
@@ -111,7 +112,7 @@ fn uplinks(rt: HostRuntime) -> Result<(), Fail> {
     ] {
         let options: usize = options;
         let size: usize = size;
-        assert!(rt; options <= 16 && size <= 243);
+        holds(options <= 16 && size <= 243)?;
         let body = Some(Body {
             port,
             payload: &zeros[..size],
@@ -122,11 +123,7 @@ fn uplinks(rt: HostRuntime) -> Result<(), Fail> {
             ..empty_up()
         };
         let found = up(rt.alloc(), &full).map(|frame| frame.len());
-        assert_eq!(rt;
-            found,
-            wanted,
-            "port {port}, {options} options and {size} bytes"
-        );
+        equal_at(&(port, options, size), &found, &wanted)?;
     }
     Ok(())
 }
@@ -157,7 +154,7 @@ fn published_uplink(rt: HostRuntime) -> Result<(), Fail> {
         0x40, 0xf1, 0x7d, 0xbe, 0x49, 0x00, 0x02, 0x00, 0x01, 0x95, 0x43, 0x78, 0x76, 0x2b, 0x11,
         0xff, 0x0d,
     ];
-    assert!(rt; frame.as_slice() == wanted.as_slice());
+    holds(frame.as_slice() == wanted.as_slice())?;
     Ok(())
 }
 
@@ -178,7 +175,7 @@ fn ports_choose_the_key_of_the_payload(rt: HostRuntime) -> Result<(), Fail> {
             payload: b"test",
         });
         let full = Up { body, ..empty_up() };
-        assert!(rt; up(rt.alloc(), &full)?.as_slice() == wanted.as_slice());
+        holds(up(rt.alloc(), &full)?.as_slice() == wanted.as_slice())?;
     }
     Ok(())
 }
@@ -193,9 +190,9 @@ fn longest_uplink_is_read(rt: HostRuntime) -> Result<(), Fail> {
     let full = Up { body, ..empty_up() };
     let frame = up(rt.alloc(), &full)?;
     let uplink = read(frame.as_slice())?;
-    assert_eq!(rt; frame.len(), 255);
-    assert_eq!(rt; (uplink.port, uplink.payload_at), (Some(1), 9));
-    assert!(rt; has_mic(frame.as_slice(), 7));
+    equal(&frame.len(), &255)?;
+    equal(&(uplink.port, uplink.payload_at), &(Some(1), 9))?;
+    holds(has_mic(frame.as_slice(), 7))?;
     Ok(())
 }
 
@@ -210,7 +207,7 @@ fn has_mic(bytes: &[u8], counter: u32) -> bool {
 }
 
 #[test]
-fn faults_of_uplinks(rt: HostRuntime) {
+fn faults_of_uplinks() -> Result<(), Fail> {
     let cut = [0x40, 0, 0, 0, 0, 1, 0, 0, 0, 0, 0, 0];
     for (bytes, fault) in [
         (&cut[..11], FrameFault::Short),
@@ -219,28 +216,29 @@ fn faults_of_uplinks(rt: HostRuntime) {
         ([0; 12].as_slice(), FrameFault::NotData),
         ([0x41; 12].as_slice(), FrameFault::Major),
     ] {
-        assert_eq!(rt; read(bytes), Err(fault));
+        equal(&read(bytes), &Err(fault))?;
     }
+    Ok(())
 }
 
 #[test]
 fn codes_of_uplinks(rt: HostRuntime) -> Result<(), Fail> {
     let mut frame = up(rt.alloc(), &empty_up())?;
     let uplink = read(frame.as_slice())?;
-    assert!(rt; uplink.confirmed && uplink.addr == ADDR && uplink.low == 7);
-    assert_eq!(rt; uplink.port, None);
-    assert_eq!(rt; uplink.payload_at, 8);
-    assert!(rt; has_mic(frame.as_slice(), 7));
-    assert!(rt; !has_mic(frame.as_slice(), 65543));
-    assert_eq!(rt; frame.len(), 12);
+    holds(uplink.confirmed && uplink.addr == ADDR && uplink.low == 7)?;
+    equal(&uplink.port, &None)?;
+    equal(&uplink.payload_at, &8)?;
+    holds(has_mic(frame.as_slice(), 7))?;
+    holds(!has_mic(frame.as_slice(), 65543))?;
+    equal(&frame.len(), &12)?;
     frame[11] ^= 1;
-    assert!(rt; read(frame.as_slice()).is_ok());
-    assert!(rt; !has_mic(frame.as_slice(), 7));
+    holds(read(frame.as_slice()).is_ok())?;
+    holds(!has_mic(frame.as_slice(), 7))?;
     Ok(())
 }
 
 #[test]
-fn counters(rt: HostRuntime) {
+fn counters() -> Result<(), Fail> {
     for (last, low, counter) in [
         (None, 7, Some(7)),
         (Some(131_071), 0, Some(131_072)),
@@ -248,6 +246,7 @@ fn counters(rt: HostRuntime) {
         (Some(5), 4, Some(65_540)),
         (Some(4_294_967_295), 0, None),
     ] {
-        assert_eq!(rt; infer(last, low), counter, "{low} after {last:?}");
+        equal_at(&(low, last), &infer(last, low), &counter)?;
     }
+    Ok(())
 }

@@ -5,6 +5,7 @@ use bumpalo::Bump;
 use lora_frame::{Body, Down, Key, Keys, Up, downlink, uplink_bytes};
 use std::alloc::Global;
 use std::test::Fail;
+use test_asserts::equal;
 
 /// More than any frame takes.
 const AMPLE_BYTES: usize = 4_096;
@@ -61,14 +62,14 @@ fn taken_by_uplink(alloc: Global, payload: &[u8]) -> Result<(usize, usize), Fail
 fn a_frame_takes_one_growth_of_its_own_length(rt: HostRuntime) -> Result<(), Fail> {
     let payload = [7; 242];
     for len in [1, 2, 11, 15, 16, 17, 51, 115, 222, 242] {
-        assert_eq!(rt;
-            taken_by_downlink(rt.alloc(), &payload[..len])?,
-            (len + 13, len + 13)
-        );
-        assert_eq!(rt;
-            taken_by_uplink(rt.alloc(), &payload[..len])?,
-            (len + 13, len + 13)
-        );
+        equal(
+            &taken_by_downlink(rt.alloc(), &payload[..len])?,
+            &(len + 13, len + 13),
+        )?;
+        equal(
+            &taken_by_uplink(rt.alloc(), &payload[..len])?,
+            &(len + 13, len + 13),
+        )?;
     }
     Ok(())
 }

@@ -4,6 +4,7 @@ use radio_airtime::DataRate;
 use std::alloc::Global;
 use std::hash::{BuildHasherDefault, FoldHasher};
 use std::test::Fail;
+use test_asserts::equal_at;
 use uplink_gather::{Gather, HearFault, Heard, HeardCopy, Limits, Place};
 
 type Gathered = Gather<BuildHasherDefault<FoldHasher>>;
@@ -190,11 +191,7 @@ fn worked_gatherings(rt: HostRuntime) -> Result<(), Fail> {
         ("one of three is closed", AMPLE, ONE_OF_THREE.as_slice()),
         ("other numbers", AMPLE, OTHER_NUMBERS.as_slice()),
     ] {
-        assert_eq!(rt;
-            first_wrong(rt.alloc(), limits, steps)?,
-            None,
-            "step of: {name}"
-        );
+        equal_at(&name, &first_wrong(rt.alloc(), limits, steps)?, &None)?;
     }
     Ok(())
 }

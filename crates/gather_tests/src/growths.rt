@@ -8,6 +8,7 @@ use bumpalo::Bump;
 use rx_windows::candidates;
 use std::alloc::Global;
 use std::test::Fail;
+use test_asserts::{equal, holds};
 use uplink_gather::HeardCopy;
 
 /// More than these candidates take.
@@ -27,11 +28,11 @@ fn taken(alloc: Global, copies: &[HeardCopy]) -> Result<(usize, usize), Fail>
 fn candidates_take_one_growth_for_all(rt: HostRuntime) -> Result<(), Fail> {
     let [one, other] = [copy(1, 5_000_000, 55, -90), copy(2, 6_000_000, 55, -80)];
     let (for_two, two) = taken(rt.alloc(), &[one])?;
-    assert_eq!(rt; two, 2);
-    assert!(rt; for_two > 0);
+    equal(&two, &2)?;
+    holds(for_two > 0)?;
     let (for_six, six) = taken(rt.alloc(), &[one, other, one])?;
-    assert_eq!(rt; (for_six, six), (for_two.saturating_mul(3), 6));
+    equal(&(for_six, six), &(for_two.saturating_mul(3), 6))?;
     let (for_ten, ten) = taken(rt.alloc(), &[one, other, one, other, one])?;
-    assert_eq!(rt; (for_ten, ten), (for_two.saturating_mul(5), 10));
+    equal(&(for_ten, ten), &(for_two.saturating_mul(5), 10))?;
     Ok(())
 }

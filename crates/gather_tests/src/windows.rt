@@ -7,6 +7,7 @@ ghost use Rattle.rx_windows.specs.Windows.{IsHeard, IsPlan};
 use radio_airtime::DataRate;
 use rx_windows::{Candidate, Plan, Window, candidates, rank};
 use std::test::Fail;
+use test_asserts::{equal, holds};
 use uplink_gather::HeardCopy;
 
 /// A copy at DR5 on 868.1 MHz.
@@ -81,7 +82,7 @@ fn three_copies(rt: HostRuntime) -> Result<(), Fail> {
         copy(1, 5_000_000, 55, -90),
         copy(3, 7_000_000, -20, -60),
     ];
-    assert!(rt; copies.as_slice() == ranked.as_slice());
+    holds(copies.as_slice() == ranked.as_slice())?;
     let found = candidates(rt.alloc(), &ranked, &plan(1, 2, None))?;
     let wanted = [
         first(2, 7_000_000, DataRate::Dr3),
@@ -91,12 +92,12 @@ fn three_copies(rt: HostRuntime) -> Result<(), Fail> {
         second(1, 7_000_000),
         second(3, 9_000_000),
     ];
-    assert!(rt; found.as_slice() == wanted.as_slice());
+    holds(found.as_slice() == wanted.as_slice())?;
     Ok(())
 }
 
 #[test]
-fn of_equal_signals_the_smaller_gateway_is_first(rt: HostRuntime) {
+fn of_equal_signals_the_smaller_gateway_is_first() -> Result<(), Fail> {
     let mut copies = [
         copy(9, 5_000_000, 55, -80),
         copy(2, 6_000_000, 55, -80),
@@ -108,7 +109,8 @@ fn of_equal_signals_the_smaller_gateway_is_first(rt: HostRuntime) {
         copy(5, 7_000_000, 55, -80),
         copy(9, 5_000_000, 55, -80),
     ];
-    assert!(rt; copies.as_slice() == ranked.as_slice());
+    holds(copies.as_slice() == ranked.as_slice())?;
+    Ok(())
 }
 
 #[test]
@@ -126,14 +128,14 @@ fn offsets_of_rx1_end_at_dr0(rt: HostRuntime) -> Result<(), Fail> {
         (slow, 5, DataRate::Dr0, false),
     ];
     for (heard, offset, rate, carries) in cases {
-        assert!(rt; heard.at <= 1 << 60 && offset <= 5);
+        holds(heard.at <= 1 << 60 && offset <= 5)?;
         let found = candidates(rt.alloc(), &[heard], &plan(1, offset, Some(100)))?;
         let rx1 = Candidate {
             len: if carries { 113 } else { 12 },
             carries,
             ..first(1, 6_000_000, rate)
         };
-        assert!(rt; found.as_slice() == [rx1, second(1, 7_000_000)].as_slice());
+        holds(found.as_slice() == [rx1, second(1, 7_000_000)].as_slice())?;
     }
     Ok(())
 }
@@ -141,7 +143,7 @@ fn offsets_of_rx1_end_at_dr0(rt: HostRuntime) -> Result<(), Fail> {
 #[test]
 fn no_copies(rt: HostRuntime) -> Result<(), Fail> {
     let found = candidates(rt.alloc(), &[], &plan(1, 0, None))?;
-    assert!(rt; found.is_empty());
+    holds(found.is_empty())?;
     Ok(())
 }
 
@@ -150,7 +152,7 @@ fn longest_delay(rt: HostRuntime) -> Result<(), Fail> {
     let copies = [copy(1, 5_000_000, 0, -100)];
     let found = candidates(rt.alloc(), &copies, &plan(15, 0, None))?;
     let wanted = [first(1, 20_000_000, DataRate::Dr5), second(1, 21_000_000)];
-    assert!(rt; found.as_slice() == wanted.as_slice());
+    holds(found.as_slice() == wanted.as_slice())?;
     Ok(())
 }
 
@@ -164,13 +166,13 @@ fn payload_that_fits_only_rx1(rt: HostRuntime) -> Result<(), Fail> {
         ..first(1, 6_000_000, DataRate::Dr5)
     };
     let wanted = [carrying, second(1, 7_000_000)];
-    assert!(rt; found.as_slice() == wanted.as_slice());
+    holds(found.as_slice() == wanted.as_slice())?;
     Ok(())
 }
 
 #[test]
 fn window_names(rt: HostRuntime) -> Result<(), Fail> {
     let names = format!(in rt.alloc(); "{} {}", Window::Rx1, Window::Rx2)?;
-    assert_eq!(rt; names.as_str(), "RX1 RX2");
+    equal(&names.as_str(), &"RX1 RX2")?;
     Ok(())
 }

@@ -1,12 +1,12 @@
 // Frames, and the candidates of an uplink.
 
-use crate::turns::{MOST_GROWTHS, Refuser, was_refused};
+use crate::turns::{MOST_GROWTHS, Refuser, gave_up};
 use lora_frame::{Body, Down, DownFault, Key, Keys, Up, UpFault, downlink, uplink_bytes};
 use radio_airtime::DataRate;
 use refusing_alloc::Refusing;
 use rx_windows::{Plan, candidates};
-use std::process::Abort;
 use std::test::Fail;
+use test_asserts::{equal, holds};
 use uplink_gather::HeardCopy;
 
 fn keys() -> Keys {
@@ -17,11 +17,7 @@ fn keys() -> Keys {
 }
 
 /// How many growths a downlink with this body takes; each is refused once.
-fn growths_of_downlink(
-    rt: &impl Abort,
-    alloc: &Refuser,
-    body: Option<Body<'_>>,
-) -> Result<u64, Fail> {
+fn growths_of_downlink(alloc: &Refuser, body: Option<Body<'_>>) -> Result<u64, Fail> {
     let down = Down {
         addr: 7,
         counter: 1,
@@ -33,8 +29,8 @@ fn growths_of_downlink(
         alloc.refuse(number);
         let frame = downlink(alloc, &down, &keys());
         let is_starved = matches!(&frame, Err(DownFault::NoMemory));
-        if !was_refused(rt, alloc, number, is_starved) {
-            assert!(rt; frame.is_ok());
+        if !gave_up(alloc, number, is_starved)? {
+            holds(frame.is_ok())?;
             return Ok(number.saturating_sub(1));
         }
     }
@@ -48,13 +44,13 @@ fn a_downlink(rt: HostRuntime) -> Result<(), Fail> {
         port: 9,
         payload: &[3; 100],
     };
-    assert_eq!(rt; growths_of_downlink(&rt, &alloc, None)?, 1);
-    assert_eq!(rt; growths_of_downlink(&rt, &alloc, Some(body))?, 1);
+    equal(&growths_of_downlink(&alloc, None)?, &1)?;
+    equal(&growths_of_downlink(&alloc, Some(body))?, &1)?;
     Ok(())
 }
 
 /// How many growths an uplink takes; each is refused once.
-fn growths_of_uplink(rt: &impl Abort, alloc: &Refuser, options: &[u8]) -> Result<u64, Fail> {
+fn growths_of_uplink(alloc: &Refuser, options: &[u8]) -> Result<u64, Fail> {
     let up = Up {
         confirmed: true,
         addr: 7,
@@ -69,8 +65,8 @@ fn growths_of_uplink(rt: &impl Abort, alloc: &Refuser, options: &[u8]) -> Result
         alloc.refuse(number);
         let frame = uplink_bytes(alloc, &up, &keys());
         let is_starved = matches!(&frame, Err(UpFault::NoMemory));
-        if !was_refused(rt, alloc, number, is_starved) {
-            assert!(rt; frame.is_ok());
+        if !gave_up(alloc, number, is_starved)? {
+            holds(frame.is_ok())?;
             return Ok(number.saturating_sub(1));
         }
     }
@@ -80,8 +76,8 @@ fn growths_of_uplink(rt: &impl Abort, alloc: &Refuser, options: &[u8]) -> Result
 #[test]
 fn an_uplink(rt: HostRuntime) -> Result<(), Fail> {
     let alloc = Refusing::new(rt.alloc());
-    assert_eq!(rt; growths_of_uplink(&rt, &alloc, &[])?, 1);
-    assert_eq!(rt; growths_of_uplink(&rt, &alloc, &[1, 2, 3])?, 1);
+    equal(&growths_of_uplink(&alloc, &[])?, &1)?;
+    equal(&growths_of_uplink(&alloc, &[1, 2, 3])?, &1)?;
     Ok(())
 }
 
@@ -105,12 +101,12 @@ const PLAN: Plan = Plan {
 };
 
 /// How many growths the candidates of one copy take; each is refused once.
-fn growths_of_candidates(rt: &impl Abort, alloc: &Refuser) -> Result<u64, Fail> {
+fn growths_of_candidates(alloc: &Refuser) -> Result<u64, Fail> {
     for number in 1..=MOST_GROWTHS {
         alloc.refuse(number);
         let found = candidates(alloc, &[COPY], &PLAN);
-        if !was_refused(rt, alloc, number, found.is_err()) {
-            assert_eq!(rt; found?.len(), 2);
+        if !gave_up(alloc, number, found.is_err())? {
+            equal(&found?.len(), &2)?;
             return Ok(number.saturating_sub(1));
         }
     }
@@ -120,6 +116,6 @@ fn growths_of_candidates(rt: &impl Abort, alloc: &Refuser) -> Result<u64, Fail> 
 #[test]
 fn the_candidates_of_an_uplink(rt: HostRuntime) -> Result<(), Fail> {
     let alloc = Refusing::new(rt.alloc());
-    assert_eq!(rt; growths_of_candidates(&rt, &alloc)?, 1);
+    equal(&growths_of_candidates(&alloc)?, &1)?;
     Ok(())
 }

@@ -1,11 +1,11 @@
 // Gatherings of copies.
 
-use crate::turns::{MOST_GROWTHS, Refuser, was_refused};
+use crate::turns::{MOST_GROWTHS, Refuser, gave_up};
 use radio_airtime::DataRate;
 use refusing_alloc::Refusing;
 use std::hash::{BuildHasherDefault, FoldHasher};
-use std::process::Abort;
 use std::test::Fail;
+use test_asserts::{equal, holds};
 use uplink_gather::{Gather, HearFault, Heard, HeardCopy, Limits};
 
 type Gathered<'a> = Gather<BuildHasherDefault<FoldHasher>, &'a Refuser>;
@@ -38,7 +38,6 @@ fn seen(gather: &Gathered<'_>) -> (usize, Option<u64>, bool) {
 
 /// How many growths it takes to hear a copy of these bytes; each is refused once, and leaves what was gathered as it was.
 fn growths_to_hear(
-    rt: &impl Abort,
     alloc: &Refuser,
     gather: &mut Gathered<'_>,
     bytes: &[u8],
@@ -50,12 +49,12 @@ fn growths_to_hear(
     for number in 1..=MOST_GROWTHS {
         alloc.refuse(number);
         let heard = gather.hear(bytes, copy(gateway), 0);
-        if !was_refused(rt, alloc, number, heard == Err(HearFault::NoMemory)) {
-            assert_eq!(rt; heard, Ok(wanted));
+        if !gave_up(alloc, number, heard == Err(HearFault::NoMemory))? {
+            equal(&heard, &Ok(wanted))?;
             return Ok(number.saturating_sub(1));
         }
-        assert_eq!(rt; seen(gather), before);
-        assert_eq!(rt; gather.place(bytes, gateway, 0), place);
+        equal(&seen(gather), &before)?;
+        equal(&gather.place(bytes, gateway, 0), &place)?;
     }
     Err(Fail::from("no end of growths"))
 }
@@ -64,18 +63,18 @@ fn growths_to_hear(
 fn a_copy_that_opens_and_copies_that_join(rt: HostRuntime) -> Result<(), Fail> {
     let alloc = Refusing::new(rt.alloc());
     let mut gather: Gathered<'_> = Gather::new(&alloc, BuildHasherDefault::new(), AMPLE)?;
-    assert_eq!(rt; alloc.asked(), 0);
-    let opened = growths_to_hear(&rt, &alloc, &mut gather, &[1], 1, Heard::Opened { n: 1 })?;
-    assert!(rt; opened > 0);
+    equal(&alloc.asked(), &0)?;
+    let opened = growths_to_hear(&alloc, &mut gather, &[1], 1, Heard::Opened { n: 1 })?;
+    holds(opened > 0)?;
     for gateway in 2..=9 {
         let wanted = Heard::Joined {
             n: 1,
             copies: gateway as usize,
         };
-        growths_to_hear(&rt, &alloc, &mut gather, &[1], gateway, wanted)?;
+        growths_to_hear(&alloc, &mut gather, &[1], gateway, wanted)?;
     }
-    let other = growths_to_hear(&rt, &alloc, &mut gather, &[2], 1, Heard::Opened { n: 2 })?;
-    assert!(rt; other > 0);
-    assert_eq!(rt; gather.copies(1).len(), 9);
+    let other = growths_to_hear(&alloc, &mut gather, &[2], 1, Heard::Opened { n: 2 })?;
+    holds(other > 0)?;
+    equal(&gather.copies(1).len(), &9)?;
     Ok(())
 }

@@ -5,6 +5,7 @@ use refusing_alloc::Refusing;
 use std::alloc::AllocError;
 use std::test::Fail;
 use std::thread;
+use test_asserts::{equal, holds};
 
 /// A list of one byte with room for one more, which takes a growth or two.
 fn filled(alloc: &Refuser) -> Result<Vec<u8, &Refuser>, AllocError> {
@@ -17,20 +18,20 @@ fn filled(alloc: &Refuser) -> Result<Vec<u8, &Refuser>, AllocError> {
 #[test]
 fn only_the_growth_of_the_number_is_refused(rt: HostRuntime) -> Result<(), Fail> {
     let alloc = Refusing::new(rt.alloc());
-    assert!(rt; filled(&alloc).is_ok());
+    holds(filled(&alloc).is_ok())?;
     let growths = alloc.asked();
-    assert!(rt; growths > 0);
+    holds(growths > 0)?;
     for number in 1..=growths {
         alloc.refuse(number);
-        assert!(rt; filled(&alloc).is_err());
-        assert_eq!(rt; alloc.asked(), number);
-        assert!(rt; filled(&alloc).is_ok());
+        holds(filled(&alloc).is_err())?;
+        equal(&alloc.asked(), &number)?;
+        holds(filled(&alloc).is_ok())?;
     }
     alloc.refuse_from(growths);
-    assert!(rt; filled(&alloc).is_err());
-    assert!(rt; filled(&alloc).is_err());
+    holds(filled(&alloc).is_err())?;
+    holds(filled(&alloc).is_err())?;
     alloc.grant();
-    assert!(rt; filled(&alloc).is_ok());
+    holds(filled(&alloc).is_ok())?;
     Ok(())
 }
 
@@ -39,7 +40,7 @@ fn another_thread_may_grow_and_free(rt: HostRuntime) -> Result<(), Fail> {
     let alloc = Refusing::new(rt.alloc());
     let bytes = filled(&alloc)?;
     let (len, is_kept) = thread::join(&rt, || bytes.len(), || filled(&alloc).is_ok());
-    assert_eq!(rt; len, 1);
-    assert!(rt; is_kept);
+    equal(&len, &1)?;
+    holds(is_kept)?;
     Ok(())
 }

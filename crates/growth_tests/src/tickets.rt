@@ -3,7 +3,7 @@ ghost use Rattle.std.specs.Prelude.{IfOk};
 ghost use Rattle.answer_ticket.specs.Job.{IsJob};
 
 use crate::asks::Kept;
-use crate::turns::{MOST_GROWTHS, Refuser, was_refused, were_refused};
+use crate::turns::{MOST_GROWTHS, Refuser, was_refused};
 use answer_ticket::{Bytes, Copies, Job, NoMemory, Receipt, Stub, Ticket, Tried};
 use gateway_book::GatewayBook;
 use lora_frame::{Key, Keys};
@@ -13,6 +13,7 @@ use resv_tree::TreeRoster;
 use rx_windows::Plan;
 use std::process::Abort;
 use std::test::Fail;
+use test_asserts::equal;
 use uplink_gather::HeardCopy;
 
 /// The answer to a confirmed uplink that gateway 1 heard until 5,000,000 us at DR5 on 868.1 MHz, with a payload of 100 bytes on
@@ -61,11 +62,12 @@ fn growths_of_ticket<'a>(
         alloc.refuse_from(number);
         match Ticket::new(alloc, job) {
             Ok(ticket) => {
-                were_refused(rt, alloc, number, false);
+                assert!(rt; alloc.asked() < number);
+                alloc.grant();
                 return Ok((number.saturating_sub(1), ticket));
             }
             Err(_) => {
-                were_refused(rt, alloc, number, true);
+                was_refused(alloc, number, true)?;
             }
         }
     }
@@ -107,13 +109,15 @@ fn growths_to_book<'a>(
         alloc.refuse(number);
         match end_of(ticket.try_on(book)) {
             Ended::Starved(back) => {
-                was_refused(rt, alloc, number, true);
+                assert_eq!(rt; alloc.asked(), number);
+                alloc.grant();
                 assert_eq!(rt; (back.number(), back.gateway(), back.counter()), (17, 1, 0));
                 assert_eq!(rt; book.totals(), before);
                 ticket = back;
             }
             Ended::Booked(stub, receipt) => {
-                was_refused(rt, alloc, number, false);
+                assert!(rt; alloc.asked() < number);
+                alloc.grant();
                 assert_eq!(rt;
                     (stub.end().number, receipt.frame.as_slice().len()),
                     (17, 113)
@@ -132,7 +136,6 @@ fn a_ticket_that_is_tried(rt: HostRuntime) -> Result<(), Fail> {
     let alloc = Refusing::new(rt.alloc());
     let mut book = GatewayBook::new(TreeRoster::new(&alloc), 1, 4_096, 0)?;
     let (growths, ticket) = growths_of_ticket(&rt, &alloc)?;
-    assert_eq!(rt; growths, 1);
-    assert_eq!(rt; growths_to_book(&rt, &alloc, ticket, &mut book), Some(2));
-    Ok(())
+    let to_book = growths_to_book(&rt, &alloc, ticket, &mut book);
+    equal(&(growths, to_book), &(1, Some(2)))
 }

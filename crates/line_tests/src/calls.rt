@@ -1,8 +1,8 @@
 // Which call of a reader or a writer fails, how output is gathered, and readers and writers of the standard library.
 use std::alloc::Global;
 use std::io::Cursor;
-use std::process::Abort;
 use std::test::Fail;
+use test_asserts::{equal, equal_at, holds};
 use text_lines::{
     HeldLine, InFault, MemoryIn, MemoryOut, NextLine, ReadAhead, StdIn, StdOut, TextLine,
     WriteBehind, write_all,
@@ -23,12 +23,13 @@ fn faults(fails_at: u64) -> (Option<InFault>, u64) {
 }
 
 #[test]
-fn the_read_that_fails_is_told(rt: HostRuntime) {
+fn the_read_that_fails_is_told() -> Result<(), Fail> {
     for fails_at in 1..5 {
-        assert_eq!(rt; faults(fails_at), (Some(InFault::Read), 1), "at {fails_at}");
+        equal_at(&fails_at, &faults(fails_at), &(Some(InFault::Read), 1))?;
     }
     // Without a failure there are four calls.
-    assert_eq!(rt; faults(5), (None, 0));
+    equal(&faults(5), &(None, 0))?;
+    Ok(())
 }
 
 /// Whether a write of six bytes in steps of two fails, how many calls failed, and how many bytes were taken.
@@ -39,10 +40,11 @@ fn written(rt: &impl AllocGlobal, fails_at: u64) -> (bool, u64, u64) {
 }
 
 #[test]
-fn the_write_that_fails_is_told(rt: HostRuntime) {
+fn the_write_that_fails_is_told(rt: HostRuntime) -> Result<(), Fail> {
     for fails_at in 1..4 {
-        assert_eq!(rt; written(&rt, fails_at), (true, 1, 2 * (fails_at - 1)));
+        equal(&written(&rt, fails_at), &(true, 1, 2 * (fails_at - 1)))?;
     }
+    Ok(())
 }
 
 /// A writer that took 500 lines of 28 bytes.
@@ -64,10 +66,10 @@ fn gathered(rt: &impl AllocGlobal) -> Result<MemoryOut<Global>, Fail> {
 #[test]
 fn output_is_gathered(rt: HostRuntime) -> Result<(), Fail> {
     let writer = gathered(&rt)?;
-    assert_eq!(rt; writer.bytes.len(), 500 * 28);
-    assert!(rt; writer.bytes.starts_with(b"number 18446744073709551000\n"));
+    equal(&writer.bytes.len(), &(500 * 28))?;
+    holds(writer.bytes.starts_with(b"number 18446744073709551000\n"))?;
     // One call for 4,096 bytes or more, and one for the rest.
-    assert_eq!(rt; writer.calls, 4);
+    equal(&writer.calls, &4)?;
     Ok(())
 }
 
@@ -94,7 +96,7 @@ fn is_written(rt: &impl AllocGlobal) -> Result<bool, Fail> {
 
 #[test]
 fn readers_and_writers_of_std_serve(rt: HostRuntime) -> Result<(), Fail> {
-    assert!(rt; is_read()?);
-    assert!(rt; is_written(&rt)?);
+    holds(is_read()?)?;
+    holds(is_written(&rt)?)?;
     Ok(())
 }

@@ -1,6 +1,6 @@
 // Worked lines of an input.
-use std::process::Abort;
 use std::test::Fail;
+use test_asserts::{equal, equal_at};
 use text_lines::{HeldLine, MemoryIn, NextLine, ReadAhead, is_passed_over, is_too_long};
 
 // The lines of an input that is read `step` bytes at a time, each ended by `|`, `$` for the last one without a line
@@ -37,7 +37,7 @@ fn lines_are_found(rt: HostRuntime) -> Result<(), Fail> {
     ];
     for (input, want) in table {
         for step in [1, 2, 4096] {
-            assert_eq!(rt; shown(&rt, input, step)?.as_slice(), want);
+            equal(&shown(&rt, input, step)?.as_slice(), &want)?;
         }
     }
     Ok(())
@@ -68,21 +68,21 @@ fn is_told_long(rt: &impl AllocGlobal, len: usize) -> Result<bool, Fail> {
 #[test]
 fn long_lines_are_told(rt: HostRuntime) -> Result<(), Fail> {
     for (len, long) in [(1023, false), (1024, false), (1025, true), (5000, true)] {
-        assert_eq!(rt; is_told_long(&rt, len)?, long, "at {len}");
+        equal_at(&len, &is_told_long(&rt, len)?, &long)?;
     }
     Ok(())
 }
 
 #[test]
-fn bytes_read_ahead_are_taken(rt: HostRuntime) -> Result<(), Fail> {
+fn bytes_read_ahead_are_taken() -> Result<(), Fail> {
     let mut reader = MemoryIn::failing(b"abcde", 4, 0);
     let mut ahead = ReadAhead::new();
     let mut into = [b'-'; 3];
-    assert_eq!(rt; ahead.take_into(&mut into), 0);
+    equal(&ahead.take_into(&mut into), &0)?;
     ahead.refill(&mut reader)?;
-    assert_eq!(rt; ahead.take_into(&mut into), 3);
-    assert_eq!(rt; into.as_slice(), b"abc".as_slice());
-    assert_eq!(rt; ahead.take_into(&mut into), 1);
-    assert_eq!(rt; into.as_slice(), b"dbc".as_slice());
+    equal(&ahead.take_into(&mut into), &3)?;
+    equal(&into.as_slice(), &b"abc".as_slice())?;
+    equal(&ahead.take_into(&mut into), &1)?;
+    equal(&into.as_slice(), &b"dbc".as_slice())?;
     Ok(())
 }

@@ -1,5 +1,6 @@
 // Worked words and numbers of a line.
-use std::process::Abort;
+use std::test::Fail;
+use test_asserts::{equal, holds};
 use text_lines::{
     WORD_LIMIT, Words, is_passed_over, is_word, number_i16, number_u8, number_u16, number_u32,
     number_u64,
@@ -24,9 +25,9 @@ fn held(line: &[u8]) -> usize {
 }
 
 #[test]
-fn words_are_parted(rt: HostRuntime) {
-    assert!(rt; is_parted(b" book\t1  10041216\r"));
-    assert_eq!(rt; held(b"1 2 3 4 5 6 7 8 9 10 11"), WORD_LIMIT);
+fn words_are_parted() -> Result<(), Fail> {
+    holds(is_parted(b" book\t1  10041216\r"))?;
+    equal(&held(b"1 2 3 4 5 6 7 8 9 10 11"), &WORD_LIMIT)?;
     for (line, passed) in [
         (b"# a".as_slice(), true),
         (b" \t", true),
@@ -35,8 +36,9 @@ fn words_are_parted(rt: HostRuntime) {
         (b"\r", false),
         (b"book", false),
     ] {
-        assert_eq!(rt; is_passed_over(line), passed);
+        equal(&is_passed_over(line), &passed)?;
     }
+    Ok(())
 }
 
 /// The number that a word is, as one of so many bits.
@@ -50,7 +52,7 @@ fn numbered(bits: u8, word: &[u8]) -> Option<u64> {
 }
 
 #[test]
-fn numbers_are_read(rt: HostRuntime) {
+fn numbers_are_read() -> Result<(), Fail> {
     let table: [(u8, &[u8], Option<u64>); 15] = [
         (64, b"", None),
         (64, b"0", Some(0)),
@@ -73,8 +75,9 @@ fn numbers_are_read(rt: HostRuntime) {
         (8, b"256", None),
     ];
     for (bits, word, want) in table {
-        assert_eq!(rt; numbered(bits, word), want);
+        equal(&numbered(bits, word), &want)?;
     }
+    Ok(())
 }
 
 /// The number that a word is, which may have a sign.
@@ -83,7 +86,7 @@ fn signed(word: &[u8]) -> Option<i16> {
 }
 
 #[test]
-fn signed_numbers_are_read(rt: HostRuntime) {
+fn signed_numbers_are_read() -> Result<(), Fail> {
     let table: [(&[u8], Option<i16>); 9] = [
         (b"-32768", Some(-32_768)),
         (b"-32769", None),
@@ -96,6 +99,7 @@ fn signed_numbers_are_read(rt: HostRuntime) {
         (b"--5", None),
     ];
     for (word, want) in table {
-        assert_eq!(rt; signed(word), want);
+        equal(&signed(word), &want)?;
     }
+    Ok(())
 }

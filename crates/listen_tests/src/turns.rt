@@ -3,10 +3,10 @@ use crate::datagrams::Datagrams;
 use airbook_text::{Settings, TURN_LIMIT, TextFault, listen_text, read_settings};
 use std::alloc::Global;
 use std::hash::{BuildHasherDefault, FoldHasher};
-use std::process::Abort;
 use std::sync::Wait;
 use std::test::Fail;
 use std::thread::Threads;
+use test_asserts::{equal, equal_at, holds_at};
 use text_lines::MemoryOut;
 
 const SETTINGS: &str =
@@ -72,9 +72,9 @@ fn listened<R: Threads + Wait + Sync>(
 #[test]
 fn turns_are_answered_and_reported(rt: HostRuntime) -> Result<(), Fail> {
     let all = listened(&rt, rt.alloc(), &TURNS, 1, 6, 0)?;
-    assert_eq!(rt; all.answered, Ok(true));
-    assert_eq!(rt; all.receives, 6);
-    assert_eq!(rt; all.output.as_slice(), ANSWERED);
+    equal(&all.answered, &Ok(true))?;
+    equal(&all.receives, &6)?;
+    equal(&all.output.as_slice(), &ANSWERED)?;
     Ok(())
 }
 
@@ -85,12 +85,9 @@ const WRITES: u64 = 19;
 fn each_write_fails_in_turn(rt: HostRuntime) -> Result<(), Fail> {
     for write in 1..WRITES + 1 {
         let part = listened(&rt, rt.alloc(), &TURNS, 2, 6, write)?;
-        assert_eq!(rt; part.answered, Err(TextFault::Write), "at write {write}");
-        assert_eq!(rt; part.failed, 1, "at write {write}");
-        assert!(rt;
-            ANSWERED.starts_with(part.output.as_slice()),
-            "at write {write}"
-        );
+        equal_at(&write, &part.answered, &Err(TextFault::Write))?;
+        equal_at(&write, &part.failed, &1)?;
+        holds_at(&write, ANSWERED.starts_with(part.output.as_slice()))?;
     }
     Ok(())
 }
@@ -104,9 +101,9 @@ fn workers_and_turns_are_refused_before_anything_is_received(rt: HostRuntime) ->
         (16, TURN_LIMIT + 1, "Turns"),
     ] {
         let none = listened(&rt, rt.alloc(), &TURNS, workers, turns, 0)?;
-        assert_eq!(rt; none.answered, Err(TextFault::Settings(name)));
-        assert_eq!(rt; none.receives, 0);
-        assert_eq!(rt; none.output.len(), 0);
+        equal(&none.answered, &Err(TextFault::Settings(name)))?;
+        equal(&none.receives, &0)?;
+        equal(&none.output.len(), &0)?;
     }
     Ok(())
 }
@@ -144,7 +141,7 @@ fn a_datagram_is_one_line(rt: HostRuntime) -> Result<(), Fail> {
         (b"x", b"bad 1 Syntax\n"),
     ] {
         let got = answer_to(&rt, rt.alloc(), datagram)?;
-        assert_eq!(rt; got.as_slice(), answer, "for {datagram:?}");
+        equal_at(&datagram, &got.as_slice(), &answer)?;
     }
     Ok(())
 }
@@ -173,7 +170,7 @@ fn a_datagram_that_fills_its_room_is_malformed(rt: HostRuntime) -> Result<(), Fa
     ] {
         let line = long_line(rt.alloc(), len, end)?;
         let got = answer_to(&rt, rt.alloc(), line.as_slice())?;
-        assert_eq!(rt; got.as_slice(), answer, "for {len} bytes and {end:?}");
+        equal_at(&(len, end), &got.as_slice(), &answer)?;
     }
     Ok(())
 }

@@ -7,8 +7,8 @@ use radio_airtime::DataRate;
 use resv_list::{Roster, VecRoster};
 use resv_tree::TreeRoster;
 use std::alloc::Global;
-use std::process::Abort;
 use std::test::Fail;
+use test_asserts::{equal_at, holds};
 
 /// How many transmissions a book may keep here.
 const CAP: u32 = 24;
@@ -65,11 +65,7 @@ fn live_answers<R: Roster>(
 
 /// Tries asks on a copy of a book, and looks for a start after them, asks the book itself, and lets some time pass, again and
 /// again.
-fn answers_alike<R: Roster>(
-    rt: &impl Abort,
-    alloc: Global,
-    mut book: GatewayBook<R>,
-) -> Result<(), Fail>
+fn answers_alike<R: Roster>(alloc: Global, mut book: GatewayBook<R>) -> Result<(), Fail>
 where
     R: Drop,
 {
@@ -87,8 +83,8 @@ where
         let start = sought(&arena, alloc, &book, &asks, ask, last)?;
         arena.reset()?;
         let live = live_answers(alloc, &mut book, &asks)?;
-        assert_eq!(rt; out.as_slice(), live.as_slice(), "round {round}");
-        assert_eq!(rt; start, book.earliest(ask, ask.start, last), "round {round}");
+        equal_at(&round, &out.as_slice(), &live.as_slice())?;
+        equal_at(&round, &start, &book.earliest(ask, ask.start, last))?;
         accepted = live
             .iter()
             .filter(|answer| answer.is_ok())
@@ -101,14 +97,14 @@ where
             .max(refused);
         book.tick(from.saturating_add((drawn >> 44) % 1_200 * 1_000_000));
     }
-    assert!(rt; accepted > 1 && refused > 1);
+    holds(accepted > 1 && refused > 1)?;
     Ok(())
 }
 
 #[test]
 fn a_trial_answers_as_the_live_book(rt: HostRuntime) -> Result<(), Fail> {
     let slow = GatewayBook::new(VecRoster::new(rt.alloc()), 1, CAP, GAP)?;
-    answers_alike(&rt, rt.alloc(), slow)?;
+    answers_alike(rt.alloc(), slow)?;
     let tree = GatewayBook::new(TreeRoster::new(rt.alloc()), 1, CAP, GAP)?;
-    answers_alike(&rt, rt.alloc(), tree)
+    answers_alike(rt.alloc(), tree)
 }

@@ -7,6 +7,7 @@ use resv_list::VecRoster;
 use std::alloc::Global;
 use std::process::Abort;
 use std::test::Fail;
+use test_asserts::{equal, holds, holds_at};
 
 /// A book with six members, a second apart.
 fn six_members(rt: &impl Abort, alloc: Global) -> GatewayBook<VecRoster<Global>> {
@@ -45,9 +46,9 @@ fn tried_within(rt: &impl Abort, alloc: Global, bytes: usize) -> Result<bool, Fa
         taken_in_m(rt, 10, 40_000_000),
     ];
     if done {
-        assert_eq!(rt; out.as_slice(), wanted.as_slice());
+        equal(&out.as_slice(), &wanted.as_slice())?;
     } else {
-        assert_eq!(rt; out.as_slice(), [Err(Refusal::Full)].as_slice());
+        equal(&out.as_slice(), &[Err(Refusal::Full)].as_slice())?;
     }
     Ok(done)
 }
@@ -56,7 +57,7 @@ fn tried_within(rt: &impl Abort, alloc: Global, bytes: usize) -> Result<bool, Fa
 fn without_memory_nothing_is_answered(rt: HostRuntime) -> Result<(), Fail> {
     for step in 0..100 {
         if tried_within(&rt, rt.alloc(), step * 64)? {
-            assert!(&rt; step > 1, "{step} refused");
+            holds_at(&step, step > 1)?;
             return Ok(());
         }
     }
@@ -71,9 +72,9 @@ fn answers_without_room_are_not_begun(rt: HostRuntime) -> Result<(), Fail> {
     none.set_allocation_limit(Some(0));
     let mut out: Vec<Answer, &Bump<Global>> = Vec::new(&none);
     let free = arena.chunk_capacity();
-    assert!(&rt; tried(&arena, rt.alloc(), &book, &[ask_in_m(6, 0)], &mut out).is_err());
-    assert!(&rt; out.is_empty());
-    assert_eq!(&rt; arena.chunk_capacity(), free);
+    holds(tried(&arena, rt.alloc(), &book, &[ask_in_m(6, 0)], &mut out).is_err())?;
+    holds(out.is_empty())?;
+    equal(&arena.chunk_capacity(), &free)?;
     Ok(())
 }
 
@@ -92,16 +93,16 @@ fn ten_trials_take_the_memory_of_one(rt: HostRuntime) -> Result<(), Fail> {
             &[ask_in_m(7, 10_000_000)],
             &mut out,
         )?;
-        assert!(&rt; arena.chunk_capacity() < free);
-        assert_eq!(&rt;
-            *left.get_or_insert(arena.chunk_capacity()),
-            arena.chunk_capacity()
-        );
+        holds(arena.chunk_capacity() < free)?;
+        equal(
+            &*left.get_or_insert(arena.chunk_capacity()),
+            &arena.chunk_capacity(),
+        )?;
         arena.reset()?;
-        assert_eq!(&rt;
-            (arena.allocated_bytes(), arena.chunk_capacity()),
-            (all, free)
-        );
+        equal(
+            &(arena.allocated_bytes(), arena.chunk_capacity()),
+            &(all, free),
+        )?;
     }
     Ok(())
 }

@@ -2,8 +2,8 @@
 use book_texts::plan_text;
 use bumpalo::Bump;
 use std::alloc::Global;
-use std::process::Abort;
 use std::test::Fail;
+use test_asserts::holds;
 use text_lines::{MemoryIn, MemoryOut};
 
 const PLAN: &[u8] =
@@ -16,12 +16,12 @@ const UNCOPIED: &[u8] =
     b"ok 1 10000000 10041216\nif no 2 NoMemory\nif no 4 NoMemory\nbooked 41216\ncancelled 0\nretired 0\nkept 1 41216\nfloor 0\nbusiest M 10000000 41216\n";
 
 /// What is written where the book and its copy get no more than one chunk of so many bytes.
-fn planned_within(rt: &impl Abort, alloc: Global, bytes: usize) -> Result<Vec<u8, Global>, Fail> {
+fn planned_within(alloc: Global, bytes: usize) -> Result<Vec<u8, Global>, Fail> {
     let arena = Bump::try_with_capacity(alloc, bytes)?;
     arena.set_allocation_limit(Some(arena.allocated_bytes()));
     let mut reader = MemoryIn::new(PLAN);
     let mut writer = MemoryOut::new(alloc);
-    assert!(rt; plan_text(&arena, 4_096, 0, &mut reader, &mut writer).is_ok());
+    holds(plan_text(&arena, 4_096, 0, &mut reader, &mut writer).is_ok())?;
     Ok(writer.bytes)
 }
 
@@ -29,12 +29,12 @@ fn planned_within(rt: &impl Abort, alloc: Global, bytes: usize) -> Result<Vec<u8
 fn a_plan_without_a_copy_wants_memory(rt: HostRuntime) -> Result<(), Fail> {
     let mut is_uncopied = false;
     for step in 0..100 {
-        let output = planned_within(&rt, rt.alloc(), step * 64)?;
+        let output = planned_within(rt.alloc(), step * 64)?;
         if output.as_slice() == UNCOPIED {
             is_uncopied = true;
         }
         if output.as_slice() == COPIED {
-            assert!(&rt; is_uncopied);
+            holds(is_uncopied)?;
             return Ok(());
         }
     }

@@ -7,6 +7,7 @@ use resv_list::VecRoster;
 use std::alloc::Global;
 use std::process::Abort;
 use std::test::Fail;
+use test_asserts::{equal, holds, holds_at};
 
 /// A book whose three members fill an hour of a sub-band.
 fn three_members(rt: &impl Abort, alloc: Global) -> GatewayBook<VecRoster<Global>> {
@@ -35,11 +36,11 @@ fn names_the_earliest_start_of_a_copy(rt: HostRuntime) -> Result<(), Fail> {
             (ask_in_m(5, 9), 8, None),
         ];
         for (ask, last, wanted) in rows {
-            assert_eq!(&rt; sought(&arena, alloc, &book, &[], ask, last)?, wanted);
+            equal(&sought(&arena, alloc, &book, &[], ask, last)?, &wanted)?;
             arena.reset()?;
         }
     }
-    assert_eq!(&rt; book.totals(), before);
+    equal(&book.totals(), &before)?;
     Ok(())
 }
 
@@ -51,23 +52,23 @@ fn accepted_asks_alone_stay_for_the_search(rt: HostRuntime) -> Result<(), Fail> 
     let refused = ask_in_k(6, 3_599_999_999);
     let accepted = ask_in_k(4, 3_600_000_000);
     let ask = ask_in_k(5, 0);
-    assert_eq!(&rt;
-        sought(&arena, alloc, &book, &[refused], ask, u64::MAX)?,
-        Some(3_600_000_000)
-    );
-    assert_eq!(&rt;
-        sought(&arena, alloc, &book, &[accepted], ask, u64::MAX)?,
-        Some(3_601_000_000)
-    );
+    equal(
+        &sought(&arena, alloc, &book, &[refused], ask, u64::MAX)?,
+        &Some(3_600_000_000),
+    )?;
+    equal(
+        &sought(&arena, alloc, &book, &[accepted], ask, u64::MAX)?,
+        &Some(3_601_000_000),
+    )?;
     let both = [refused, accepted];
-    assert_eq!(&rt;
-        sought(&arena, alloc, &book, &both, ask, u64::MAX)?,
-        Some(3_601_000_000)
-    );
-    assert_eq!(&rt;
-        sought(&arena, alloc, &book, &both, ask, 3_600_999_999)?,
-        None
-    );
+    equal(
+        &sought(&arena, alloc, &book, &both, ask, u64::MAX)?,
+        &Some(3_601_000_000),
+    )?;
+    equal(
+        &sought(&arena, alloc, &book, &both, ask, 3_600_999_999)?,
+        &None,
+    )?;
     Ok(())
 }
 
@@ -80,7 +81,7 @@ fn start_within(rt: &impl Abort, alloc: Global, bytes: usize) -> Result<Option<u
     let asks = [ask_in_m(7, 10_000_000), ask_in_k(4, 3_600_000_000)];
     match sought(&arena, alloc, &book, &asks, ask_in_k(5, 0), u64::MAX) {
         Ok(found) => {
-            assert!(rt; found.is_some());
+            holds(found.is_some())?;
             Ok(found)
         }
         Err(_) => Ok(None),
@@ -91,8 +92,8 @@ fn start_within(rt: &impl Abort, alloc: Global, bytes: usize) -> Result<Option<u
 fn without_memory_no_start_is_named(rt: HostRuntime) -> Result<(), Fail> {
     for step in 0..100 {
         if let Some(start) = start_within(&rt, rt.alloc(), step * 64)? {
-            assert!(&rt; step > 1, "{step} refused");
-            assert_eq!(&rt; start, 3_601_000_000);
+            holds_at(&step, step > 1)?;
+            equal(&start, &3_601_000_000)?;
             return Ok(());
         }
     }

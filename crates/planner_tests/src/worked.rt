@@ -8,6 +8,7 @@ use resv_list::VecRoster;
 use std::alloc::Global;
 use std::process::Abort;
 use std::test::Fail;
+use test_asserts::{equal, holds};
 
 /// Three asks beside one member that begins at ten seconds.
 fn asks_beside() -> [Ask; 3] {
@@ -26,16 +27,16 @@ fn answers_beside(rt: &impl Abort) -> [Answer; 3] {
 #[test]
 fn an_arena_that_is_reset_gives_the_same_answers(rt: HostRuntime) -> Result<(), Fail> {
     let mut book = GatewayBook::new(VecRoster::new(rt.alloc()), 1, 4_096, 0)?;
-    assert!(&rt; book.book(ask_in_m(1, 10_000_000)).is_ok());
+    holds(book.book(ask_in_m(1, 10_000_000)).is_ok())?;
     let before = book.totals();
     let mut arena = Bump::new(rt.alloc());
     for _turn in 0..2 {
         let mut out = Vec::new(rt.alloc());
         tried(&arena, rt.alloc(), &book, &asks_beside(), &mut out)?;
-        assert_eq!(&rt; out.as_slice(), answers_beside(&rt).as_slice());
+        equal(&out.as_slice(), &answers_beside(&rt).as_slice())?;
         arena.reset()?;
     }
-    assert_eq!(&rt; book.totals(), before);
+    equal(&book.totals(), &before)?;
     Ok(())
 }
 
@@ -48,7 +49,7 @@ fn answers_stand_behind_what_was_there(rt: HostRuntime) -> Result<(), Fail> {
     tried(&arena, rt.alloc(), &book, &[ask_in_m(3, 0)], &mut out)?;
     tried(&arena, rt.alloc(), &book, &[], &mut out)?;
     let wanted = [Err(Refusal::Full), taken_in_m(&rt, 3, 0)];
-    assert_eq!(&rt; out.as_slice(), wanted.as_slice());
+    equal(&out.as_slice(), &wanted.as_slice())?;
     Ok(())
 }
 
@@ -76,6 +77,6 @@ fn nearly_all_booked(alloc: Global) -> Result<Vec<Answer, Global>, Fail> {
 fn booked_airtime_is_raised_by_what_a_trial_accepts(rt: HostRuntime) -> Result<(), Fail> {
     let out = nearly_all_booked(rt.alloc())?;
     let wanted = [taken_in_m(&rt, 8, 10_000_000), Err(Refusal::TotalsFull)];
-    assert_eq!(&rt; out.as_slice(), wanted.as_slice());
+    equal(&out.as_slice(), &wanted.as_slice())?;
     Ok(())
 }

@@ -5,8 +5,8 @@ use gateway_book::Refusal;
 use rx_windows::{Candidate, Window};
 use server_core::{DataRate, DeskHeard, DeviceSetting, Event, Heard1, Line, Replay, Step, replay};
 use std::alloc::Global;
-use std::process::Abort;
 use std::test::Fail;
+use test_asserts::{equal, equal_at, holds};
 use worked_inputs::{ADDR, COPY, device, hasher, settings_of, uplink};
 
 /// What a line says.
@@ -52,15 +52,12 @@ fn heard(
 }
 
 /// Compares the lines of a run, each with the place of its event.
-fn tells<R: Abort>(rt: &R, replay: &Replay<Global>, lines: &[Row]) {
-    assert_eq!(rt; replay.outcomes.len(), lines.len());
+fn tells(replay: &Replay<Global>, lines: &[Row]) -> Result<(), Fail> {
+    equal(&replay.outcomes.len(), &lines.len())?;
     for (place, (entry, line)) in replay.outcomes.iter().zip(lines).enumerate() {
-        assert_eq!(rt;
-            (entry.event, what_is_told(&entry.line)),
-            *line,
-            "at {place}"
-        );
+        equal_at(&place, &(entry.event, what_is_told(&entry.line)), line)?;
     }
+    Ok(())
 }
 
 fn what_is_told(line: &Line<Global>) -> Told {
@@ -155,7 +152,7 @@ static HEARD_TWICE: [Row; 6] = [
 #[test]
 fn answers_on_the_gateway_that_heard_better(rt: HostRuntime) -> Result<(), Fail> {
     let replay = heard_twice(rt.alloc())?;
-    tells(&rt, &replay, &HEARD_TWICE);
+    tells(&replay, &HEARD_TWICE)?;
     Ok(())
 }
 
@@ -168,10 +165,10 @@ fn totals(replay: &Replay<Global>, place: usize) -> Option<(u64, u64)> {
 #[test]
 fn keeps_its_steps_and_its_books(rt: HostRuntime) -> Result<(), Fail> {
     let replay = heard_twice(rt.alloc())?;
-    assert_eq!(rt; replay.steps.len(), 10);
-    assert!(rt; matches!(replay.steps.get(7), Some(Step::Pass { now: 201_001 })));
-    assert_eq!(rt; totals(&replay, 0), Some((0, 0)));
-    assert_eq!(rt; totals(&replay, 1), Some((41_216, 41_216)));
+    equal(&replay.steps.len(), &10)?;
+    holds(matches!(replay.steps.get(7), Some(Step::Pass { now: 201_001 })))?;
+    equal(&totals(&replay, 0), &Some((0, 0)))?;
+    equal(&totals(&replay, 1), &Some((41_216, 41_216)))?;
     Ok(())
 }
 
@@ -218,7 +215,7 @@ static HEARD_AT_ONCE: [Row; 8] = [
 #[test]
 fn answers_as_many_as_there_are_windows(rt: HostRuntime) -> Result<(), Fail> {
     let replay = heard_at_once(rt.alloc())?;
-    assert_eq!(rt; replay.steps.len(), 18);
-    tells(&rt, &replay, &HEARD_AT_ONCE);
+    equal(&replay.steps.len(), &18)?;
+    tells(&replay, &HEARD_AT_ONCE)?;
     Ok(())
 }

@@ -6,9 +6,10 @@ use crate::worked_texts::{
 };
 use airbook_text::TextFault;
 use std::alloc::Global;
-use std::process::Abort;
 use std::sync::Wait;
+use std::test::Fail;
 use std::thread::Threads;
+use test_asserts::holds_at;
 
 /// A call, its input, and what is written.
 type Row = (Call, &'static [u8], &'static [u8]);
@@ -76,60 +77,66 @@ fn is_stopped(told: &Told, fault: TextFault, failed: (u64, u64), whole: &[u8]) -
 }
 
 /// Has each read of these calls fail in turn.
-fn fail_reads<R: Threads + Wait + Sync + Abort>(rt: &R, alloc: Global, rows: &[Row]) {
+fn fail_reads<R: Threads + Wait + Sync>(rt: &R, alloc: Global, rows: &[Row]) -> Result<(), Fail> {
     for (call, input, whole) in rows {
         for read in 1..=reads_of(input) {
             let told = answer_to(rt, alloc, *call, input, Failing { read, write: 0 });
-            assert!(rt;
+            holds_at(
+                &(call, read),
                 is_stopped(&told, TextFault::Read, (1, 0), whole),
-                "{call:?} at read {read}"
-            );
+            )?;
         }
     }
+    Ok(())
 }
 
 /// Has each write of these calls fail in turn.
-fn fail_writes<R: Threads + Wait + Sync + Abort>(rt: &R, alloc: Global, rows: &[Row]) {
+fn fail_writes<R: Threads + Wait + Sync>(rt: &R, alloc: Global, rows: &[Row]) -> Result<(), Fail> {
     for (call, input, whole) in rows {
         for write in 1..=writes_of(whole) {
             let told = answer_to(rt, alloc, *call, input, Failing { read: 0, write });
-            assert!(rt;
+            holds_at(
+                &(call, write),
                 is_stopped(&told, TextFault::Write, (0, 1), whole),
-                "{call:?} at write {write}"
-            );
+            )?;
         }
     }
+    Ok(())
 }
 
 /// No more calls than these are made, and then all is written.
-fn fail_none<R: Threads + Wait + Sync + Abort>(rt: &R, alloc: Global, rows: &[Row]) {
+fn fail_none<R: Threads + Wait + Sync>(rt: &R, alloc: Global, rows: &[Row]) -> Result<(), Fail> {
     for (call, input, whole) in rows {
         let failing = Failing {
             read: reads_of(input).saturating_add(1),
             write: writes_of(whole).saturating_add(1),
         };
         let told = answer_to(rt, alloc, *call, input, failing);
-        assert!(rt; is_whole(&told, whole), "{call:?}");
+        holds_at(&call, is_whole(&told, whole))?;
     }
+    Ok(())
 }
 
 #[test]
-fn each_call_of_a_books_text_fails_in_turn(rt: HostRuntime) {
-    fail_reads(&rt, rt.alloc(), &BOOKS);
-    fail_writes(&rt, rt.alloc(), &BOOKS);
-    fail_none(&rt, rt.alloc(), &BOOKS);
+fn each_call_of_a_books_text_fails_in_turn(rt: HostRuntime) -> Result<(), Fail> {
+    fail_reads(&rt, rt.alloc(), &BOOKS)?;
+    fail_writes(&rt, rt.alloc(), &BOOKS)?;
+    fail_none(&rt, rt.alloc(), &BOOKS)?;
+    Ok(())
 }
 
 #[test]
-fn each_call_of_a_plans_text_fails_in_turn(rt: HostRuntime) {
-    fail_reads(&rt, rt.alloc(), &PLANS);
-    fail_writes(&rt, rt.alloc(), &PLANS);
-    fail_none(&rt, rt.alloc(), &PLANS);
+fn each_call_of_a_plans_text_fails_in_turn(rt: HostRuntime) -> Result<(), Fail> {
+    fail_reads(&rt, rt.alloc(), &PLANS)?;
+    fail_writes(&rt, rt.alloc(), &PLANS)?;
+    fail_none(&rt, rt.alloc(), &PLANS)?;
+    Ok(())
 }
 
 #[test]
-fn each_call_of_a_runs_text_fails_in_turn(rt: HostRuntime) {
-    fail_reads(&rt, rt.alloc(), &RUNS);
-    fail_writes(&rt, rt.alloc(), &RUNS);
-    fail_none(&rt, rt.alloc(), &RUNS);
+fn each_call_of_a_runs_text_fails_in_turn(rt: HostRuntime) -> Result<(), Fail> {
+    fail_reads(&rt, rt.alloc(), &RUNS)?;
+    fail_writes(&rt, rt.alloc(), &RUNS)?;
+    fail_none(&rt, rt.alloc(), &RUNS)?;
+    Ok(())
 }

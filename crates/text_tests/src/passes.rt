@@ -14,6 +14,7 @@ use std::marker::Brand;
 use std::sync::Wait;
 use std::test::Fail;
 use std::thread::Threads;
+use test_asserts::{equal, holds};
 use text_lines::MemoryOut;
 
 type TestStation<B> = Station<B, BuildHasherDefault<FoldHasher>>;
@@ -177,11 +178,11 @@ fn answered<B: Ledger + Send + Sync, R: Threads + Wait + Sync>(
 fn what_is_skipped_is_answered_once_more(rt: HostRuntime) -> Result<(), Fail> {
     let (before, after) = held::<Brand, _>(&rt, rt.alloc(), Blank::new(PARTS as u64))?;
     let (later, booked) = after;
-    assert!(rt; before.0);
-    assert_eq!(rt; before.1.as_slice(), ENGAGED);
-    assert!(rt; !later.0);
-    assert_eq!(rt; later.1.as_slice(), SENT_LATER);
-    assert_eq!(rt; booked.as_slice(), [2].as_slice());
+    holds(before.0)?;
+    equal(&before.1.as_slice(), &ENGAGED)?;
+    holds(!later.0)?;
+    equal(&later.1.as_slice(), &SENT_LATER)?;
+    equal(&booked.as_slice(), &[2].as_slice())?;
     Ok(())
 }
 
@@ -189,9 +190,9 @@ fn what_is_skipped_is_answered_once_more(rt: HostRuntime) -> Result<(), Fail> {
 fn calling_thread_answers_where_nobody_works(rt: HostRuntime) -> Result<(), Fail> {
     let blank = Blank::new(PARTS as u64);
     let (ran, (refused, text)) = answered::<Brand, _>(&rt, rt.alloc(), 17, 3, blank)?;
-    assert_eq!(rt; ran, Err(ServeCause::Workers));
-    assert!(rt; !refused);
-    assert_eq!(rt; text.as_slice(), ANSWERED_HERE);
+    equal(&ran, &Err(ServeCause::Workers))?;
+    holds(!refused)?;
+    equal(&text.as_slice(), &ANSWERED_HERE)?;
     Ok(())
 }
 
@@ -206,7 +207,7 @@ fn as_many_workers_start_as_there_is_work_for(rt: HostRuntime) -> Result<(), Fai
     ] {
         let blank = Blank::new(PARTS as u64);
         let (ran, _) = answered::<Brand, _>(&rt, rt.alloc(), workers, last, blank)?;
-        assert_eq!(rt; ran, Ok(wanted));
+        equal(&ran, &Ok(wanted))?;
     }
     Ok(())
 }
@@ -224,7 +225,7 @@ fn rare_answers_are_told(rt: HostRuntime) -> Result<(), Fail> {
     ends.sort();
     let answers = ends.answers(rt.alloc(), &[1, 2, 3, 4])?;
     let (refused, text) = text_of(rt.alloc(), answers)?;
-    assert!(rt; refused);
-    assert_eq!(rt; text.as_slice(), RARE);
+    holds(refused)?;
+    equal(&text.as_slice(), &RARE)?;
     Ok(())
 }

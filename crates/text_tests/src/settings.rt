@@ -1,8 +1,8 @@
 // Worked settings: what each key says, and the fault of texts that give none.
 use airbook_text::{DataRate, DeviceSetting, GatewaySetting, ReadFault, read_settings};
 use std::alloc::Global;
-use std::process::Abort;
 use std::test::Fail;
+use test_asserts::{equal_at, holds};
 
 const GATEWAY: &str = "[[gateway]]\nid = 1\n";
 
@@ -65,10 +65,10 @@ fn keys_are_read(rt: HostRuntime) -> Result<(), Fail> {
         ..PLAIN
     };
     let both = format!(in alloc; "{GATEWAY}{DEVICE}")?;
-    assert!(rt; gives(alloc, GATEWAY, &plain, &[])?);
-    assert!(rt; gives(alloc, both.as_str(), &plain, &[PLAIN])?);
-    assert!(rt; gives(alloc, ALL_KEYS, &greatest, &[full])?);
-    assert!(rt; gives(alloc, INLINE, &plain, &[PLAIN])?);
+    holds(gives(alloc, GATEWAY, &plain, &[])?)?;
+    holds(gives(alloc, both.as_str(), &plain, &[PLAIN])?)?;
+    holds(gives(alloc, ALL_KEYS, &greatest, &[full])?)?;
+    holds(gives(alloc, INLINE, &plain, &[PLAIN])?)?;
     Ok(())
 }
 
@@ -84,7 +84,7 @@ fn fault_behind(alloc: Global, lines: &str) -> Result<Option<&'static str>, Fail
 }
 
 #[test]
-fn faults_of_gateways_are_named(rt: HostRuntime) {
+fn faults_of_gateways_are_named(rt: HostRuntime) -> Result<(), Fail> {
     let table = [
         ("", "Count"),
         ("gateway = []\n", "Count"),
@@ -106,8 +106,9 @@ fn faults_of_gateways_are_named(rt: HostRuntime) {
         ),
     ];
     for (text, name) in table {
-        assert_eq!(rt; fault_of(rt.alloc(), text), Some(name), "of {text}");
+        equal_at(&text, &fault_of(rt.alloc(), text), &Some(name))?;
     }
+    Ok(())
 }
 
 #[test]
@@ -125,7 +126,7 @@ fn faults_of_devices_are_named(rt: HostRuntime) -> Result<(), Fail> {
         ("[[device]]\naddr = \"26011bdb\"\n", "Missing"),
     ];
     for (lines, name) in table {
-        assert_eq!(rt; fault_behind(rt.alloc(), lines)?, Some(name), "of {lines}");
+        equal_at(&lines, &fault_behind(rt.alloc(), lines)?, &Some(name))?;
     }
     Ok(())
 }

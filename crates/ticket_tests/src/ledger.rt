@@ -6,6 +6,7 @@ use std::alloc::Global;
 use std::marker::Brand;
 use std::process::Abort;
 use std::test::Fail;
+use test_asserts::holds;
 
 /// Two workers count airtime with a part each; their tills are gathered with the rest. Answers the total, and the parts
 /// of the rest, of one worker's till, and of all.
@@ -51,6 +52,7 @@ fn all_parts_hold_all_airtime(rt: HostRuntime) -> Result<(), Fail> {
 }
 
 #[test]
-fn no_tills_are_handed_back(rt: HostRuntime) {
-    assert!(rt; nothing_gathered::<Brand>(rt.alloc()));
+fn no_tills_are_handed_back(rt: HostRuntime) -> Result<(), Fail> {
+    holds(nothing_gathered::<Brand>(rt.alloc()))?;
+    Ok(())
 }

@@ -12,6 +12,7 @@ use resv_tree::TreeRoster;
 use rx_windows::{Plan, Window};
 use std::alloc::{Allocator, Global};
 use std::test::Fail;
+use test_asserts::{equal, holds};
 use uplink_gather::HeardCopy;
 
 /// The session keys of the device.
@@ -170,10 +171,10 @@ fn answered(
 fn lists_are_as_given(rt: HostRuntime) -> Result<(), Fail> {
     let job = job(rt.alloc())?;
     let copies = job.copies.as_slice();
-    assert_eq!(rt; copies.len(), 1);
-    assert_eq!(rt; copies[0].at, 5_000_000);
+    equal(&copies.len(), &1)?;
+    equal(&copies[0].at, &5_000_000)?;
     let bytes = Bytes::new([1, 2, 3].to_vec(rt.alloc())?);
-    assert_eq!(rt; bytes.as_slice(), [1, 2, 3].as_slice());
+    equal(&bytes.as_slice(), &[1, 2, 3].as_slice())?;
     Ok(())
 }
 
@@ -181,18 +182,19 @@ fn lists_are_as_given(rt: HostRuntime) -> Result<(), Fail> {
 fn first_window_carries_the_payload(rt: HostRuntime) -> Result<(), Fail> {
     let mut book = opened(rt.alloc(), 1)?;
     let ticket = ticket(rt.alloc())?;
-    assert_eq!(rt; told(&ticket), (17, 1, 0));
+    let shown = told(&ticket);
     let (stub, receipt) = booked(tried(ticket, &mut book)).ok_or("it is booked")?;
-    assert_eq!(rt;
-        ended(stub),
-        answered(Window::Rx1, 6_000_000, 189_696, true)
-    );
+    equal(
+        &ended(stub),
+        &answered(Window::Rx1, 6_000_000, 189_696, true),
+    )?;
+    equal(&shown, &(17, 1, 0))?;
     let wanted = (17, 1, Window::Rx1, 6_000_000, DataRate::Dr5, 113, 113);
-    assert_eq!(rt; receipt_told(&receipt), wanted);
+    equal(&receipt_told(&receipt), &wanted)?;
     let head = [0x60, 0xda, 0x1b, 0x01, 0x26, 0x20, 0, 0, 9];
-    assert!(rt; begins_with(&receipt, &head));
+    holds(begins_with(&receipt, &head))?;
     let members = book.list(rt.alloc())?;
-    assert_eq!(rt; members.as_slice(), [receipt.reservation].as_slice());
+    equal(&members.as_slice(), &[receipt.reservation].as_slice())?;
     Ok(())
 }
 
@@ -214,17 +216,18 @@ fn second_window_leaves_the_payload_waiting(rt: HostRuntime) -> Result<(), Fail>
     fill_rx1(&mut book)?;
     let first = ticket(rt.alloc())?;
     let (ticket, refusal) = refused(tried(first, &mut book)).ok_or("RX2 follows")?;
-    assert_eq!(rt; refusal, Refusal::Taken { start: 6_000_000 });
-    assert_eq!(rt; told(&ticket), (17, 1, 0));
+    let shown = told(&ticket);
     let (stub, receipt) = booked(tried(ticket, &mut book)).ok_or("it is booked")?;
-    assert_eq!(rt;
-        ended(stub),
-        answered(Window::Rx2, 7_000_000, 991_232, false)
-    );
+    equal(
+        &ended(stub),
+        &answered(Window::Rx2, 7_000_000, 991_232, false),
+    )?;
+    equal(&refusal, &Refusal::Taken { start: 6_000_000 })?;
+    equal(&shown, &(17, 1, 0))?;
     let wanted = (17, 1, Window::Rx2, 7_000_000, DataRate::Dr0, 12, 12);
-    assert_eq!(rt; receipt_told(&receipt), wanted);
+    equal(&receipt_told(&receipt), &wanted)?;
     let head = [0x60, 0xda, 0x1b, 0x01, 0x26, 0x30, 0, 0];
-    assert!(rt; begins_with(&receipt, &head));
+    holds(begins_with(&receipt, &head))?;
     Ok(())
 }
 
@@ -233,9 +236,10 @@ fn book_of_another_gateway_is_not_asked(rt: HostRuntime) -> Result<(), Fail> {
     let mut book = opened(rt.alloc(), 2)?;
     let first = ticket(rt.alloc())?;
     let ticket = handed_back(tried(first, &mut book)).ok_or("it is handed back")?;
-    assert_eq!(rt; told(&ticket), (17, 1, 0));
+    let shown = told(&ticket);
     let _ = ended(ticket.give_up());
-    assert_eq!(rt; book.totals().kept, 0);
+    equal(&shown, &(17, 1, 0))?;
+    equal(&book.totals().kept, &0)?;
     Ok(())
 }
 
@@ -245,11 +249,10 @@ fn book_that_refuses_both_windows(rt: HostRuntime) -> Result<(), Fail> {
     book.tick(7_000_001);
     let first = ticket(rt.alloc())?;
     let (ticket, refusal) = refused(tried(first, &mut book)).ok_or("RX2 follows")?;
-    assert_eq!(rt; refusal, Refusal::Passed);
-    let (stub, refusal) = refused_last(tried(ticket, &mut book)).ok_or("RX2 is the last")?;
-    assert_eq!(rt; refusal, Refusal::Passed);
+    let (stub, last) = refused_last(tried(ticket, &mut book)).ok_or("RX2 is the last")?;
     let result = Ending::Unanswered(Refusal::Passed);
-    assert_eq!(rt; ended(stub), (17, None, Outcome { number: 17, result }));
+    equal(&ended(stub), &(17, None, Outcome { number: 17, result }))?;
+    equal(&[refusal, last], &[Refusal::Passed, Refusal::Passed])?;
     Ok(())
 }
 
@@ -257,6 +260,6 @@ fn book_that_refuses_both_windows(rt: HostRuntime) -> Result<(), Fail> {
 fn given_up(rt: HostRuntime) -> Result<(), Fail> {
     let stub = ticket(rt.alloc())?.give_up();
     let result = Ending::GivenUp;
-    assert_eq!(rt; ended(stub), (17, None, Outcome { number: 17, result }));
+    equal(&ended(stub), &(17, None, Outcome { number: 17, result }))?;
     Ok(())
 }

@@ -8,6 +8,7 @@ use std::marker::Brand;
 use std::sync::Wait;
 use std::sync::atomic::{AtomicU64, Ordering};
 use std::test::Fail;
+use test_asserts::holds;
 use worked_inputs::{COPY, WorkedHasher, device, hasher, settings_of, uplink};
 
 /// More than a station of one device takes.
@@ -87,6 +88,6 @@ fn taken_at_the_gate<B: Ledger, R: Wait>(rt: &R, alloc: Global, blank: Blank) ->
 fn a_worker_asks_the_gate_before_the_book(rt: HostRuntime) -> Result<(), Fail> {
     let taken = taken_at_the_gate::<Brand, _>(&rt, rt.alloc(), Blank::new(PARTS as u64))?;
     // A frame of 12 bytes, and the book's place for the reservation.
-    assert!(rt; taken > 12);
+    holds(taken > 12)?;
     Ok(())
 }

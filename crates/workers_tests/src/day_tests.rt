@@ -11,6 +11,7 @@ use std::marker::Brand;
 use std::sync::Wait;
 use std::test::Fail;
 use std::thread::Threads;
+use test_asserts::equal;
 
 /// How many uplinks there are, each of a device of its own.
 const UPLINKS: u32 = 500;
@@ -153,15 +154,15 @@ fn day<B: Ledger + Send + Sync, R: Threads + Wait + Sync>(
 #[test]
 fn two_workers_answer_500_uplinks(rt: HostRuntime) -> Result<(), Fail> {
     let (work, asked, end) = day::<Brand, _>(&rt, rt.alloc(), Blank::new(PARTS as u64))?;
-    assert_eq!(rt;
-        work,
-        Work {
+    equal(
+        &work,
+        &Work {
             booked: 500,
             all_answered: true,
             ran: 2,
-            overrun: 0
-        }
-    );
+            overrun: 0,
+        },
+    )?;
     let answers = Asked {
         queued: [1, 2],
         behind: Some(TotalsFault::Behind { booked: 10_304_000 }),
@@ -173,13 +174,13 @@ fn two_workers_answer_500_uplinks(rt: HostRuntime) -> Result<(), Fail> {
         other: (0, 250),
         floors_late: [1, 7],
     };
-    assert_eq!(rt; asked, answers);
+    equal(&asked, &answers)?;
     let last = End {
         without_till: FinishCause::TillMissing,
         with_cancelled: FinishCause::Lost { number: 500 },
         booked: 20_608_000,
         queued: 3,
     };
-    assert_eq!(rt; end, last);
+    equal(&end, &last)?;
     Ok(())
 }

@@ -10,6 +10,7 @@ use std::alloc::Global;
 use std::marker::Brand;
 use std::sync::Wait;
 use std::test::Fail;
+use test_asserts::equal;
 use worked_inputs::{COPY, WorkedHasher, booked};
 
 type Finished<B> = Result<Closing<WorkedHasher>, FinishFault<B, WorkedHasher>>;
@@ -102,8 +103,8 @@ fn finish_late<B: Ledger, R: Wait>(
 #[test]
 fn wants_all_tills(rt: HostRuntime) -> Result<(), Fail> {
     let (early, late) = finish_late::<Brand, _>(&rt, rt.alloc(), Blank::new(PARTS as u64))?;
-    assert_eq!(rt; early, FinishCause::TillMissing);
-    assert_eq!(rt; late, Ok((41_216, Some(41_216))));
+    equal(&early, &FinishCause::TillMissing)?;
+    equal(&late, &Ok((41_216, Some(41_216))))?;
     Ok(())
 }
 
@@ -137,7 +138,7 @@ fn wants_every_booking_settled(rt: HostRuntime) -> Result<(), Fail> {
         booked: 41_216,
         answered: 0,
     };
-    assert_eq!(rt; told, Err(apart));
+    equal(&told, &Err(apart))?;
     Ok(())
 }
 
@@ -166,8 +167,8 @@ fn finish_cancelled<B: Ledger, R: Wait>(
 #[test]
 fn misses_a_cancelled_receipt(rt: HostRuntime) -> Result<(), Fail> {
     let (with, without) = finish_cancelled::<Brand, _>(&rt, rt.alloc(), Blank::new(PARTS as u64))?;
-    assert_eq!(rt; with, FinishCause::Lost { number: 1 });
-    assert_eq!(rt; without, Ok((41_216, Some(41_216))));
+    equal(&with, &FinishCause::Lost { number: 1 })?;
+    equal(&without, &Ok((41_216, Some(41_216))))?;
     Ok(())
 }
 
@@ -206,7 +207,7 @@ fn wants_receipts_for_an_hour(rt: HostRuntime) -> Result<(), Fail> {
     for (gateway, floor, cause) in cases {
         let blank = Blank::new(PARTS as u64);
         let told = finish_with::<Brand, _>(&rt, rt.alloc(), blank, gateway, floor)?;
-        assert_eq!(rt; told, cause);
+        equal(&told, &cause)?;
     }
     Ok(())
 }
@@ -228,6 +229,6 @@ fn finish_without_tills<B: Ledger, R: Wait>(
 #[test]
 fn wants_tills(rt: HostRuntime) -> Result<(), Fail> {
     let told = finish_without_tills::<Brand, _>(&rt, rt.alloc(), Blank::new(PARTS as u64))?;
-    assert_eq!(rt; told, Err(FinishCause::TillMissing));
+    equal(&told, &Err(FinishCause::TillMissing))?;
     Ok(())
 }

@@ -11,6 +11,7 @@ use std::marker::Brand;
 use std::sync::Wait;
 use std::sync::atomic::{AtomicU64, Ordering};
 use std::test::Fail;
+use test_asserts::equal;
 use worked_inputs::COPY;
 
 /// Lets nobody in; counts how often it was asked for each gateway.
@@ -236,29 +237,29 @@ fn third_try<B: Ledger, R: Wait>(
 #[test]
 fn one_who_is_never_let_in_goes_on(rt: HostRuntime) -> Result<(), Fail> {
     let told = shut_out::<Brand, _>(&rt, rt.alloc(), Blank::new(PARTS as u64))?;
-    assert_eq!(rt; told, (true, 1, [0, MAX_TURNS as u64]));
+    equal(&told, &(true, 1, [0, MAX_TURNS as u64]))?;
     Ok(())
 }
 
 #[test]
 fn the_lock_is_free_when_a_worker_has_left(rt: HostRuntime) -> Result<(), Fail> {
     let booked = audited::<Brand, _>(&rt, rt.alloc(), Blank::new(PARTS as u64))?;
-    assert_eq!(rt; booked, 41_216);
+    equal(&booked, &41_216)?;
     Ok(())
 }
 
 #[test]
 fn a_worker_leaves_once_per_try(rt: HostRuntime) -> Result<(), Fail> {
     let (endings, calls) = crowded::<Brand, _>(&rt, rt.alloc(), Blank::new(PARTS as u64))?;
-    assert_eq!(rt; endings, [in_rx1(1), in_rx2(1)]);
-    assert_eq!(rt; calls, [16, 1_616]);
+    equal(&endings, &[in_rx1(1), in_rx2(1)])?;
+    equal(&calls, &[16, 1_616])?;
     Ok(())
 }
 
 #[test]
 fn a_worker_goes_on_after_two_refusals(rt: HostRuntime) -> Result<(), Fail> {
     let (ending, calls) = third_try::<Brand, _>(&rt, rt.alloc(), Blank::new(PARTS as u64))?;
-    assert_eq!(rt; ending, in_rx2(2));
-    assert_eq!(rt; calls, 271_627);
+    equal(&ending, &in_rx2(2))?;
+    equal(&calls, &271_627)?;
     Ok(())
 }

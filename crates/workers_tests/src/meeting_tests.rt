@@ -10,6 +10,7 @@ use std::sync::Wait;
 use std::sync::atomic::{AtomicU64, Ordering};
 use std::test::Fail;
 use std::thread::Threads;
+use test_asserts::equal;
 
 /// Lets a worker go on once another is at the other gateway; counts who has left, and marks whether one found the other
 /// inside while nobody had left.
@@ -95,6 +96,6 @@ fn meet<B: Ledger + Send + Sync, R: Threads + Wait + Sync>(
 fn two_workers_are_at_two_gateways_at_once(rt: HostRuntime) -> Result<(), Fail> {
     let blank = Blank::new(PARTS as u64);
     let met = meet::<Brand, _>(&rt, rt.alloc(), blank)?;
-    assert_eq!(rt; met, ((2, 2, 2, 0, 0), [1, 1, 1]));
+    equal(&met, &((2, 2, 2, 0, 0), [1, 1, 1]))?;
     Ok(())
 }

@@ -11,6 +11,7 @@ use std::alloc::Global;
 use std::marker::Brand;
 use std::sync::Wait;
 use std::test::Fail;
+use test_asserts::{equal, holds};
 use worked_inputs::{COPY, booked, handed_back};
 
 /// How the answer to that copy ends that finds its gateway free.
@@ -157,7 +158,7 @@ fn answers_an_uplink(rt: HostRuntime) -> Result<(), Fail> {
         n: 1,
         repeat: false,
     };
-    assert_eq!(rt; told, (heard, Some(1), true, ANSWERED));
+    equal(&told, &(heard, Some(1), true, ANSWERED))?;
     Ok(())
 }
 
@@ -165,26 +166,26 @@ fn answers_an_uplink(rt: HostRuntime) -> Result<(), Fail> {
 fn asks_the_gateways_that_it_has(rt: HostRuntime) -> Result<(), Fail> {
     let (totals, floors, cancels) = asked::<Brand, _>(&rt, rt.alloc(), Blank::new(PARTS as u64))?;
     let behind = TotalsFault::Behind { booked: 41_216 };
-    assert_eq!(rt;
-        totals,
-        [Ok(41_216), Err(behind), Err(TotalsFault::UnknownGateway)]
-    );
-    assert_eq!(rt; floors, [Some(1), Some(1), None]);
-    assert_eq!(rt;
-        cancels,
-        [
+    equal(
+        &totals,
+        &[Ok(41_216), Err(behind), Err(TotalsFault::UnknownGateway)],
+    )?;
+    equal(&floors, &[Some(1), Some(1), None])?;
+    equal(
+        &cancels,
+        &[
             Ok(41_216),
             Err(CancelFault::NotHere),
-            Err(CancelFault::NotHere)
-        ]
-    );
+            Err(CancelFault::NotHere),
+        ],
+    )?;
     Ok(())
 }
 
 #[test]
 fn counts_the_payloads_that_wait(rt: HostRuntime) -> Result<(), Fail> {
     let counts = queued::<Brand, _>(&rt, rt.alloc(), Blank::new(PARTS as u64))?;
-    assert_eq!(rt; counts, (1, 2));
+    equal(&counts, &(1, 2))?;
     Ok(())
 }
 
@@ -197,12 +198,13 @@ fn hands_back_what_is_another_stations(rt: HostRuntime) -> Result<(), Fail> {
         number: 1,
         result: Ending::GivenUp,
     };
-    assert_eq!(rt; back, Some((false, given_up)));
+    equal(&back, &Some((false, given_up)))?;
     Ok(())
 }
 
 #[test]
-fn nobody_waits_at_no_gate(rt: HostRuntime) {
-    assert!(rt; NoGate.inside(1));
+fn nobody_waits_at_no_gate() -> Result<(), Fail> {
+    holds(NoGate.inside(1))?;
     NoGate.left(1);
+    Ok(())
 }

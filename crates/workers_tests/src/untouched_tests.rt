@@ -13,10 +13,11 @@ use std::alloc::Global;
 use std::marker::Brand;
 use std::sync::Wait;
 use std::test::Fail;
+use test_asserts::equal_at;
 use worked_inputs::{COPY, booked, next_refused};
 
 /// A call of a station.
-#[derive(Clone, Copy)]
+#[derive(Clone, Copy, Debug)]
 enum Call {
     Queue,
     Hear,
@@ -223,108 +224,65 @@ fn with_third_out() -> Seen {
     }
 }
 
-#[test]
-fn a_queued_payload_changes_its_queue_alone(rt: HostRuntime) -> Result<(), Fail> {
-    let told = after::<Brand, _>(&rt, rt.alloc(), Blank::new(PARTS as u64), Call::Queue)?;
-    assert_eq!(rt; told, with_device(4, answered(2, false, 0, 14, 0x30)));
-    Ok(())
-}
-
-#[test]
-fn an_uplink_opens_its_gathering_alone(rt: HostRuntime) -> Result<(), Fail> {
-    let told = after::<Brand, _>(&rt, rt.alloc(), Blank::new(PARTS as u64), Call::Hear)?;
-    assert_eq!(rt;
-        told,
-        Seen {
-            passes: [Some(4), Some(5), None],
-            ..untouched()
-        }
-    );
-    Ok(())
-}
-
-#[test]
-fn a_pass_closes_what_is_due_alone(rt: HostRuntime) -> Result<(), Fail> {
-    let told = after::<Brand, _>(&rt, rt.alloc(), Blank::new(PARTS as u64), Call::Pass)?;
-    assert_eq!(rt;
-        told,
-        Seen {
-            fourth: Err(DeskFault::Late),
-            passes: [None; 3],
-            ..untouched()
-        }
-    );
-    Ok(())
-}
-
-#[test]
-fn a_ticket_that_is_given_changes_its_number_alone(rt: HostRuntime) -> Result<(), Fail> {
-    let told = after::<Brand, _>(&rt, rt.alloc(), Blank::new(PARTS as u64), Call::Take)?;
-    assert_eq!(rt; told, with_third_out());
-    Ok(())
-}
-
-#[test]
-fn a_refused_try_changes_nothing(rt: HostRuntime) -> Result<(), Fail> {
-    let told = after::<Brand, _>(&rt, rt.alloc(), Blank::new(PARTS as u64), Call::RefusedTry)?;
-    assert_eq!(rt; told, with_third_out());
-    Ok(())
-}
-
-#[test]
-fn an_answer_that_is_settled_closes_no_gathering(rt: HostRuntime) -> Result<(), Fail> {
-    let told = after::<Brand, _>(&rt, rt.alloc(), Blank::new(PARTS as u64), Call::GiveUp)?;
-    assert_eq!(rt;
-        told,
-        Seen {
-            third: Some(TakeFault::Taken),
-            ..untouched()
-        }
-    );
-    Ok(())
-}
-
-#[test]
-fn a_try_books_its_candidate_alone(rt: HostRuntime) -> Result<(), Fail> {
-    let told = after::<Brand, _>(&rt, rt.alloc(), Blank::new(PARTS as u64), Call::Try)?;
-    let third = Sent {
+/// What was sent in RX2 on the first gateway.
+fn sent_in_rx2() -> Option<Sent> {
+    Some(Sent {
         gateway: 1,
         start: 7_000_000,
         airtime: 991_232,
-    };
-    assert_eq!(rt;
-        told,
-        Seen {
+    })
+}
+
+/// What is seen where this was called, and nothing else.
+fn wanted(call: Call) -> Seen {
+    match call {
+        Call::Queue => with_device(4, answered(2, false, 0, 14, 0x30)),
+        Call::Hear => Seen {
+            passes: [Some(4), Some(5), None],
+            ..untouched()
+        },
+        Call::Pass => Seen {
+            fourth: Err(DeskFault::Late),
+            passes: [None; 3],
+            ..untouched()
+        },
+        Call::Take | Call::RefusedTry => with_third_out(),
+        Call::GiveUp => Seen {
             third: Some(TakeFault::Taken),
-            sent: [sent(1), sent(2), Some(third), None],
+            ..untouched()
+        },
+        Call::Try => Seen {
+            third: Some(TakeFault::Taken),
+            sent: [sent(1), sent(2), sent_in_rx2(), None],
             answered: [Some(1_032_448), Some(41_216)],
             booked: 1_073_664,
             ..with_book([rx1(1), rx2(3), None], totals(1_032_448, 0, 2, 3))
-        }
-    );
-    Ok(())
+        },
+        Call::Cancel => with_book([None; 3], totals(41_216, 41_216, 0, 3)),
+        Call::Tick => with_book([rx1(1), None, None], totals(41_216, 0, 1, 7)),
+        Call::Totals => untouched(),
+    }
 }
 
-#[test]
-fn a_cancel_takes_out_its_reservation_alone(rt: HostRuntime) -> Result<(), Fail> {
-    let told = after::<Brand, _>(&rt, rt.alloc(), Blank::new(PARTS as u64), Call::Cancel)?;
-    assert_eq!(rt; told, with_book([None; 3], totals(41_216, 41_216, 0, 3)));
-    Ok(())
-}
+const CALLS: [Call; 10] = [
+    Call::Queue,
+    Call::Hear,
+    Call::Pass,
+    Call::Take,
+    Call::GiveUp,
+    Call::RefusedTry,
+    Call::Try,
+    Call::Cancel,
+    Call::Tick,
+    Call::Totals,
+];
 
 #[test]
-fn a_tick_raises_its_floor_alone(rt: HostRuntime) -> Result<(), Fail> {
-    let told = after::<Brand, _>(&rt, rt.alloc(), Blank::new(PARTS as u64), Call::Tick)?;
-    assert_eq!(rt;
-        told,
-        with_book([rx1(1), None, None], totals(41_216, 0, 1, 7))
-    );
-    Ok(())
-}
-
-#[test]
-fn totals_change_nothing(rt: HostRuntime) -> Result<(), Fail> {
-    let told = after::<Brand, _>(&rt, rt.alloc(), Blank::new(PARTS as u64), Call::Totals)?;
-    assert_eq!(rt; told, untouched());
+fn each_call_takes_its_own_step_alone(rt: HostRuntime) -> Result<(), Fail> {
+    for call in CALLS {
+        let blank = Blank::new(PARTS as u64);
+        let seen = after::<Brand, _>(&rt, rt.alloc(), blank, call)?;
+        equal_at(&call, &seen, &wanted(call))?;
+    }
     Ok(())
 }

@@ -11,6 +11,7 @@ use std::marker::Brand;
 use std::sync::Wait;
 use std::test::Fail;
 use std::thread::Threads;
+use test_asserts::{equal, equal_at, holds};
 use worked_inputs::COPY;
 
 /// A station heard two uplinks of its first device, and closed them: the numbers 1 and 2.
@@ -202,7 +203,7 @@ fn thousand_unheard<B: Ledger + Send + Sync, R: Threads + Wait + Sync>(
 #[test]
 fn a_thousand_numbers_wait_for_one_worker(rt: HostRuntime) -> Result<(), Fail> {
     let refused = thousand_unheard::<Brand, _>(&rt, rt.alloc(), Blank::new(PARTS as u64))?;
-    assert_eq!(rt; refused, 1_000);
+    equal(&refused, &1_000)?;
     Ok(())
 }
 
@@ -210,9 +211,9 @@ fn a_thousand_numbers_wait_for_one_worker(rt: HostRuntime) -> Result<(), Fail> {
 fn sixteen_workers_answer_five_hundred_devices(rt: HostRuntime) -> Result<(), Fail> {
     let blank = Blank::new(PARTS as u64);
     let (told, in_order, booked) = five_hundred::<Brand, _>(&rt, rt.alloc(), blank)?;
-    assert_eq!(rt; told, (16, 500, 500, 0, 0));
-    assert!(rt; in_order);
-    assert_eq!(rt; booked, [(10_304_000, 250), (10_304_000, 250)]);
+    equal(&told, &(16, 500, 500, 0, 0))?;
+    holds(in_order)?;
+    equal(&booked, &[(10_304_000, 250), (10_304_000, 250)])?;
     Ok(())
 }
 
@@ -220,7 +221,7 @@ fn sixteen_workers_answer_five_hundred_devices(rt: HostRuntime) -> Result<(), Fa
 fn one_to_sixteen_workers_serve(rt: HostRuntime) -> Result<(), Fail> {
     for workers in [0, 17] {
         let fault = refused::<Brand, _>(&rt, rt.alloc(), Blank::new(PARTS as u64), workers)?;
-        assert_eq!(rt; fault, Some((ServeCause::Workers, 65_536)), "at {workers}");
+        equal_at(&workers, &fault, &Some((ServeCause::Workers, 65_536)))?;
     }
     Ok(())
 }
@@ -229,7 +230,7 @@ fn one_to_sixteen_workers_serve(rt: HostRuntime) -> Result<(), Fail> {
 fn a_worker_without_room_stops(rt: HostRuntime) -> Result<(), Fail> {
     let blank = Blank::new(PARTS as u64);
     let worked = one_of_two::<Brand, _>(&rt, rt.alloc(), blank)?;
-    assert_eq!(rt; worked, (1, Some(2)));
+    equal(&worked, &(1, Some(2)))?;
     Ok(())
 }
 
@@ -237,8 +238,8 @@ fn a_worker_without_room_stops(rt: HostRuntime) -> Result<(), Fail> {
 fn a_worker_tells_whom_it_passed_over(rt: HostRuntime) -> Result<(), Fail> {
     let blank = Blank::new(PARTS as u64);
     let (skipped, refused) = passed_over::<Brand, _>(&rt, rt.alloc(), blank)?;
-    assert_eq!(rt; skipped.as_slice(), [2].as_slice());
-    assert_eq!(rt; refused.as_slice(), [(9, TakeFault::NotReady)].as_slice());
+    equal(&skipped.as_slice(), &[2].as_slice())?;
+    equal(&refused.as_slice(), &[(9, TakeFault::NotReady)].as_slice())?;
     Ok(())
 }
 
@@ -246,7 +247,7 @@ fn a_worker_tells_whom_it_passed_over(rt: HostRuntime) -> Result<(), Fail> {
 fn workers_skip_an_engaged_device(rt: HostRuntime) -> Result<(), Fail> {
     let blank = Blank::new(PARTS as u64);
     let (skipped, told) = engaged::<Brand, _>(&rt, rt.alloc(), blank)?;
-    assert_eq!(rt; skipped.as_slice(), [2].as_slice());
-    assert_eq!(rt; told, (2, 0, 0, 1, 0));
+    equal(&skipped.as_slice(), &[2].as_slice())?;
+    equal(&told, &(2, 0, 0, 1, 0))?;
     Ok(())
 }

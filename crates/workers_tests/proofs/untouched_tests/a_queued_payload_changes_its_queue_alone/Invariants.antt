@@ -1,4 +1,0 @@
-use Rattle.workers_tests.proofs.untouched_tests.a_queued_payload_changes_its_queue_alone.Given as goal
-
-abbrev pub ghosts-after : goal.ghosts-after
-ghosts-after g a = record { name = a.blank.name; parts = a.blank.parts }
