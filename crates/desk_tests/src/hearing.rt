@@ -1,8 +1,9 @@
-// Copies of uplinks at a desk.
+// Copies of uplinks at a desk, and how many uplinks it has room for: of those that are gathered at one time, and of all.
 
-use crate::calls::{Answer, Call, OPENED_1, Row, desk_after};
-use server_desk::{DeskFault, Limits};
+use crate::calls::{Answer, Call, OPENED_1, OPENED_2, Row, run};
+use server_desk::{DeskFault, DeviceSetting, Limits};
 use std::test::Fail;
+use worked_inputs::DEVICE;
 
 /// One uplink at a time.
 const ONE_OPEN: Limits = Limits {
@@ -11,9 +12,11 @@ const ONE_OPEN: Limits = Limits {
     max_copies: 16,
 };
 
+const CROWDED: Answer = Answer::Heard(Err(DeskFault::Crowded));
+
 static MIC_BEFORE_ROOM: [Row; 6] = [
     (Call::Hear(0), OPENED_1),
-    (Call::Hear(1), Answer::Heard(Err(DeskFault::Crowded))),
+    (Call::Hear(1), CROWDED),
     (Call::HearTurned(1), Answer::Heard(Err(DeskFault::BadMic))),
     (Call::Pass(200_000), Answer::Passed(None)),
     (Call::Pass(200_001), Answer::Passed(Some(1))),
@@ -22,6 +25,33 @@ static MIC_BEFORE_ROOM: [Row; 6] = [
 
 #[test]
 fn looks_at_the_mic_before_the_room(rt: HostRuntime) -> Result<(), Fail> {
-    desk_after(rt.alloc(), ONE_OPEN, &MIC_BEFORE_ROOM)?;
-    Ok(())
+    run(rt.alloc(), ONE_OPEN, &[DEVICE], &MIC_BEFORE_ROOM)
+}
+
+/// One uplink at a time, and two in all.
+const SCARCE: Limits = Limits {
+    max_open: 1,
+    max_ever: 2,
+    max_copies: 64,
+};
+
+static THREE_DEVICES: [DeviceSetting; 3] = [
+    DeviceSetting { addr: 1, ..DEVICE },
+    DeviceSetting { addr: 2, ..DEVICE },
+    DeviceSetting { addr: 3, ..DEVICE },
+];
+
+static TWO_IN_ALL: [Row; 7] = [
+    (Call::HearFirst(1), OPENED_1),
+    (Call::HearFirst(2), CROWDED),
+    (Call::Pass(200_001), Answer::Passed(Some(1))),
+    (Call::HearFirst(2), OPENED_2),
+    (Call::HearFirst(3), CROWDED),
+    (Call::Pass(200_001), Answer::Passed(Some(2))),
+    (Call::HearFirst(3), CROWDED),
+];
+
+#[test]
+fn a_desk_has_room_as_its_limits_say(rt: HostRuntime) -> Result<(), Fail> {
+    run(rt.alloc(), SCARCE, &THREE_DEVICES, &TWO_IN_ALL)
 }

@@ -1,4 +1,4 @@
-//! Worked runs of a desk and of its settings.
+//! Worked runs of tickets, of the ledger, of a desk and its settings, and of the whole server on one thread.
 #![tactic(auto)]
 
 #[cfg(test)]
@@ -6,10 +6,14 @@ mod calls;
 #[cfg(test)]
 mod hearing;
 #[cfg(test)]
-mod room;
+mod ledger;
+#[cfg(test)]
+mod runs;
 #[cfg(test)]
 mod settings;
 #[cfg(test)]
 mod settling;
 #[cfg(test)]
 mod taking;
+#[cfg(test)]
+mod tickets;

@@ -52,61 +52,65 @@ fn settings_show_the_lists_as_given(rt: HostRuntime) -> Result<(), Fail> {
     Ok(())
 }
 
+const ZERO: GatewaySetting = GatewaySetting { id: 0, ..GATEWAY };
+
+const WIDE: GatewaySetting = GatewaySetting {
+    id: 2,
+    cap: 65_537,
+    gap: 0,
+};
+
+const SLOW: GatewaySetting = GatewaySetting {
+    id: 2,
+    cap: 4_096,
+    gap: 100_001,
+};
+
+static GATEWAYS: [(&[GatewaySetting], &str); 6] = [
+    (&[ZERO; 65], "Count"),
+    (&[], "Count"),
+    (&[GATEWAY, ZERO, GATEWAY], "Range"),
+    (&[GATEWAY, GATEWAY, WIDE], "DoubleGateway"),
+    (&[WIDE], "Range"),
+    (&[SLOW], "Range"),
+];
+
 #[test]
 fn the_first_fault_of_the_gateways_is_named(rt: HostRuntime) -> Result<(), Fail> {
-    let zero = GatewaySetting {
-        id: 0,
-        cap: 4_096,
-        gap: 0,
-    };
-    let wide = GatewaySetting {
-        id: 2,
-        cap: 65_537,
-        gap: 0,
-    };
-    let slow = GatewaySetting {
-        id: 2,
-        cap: 4_096,
-        gap: 100_001,
-    };
-    let cases: [(&[GatewaySetting], &str); 6] = [
-        (&[zero; 65], "Count"),
-        (&[], "Count"),
-        (&[GATEWAY, zero, GATEWAY], "Range"),
-        (&[GATEWAY, GATEWAY, wide], "DoubleGateway"),
-        (&[wide], "Range"),
-        (&[slow], "Range"),
-    ];
-    for (gateways, name) in cases {
-        equal(&fault_of(rt.alloc(), gateways, &[])?, &Some(name))?;
+    for (gateways, name) in &GATEWAYS {
+        equal(&fault_of(rt.alloc(), gateways, &[])?, &Some(*name))?;
     }
     Ok(())
 }
 
+const LATE: DeviceSetting = DeviceSetting {
+    delay: 16,
+    ..DEVICE
+};
+
+const SPENT: DeviceSetting = DeviceSetting {
+    down: 4_294_967_297,
+    ..DEVICE
+};
+
+const BETWEEN: DeviceSetting = DeviceSetting {
+    rx2_freq: 865_000_000,
+    ..DEVICE
+};
+
+static DEVICES: [(&[DeviceSetting], &str); 6] = [
+    (&[LATE], "Range"),
+    (&[SPENT], "Range"),
+    (&[BETWEEN], "NoBand"),
+    (&[DEVICE, BETWEEN, LATE], "NoBand"),
+    (&[DEVICE, DEVICE], "DoubleDevice"),
+    (&[DEVICE; 1_025], "Count"),
+];
+
 #[test]
 fn the_first_fault_of_the_devices_is_named(rt: HostRuntime) -> Result<(), Fail> {
-    let slow = DeviceSetting {
-        delay: 16,
-        ..DEVICE
-    };
-    let spent = DeviceSetting {
-        down: 4_294_967_297,
-        ..DEVICE
-    };
-    let between = DeviceSetting {
-        rx2_freq: 865_000_000,
-        ..DEVICE
-    };
-    let cases: [(&[DeviceSetting], &str); 6] = [
-        (&[slow], "Range"),
-        (&[spent], "Range"),
-        (&[between], "NoBand"),
-        (&[DEVICE, between, slow], "NoBand"),
-        (&[DEVICE, DEVICE], "DoubleDevice"),
-        (&[DEVICE; 1_025], "Count"),
-    ];
-    for (devices, name) in cases {
-        equal(&fault_of(rt.alloc(), &[GATEWAY], devices)?, &Some(name))?;
+    for (devices, name) in &DEVICES {
+        equal(&fault_of(rt.alloc(), &[GATEWAY], devices)?, &Some(*name))?;
     }
     Ok(())
 }

@@ -1,11 +1,8 @@
 // Tickets as a desk gives them.
 
-use crate::calls::{Answer, Call, OPENED_1, OPENED_2, Row, answers, desk_after};
-use answer_ticket::Outcome;
+use crate::calls::{Answer, Call, OPENED_1, OPENED_2, Row, run_amply};
 use server_desk::TakeFault;
 use std::test::Fail;
-use test_asserts::equal;
-use worked_inputs::{AMPLE, WorkedDesk, given_up, settled, taken};
 
 const CLOSED_1: Answer = Answer::Passed(Some(1));
 
@@ -25,8 +22,7 @@ static NOTHING_IS_OWED: [Row; 7] = [
 
 #[test]
 fn owes_nothing_to_a_silent_uplink(rt: HostRuntime) -> Result<(), Fail> {
-    desk_after(rt.alloc(), AMPLE, &NOTHING_IS_OWED)?;
-    Ok(())
+    run_amply(rt.alloc(), &NOTHING_IS_OWED)
 }
 
 static CLOSED_ALONE: [Row; 7] = [
@@ -41,8 +37,7 @@ static CLOSED_ALONE: [Row; 7] = [
 
 #[test]
 fn answers_closed_uplinks_alone(rt: HostRuntime) -> Result<(), Fail> {
-    desk_after(rt.alloc(), AMPLE, &CLOSED_ALONE)?;
-    Ok(())
+    run_amply(rt.alloc(), &CLOSED_ALONE)
 }
 
 static ONE_AT_A_TIME: [Row; 9] = [
@@ -59,27 +54,17 @@ static ONE_AT_A_TIME: [Row; 9] = [
 
 #[test]
 fn answers_one_uplink_of_a_device_at_a_time(rt: HostRuntime) -> Result<(), Fail> {
-    desk_after(rt.alloc(), AMPLE, &ONE_AT_A_TIME)?;
-    Ok(())
+    run_amply(rt.alloc(), &ONE_AT_A_TIME)
 }
 
-static HEARD: [Row; 2] = [
+static STRAY: [Row; 4] = [
     (Call::HearConfirmed(0), OPENED_1),
     (Call::Pass(200_001), CLOSED_1),
+    (Call::SettleStray, Answer::Stray),
+    (Call::Take(1), Answer::Given(1, 1, 0)),
 ];
-
-static STILL_GIVEN: [Row; 1] = [(Call::Take(1), Answer::Given(1, 1, 0))];
-
-/// What a desk makes of a stub of another desk.
-fn strayed(other: &mut WorkedDesk, desk: &mut WorkedDesk) -> Result<Option<Outcome>, Fail> {
-    let ticket = taken(other, 1)?;
-    Ok(settled(desk, given_up(ticket)))
-}
 
 #[test]
 fn hands_a_stub_back_that_is_not_out(rt: HostRuntime) -> Result<(), Fail> {
-    let mut desk = desk_after(rt.alloc(), AMPLE, &HEARD)?;
-    let mut other = desk_after(rt.alloc(), AMPLE, &HEARD)?;
-    equal(&strayed(&mut other, &mut desk)?, &None)?;
-    answers(rt.alloc(), &mut desk, &STILL_GIVEN)
+    run_amply(rt.alloc(), &STRAY)
 }

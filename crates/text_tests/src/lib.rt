@@ -1,6 +1,8 @@
-//! Tests of the texts of `airbook`: of what no clause says and no worked case shows.
+//! Tests of the texts of `airbook` and of a server that listens: of what no clause says and no worked case shows.
 #![tactic(auto)]
 
+#[cfg(test)]
+mod datagrams;
 #[cfg(test)]
 mod failing_calls;
 #[cfg(test)]
@@ -9,5 +11,7 @@ mod passes;
 mod settings;
 #[cfg(test)]
 mod text_calls;
+#[cfg(test)]
+mod turns;
 #[cfg(test)]
 mod worked_texts;

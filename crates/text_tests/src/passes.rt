@@ -196,18 +196,21 @@ fn calling_thread_answers_where_nobody_works(rt: HostRuntime) -> Result<(), Fail
     Ok(())
 }
 
+/// How many workers there may be, the last number, and how many are started.
+static STARTS: [(u8, u64, u8); 5] = [
+    (2, 600, 2),
+    (16, 600, 16),
+    (16, 64, 3),
+    (16, 3, 1),
+    (1, 3, 1),
+];
+
 #[test]
 fn as_many_workers_start_as_there_is_work_for(rt: HostRuntime) -> Result<(), Fail> {
-    for (workers, last, wanted) in [
-        (2, 600, 2),
-        (16, 600, 16),
-        (16, 64, 3),
-        (16, 3, 1),
-        (1, 3, 1),
-    ] {
+    for (workers, last, wanted) in &STARTS {
         let blank = Blank::new(PARTS as u64);
-        let (ran, _) = answered::<Brand, _>(&rt, rt.alloc(), workers, last, blank)?;
-        equal(&ran, &Ok(wanted))?;
+        let (ran, _) = answered::<Brand, _>(&rt, rt.alloc(), *workers, *last, blank)?;
+        equal(&ran, &Ok(*wanted))?;
     }
     Ok(())
 }

@@ -83,50 +83,54 @@ fn fault_behind(alloc: Global, lines: &str) -> Result<Option<&'static str>, Fail
     Ok(fault_of(alloc, text.as_str()))
 }
 
+/// A text, and its fault.
+static OF_GATEWAYS: [(&str, &str); 15] = [
+    ("", "Count"),
+    ("gateway = []\n", "Count"),
+    ("gateway = [", "NotToml"),
+    ("gateway = 1\n", "Kind"),
+    ("gateway = [1]\n", "Kind"),
+    ("[gateway]\nid = 1\n", "Kind"),
+    ("[[gateway]]\n", "Missing"),
+    ("[[gateway]]\nid = \"1\"\n", "Kind"),
+    ("[[gateway]]\nid = 65536\n", "Kind"),
+    ("[[gateway]]\nid = -1\n", "Kind"),
+    ("[[gateway]]\nid = 0\n", "Range"),
+    ("[[gateway]]\nid = 1\ngap = 100001\n", "Range"),
+    ("[[gateway]]\nid = 1\ngap = 4294967296\n", "Kind"),
+    ("[[gateway]]\nid = 1\ngap = -1\n", "Kind"),
+    (
+        "[[gateway]]\nid = 1\n[[gateway]]\nid = 1\n",
+        "DoubleGateway",
+    ),
+];
+
 #[test]
 fn faults_of_gateways_are_named(rt: HostRuntime) -> Result<(), Fail> {
-    let table = [
-        ("", "Count"),
-        ("gateway = []\n", "Count"),
-        ("gateway = [", "NotToml"),
-        ("gateway = 1\n", "Kind"),
-        ("gateway = [1]\n", "Kind"),
-        ("[gateway]\nid = 1\n", "Kind"),
-        ("[[gateway]]\n", "Missing"),
-        ("[[gateway]]\nid = \"1\"\n", "Kind"),
-        ("[[gateway]]\nid = 65536\n", "Kind"),
-        ("[[gateway]]\nid = -1\n", "Kind"),
-        ("[[gateway]]\nid = 0\n", "Range"),
-        ("[[gateway]]\nid = 1\ngap = 100001\n", "Range"),
-        ("[[gateway]]\nid = 1\ngap = 4294967296\n", "Kind"),
-        ("[[gateway]]\nid = 1\ngap = -1\n", "Kind"),
-        (
-            "[[gateway]]\nid = 1\n[[gateway]]\nid = 1\n",
-            "DoubleGateway",
-        ),
-    ];
-    for (text, name) in table {
-        equal_at(&text, &fault_of(rt.alloc(), text), &Some(name))?;
+    for (text, name) in &OF_GATEWAYS {
+        equal_at(text, &fault_of(rt.alloc(), text), &Some(*name))?;
     }
     Ok(())
 }
 
+/// Lines behind a gateway and a device, and the fault of them all.
+static OF_DEVICES: [(&str, &str); 10] = [
+    ("rx2_dr = 7\n", "Kind"),
+    ("up = 4294967296\n", "Kind"),
+    ("delay = 256\n", "Kind"),
+    ("delay = 16\n", "Range"),
+    ("down = 4294967297\n", "Range"),
+    ("down = -1\n", "Kind"),
+    ("rx2_freq = 865000000\n", "NoBand"),
+    (DEVICE, "DoubleDevice"),
+    ("[[device]]\naddr = \"26011bd\"\n", "Kind"),
+    ("[[device]]\naddr = \"26011bdb\"\n", "Missing"),
+];
+
 #[test]
 fn faults_of_devices_are_named(rt: HostRuntime) -> Result<(), Fail> {
-    let table = [
-        ("rx2_dr = 7\n", "Kind"),
-        ("up = 4294967296\n", "Kind"),
-        ("delay = 256\n", "Kind"),
-        ("delay = 16\n", "Range"),
-        ("down = 4294967297\n", "Range"),
-        ("down = -1\n", "Kind"),
-        ("rx2_freq = 865000000\n", "NoBand"),
-        (DEVICE, "DoubleDevice"),
-        ("[[device]]\naddr = \"26011bd\"\n", "Kind"),
-        ("[[device]]\naddr = \"26011bdb\"\n", "Missing"),
-    ];
-    for (lines, name) in table {
-        equal_at(&lines, &fault_behind(rt.alloc(), lines)?, &Some(name))?;
+    for (text, name) in &OF_DEVICES {
+        equal_at(text, &fault_behind(rt.alloc(), text)?, &Some(*name))?;
     }
     Ok(())
 }

@@ -13,7 +13,7 @@ const SETTINGS: &str =
     "[[gateway]]\nid = 1\n[[gateway]]\nid = 2\n[[device]]\naddr = \"26011bda\"\nnwkskey = \"2b7e151628aed2a6abf7158809cf4f3c\"\nappskey = \"000102030405060708090a0b0c0d0e0f\"\n";
 
 /// A confirmed uplink that two gateways hear, one that is to be made, and a receive that fails.
-const TURNS: [Option<&[u8]>; 6] = [
+static TURNS: [Option<&[u8]>; 6] = [
     Some(b"hear 1 5000000 868100000 5 55 -90 1000 80da1b012600070009c89141"),
     Some(b"hear 2 9000000 868100000 5 55 -80 1100 80da1b012600070009c89141\n"),
     Some(b"pass 201000"),
@@ -92,15 +92,18 @@ fn each_write_fails_in_turn(rt: HostRuntime) -> Result<(), Fail> {
     Ok(())
 }
 
+/// How many workers and turns, and which of the two is refused.
+static REFUSED: [(u8, u32, &str); 4] = [
+    (0, 6, "Workers"),
+    (17, 0, "Workers"),
+    (1, 0, "Turns"),
+    (16, TURN_LIMIT + 1, "Turns"),
+];
+
 #[test]
 fn workers_and_turns_are_refused_before_anything_is_received(rt: HostRuntime) -> Result<(), Fail> {
-    for (workers, turns, name) in [
-        (0, 6, "Workers"),
-        (17, 0, "Workers"),
-        (1, 0, "Turns"),
-        (16, TURN_LIMIT + 1, "Turns"),
-    ] {
-        let none = listened(&rt, rt.alloc(), &TURNS, workers, turns, 0)?;
+    for (workers, turns, name) in &REFUSED {
+        let none = listened(&rt, rt.alloc(), &TURNS, *workers, *turns, 0)?;
         equal(&none.answered, &Err(TextFault::Settings(name)))?;
         equal(&none.receives, &0)?;
         equal(&none.output.len(), &0)?;
@@ -121,27 +124,33 @@ fn answer_to<R: Threads + Wait + Sync>(
     Ok(output)
 }
 
+/// A datagram, and what is answered to it.
+static DATAGRAMS: [(&[u8], &[u8]); 15] = [
+    (b"", b""),
+    (b"\n", b""),
+    (b"\r\n", b""),
+    (b" \t", b""),
+    (b"# cancel 1", b""),
+    (b"cancel 1", b"no cancel 1 NotHere\n"),
+    (b"cancel 1\n", b"no cancel 1 NotHere\n"),
+    (b"cancel 1\r\n", b"no cancel 1 NotHere\n"),
+    (b"cancel 1\r", b"bad 1 Syntax\n"),
+    (b"\r", b"bad 1 Syntax\n"),
+    (b"cancel 1\n\n", b"bad 1 Syntax\n"),
+    (b"\ncancel 1", b"bad 1 Syntax\n"),
+    (b"# cancel 1\ncancel 1", b"bad 1 Syntax\n"),
+    (b"cancel @", b"bad 1 Syntax\n"),
+    (b"x", b"bad 1 Syntax\n"),
+];
+
 #[test]
 fn a_datagram_is_one_line(rt: HostRuntime) -> Result<(), Fail> {
-    for (datagram, answer) in [
-        (b"".as_slice(), b"".as_slice()),
-        (b"\n", b""),
-        (b"\r\n", b""),
-        (b" \t", b""),
-        (b"# cancel 1", b""),
-        (b"cancel 1", b"no cancel 1 NotHere\n"),
-        (b"cancel 1\n", b"no cancel 1 NotHere\n"),
-        (b"cancel 1\r\n", b"no cancel 1 NotHere\n"),
-        (b"cancel 1\r", b"bad 1 Syntax\n"),
-        (b"\r", b"bad 1 Syntax\n"),
-        (b"cancel 1\n\n", b"bad 1 Syntax\n"),
-        (b"\ncancel 1", b"bad 1 Syntax\n"),
-        (b"# cancel 1\ncancel 1", b"bad 1 Syntax\n"),
-        (b"cancel @", b"bad 1 Syntax\n"),
-        (b"x", b"bad 1 Syntax\n"),
-    ] {
-        let got = answer_to(&rt, rt.alloc(), datagram)?;
-        equal_at(&datagram, &got.as_slice(), &answer)?;
+    for (datagram, answer) in &DATAGRAMS {
+        equal_at(
+            datagram,
+            &answer_to(&rt, rt.alloc(), datagram)?.as_slice(),
+            answer,
+        )?;
     }
     Ok(())
 }
@@ -155,22 +164,25 @@ fn long_line(alloc: Global, len: usize, end: &[u8]) -> Result<Vec<u8>, Fail> {
     Ok(line)
 }
 
+/// How long a line is, its end, and what is answered to it.
+static LONG: [(usize, &[u8], &[u8]); 9] = [
+    (1024, b"", b"no cancel 1 NotHere\n"),
+    (1024, b"\n", b"no cancel 1 NotHere\n"),
+    (1024, b"\r\n", b"no cancel 1 NotHere\n"),
+    (1025, b"", b"bad 1 Syntax\n"),
+    (1025, b"\n", b"bad 1 Syntax\n"),
+    (1025, b"\r\n", b"bad 1 Syntax\n"),
+    (1026, b"", b"bad 1 Syntax\n"),
+    (1027, b"", b"bad 1 Syntax\n"),
+    (1500, b"", b"bad 1 Syntax\n"),
+];
+
 #[test]
 fn a_datagram_that_fills_its_room_is_malformed(rt: HostRuntime) -> Result<(), Fail> {
-    for (len, end, answer) in [
-        (1024, b"".as_slice(), b"no cancel 1 NotHere\n".as_slice()),
-        (1024, b"\n", b"no cancel 1 NotHere\n"),
-        (1024, b"\r\n", b"no cancel 1 NotHere\n"),
-        (1025, b"", b"bad 1 Syntax\n"),
-        (1025, b"\n", b"bad 1 Syntax\n"),
-        (1025, b"\r\n", b"bad 1 Syntax\n"),
-        (1026, b"", b"bad 1 Syntax\n"),
-        (1027, b"", b"bad 1 Syntax\n"),
-        (1500, b"", b"bad 1 Syntax\n"),
-    ] {
-        let line = long_line(rt.alloc(), len, end)?;
+    for (len, end, answer) in &LONG {
+        let line = long_line(rt.alloc(), *len, end)?;
         let got = answer_to(&rt, rt.alloc(), line.as_slice())?;
-        equal_at(&(len, end), &got.as_slice(), &answer)?;
+        equal_at(&(*len, end.len()), &got.as_slice(), answer)?;
     }
     Ok(())
 }

@@ -5,7 +5,7 @@ use bumpalo::Bump;
 use lora_frame::{Body, Down, Key, Keys, Up, downlink, uplink_bytes};
 use std::alloc::Global;
 use std::test::Fail;
-use test_asserts::equal;
+use test_asserts::{equal_at, holds};
 
 /// More than any frame takes.
 const AMPLE_BYTES: usize = 4_096;
@@ -58,18 +58,23 @@ fn taken_by_uplink(alloc: Global, payload: &[u8]) -> Result<(usize, usize), Fail
     Ok((free.saturating_sub(arena.chunk_capacity()), frame.len()))
 }
 
+static PAYLOAD: [u8; 242] = [7; 242];
+
+/// How many bytes of the payload a frame has.
+static SIZES: [usize; 10] = [1, 2, 11, 15, 16, 17, 51, 115, 222, 242];
+
+/// Fails where a frame with so many bytes of the payload takes more, or less, than its own length.
+fn takes_its_length(alloc: Global, size: usize) -> Result<(), Fail> {
+    holds(size <= 242)?;
+    let wanted = (size + 13, size + 13);
+    equal_at(&size, &taken_by_downlink(alloc, &PAYLOAD[..size])?, &wanted)?;
+    equal_at(&size, &taken_by_uplink(alloc, &PAYLOAD[..size])?, &wanted)
+}
+
 #[test]
 fn a_frame_takes_one_growth_of_its_own_length(rt: HostRuntime) -> Result<(), Fail> {
-    let payload = [7; 242];
-    for len in [1, 2, 11, 15, 16, 17, 51, 115, 222, 242] {
-        equal(
-            &taken_by_downlink(rt.alloc(), &payload[..len])?,
-            &(len + 13, len + 13),
-        )?;
-        equal(
-            &taken_by_uplink(rt.alloc(), &payload[..len])?,
-            &(len + 13, len + 13),
-        )?;
+    for size in &SIZES {
+        takes_its_length(rt.alloc(), *size)?;
     }
     Ok(())
 }

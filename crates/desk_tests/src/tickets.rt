@@ -3,26 +3,25 @@
 ghost use Rattle.std.specs.Prelude.{IfOk};
 ghost use Rattle.answer_ticket.specs.Job.{IsJob};
 
-use answer_ticket::{Bytes, Copies, Ending, Job, NoMemory, Outcome, Receipt, Stub, Ticket, Tried};
-use gateway_book::{Ask, GatewayBook, OpenFault, Refusal};
+use answer_ticket::{Bytes, Copies, Ending, Job, NoMemory, Outcome, Receipt, Stub, Ticket};
+use gateway_book::{Ask, Refusal};
 use lora_frame::{Key, Keys};
 use radio_airtime::DataRate;
-use resv_list::Roster;
-use resv_tree::TreeRoster;
 use rx_windows::{Plan, Window};
-use std::alloc::{Allocator, Global};
+use std::alloc::Global;
 use std::test::Fail;
 use test_asserts::{equal, holds};
 use uplink_gather::HeardCopy;
+use worked_inputs::{
+    ADDR, APP, NWK, WorkedBook, book_of, booked, handed_back, last_refused, next_refused, tried_on,
+};
 
 /// The session keys of the device.
 fn keys() -> Keys {
-    let nwk = Key::new([
-        0x2b, 0x7e, 0x15, 0x16, 0x28, 0xae, 0xd2, 0xa6, 0xab, 0xf7, 0x15, 0x88, 0x09, 0xcf, 0x4f,
-        0x3c,
-    ]);
-    let app = Key::new([0, 1, 2, 3, 4, 5, 6, 7, 8, 9, 10, 11, 12, 13, 14, 15]);
-    Keys { nwk, app }
+    Keys {
+        nwk: Key::new(NWK),
+        app: Key::new(APP),
+    }
 }
 
 /// The answer to a confirmed uplink that gateway 1 heard until 5,000,000 us at DR5 on 868.1 MHz, with a payload
@@ -47,7 +46,7 @@ fn job(alloc: Global) -> Result<Job<Global>, NoMemory>
     };
     Ok(Job {
         number: 17,
-        addr: 0x2601_1bda,
+        addr: ADDR,
         ack: true,
         counter: 0,
         queued: 1,
@@ -58,66 +57,9 @@ fn job(alloc: Global) -> Result<Job<Global>, NoMemory>
     })
 }
 
-/// The stub and the receipt of a try that was booked; any other is spent.
-fn booked<A: Allocator>(tried: Tried<A>) -> Option<(Stub, Receipt<A>)> {
-    match tried {
-        Tried::Booked(stub, receipt) => Some((stub, receipt)),
-        other => spent(other),
-    }
-}
-
-/// The ticket and the refusal of a try that another may follow; any other is spent.
-fn refused<A: Allocator>(tried: Tried<A>) -> Option<(Ticket<A>, Refusal)> {
-    match tried {
-        Tried::Next(ticket, refusal) => Some((ticket, refusal)),
-        other => spent(other),
-    }
-}
-
-/// The stub and the refusal of a try that was the last; any other is spent.
-fn refused_last<A: Allocator>(tried: Tried<A>) -> Option<(Stub, Refusal)> {
-    match tried {
-        Tried::Out(stub, refusal) => Some((stub, refusal)),
-        other => spent(other),
-    }
-}
-
-/// The ticket of a try on another gateway's book; any other is spent.
-fn handed_back<A: Allocator>(tried: Tried<A>) -> Option<Ticket<A>> {
-    match tried {
-        Tried::Wrong(ticket) => Some(ticket),
-        other => spent(other),
-    }
-}
-
-/// Spends what a try gave.
-fn spent<A: Allocator, X>(tried: Tried<A>) -> Option<X> {
-    let stub = match tried {
-        Tried::Booked(stub, _) => stub,
-        Tried::Next(ticket, _) => ticket.give_up(),
-        Tried::Out(stub, _) => stub,
-        Tried::Wrong(ticket) => ticket.give_up(),
-        Tried::NoMemory(ticket) => ticket.give_up(),
-    };
-    let _ = stub.end();
-    None
-}
-
-/// The book that these tickets are tried on.
-type Book = GatewayBook<TreeRoster<Global>>;
-
-fn opened(alloc: Global, id: u16) -> Result<Book, OpenFault> {
-    GatewayBook::new(TreeRoster::new(alloc), id, 4_096, 0)
-}
-
 /// The ticket for that answer.
 fn ticket(alloc: Global) -> Result<Ticket<Global>, NoMemory> {
     Ticket::new(alloc, job(alloc)?)
-}
-
-/// Tries a ticket on any book.
-fn tried<R: Roster>(ticket: Ticket<Global>, book: &mut GatewayBook<R>) -> Tried<Global> {
-    ticket.try_on(book)
 }
 
 /// What a ticket tells: its number, the gateway to try next, and its counter.
@@ -180,10 +122,10 @@ fn lists_are_as_given(rt: HostRuntime) -> Result<(), Fail> {
 
 #[test]
 fn first_window_carries_the_payload(rt: HostRuntime) -> Result<(), Fail> {
-    let mut book = opened(rt.alloc(), 1)?;
+    let mut book = book_of(rt.alloc(), 1)?;
     let ticket = ticket(rt.alloc())?;
     let shown = told(&ticket);
-    let (stub, receipt) = booked(tried(ticket, &mut book)).ok_or("it is booked")?;
+    let (stub, receipt) = booked(tried_on(ticket, &mut book)).ok_or("it is booked")?;
     equal(
         &ended(stub),
         &answered(Window::Rx1, 6_000_000, 189_696, true),
@@ -199,7 +141,7 @@ fn first_window_carries_the_payload(rt: HostRuntime) -> Result<(), Fail> {
 }
 
 /// Books what leaves no room for RX1.
-fn fill_rx1(book: &mut Book) -> Result<(), Refusal> {
+fn fill_rx1(book: &mut WorkedBook) -> Result<(), Refusal> {
     book.book(Ask {
         number: 99,
         start: 6_000_000,
@@ -212,12 +154,12 @@ fn fill_rx1(book: &mut Book) -> Result<(), Refusal> {
 
 #[test]
 fn second_window_leaves_the_payload_waiting(rt: HostRuntime) -> Result<(), Fail> {
-    let mut book = opened(rt.alloc(), 1)?;
+    let mut book = book_of(rt.alloc(), 1)?;
     fill_rx1(&mut book)?;
     let first = ticket(rt.alloc())?;
-    let (ticket, refusal) = refused(tried(first, &mut book)).ok_or("RX2 follows")?;
+    let (ticket, refusal) = next_refused(tried_on(first, &mut book)).ok_or("RX2 follows")?;
     let shown = told(&ticket);
-    let (stub, receipt) = booked(tried(ticket, &mut book)).ok_or("it is booked")?;
+    let (stub, receipt) = booked(tried_on(ticket, &mut book)).ok_or("it is booked")?;
     equal(
         &ended(stub),
         &answered(Window::Rx2, 7_000_000, 991_232, false),
@@ -233,9 +175,9 @@ fn second_window_leaves_the_payload_waiting(rt: HostRuntime) -> Result<(), Fail>
 
 #[test]
 fn book_of_another_gateway_is_not_asked(rt: HostRuntime) -> Result<(), Fail> {
-    let mut book = opened(rt.alloc(), 2)?;
+    let mut book = book_of(rt.alloc(), 2)?;
     let first = ticket(rt.alloc())?;
-    let ticket = handed_back(tried(first, &mut book)).ok_or("it is handed back")?;
+    let ticket = handed_back(tried_on(first, &mut book)).ok_or("it is handed back")?;
     let shown = told(&ticket);
     let _ = ended(ticket.give_up());
     equal(&shown, &(17, 1, 0))?;
@@ -245,11 +187,11 @@ fn book_of_another_gateway_is_not_asked(rt: HostRuntime) -> Result<(), Fail> {
 
 #[test]
 fn book_that_refuses_both_windows(rt: HostRuntime) -> Result<(), Fail> {
-    let mut book = opened(rt.alloc(), 1)?;
+    let mut book = book_of(rt.alloc(), 1)?;
     book.tick(7_000_001);
     let first = ticket(rt.alloc())?;
-    let (ticket, refusal) = refused(tried(first, &mut book)).ok_or("RX2 follows")?;
-    let (stub, last) = refused_last(tried(ticket, &mut book)).ok_or("RX2 is the last")?;
+    let (ticket, refusal) = next_refused(tried_on(first, &mut book)).ok_or("RX2 follows")?;
+    let (stub, last) = last_refused(tried_on(ticket, &mut book)).ok_or("RX2 is the last")?;
     let result = Ending::Unanswered(Refusal::Passed);
     equal(&ended(stub), &(17, None, Outcome { number: 17, result }))?;
     equal(&[refusal, last], &[Refusal::Passed, Refusal::Passed])?;
