@@ -2,14 +2,14 @@
 ghost use Rattle.std.specs.Prelude.{◌≡◌, ◌≤◌, [], length};
 ghost use Rattle.resv_list.specs.Reservations.{IsByStart};
 
-use crate::roster::{drawn_after, put};
+use crate::asks::drawn_after;
+use crate::members::put;
+use crate::roster::drawn_band;
 use gateway_book::{Ask, GatewayBook};
 use radio_airtime::DataRate;
-use radio_bands::Band;
 use resv_list::{MAX_MEMBERS, Reservation, Roster, VecRoster};
 use resv_tree::TreeRoster;
-use std::alloc::{AllocError, Global};
-use std::process::Abort;
+use std::alloc::Global;
 use std::test::Fail;
 use test_asserts::{equal, equal_at};
 
@@ -30,28 +30,23 @@ fn drawn_ask(number: u64, drawn: u64) -> Ask {
 }
 
 /// A book of what it accepts of so many random asks.
-fn drawn_book(rt: &impl Abort, alloc: Global, asks: u64) -> GatewayBook<VecRoster<Global>> {
-    let mut book = GatewayBook::new(VecRoster::new(alloc), 1, 4_096, 0).expect(
-        rt,
-        "the cap is in range",
-    );
+fn drawn_book(alloc: Global, asks: u64) -> Result<GatewayBook<VecRoster<Global>>, Fail> {
+    let mut book = GatewayBook::new(VecRoster::new(alloc), 1, 4_096, 0)?;
     let mut drawn = asks;
     for number in 0..asks {
         drawn = drawn_after(drawn);
         let _answer = book.book(drawn_ask(number, drawn));
     }
-    book
+    Ok(book)
 }
 
-/// Any empty roster, filled with these members.
-fn filled<R: Roster>(roster: R, members: &[Reservation]) -> Result<R, AllocError>
-where
-    R: Drop,
-    requires empty { R.list roster ≡ [] }
-    requires by_start { IsByStart members.now }
-    requires room { length members.now ≤ MAX_MEMBERS }
-{
-    roster.filled(members)
+/// A tree into which these members are put one by one.
+fn put_in(alloc: Global, members: &[Reservation]) -> Result<TreeRoster<Global>, Fail> {
+    let mut tree = TreeRoster::new(alloc);
+    for member in members {
+        put(&mut tree, *member)?;
+    }
+    Ok(tree)
 }
 
 /// The roster holds just these members.
@@ -70,35 +65,47 @@ fn answers_alike<R: Roster, S: Roster>(one: &R, other: &S) -> Result<(), Fail> {
     let mut drawn = 1;
     for turn in 0..400 {
         drawn = drawn_after(drawn);
-        let from = (drawn >> 40) % 14_400 * 1_000_000;
-        let to = (drawn >> 20) % 16_000 * 1_000_000;
-        let band = [Band::K, Band::M, Band::P][(drawn >> 60) as usize % 3];
-        let most = one.most(band);
-        equal_at(&turn, &most, &other.most(band))?;
-        let spent = one.spent(band, from, to);
-        equal_at(&turn, &spent, &other.spent(band, from, to))?;
-        let less = most.saturating_sub((drawn >> 14) % 40 * 500_000);
-        let over = one.first_over(band, from, to, less);
-        equal_at(&turn, &over, &other.first_over(band, from, to, less))?;
+        equal_at(&turn, &told(one, drawn), &told(other, drawn))?;
     }
     Ok(())
+}
+
+/// Of a random stretch of time and sub-band: the most, the sum, and the first over a little less than the most.
+fn told<R: Roster>(roster: &R, drawn: u64) -> (u64, u64, Option<Reservation>) {
+    let from = (drawn >> 40) % 14_400 * 1_000_000;
+    let to = (drawn >> 20) % 16_000 * 1_000_000;
+    let band = drawn_band(drawn >> 60);
+    let most = roster.most(band);
+    let less = most.saturating_sub((drawn >> 14) % 40 * 500_000);
+    (
+        most,
+        roster.spent(band, from, to),
+        roster.first_over(band, from, to, less),
+    )
+}
+
+/// An empty roster that is filled with these members holds them, and is as another that does.
+fn is_filled_alike<R: Roster + Drop>(
+    roster: R,
+    other: &TreeRoster<Global>,
+    members: &[Reservation],
+) -> Result<(), Fail>
+    requires empty { R.list roster ≡ [] }
+    requires by_start { IsByStart members.now }
+    requires room { length members.now ≤ MAX_MEMBERS }
+{
+    let filled = roster.filled(members)?;
+    lists(&filled, members)?;
+    answers_alike(other, &filled)
 }
 
 #[test]
 fn a_roster_that_is_made_at_once_is_as_one_by_one(rt: HostRuntime) -> Result<(), Fail> {
     for asks in [0, 1, 2, 3, 4, 5, 700] {
-        let book = drawn_book(&rt, rt.alloc(), asks);
-        let members = book.list(rt.alloc())?;
-        let mut put_in = TreeRoster::new(rt.alloc());
-        for member in &members {
-            equal(&put(&rt, &mut put_in, *member), &Ok(()))?;
-        }
-        let slow = filled(VecRoster::new(rt.alloc()), &members)?;
-        let tree = filled(TreeRoster::new(rt.alloc()), &members)?;
-        lists(&slow, &members)?;
-        lists(&tree, &members)?;
-        answers_alike(&put_in, &slow)?;
-        answers_alike(&put_in, &tree)?;
+        let members = drawn_book(rt.alloc(), asks)?.list(rt.alloc())?;
+        let other = put_in(rt.alloc(), &members)?;
+        is_filled_alike(VecRoster::new(rt.alloc()), &other, &members)?;
+        is_filled_alike(TreeRoster::new(rt.alloc()), &other, &members)?;
     }
     Ok(())
 }

@@ -1,42 +1,27 @@
 // What the calls of a roster and of a book take from their allocator: only what takes one more takes memory, and a list as
 // much as its members need, in one growth. An arena tells how much of it is left.
+ghost use Rattle.std.specs.Prelude.{◌≡◌, []};
 
-use crate::roster::put;
+use crate::asks::{ask_in_m, book_spaced};
+use crate::members::{in_m, put};
 use bumpalo::Bump;
-use gateway_book::{Ask, GatewayBook};
-use radio_airtime::DataRate;
+use gateway_book::GatewayBook;
 use radio_bands::Band;
-use resv_list::{Reservation, Roster};
+use resv_list::Roster;
 use resv_tree::TreeRoster;
 use std::alloc::Global;
-use std::process::Abort;
 use std::test::Fail;
-use test_asserts::{equal, holds};
+use test_asserts::{equal, equal_at, holds, holds_at};
 
 /// More than these rosters take.
 const AMPLE_BYTES: usize = 1 << 20;
 
-/// The books of these tests: an arena has the memory of their members.
+/// A roster of which an arena has the members.
 type Kept<'a> = TreeRoster<&'a Bump<Global>>;
 
-fn member(rt: &impl Abort, start: u64) -> Reservation {
-    Reservation::new(start, start, 868_100_000, DataRate::Dr5, 12).expect(rt, "it is fit")
-}
-
-fn ask(number: u64, start: u64) -> Ask {
-    Ask {
-        number,
-        start,
-        freq_hz: 868_100_000,
-        rate: DataRate::Dr5,
-        len: 12,
-    }
-}
-
-/// Asks a roster all that it can be asked.
-fn asks_all(roster: &mut Kept<'_>) {
+/// Asks a roster all that any roster can be asked.
+fn asks_all<R: Roster>(roster: &R) {
     roster.len();
-    roster.height();
     roster.before(5_000_000);
     roster.first_from(5_000_000);
     roster.spent(Band::M, 0, 9_000_000);
@@ -45,24 +30,45 @@ fn asks_all(roster: &mut Kept<'_>) {
     roster.most(Band::M);
 }
 
-/// How many bytes of an arena each of some members takes, while it is asked, removed from and dropped from besides.
-fn taken_by_members<'a>(
-    rt: &impl Abort,
-    arena: &'a Bump<Global>,
-    roster: &mut Kept<'a>,
-    starts: &[u64],
-) -> Option<usize> {
-    let mut each = None;
-    for start in starts {
-        let free = arena.chunk_capacity();
-        assert_eq!(rt; put(rt, roster, member(rt, *start)), Ok(()));
-        let taken = free.saturating_sub(arena.chunk_capacity());
-        assert!(rt; each.map_or(true, |other| other == taken), "{taken} bytes");
-        each = Some(taken);
-        asks_all(roster);
-        assert_eq!(rt; free.saturating_sub(arena.chunk_capacity()), taken);
+/// How many bytes of an arena a member takes; the roster is asked besides, which takes none.
+fn taken_by_member<R: Roster>(
+    arena: &Bump<Global>,
+    roster: &mut R,
+    start: u64,
+) -> Result<usize, Fail> {
+    let free = arena.chunk_capacity();
+    put(roster, in_m(start)?)?;
+    let left = arena.chunk_capacity();
+    asks_all(roster);
+    equal(&arena.chunk_capacity(), &left)?;
+    Ok(free.saturating_sub(left))
+}
+
+/// Seven members take as much each.
+fn take_alike<R: Roster>(arena: &Bump<Global>, roster: &mut R) -> Result<(), Fail> {
+    let each = taken_by_member(arena, roster, 7_000_000)?;
+    for start in [
+        1_000_000, 3_000_000, 9_000_000, 2_000_000, 8_000_000, 4_000_000,
+    ] {
+        equal_at(&start, &taken_by_member(arena, roster, start)?, &each)?;
     }
-    each
+    Ok(())
+}
+
+/// Taking members out, and dropping some, takes none.
+fn take_out<R: Roster>(arena: &Bump<Global>, roster: &mut R) -> Result<(), Fail> {
+    let left = arena.chunk_capacity();
+    holds(roster.remove(3_000_000).is_some())?;
+    holds(roster.remove(3_000_000).is_none())?;
+    equal(&roster.drop_before(6_000_000).count, &3)?;
+    holds(arena.chunk_capacity() >= left)
+}
+
+/// Nor does a question for the height of a tree.
+fn ask_height(arena: &Bump<Global>, tree: &Kept<'_>) -> Result<(), Fail> {
+    let left = arena.chunk_capacity();
+    tree.height();
+    equal(&arena.chunk_capacity(), &left)
 }
 
 #[test]
@@ -71,64 +77,85 @@ fn only_a_new_member_takes_memory(rt: HostRuntime) -> Result<(), Fail> {
     let free = arena.chunk_capacity();
     let mut roster = TreeRoster::new(&arena);
     equal(&arena.chunk_capacity(), &free)?;
-    let starts = [
-        7_000_000, 1_000_000, 3_000_000, 9_000_000, 2_000_000, 8_000_000, 4_000_000,
-    ];
-    holds(taken_by_members(&rt, &arena, &mut roster, &starts).is_some())?;
-    let left = arena.chunk_capacity();
-    holds(roster.remove(3_000_000).is_some())?;
-    holds(roster.remove(3_000_000).is_none())?;
-    equal(&roster.drop_before(6_000_000).count, &3)?;
-    holds(arena.chunk_capacity() >= left)?;
+    take_alike(&arena, &mut roster)?;
+    ask_height(&arena, &roster)?;
+    take_out(&arena, &mut roster)
+}
+
+/// Two that a book accepts take memory each.
+fn accepts_two<R: Roster>(arena: &Bump<Global>, book: &mut GatewayBook<R>) -> Result<(), Fail> {
+    for start in [0, 3_000_000] {
+        let free = arena.chunk_capacity();
+        holds_at(&start, book.book(ask_in_m(start, start)).is_ok())?;
+        holds_at(&start, arena.chunk_capacity() < free)?;
+    }
     Ok(())
+}
+
+/// Refused asks, a refused cancel, and what a book is asked take none.
+fn refuses_all<R: Roster>(arena: &Bump<Global>, book: &mut GatewayBook<R>) -> Result<(), Fail> {
+    let left = arena.chunk_capacity();
+    for start in [0, 1_000_000, 6_000_000, 1 << 61] {
+        holds_at(&start, book.book(ask_in_m(9, start)).is_err())?;
+    }
+    book.totals();
+    book.busiest(Band::M);
+    holds(book.cancel(9, 0).is_err())?;
+    equal(&arena.chunk_capacity(), &left)
+}
+
+/// Nor do a cancel and a tick.
+fn gives_back<R: Roster>(arena: &Bump<Global>, book: &mut GatewayBook<R>) -> Result<(), Fail> {
+    let left = arena.chunk_capacity();
+    holds(book.cancel(3_000_000, 3_000_000).is_ok())?;
+    book.tick(7_200_000_000);
+    holds(arena.chunk_capacity() >= left)
+}
+
+/// A book that keeps two at most, over an empty roster in the arena.
+fn takes_for_two<R: Roster + Drop>(arena: &Bump<Global>, roster: R) -> Result<(), Fail>
+    requires { R.list roster ≡ [] }
+{
+    let mut book = GatewayBook::new(roster, 1, 2, 0)?;
+    accepts_two(arena, &mut book)?;
+    refuses_all(arena, &mut book)?;
+    gives_back(arena, &mut book)
 }
 
 #[test]
 fn only_what_a_book_accepts_takes_memory(rt: HostRuntime) -> Result<(), Fail> {
     let arena = Bump::try_with_capacity(rt.alloc(), AMPLE_BYTES)?;
-    let mut book = GatewayBook::new(TreeRoster::new(&arena), 1, 2, 0)?;
-    for start in [0, 3_000_000] {
-        let free = arena.chunk_capacity();
-        holds(book.book(ask(start, start)).is_ok())?;
-        holds(arena.chunk_capacity() < free)?;
-    }
-    let left = arena.chunk_capacity();
-    for start in [0, 1_000_000, 6_000_000, 1 << 61] {
-        holds(book.book(ask(9, start)).is_err())?;
-    }
-    book.totals();
-    book.busiest(Band::M);
-    holds(book.cancel(9, 0).is_err())?;
-    equal(&arena.chunk_capacity(), &left)?;
-    holds(book.cancel(3_000_000, 3_000_000).is_ok())?;
-    book.tick(7_200_000_000);
-    holds(arena.chunk_capacity() >= left)?;
-    Ok(())
+    takes_for_two(&arena, TreeRoster::new(&arena))
 }
 
-/// How many bytes an arena gave for the list of a book with so many members.
-fn taken_by_list(alloc: Global, count: u64) -> Result<usize, Fail> {
-    let arena = Bump::try_with_capacity(alloc, AMPLE_BYTES)?;
-    let mut book = GatewayBook::new(TreeRoster::new(alloc), 1, 100, 0)?;
-    for number in 0..count {
-        holds(
-            book.book(ask(number, number.saturating_mul(100_000_000)))
-                .is_ok(),
-        )?;
-    }
+/// How many bytes an arena gives for the list of a book with so many members.
+fn given_for_list<R: Roster>(
+    arena: &Bump<Global>,
+    book: &GatewayBook<R>,
+    count: u64,
+) -> Result<u64, Fail> {
     let free = arena.chunk_capacity();
-    let members = book.list(&arena)?;
+    let members = book.list(arena)?;
     equal(&(members.len() as u64), &count)?;
-    Ok(free.saturating_sub(arena.chunk_capacity()))
+    Ok(free.saturating_sub(arena.chunk_capacity()) as u64)
+}
+
+/// The same of a book over an empty roster.
+fn taken_by_list<R: Roster + Drop>(alloc: Global, roster: R, count: u64) -> Result<u64, Fail>
+    requires { R.list roster ≡ [] }
+{
+    let mut book = GatewayBook::new(roster, 1, 100, 0)?;
+    book_spaced(&mut book, count)?;
+    given_for_list(&Bump::try_with_capacity(alloc, AMPLE_BYTES)?, &book, count)
 }
 
 #[test]
 fn a_list_takes_one_growth_for_its_members(rt: HostRuntime) -> Result<(), Fail> {
-    let each = taken_by_list(rt.alloc(), 1)?;
+    let each = taken_by_list(rt.alloc(), TreeRoster::new(rt.alloc()), 1)?;
     holds(each > 0)?;
     for count in [2, 3, 5, 9, 30] {
-        let all = taken_by_list(rt.alloc(), count)?;
-        equal(&(all as u64), &(each as u64).saturating_mul(count))?;
+        let taken = taken_by_list(rt.alloc(), TreeRoster::new(rt.alloc()), count)?;
+        equal_at(&count, &taken, &each.saturating_mul(count))?;
     }
     Ok(())
 }

@@ -2,22 +2,32 @@
 #![tactic(auto)]
 
 #[cfg(test)]
+mod asks;
+#[cfg(test)]
 mod book;
+#[cfg(test)]
+mod book_steps;
 #[cfg(test)]
 mod earliest;
 #[cfg(test)]
 mod filling;
 #[cfg(test)]
-mod gap;
-#[cfg(test)]
 mod growths;
 #[cfg(test)]
 mod hours;
+#[cfg(test)]
+mod members;
+#[cfg(test)]
+mod plain_book;
+#[cfg(test)]
+mod plain_hours;
 #[cfg(test)]
 mod radio;
 #[cfg(test)]
 mod roster;
 #[cfg(test)]
 mod saved;
+#[cfg(test)]
+mod saved_faults;
 #[cfg(test)]
 mod unforgetting;

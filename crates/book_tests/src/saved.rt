@@ -1,13 +1,10 @@
 // Books that are saved as texts and loaded again.
-ghost use Rattle.std.specs.Prelude.{◌≡◌, []};
+ghost use Rattle.std.specs.Prelude.{◌≡◌, ◌<◌, []};
 
-use bumpalo::Bump;
-use gateway_book::{Ask, GatewayBook, LoadFault, MemoryIn, MemoryOut, SaveFault};
-use radio_airtime::DataRate;
+use crate::asks::{ask_in_m, drawn_after};
+use gateway_book::{GatewayBook, LoadFault, MemoryIn, MemoryOut, SaveFault};
 use resv_list::{Roster, VecRoster};
-use resv_tree::TreeRoster;
 use std::alloc::Global;
-use std::process::Abort;
 use std::test::Fail;
 use test_asserts::{equal, equal_at, holds, holds_at};
 
@@ -19,283 +16,203 @@ const FIRST: &[u8; 89] =
 const SECOND: &[u8; 91] =
     b"airbook 2\ngateway 1 4096 0 0\nr 1 10000000 868100000 5 12\nr 2 10041216 868100000 5 12\nend 2\n";
 
-/// Three transmissions that fill an hour of their sub-band, but for less than one more of them.
-const FULL_HOUR: &[u8] =
-    b"airbook 1\ngateway 1 4096 0\nr 1 0 863500000 0 12\nr 2 1000000 863500000 0 12\nr 3 2000000 863500000 0 12\n";
-
-type Kept = GatewayBook<VecRoster<Global>>;
-
-/// The book of a text.
-fn loaded(alloc: Global, text: &[u8]) -> Result<Kept, LoadFault> {
-    GatewayBook::load(&mut MemoryIn::new(text), VecRoster::new(alloc))
+/// The book of a text, over an empty roster.
+pub(crate) fn loaded<R: Roster + Drop>(text: &[u8], roster: R) -> Result<GatewayBook<R>, LoadFault>
+    requires { R.list roster ≡ [] }
+{
+    GatewayBook::load(&mut MemoryIn::new(text), roster)
 }
 
-/// Whether this is what is saved of a book.
-fn is_saved(rt: &impl Abort, alloc: Global, book: &Kept, text: &[u8]) -> bool {
+/// Why a text is no saved book, if it is none.
+pub(crate) fn fault_of(alloc: Global, text: &[u8]) -> Option<LoadFault> {
+    loaded(text, VecRoster::new(alloc)).err()
+}
+
+/// The text that a book saves.
+pub(crate) fn saved<R: Roster>(
+    alloc: Global,
+    book: &GatewayBook<R>,
+) -> Result<Vec<u8, Global>, Fail> {
     let mut writer = MemoryOut::new(alloc);
-    assert_eq!(rt; book.save(&mut writer), Ok(()));
-    writer.bytes.as_slice() == text
+    book.save(&mut writer)?;
+    Ok(writer.bytes)
 }
 
-fn ask(number: u64, start: u64) -> Ask {
-    Ask {
-        number,
-        start,
-        freq_hz: 868_100_000,
-        rate: DataRate::Dr5,
-        len: 12,
-    }
+/// The book of a text has booked so much, has cancelled and retired nothing, and saves the other text.
+fn is_loaded<R: Roster + Drop>(
+    alloc: Global,
+    roster: R,
+    text: &[u8],
+    booked: u64,
+    wanted: &[u8],
+) -> Result<(), Fail>
+    requires { R.list roster ≡ [] }
+{
+    let book = loaded(text, roster)?;
+    let totals = book.totals();
+    let airtimes = [totals.booked, totals.cancelled, totals.retired];
+    equal(&airtimes, &[booked, 0, 0])?;
+    equal(&saved(alloc, &book)?.as_slice(), &wanted)
+}
+
+/// A book of the two over an empty roster saves the second text.
+fn is_saved<R: Roster + Drop>(alloc: Global, roster: R) -> Result<(), Fail>
+    requires { R.list roster ≡ [] }
+{
+    let mut book = GatewayBook::new(roster, 1, 4_096, 0)?;
+    holds(book.book(ask_in_m(1, 10_000_000)).is_ok())?;
+    holds(book.book(ask_in_m(2, 10_041_216)).is_ok())?;
+    equal(&saved(alloc, &book)?.as_slice(), &SECOND.as_slice())
 }
 
 #[test]
 fn a_book_is_saved_and_loaded(rt: HostRuntime) -> Result<(), Fail> {
-    let mut book = GatewayBook::new(VecRoster::new(rt.alloc()), 1, 4_096, 0)?;
-    for (number, start) in [(1, 10_000_000), (2, 10_041_216)] {
-        holds(book.book(ask(number, start)).is_ok())?;
+    let alloc = rt.alloc();
+    is_saved(alloc, VecRoster::new(alloc))?;
+    is_loaded(alloc, VecRoster::new(alloc), FIRST, 82_432, SECOND)?;
+    is_loaded(alloc, VecRoster::new(alloc), SECOND, 82_432, SECOND)
+}
+
+fn is_syntax(fault: Option<LoadFault>) -> bool {
+    match fault {
+        Some(LoadFault::Syntax { .. }) => true,
+        _ => false,
     }
-    holds(is_saved(&rt, rt.alloc(), &book, SECOND))?;
-    for text in [FIRST.as_slice(), SECOND.as_slice()] {
-        let again = loaded(rt.alloc(), text)?;
-        let totals = again.totals();
-        equal(
-            &(totals.booked, totals.cancelled, totals.retired),
-            &(82_432, 0, 0),
-        )?;
-        holds(is_saved(&rt, rt.alloc(), &again, SECOND))?;
+}
+
+/// No front of a text is a saved book.
+fn is_refused_cut(alloc: Global, text: &[u8]) -> Result<(), Fail> {
+    for cut in 0..text.len() {
+        holds_at(&cut, is_syntax(fault_of(alloc, &text[..cut])))?;
     }
     Ok(())
 }
 
 #[test]
 fn a_text_that_is_cut_is_no_saved_book(rt: HostRuntime) -> Result<(), Fail> {
-    for text in [FIRST.as_slice(), SECOND.as_slice()] {
-        for cut in 0..text.len() {
-            let answer = loaded(rt.alloc(), &text[..cut]).map(|_| ());
-            holds_at(&cut, matches!(answer, Err(LoadFault::Syntax { .. })))?;
-        }
-    }
-    Ok(())
+    is_refused_cut(rt.alloc(), FIRST)?;
+    is_refused_cut(rt.alloc(), SECOND)
+}
+
+/// A saved book, and what follows it.
+const FOLLOWED: &[u8] =
+    b"airbook 2\ngateway 7 1 3600000000 0\nr 1 0 868100000 5 12\nend 1\nbook 2 ";
+
+fn is_seventh<R: Roster>(book: &GatewayBook<R>) -> Result<(), Fail> {
+    equal(&(book.id(), book.cap(), book.gap()), &(7, 1, 0))?;
+    let totals = book.totals();
+    equal(&(totals.floor, totals.kept), &(3_600_000_000, 1))
 }
 
 #[test]
 fn what_follows_the_last_line_is_left(rt: HostRuntime) -> Result<(), Fail> {
-    let mut reader = MemoryIn::new(
-        b"airbook 2\ngateway 7 1 3600000000 0\nr 1 0 868100000 5 12\nend 1\nbook 2 ",
-    );
-    let roster = VecRoster::new(rt.alloc());
-    let (book, count) = GatewayBook::load_counted(&mut reader, roster)?;
-    equal(&(book.id(), book.cap(), book.gap(), count), &(7, 1, 0, 62))?;
-    equal(
-        &(book.totals().floor, book.totals().kept),
-        &(3_600_000_000, 1),
-    )?;
-    equal(&reader.bytes, &b"book 2 ".as_slice())?;
-    Ok(())
+    let mut reader = MemoryIn::new(FOLLOWED);
+    let (book, count) = GatewayBook::load_counted(&mut reader, VecRoster::new(rt.alloc()))?;
+    is_seventh(&book)?;
+    equal(&count, &62)?;
+    equal(&reader.bytes, &b"book 2 ".as_slice())
 }
 
-/// Texts that are no saved book, and why.
-const FAULTS: [(&[u8], LoadFault); 17] = [
-    (b"airbook 9\n", LoadFault::Version),
-    (
-        b"airbook 3\ngateway 1 4096 0 0\nend 0\n",
-        LoadFault::Version,
-    ),
-    (
-        b"airbook 02\ngateway 1 4096 0 0\nend 0\n",
-        LoadFault::Syntax { line: 1 },
-    ),
-    (
-        b"airbook 2\r\ngateway 1 4096 0 0\nend 0\n",
-        LoadFault::Syntax { line: 1 },
-    ),
-    (
-        b"airbook 1\ngateway 1 4096 0 0\nend 0\n",
-        LoadFault::Syntax { line: 2 },
-    ),
-    (
-        b"airbook 2\ngateway 1 4096 0\nend 0\n",
-        LoadFault::Syntax { line: 2 },
-    ),
-    (
-        b"airbook 2\ngateway 1\t4096 0 0\nend 0\n",
-        LoadFault::Syntax { line: 2 },
-    ),
-    (
-        b"airbook 2\ngateway 1  4096 0 0\nend 0\n",
-        LoadFault::Syntax { line: 2 },
-    ),
-    (
-        b"airbook 2\ngateway 1 0 0 0\nend 0\n",
-        LoadFault::Unlawful { line: 2 },
-    ),
-    (
-        b"airbook 2\ngateway 1 4096 0 100001\nend 0\n",
-        LoadFault::Unlawful { line: 2 },
-    ),
-    (
-        b"airbook 2\ngateway 1 4096 0 0\nr 01 0 868100000 5 12\nend 1\n",
-        LoadFault::Syntax { line: 3 },
-    ),
-    (
-        b"airbook 2\ngateway 1 4096 0 0\nr 1 0 868100000 7 12\nend 1\n",
-        LoadFault::Syntax { line: 3 },
-    ),
-    (
-        b"airbook 2\ngateway 1 4096 3600000001 0\nr 1 0 868100000 5 12\nend 1\n",
-        LoadFault::Unlawful { line: 3 },
-    ),
-    (
-        b"airbook 1\ngateway 1 4096 0\nr 1 10000000 868100000 5 12\nr 2 10041215 868100000 5 12\nend 2\n",
-        LoadFault::Unlawful { line: 4 },
-    ),
-    (
-        b"airbook 2\ngateway 1 4096 0 1000\nr 1 10000000 868100000 5 12\nr 2 10041216 868100000 5 12\nend 2\n",
-        LoadFault::Unlawful { line: 4 },
-    ),
-    (
-        b"airbook 2\ngateway 1 1 0 0\nr 1 0 868100000 5 12\nr 2 10041216 868100000 5 12\nend 2\n",
-        LoadFault::Unlawful { line: 4 },
-    ),
-    (
-        b"airbook 2\ngateway 1 9 0 0\nr 1 10041216 868100000 5 12\nr 2 0 868100000 5 12\nend 2\n",
-        LoadFault::Unlawful { line: 4 },
-    ),
-];
+/// A book is not saved where this call of the writer fails, and the bytes before it were written, each by a call of its own.
+fn is_unsaved<R: Roster>(alloc: Global, book: &GatewayBook<R>, call: usize) -> Result<(), Fail> {
+    let mut writer = MemoryOut::failing(alloc, 1, call as u64);
+    let answer = book.save(&mut writer);
+    holds_at(&call, answer == Err(SaveFault::Write))?;
+    let front = SECOND.get(..call.saturating_sub(1));
+    holds_at(&call, front == Some(writer.bytes.as_slice()))
+}
 
-#[test]
-fn the_first_line_at_fault_is_told(rt: HostRuntime) -> Result<(), Fail> {
-    for (place, (text, fault)) in FAULTS.iter().enumerate() {
-        let answer = loaded(rt.alloc(), text).map(|_| ());
-        equal_at(&place, &answer, &Err(*fault))?;
-    }
-    for (last, fault) in [
-        (
-            b"r 4 3000000 863500000 0 12\nend 4\n".as_slice(),
-            LoadFault::Unlawful { line: 6 },
-        ),
-        (b"end 2\n".as_slice(), LoadFault::Syntax { line: 6 }),
-    ] {
-        let mut text = Vec::new(rt.alloc());
-        text.extend_from_slice(FULL_HOUR)?;
-        text.extend_from_slice(last)?;
-        equal(
-            &loaded(rt.alloc(), text.as_slice()).map(|_| ()),
-            &Err(fault),
-        )?;
-    }
-    Ok(())
+/// A book is not loaded where this call of the reader fails, and the bytes behind it were not read.
+fn is_unread<R: Roster + Drop>(roster: R, call: usize) -> Result<(), Fail>
+    requires { R.list roster ≡ [] }
+{
+    let mut reader = MemoryIn::failing(SECOND, 1, call as u64);
+    let fault = GatewayBook::load(&mut reader, roster).err();
+    holds_at(&call, fault == Some(LoadFault::Read))?;
+    equal_at(&call, &reader.bytes.len(), &92usize.saturating_sub(call))
 }
 
 #[test]
 fn each_failed_call_is_told(rt: HostRuntime) -> Result<(), Fail> {
-    let book = loaded(rt.alloc(), SECOND)?;
+    let book = loaded(SECOND, VecRoster::new(rt.alloc()))?;
     for call in 1..92 {
-        let mut writer = MemoryOut::failing(rt.alloc(), 1, call as u64);
-        equal(&book.save(&mut writer), &Err(SaveFault::Write))?;
-        holds_at(&call, writer.bytes.as_slice() == &SECOND[..call - 1])?;
-        let mut reader = MemoryIn::failing(SECOND, 1, call as u64);
-        let answer = GatewayBook::load(&mut reader, VecRoster::new(rt.alloc())).map(|_| ());
-        equal(&answer, &Err(LoadFault::Read))?;
-        equal(&reader.bytes.len(), &(92 - call))?;
+        is_unsaved(rt.alloc(), &book, call)?;
+        is_unread(VecRoster::new(rt.alloc()), call)?;
     }
     Ok(())
 }
 
-/// A saved book of forty transmissions.
-fn forty(alloc: Global) -> Result<Vec<u8, Global>, Fail> {
-    let mut book = GatewayBook::new(VecRoster::new(alloc), 1, 64, 0)?;
-    for number in 0..40 {
-        holds(book.book(ask(number, number * 100_000_000)).is_ok())?;
-    }
-    let mut writer = MemoryOut::new(alloc);
-    book.save(&mut writer)?;
-    let mut text = Vec::new(alloc);
-    text.extend_from_slice(writer.bytes.as_slice())?;
-    Ok(text)
-}
-
-/// Whether there is memory for the forty over this roster; no other fault is met.
-fn is_loaded<R: Roster + Drop>(rt: &impl Abort, text: &[u8], roster: R) -> bool
+/// Whether a text is a book; if so, it is saved as that text.
+fn is_book<R: Roster + Drop>(alloc: Global, roster: R, text: &[u8]) -> Result<bool, Fail>
     requires { R.list roster ≡ [] }
 {
-    match GatewayBook::load(&mut MemoryIn::new(text), roster) {
+    match loaded(text, roster) {
         Ok(book) => {
-            assert_eq!(rt; book.totals().kept, 40);
-            true
+            equal(&saved(alloc, &book)?.as_slice(), &text)?;
+            Ok(true)
         }
-        Err(fault) => {
-            assert_eq!(rt; fault, LoadFault::NoMemory);
-            false
-        }
+        Err(_) => Ok(false),
     }
 }
 
-/// An arena of so many bytes that takes no more.
-fn arena_of(alloc: Global, bytes: usize) -> Result<Bump<Global>, Fail> {
-    let arena = Bump::try_with_capacity(alloc, bytes)?;
-    arena.set_allocation_limit(Some(arena.allocated_bytes()));
-    Ok(arena)
-}
-
-#[test]
-fn each_growth_that_is_refused_is_told(rt: HostRuntime) -> Result<(), Fail> {
-    let text = forty(rt.alloc())?;
-    let mut loads = (false, false);
-    for step in 0..256 {
-        let vector = arena_of(rt.alloc(), 64 * step)?;
-        let tree = arena_of(rt.alloc(), 64 * step)?;
-        let next = (
-            is_loaded(&rt, text.as_slice(), VecRoster::new(&vector)),
-            is_loaded(&rt, text.as_slice(), TreeRoster::new(&tree)),
-        );
-        holds(step > 1 || next == (false, false))?;
-        holds_at(&step, (next.0 || !loads.0) && (next.1 || !loads.1))?;
-        loads = next;
+/// How many other bytes at this place of the second text make a book.
+fn books_changed_at(alloc: Global, place: usize) -> Result<u64, Fail>
+    requires { place < 91 }
+{
+    let mut text = *SECOND;
+    let mut books: u64 = 0;
+    for byte in b"\0\t\n\r #-./0123456789:aegn" {
+        text[place] = *byte;
+        if is_book(alloc, VecRoster::new(alloc), &text)? {
+            books = books.saturating_add(1);
+        }
     }
-    equal(&loads, &(true, true))?;
-    Ok(())
+    Ok(books)
 }
 
 #[test]
 fn a_changed_byte_makes_a_fault_or_another_saved_book(rt: HostRuntime) -> Result<(), Fail> {
     let mut books: u64 = 0;
     for place in 0..91 {
-        for byte in b"\0\t\n\r #-./0123456789:aegn" {
-            let mut text = *SECOND;
-            text[place] = *byte;
-            if let Ok(book) = loaded(rt.alloc(), &text) {
-                holds_at(&place, is_saved(&rt, rt.alloc(), &book, &text))?;
-                books = books.saturating_add(1);
-            }
-        }
+        books = books.saturating_add(books_changed_at(rt.alloc(), place)?);
     }
-    holds(books > 91)?;
-    Ok(())
+    holds(books > 91)
 }
 
-/// The next of some numbers that look random (Knuth's MMIX).
-fn drawn_after(number: u64) -> u64 {
-    number
-        .wrapping_mul(6_364_136_223_846_793_005)
-        .wrapping_add(1_442_695_040_888_963_407)
+/// Books what is accepted of 200 random asks, while time goes on.
+fn book_drawn<R: Roster>(book: &mut GatewayBook<R>, first: u64) {
+    let mut drawn = first;
+    for number in 0..200 {
+        drawn = drawn_after(drawn);
+        book.book(ask_in_m(drawn, (drawn >> 33) % 7_200_000_000))
+            .is_ok();
+        book.tick(number * 20_000_000);
+    }
+}
+
+/// A book of random asks with this gap is loaded as it was saved.
+fn is_same_again<R: Roster + Drop>(alloc: Global, roster: R, gap: u32) -> Result<(), Fail>
+    requires { R.list roster ≡ [] }
+{
+    let mut book = GatewayBook::new(roster, 1, 64, gap)?;
+    book_drawn(&mut book, u64::from(gap));
+    let totals = book.totals();
+    holds(totals.kept > 10)?;
+    let text = saved(alloc, &book)?;
+    let again = VecRoster::new(alloc);
+    is_loaded(
+        alloc,
+        again,
+        text.as_slice(),
+        totals.kept_airtime,
+        text.as_slice(),
+    )
 }
 
 #[test]
 fn random_books_are_the_same_again(rt: HostRuntime) -> Result<(), Fail> {
-    let mut drawn: u64 = 1;
     for gap in [0, 1_000, 100_000] {
-        let mut book = GatewayBook::new(VecRoster::new(rt.alloc()), 1, 64, gap)?;
-        for number in 0..200 {
-            drawn = drawn_after(drawn);
-            book.book(ask(drawn, (drawn >> 33) % 7_200_000_000)).is_ok();
-            book.tick(number * 20_000_000);
-        }
-        let mut writer = MemoryOut::new(rt.alloc());
-        book.save(&mut writer)?;
-        let again = loaded(rt.alloc(), writer.bytes.as_slice())?;
-        holds(is_saved(&rt, rt.alloc(), &again, writer.bytes.as_slice()))?;
-        equal(&again.totals().booked, &book.totals().kept_airtime)?;
-        holds(book.totals().kept > 10)?;
+        is_same_again(rt.alloc(), VecRoster::new(rt.alloc()), gap)?;
     }
     Ok(())
 }

@@ -1,10 +1,12 @@
 // Random asks: a trial answers as the live book does, which is asked afterwards, and names the same earliest start.
+ghost use Rattle.std.specs.Prelude.{◌≡◌, []};
 
-use crate::trials::{Answer, sought, tried};
+use crate::asks::Answer;
+use crate::trials::{answers_of, sought};
 use bumpalo::Bump;
 use gateway_book::{Ask, GatewayBook};
 use radio_airtime::DataRate;
-use resv_list::{Roster, VecRoster};
+use resv_list::{HOUR, Roster, VecRoster};
 use resv_tree::TreeRoster;
 use std::alloc::Global;
 use std::test::Fail;
@@ -50,61 +52,62 @@ fn drawn_asks(alloc: Global, drawn: &mut u64, from: u64) -> Result<Vec<Ask, Glob
     Ok(asks)
 }
 
-/// The answers of the live book.
-fn live_answers<R: Roster>(
+/// Asks the live book, of whose answers these are to be; how many of the asks it accepts.
+fn live_accepts<R: Roster>(
+    book: &mut GatewayBook<R>,
+    asks: &[Ask],
+    answers: &[Answer],
+) -> Result<usize, Fail> {
+    let mut accepted: usize = 0;
+    for (place, ask) in asks.iter().enumerate() {
+        let answer = book.book(*ask);
+        equal_at(&place, &answers.get(place).copied(), &Some(answer))?;
+        accepted = accepted.saturating_add(usize::from(answer.is_ok()));
+    }
+    holds(asks.len() == answers.len())?;
+    Ok(accepted)
+}
+
+/// Tries asks on a copy of a book, and looks for a start after them, and asks the book itself; how many it accepts.
+fn answers_alike<R: Roster>(
+    arena: &mut Bump<Global>,
     alloc: Global,
     book: &mut GatewayBook<R>,
     asks: &[Ask],
-) -> Result<Vec<Answer, Global>, Fail> {
-    let mut answers = Vec::new(alloc);
-    for ask in asks {
-        answers.push(book.book(*ask))?;
-    }
-    Ok(answers)
+    ask: Ask,
+) -> Result<usize, Fail> {
+    let last = ask.start.saturating_add(HOUR);
+    let start = sought(arena, alloc, book, asks, ask, last)?;
+    arena.reset()?;
+    let answers = answers_of(arena, alloc, book, asks)?;
+    arena.reset()?;
+    let accepted = live_accepts(book, asks, answers.as_slice())?;
+    equal_at(&ask, &start, &book.earliest(ask, ask.start, last))?;
+    Ok(accepted)
 }
 
-/// Tries asks on a copy of a book, and looks for a start after them, asks the book itself, and lets some time pass, again and
-/// again.
-fn answers_alike<R: Roster>(alloc: Global, mut book: GatewayBook<R>) -> Result<(), Fail>
-where
-    R: Drop,
+/// Does so again and again, and lets some time pass between.
+fn stays_alike<R: Roster + Drop>(roster: R, alloc: Global) -> Result<(), Fail>
+    requires { R.list roster ≡ [] }
 {
+    let mut book = GatewayBook::new(roster, 1, CAP, GAP)?;
     let mut arena = Bump::new(alloc);
     let mut drawn = 1;
-    let (mut accepted, mut refused) = (0, 0);
-    for round in 0..40 {
+    let (mut least, mut most) = (8, 0);
+    for _round in 0..40 {
         let from = book.totals().floor.saturating_sub(1_000_000);
         let asks = drawn_asks(alloc, &mut drawn, from)?;
-        let mut out = Vec::new(alloc);
-        tried(&arena, alloc, &book, &asks, &mut out)?;
-        arena.reset()?;
         let ask = drawn_ask(8, drawn_after(drawn), from);
-        let last = ask.start.saturating_add(3_600_000_000);
-        let start = sought(&arena, alloc, &book, &asks, ask, last)?;
-        arena.reset()?;
-        let live = live_answers(alloc, &mut book, &asks)?;
-        equal_at(&round, &out.as_slice(), &live.as_slice())?;
-        equal_at(&round, &start, &book.earliest(ask, ask.start, last))?;
-        accepted = live
-            .iter()
-            .filter(|answer| answer.is_ok())
-            .count()
-            .max(accepted);
-        refused = live
-            .iter()
-            .filter(|answer| answer.is_err())
-            .count()
-            .max(refused);
+        let accepted = answers_alike(&mut arena, alloc, &mut book, asks.as_slice(), ask)?;
+        (least, most) = (accepted.min(least), accepted.max(most));
         book.tick(from.saturating_add((drawn >> 44) % 1_200 * 1_000_000));
     }
-    holds(accepted > 1 && refused > 1)?;
-    Ok(())
+    // Of some eight two at least were accepted, and of some two at least were refused.
+    holds(most > 1 && least < 7)
 }
 
 #[test]
 fn a_trial_answers_as_the_live_book(rt: HostRuntime) -> Result<(), Fail> {
-    let slow = GatewayBook::new(VecRoster::new(rt.alloc()), 1, CAP, GAP)?;
-    answers_alike(rt.alloc(), slow)?;
-    let tree = GatewayBook::new(TreeRoster::new(rt.alloc()), 1, CAP, GAP)?;
-    answers_alike(rt.alloc(), tree)
+    stays_alike(VecRoster::new(rt.alloc()), rt.alloc())?;
+    stays_alike(TreeRoster::new(rt.alloc()), rt.alloc())
 }

@@ -4,9 +4,9 @@
 #[cfg(test)]
 mod alike;
 #[cfg(test)]
-mod memory;
+mod arenas;
 #[cfg(test)]
-mod plans;
+mod asks;
 #[cfg(test)]
 mod starts;
 #[cfg(test)]

@@ -1,44 +1,26 @@
-// What the tests of trials share.
+// Trials on a copy of a book.
 
+use crate::asks::Answer;
 use airtime_planner::{what_if, what_if_earliest};
 use bumpalo::Bump;
-use gateway_book::{Ask, GatewayBook, NoMemory, Refusal};
-use radio_airtime::DataRate;
-use resv_list::{Reservation, Roster};
+use gateway_book::{Ask, GatewayBook, NoMemory};
+use resv_list::{Roster, VecRoster};
 use std::alloc::{Allocator, Global};
-use std::process::Abort;
+use std::test::Fail;
+use test_asserts::holds;
 
 /// More bytes than any of these trials takes.
 pub(crate) const AMPLE_BYTES: usize = 1 << 20;
 
-/// What an ask is answered with.
-pub(crate) type Answer = Result<Reservation, Refusal>;
+pub(crate) type Live = GatewayBook<VecRoster<Global>>;
 
-/// Twelve bytes on 863.5 MHz at DR0: 991,232 microseconds on air, of which three fill an hour of the sub-band.
-pub(crate) fn ask_in_k(number: u64, start: u64) -> Ask {
-    Ask {
-        number,
-        start,
-        freq_hz: 863_500_000,
-        rate: DataRate::Dr0,
-        len: 12,
+/// A book that has booked these asks.
+pub(crate) fn booked(alloc: Global, asks: &[Ask]) -> Result<Live, Fail> {
+    let mut book = GatewayBook::new(VecRoster::new(alloc), 1, 4_096, 0)?;
+    for ask in asks {
+        holds(book.book(*ask).is_ok())?;
     }
-}
-
-/// Twelve bytes on 868.1 MHz at DR5: 41,216 microseconds on air.
-pub(crate) fn ask_in_m(number: u64, start: u64) -> Ask {
-    Ask {
-        number,
-        start,
-        freq_hz: 868_100_000,
-        rate: DataRate::Dr5,
-        len: 12,
-    }
-}
-
-/// The answer that takes such an ask.
-pub(crate) fn taken_in_m(rt: &impl Abort, number: u64, start: u64) -> Answer {
-    Ok(Reservation::new(number, start, 868_100_000, DataRate::Dr5, 12).expect(rt, "the ask is fit"))
+    Ok(book)
 }
 
 /// Tries the asks on a copy of the book.
@@ -61,6 +43,18 @@ pub(crate) fn tried<R: Roster, A: Allocator>(
         asks,
         out,
     )
+}
+
+/// The answers of such a trial alone.
+pub(crate) fn answers_of<R: Roster>(
+    arena: &Bump<Global>,
+    alloc: Global,
+    book: &GatewayBook<R>,
+    asks: &[Ask],
+) -> Result<Vec<Answer, Global>, NoMemory> {
+    let mut out = Vec::new(alloc);
+    tried(arena, alloc, book, asks, &mut out)?;
+    Ok(out)
 }
 
 /// Looks for the earliest start of an ask, from its own to `last`, on a copy of the book after the asks.

@@ -1,64 +1,75 @@
 // Worked trials: asks with what each is to be answered.
 
-use crate::trials::{AMPLE_BYTES, Answer, ask_in_m, taken_in_m, tried};
+use crate::asks::{Answer, Row, answers_in_m, ask_in_m, asks_in_m};
+use crate::trials::{AMPLE_BYTES, Live, answers_of, booked, tried};
 use airtime_planner::what_if;
 use bumpalo::Bump;
-use gateway_book::{Ask, GatewayBook, Refusal};
+use gateway_book::{GatewayBook, Refusal};
 use resv_list::VecRoster;
 use std::alloc::Global;
-use std::process::Abort;
 use std::test::Fail;
-use test_asserts::{equal, holds};
+use test_asserts::equal;
+
+const TAKEN: Option<Refusal> = Some(Refusal::Taken { start: 10_000_000 });
 
 /// Three asks beside one member that begins at ten seconds.
-fn asks_beside() -> [Ask; 3] {
-    [
-        ask_in_m(8, 10_000_000),
-        ask_in_m(9, 10_041_216),
-        ask_in_m(10, 10_041_215),
-    ]
-}
+static BESIDE: [Row; 3] = [
+    (8, 10_000_000, TAKEN),
+    (9, 10_041_216, None),
+    (10, 10_041_215, TAKEN),
+];
 
-fn answers_beside(rt: &impl Abort) -> [Answer; 3] {
-    let taken = Err(Refusal::Taken { start: 10_000_000 });
-    [taken, taken_in_m(rt, 9, 10_041_216), taken]
+/// The asks of the rows are answered so on a copy of the book.
+fn is_answered(arena: &Bump<Global>, alloc: Global, book: &Live, rows: &[Row]) -> Result<(), Fail> {
+    let asks = asks_in_m(alloc, rows)?;
+    let out = answers_of(arena, alloc, book, asks.as_slice())?;
+    equal(&out.as_slice(), &answers_in_m(alloc, rows)?.as_slice())
 }
 
 #[test]
 fn an_arena_that_is_reset_gives_the_same_answers(rt: HostRuntime) -> Result<(), Fail> {
-    let mut book = GatewayBook::new(VecRoster::new(rt.alloc()), 1, 4_096, 0)?;
-    holds(book.book(ask_in_m(1, 10_000_000)).is_ok())?;
+    let book = booked(rt.alloc(), &[ask_in_m(1, 10_000_000)])?;
     let before = book.totals();
     let mut arena = Bump::new(rt.alloc());
     for _turn in 0..2 {
-        let mut out = Vec::new(rt.alloc());
-        tried(&arena, rt.alloc(), &book, &asks_beside(), &mut out)?;
-        equal(&out.as_slice(), &answers_beside(&rt).as_slice())?;
+        is_answered(&arena, rt.alloc(), &book, &BESIDE)?;
         arena.reset()?;
     }
-    equal(&book.totals(), &before)?;
-    Ok(())
+    equal(&book.totals(), &before)
+}
+
+/// An answer that was there, and one ask.
+static BEHIND: [Row; 2] = [(2, 0, Some(Refusal::Full)), (3, 0, None)];
+
+/// The answers to one ask and then to none, behind one that was there.
+fn answered_behind(alloc: Global) -> Result<Vec<Answer, Global>, Fail> {
+    let book = booked(alloc, &[])?;
+    let arena = Bump::new(alloc);
+    let mut out = Vec::new(alloc);
+    out.push(Err(Refusal::Full))?;
+    tried(&arena, alloc, &book, &[ask_in_m(3, 0)], &mut out)?;
+    tried(&arena, alloc, &book, &[], &mut out)?;
+    Ok(out)
 }
 
 #[test]
 fn answers_stand_behind_what_was_there(rt: HostRuntime) -> Result<(), Fail> {
-    let book = GatewayBook::new(VecRoster::new(rt.alloc()), 1, 4_096, 0)?;
-    let arena = Bump::new(rt.alloc());
-    let mut out = Vec::new(rt.alloc());
-    out.push(Err(Refusal::Full))?;
-    tried(&arena, rt.alloc(), &book, &[ask_in_m(3, 0)], &mut out)?;
-    tried(&arena, rt.alloc(), &book, &[], &mut out)?;
-    let wanted = [Err(Refusal::Full), taken_in_m(&rt, 3, 0)];
-    equal(&out.as_slice(), &wanted.as_slice())?;
-    Ok(())
+    let out = answered_behind(rt.alloc())?;
+    let wanted = answers_in_m(rt.alloc(), &BEHIND)?;
+    equal(&out.as_slice(), &wanted.as_slice())
 }
 
-/// Two asks where all but the airtime of one has been booked, and nothing is kept.
+/// Two asks where all but the airtime of one has been booked.
+static LAST_AIRTIME: [Row; 2] = [
+    (8, 10_000_000, None),
+    (9, 10_041_216, Some(Refusal::TotalsFull)),
+];
+
+/// The answers to them, where nothing is kept.
 fn nearly_all_booked(alloc: Global) -> Result<Vec<Answer, Global>, Fail> {
-    let book = GatewayBook::new(VecRoster::new(alloc), 1, 4_096, 0)?;
-    let list = book.list(alloc)?;
+    let list = GatewayBook::new(VecRoster::new(alloc), 1, 4_096, 0)?.list(alloc)?;
     let arena = Bump::try_with_capacity(alloc, AMPLE_BYTES)?;
-    let asks = [ask_in_m(8, 10_000_000), ask_in_m(9, 10_041_216)];
+    let asks = asks_in_m(alloc, &LAST_AIRTIME)?;
     let mut out = Vec::new(alloc);
     what_if(
         &arena,
@@ -76,7 +87,6 @@ fn nearly_all_booked(alloc: Global) -> Result<Vec<Answer, Global>, Fail> {
 #[test]
 fn booked_airtime_is_raised_by_what_a_trial_accepts(rt: HostRuntime) -> Result<(), Fail> {
     let out = nearly_all_booked(rt.alloc())?;
-    let wanted = [taken_in_m(&rt, 8, 10_000_000), Err(Refusal::TotalsFull)];
-    equal(&out.as_slice(), &wanted.as_slice())?;
-    Ok(())
+    let wanted = answers_in_m(rt.alloc(), &LAST_AIRTIME)?;
+    equal(&out.as_slice(), &wanted.as_slice())
 }

@@ -3,7 +3,7 @@ use Rattle.std.proofs.Common.{arith}
 use Rattle.std.proofs.lemmas.Bool.Decides.{nat_tests}
 use Rattle.resv_list.specs.Reservations.{start_of}
 use Rattle.resv_list.specs.Free.{free_where_missed}
-use Rattle.book_tests.proofs.roster.is_free.Goals as goal
+use Rattle.book_tests.proofs.members.is_free.Goals as goal
 
 pub returns-in-Some : goal.returns-in-Some
 returns-in-Some g c n =

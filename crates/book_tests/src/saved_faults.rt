@@ -1,0 +1,142 @@
+// Texts that are no saved book, and books for which there is no memory.
+ghost use Rattle.std.specs.Prelude.{◌≡◌, []};
+
+use crate::asks::book_spaced;
+use crate::saved::{fault_of, loaded, saved};
+use bumpalo::Bump;
+use gateway_book::{GatewayBook, LoadFault};
+use resv_list::{Roster, VecRoster};
+use resv_tree::TreeRoster;
+use std::alloc::Global;
+use std::test::Fail;
+use test_asserts::{equal, equal_at, holds, holds_at};
+
+const FIRST_LINE: LoadFault = LoadFault::Syntax { line: 1 };
+
+const GATEWAY_LINE: LoadFault = LoadFault::Syntax { line: 2 };
+
+/// Texts that are no saved book, and why. The last two have an hour of a sub-band that is nearly full.
+static FAULTS: [(&[u8], LoadFault); 19] = [
+    (b"airbook 9\n", LoadFault::Version),
+    (
+        b"airbook 3\ngateway 1 4096 0 0\nend 0\n",
+        LoadFault::Version,
+    ),
+    (b"airbook 02\ngateway 1 4096 0 0\nend 0\n", FIRST_LINE),
+    (b"airbook 2\r\ngateway 1 4096 0 0\nend 0\n", FIRST_LINE),
+    (b"airbook 1\ngateway 1 4096 0 0\nend 0\n", GATEWAY_LINE),
+    (b"airbook 2\ngateway 1 4096 0\nend 0\n", GATEWAY_LINE),
+    (b"airbook 2\ngateway 1\t4096 0 0\nend 0\n", GATEWAY_LINE),
+    (b"airbook 2\ngateway 1  4096 0 0\nend 0\n", GATEWAY_LINE),
+    (
+        b"airbook 2\ngateway 1 0 0 0\nend 0\n",
+        LoadFault::Unlawful { line: 2 },
+    ),
+    (
+        b"airbook 2\ngateway 1 4096 0 100001\nend 0\n",
+        LoadFault::Unlawful { line: 2 },
+    ),
+    (
+        b"airbook 2\ngateway 1 4096 0 0\nr 01 0 868100000 5 12\nend 1\n",
+        LoadFault::Syntax { line: 3 },
+    ),
+    (
+        b"airbook 2\ngateway 1 4096 0 0\nr 1 0 868100000 7 12\nend 1\n",
+        LoadFault::Syntax { line: 3 },
+    ),
+    (
+        b"airbook 2\ngateway 1 4096 3600000001 0\nr 1 0 868100000 5 12\nend 1\n",
+        LoadFault::Unlawful { line: 3 },
+    ),
+    (
+        b"airbook 1\ngateway 1 4096 0\nr 1 10000000 868100000 5 12\nr 2 10041215 868100000 5 12\nend 2\n",
+        LoadFault::Unlawful { line: 4 },
+    ),
+    (
+        b"airbook 2\ngateway 1 4096 0 1000\nr 1 10000000 868100000 5 12\nr 2 10041216 868100000 5 12\nend 2\n",
+        LoadFault::Unlawful { line: 4 },
+    ),
+    (
+        b"airbook 2\ngateway 1 1 0 0\nr 1 0 868100000 5 12\nr 2 10041216 868100000 5 12\nend 2\n",
+        LoadFault::Unlawful { line: 4 },
+    ),
+    (
+        b"airbook 2\ngateway 1 9 0 0\nr 1 10041216 868100000 5 12\nr 2 0 868100000 5 12\nend 2\n",
+        LoadFault::Unlawful { line: 4 },
+    ),
+    (
+        b"airbook 1\ngateway 1 4096 0\nr 1 0 863500000 0 12\nr 2 1000000 863500000 0 12\nr 3 2000000 863500000 0 12\n\
+          r 4 3000000 863500000 0 12\nend 4\n",
+        LoadFault::Unlawful { line: 6 },
+    ),
+    (
+        b"airbook 1\ngateway 1 4096 0\nr 1 0 863500000 0 12\nr 2 1000000 863500000 0 12\nr 3 2000000 863500000 0 12\nend 2\n",
+        LoadFault::Syntax { line: 6 },
+    ),
+];
+
+#[test]
+fn the_first_line_at_fault_is_told(rt: HostRuntime) -> Result<(), Fail> {
+    for (place, (text, fault)) in FAULTS.iter().enumerate() {
+        equal_at(&place, &fault_of(rt.alloc(), text), &Some(*fault))?;
+    }
+    Ok(())
+}
+
+/// A saved book of forty transmissions.
+fn forty<R: Roster + Drop>(alloc: Global, roster: R) -> Result<Vec<u8, Global>, Fail>
+    requires { R.list roster ≡ [] }
+{
+    let mut book = GatewayBook::new(roster, 1, 64, 0)?;
+    book_spaced(&mut book, 40)?;
+    saved(alloc, &book)
+}
+
+/// How many the book of a text keeps.
+fn kept_of<R: Roster + Drop>(text: &[u8], roster: R) -> Result<usize, LoadFault>
+    requires { R.list roster ≡ [] }
+{
+    Ok(loaded(text, roster)?.totals().kept)
+}
+
+/// Whether there was memory for the forty; no other fault is met.
+fn are_kept(kept: Result<usize, LoadFault>) -> Result<bool, Fail> {
+    if kept == Err(LoadFault::NoMemory) {
+        return Ok(false);
+    }
+    equal(&kept, &Ok(40))?;
+    Ok(true)
+}
+
+/// An arena of so many bytes that takes no more.
+fn arena_of(alloc: Global, bytes: usize) -> Result<Bump<Global>, Fail> {
+    let arena = Bump::try_with_capacity(alloc, bytes)?;
+    arena.set_allocation_limit(Some(arena.allocated_bytes()));
+    Ok(arena)
+}
+
+/// Whether there is memory for the forty in a vector, in an arena of so many bytes.
+fn fill_vector(alloc: Global, text: &[u8], bytes: usize) -> Result<bool, Fail> {
+    let arena = arena_of(alloc, bytes)?;
+    are_kept(kept_of(text, VecRoster::new(&arena)))
+}
+
+/// The same in a tree.
+fn fill_tree(alloc: Global, text: &[u8], bytes: usize) -> Result<bool, Fail> {
+    let arena = arena_of(alloc, bytes)?;
+    are_kept(kept_of(text, TreeRoster::new(&arena)))
+}
+
+#[test]
+fn each_growth_that_is_refused_is_told(rt: HostRuntime) -> Result<(), Fail> {
+    let text = forty(rt.alloc(), VecRoster::new(rt.alloc()))?;
+    let mut loads = (false, false);
+    for step in 0..256 {
+        let vector = fill_vector(rt.alloc(), text.as_slice(), 64 * step)?;
+        let tree = fill_tree(rt.alloc(), text.as_slice(), 64 * step)?;
+        holds(step > 1 || !vector && !tree)?;
+        holds_at(&step, (vector || !loads.0) && (tree || !loads.1))?;
+        loads = (vector, tree);
+    }
+    equal(&loads, &(true, true))
+}
