@@ -2,7 +2,7 @@
 ghost use Rattle.std.specs.Prelude.{◌≡◌};
 
 use bumpalo::Bump;
-use server_workers::{Blank, Gate, Ledger, PARTS, Station};
+use server_workers::{Blank, Gate, Ledger, PARTS, Station, Till};
 use std::alloc::Global;
 use std::marker::Brand;
 use std::sync::Wait;
@@ -22,7 +22,16 @@ struct Meter<'a> {
     done: AtomicU64,
 }
 
-impl Meter<'_> {
+impl<'a> Meter<'a> {
+    /// One that noted nothing.
+    fn new(arena: &'a Bump<Global>) -> Self {
+        Meter {
+            arena,
+            asked: AtomicU64::new(0),
+            done: AtomicU64::new(0),
+        }
+    }
+
     /// How many bytes were taken between the two.
     fn taken(&self) -> u64 {
         let asked = self.asked.load(Ordering::SeqCst);
@@ -43,8 +52,10 @@ impl Gate for Meter<'_> {
     }
 }
 
-/// An uplink is answered by a station that takes its memory from this arena: how many bytes the try took after the gate was
-/// asked.
+/// A station that takes its memory from an arena.
+type ArenaStation<'a, B> = Station<B, WorkedHasher, &'a Bump<Global>>;
+
+/// Such a station of one device answers an uplink: how many bytes the try took after the gate was asked.
 fn taken_from<'a, B: Ledger, R: Wait>(
     rt: &R,
     alloc: Global,
@@ -55,23 +66,48 @@ fn taken_from<'a, B: Ledger, R: Wait>(
     requires parts { blank.parts ≡ B.parts }
     requires all { blank.parts ≡ PARTS }
 {
+    let (station, till) = station_of::<B>(alloc, arena, blank)?;
+    hear(rt, alloc, &station)?;
+    Ok(taken_by_the_answer(rt, arena, &station, till))
+}
+
+/// A station of one device that takes its memory from this arena, and its till.
+fn station_of<'a, B: Ledger>(
+    alloc: Global,
+    arena: &'a Bump<Global>,
+    blank: Blank,
+) -> Result<(ArenaStation<'a, B>, Till<B>), Fail>
+    requires name { blank.name ≡ B.name }
+    requires parts { blank.parts ≡ B.parts }
+    requires all { blank.parts ≡ PARTS }
+{
     let settings = settings_of(alloc, &[device(1)])?;
-    let (station, mut till) = Station::<B, WorkedHasher, &'a Bump<Global>>::new(
-        arena,
-        hasher(),
-        &settings,
-        blank,
-    )?;
+    Ok(ArenaStation::<'a, B>::new(arena, hasher(), &settings, blank)?)
+}
+
+/// An uplink is heard and closed.
+fn hear<B: Ledger, R: Wait>(
+    rt: &R,
+    alloc: Global,
+    station: &ArenaStation<'_, B>,
+) -> Result<(), Fail> {
     let bytes = uplink(alloc, true, 1, 0)?;
     station.hear(rt, bytes.as_slice(), COPY, 0)?;
     station.pass(rt, 200_001);
-    let meter = Meter {
-        arena,
-        asked: AtomicU64::new(0),
-        done: AtomicU64::new(0),
-    };
+    Ok(())
+}
+
+/// It is answered: how many bytes the try took after the gate was asked.
+fn taken_by_the_answer<'a, B: Ledger, R: Wait>(
+    rt: &R,
+    arena: &'a Bump<Global>,
+    station: &ArenaStation<'a, B>,
+    till: Till<B>,
+) -> u64 {
+    let mut till = till;
+    let meter = Meter::new(arena);
     station.answer(rt, &meter, 1, &mut till, &mut 0);
-    Ok(meter.taken())
+    meter.taken()
 }
 
 /// The same, of an arena of its own.

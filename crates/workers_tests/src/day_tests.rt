@@ -1,186 +1,79 @@
 // A day of a station: 500 uplinks that two workers answer, what is asked of it meanwhile, and its end.
-ghost use Rattle.std.specs.Prelude.{◌≡◌};
 
-use crate::fixtures::{TestStation, heard_by, station_of};
-use answer_ticket::{Ending, Receipt};
-use server_workers::{
-    Blank, FinishCause, FinishFault, Ledger, NoGate, PARTS, Served, Till, TotalsFault, serve,
-};
-use std::alloc::Global;
-use std::marker::Brand;
-use std::sync::Wait;
+use crate::asks::{Ask, Heard};
+use crate::finishing::Try;
+use crate::looks::{AtDesk, Look, Sight};
+use crate::plans::{Plan, runs};
+use crate::shifts::Shift;
+use crate::steps::{Row, Step};
 use std::test::Fail;
-use std::thread::Threads;
-use test_asserts::equal;
 
-/// How many uplinks there are, each of a device of its own.
-const UPLINKS: u32 = 500;
+/// The uplinks are answered.
+static ANSWERED: [Row; 2] = [
+    (Step::Hear(Heard::All(500)), "500"),
+    (
+        Step::Work(Shift::Crew(1, 500, 2)),
+        "(2, [500, 500], ([], 0, 0), 0, true)",
+    ),
+];
 
-/// What the workers did: how many answers were booked, whether each number was answered, how many workers were started,
-/// and how many tries the gate didn't let in.
-#[derive(Clone, Copy, Debug, PartialEq, Eq)]
-struct Work {
-    booked: usize,
-    all_answered: bool,
-    ran: u8,
-    overrun: u64,
-}
+/// The station is asked this and that; the last receipt is that of number 500, which gateway 1 heard.
+static ASKED: [Row; 14] = [
+    (Step::Ask(Ask::Queue(1, b"x")), "Ok(1)"),
+    (Step::Ask(Ask::Queue(1, b"x")), "Ok(2)"),
+    (
+        Step::Ask(Ask::Totals(1, 10_304_001)),
+        "Err(Behind { booked: 10304000 })",
+    ),
+    (Step::Ask(Ask::Totals(9, 0)), "Err(UnknownGateway)"),
+    (Step::Ask(Ask::Cancel(499)), "Ok(41216)"),
+    (
+        Step::Ask(Ask::Totals(1, 0)),
+        "Ok(Totals { booked: 10304000, cancelled: 41216, retired: 0, kept_airtime: 10262784, kept: 249, floor: 0 })",
+    ),
+    (Step::Ask(Ask::Tick(1, 1)), "Some(1)"),
+    (Step::Ask(Ask::Tick(1, 0)), "Some(1)"),
+    (
+        Step::Ask(Ask::Totals(1, 0)),
+        "Ok(Totals { booked: 10304000, cancelled: 41216, retired: 0, kept_airtime: 10262784, kept: 249, floor: 1 })",
+    ),
+    (
+        Step::Ask(Ask::Totals(2, 0)),
+        "Ok(Totals { booked: 10304000, cancelled: 0, retired: 0, kept_airtime: 10304000, kept: 250, floor: 0 })",
+    ),
+    (Step::Ask(Ask::Tick(2, 7)), "Some(7)"),
+    (
+        Step::Ask(Ask::Totals(1, 0)),
+        "Ok(Totals { booked: 10304000, cancelled: 41216, retired: 0, kept_airtime: 10262784, kept: 249, floor: 1 })",
+    ),
+    (
+        Step::Ask(Ask::Totals(2, 0)),
+        "Ok(Totals { booked: 10304000, cancelled: 0, retired: 0, kept_airtime: 10304000, kept: 250, floor: 7 })",
+    ),
+    (Step::Ask(Ask::Queue(501, b"x")), "Err(UnknownDevice)"),
+];
 
-/// What the station answered while it was open.
-#[derive(Clone, Copy, Debug, PartialEq, Eq)]
-struct Asked {
-    queued: [usize; 2],
-    behind: Option<TotalsFault>,
-    unknown: Option<TotalsFault>,
-    floors: [Option<u64>; 2],
-    cancelled: u64,
-    kept: usize,
-    /// The floor of gateway 1 before and after, and that of gateway 2 after.
-    floors_told: [u64; 3],
-    /// What gateway 2 has cancelled and keeps.
-    other: (u64, usize),
-    /// The floors of both after that of gateway 2 was raised.
-    floors_late: [u64; 2],
-}
+/// It is finished without the till, then with the cancelled receipt, which is the last, and then without it.
+static TRIES: [Try; 3] = [
+    (0, 0, "Some(TillMissing)"),
+    (1, 500, "Some(Lost { number: 500 })"),
+    (1, 499, "None"),
+];
 
-/// How the station ended: why it could not be finished, what was booked in all, and what its desk answers then.
-#[derive(Clone, Copy, Debug, PartialEq, Eq)]
-struct End {
-    without_till: FinishCause,
-    with_cancelled: FinishCause,
-    booked: u64,
-    queued: usize,
-}
-
-/// What the workers did.
-fn work_of<B: Ledger>(served: &Served<B>) -> Work {
-    let booked = served
-        .outcomes
-        .iter()
-        .filter(|outcome| matches!(outcome.result, Ending::Answered { .. }))
-        .count();
-    Work {
-        booked,
-        all_answered: served.skipped.is_empty()
-            && served.refused.is_empty()
-            && served.strays.is_empty(),
-        ran: served.ran,
-        overrun: served.overrun,
-    }
-}
-
-/// Asks this and that of the station; `receipt` is one of gateway 1.
-fn inquire<B: Ledger, R: Wait>(
-    rt: &R,
-    station: &TestStation<B>,
-    receipt: &Receipt<Global>,
-) -> Result<Asked, Fail> {
-    let queued = [
-        station.queue(rt, 1, 9, b"x")?,
-        station.queue(rt, 1, 9, b"x")?,
-    ];
-    let behind = station.totals(rt, 1, 10_304_001).err();
-    let unknown = station.totals(rt, 9, 0).err();
-    station.cancel(rt, receipt)?;
-    let before = station.totals(rt, 1, 0)?.floor;
-    let floors = [station.tick(rt, 1, 1), station.tick(rt, 1, 0)];
-    let totals = station.totals(rt, 1, 0)?;
-    let other = station.totals(rt, 2, 0)?;
-    station.tick(rt, 2, 7);
-    let floors_late = [
-        station.totals(rt, 1, 0)?.floor,
-        station.totals(rt, 2, 0)?.floor,
-    ];
-    Ok(Asked {
-        queued,
-        behind,
-        unknown,
-        floors,
-        cancelled: totals.cancelled,
-        kept: totals.kept,
-        floors_told: [before, totals.floor, other.floor],
-        other: (other.cancelled, other.kept),
-        floors_late,
-    })
-}
-
-/// Finishes the station without the till, then with the cancelled receipt, which is the last, and then without it.
-fn end_of<B: Ledger>(
-    alloc: Global,
-    station: TestStation<B>,
-    till: Till<B>,
-    receipts: &[Receipt<Global>],
-) -> Result<End, Fail> {
-    let first = station.finish(alloc, Vec::new(alloc), &[]);
-    let FinishFault { cause, station, .. } = first.err().ok_or("the till is missing")?;
-    let mut tills = Vec::with_capacity(alloc, 1)?;
-    tills.push_reserved(till);
-    let second = station.finish(alloc, tills, receipts);
-    let fault = second.err().ok_or("a receipt is lost")?;
-    let others = receipts.split_last().ok_or("there are receipts")?.1;
-    let third = fault.station.finish(alloc, fault.tills, others);
-    let mut closing = third.ok().ok_or("nothing is lost")?;
-    Ok(End {
-        without_till: cause,
-        with_cancelled: fault.cause,
-        booked: closing.booked,
-        queued: closing.desk.queue(1, 9, b"x")?,
-    })
-}
-
-/// The whole day.
-fn day<B: Ledger + Send + Sync, R: Threads + Wait + Sync>(
-    rt: &R,
-    alloc: Global,
-    blank: Blank,
-) -> Result<(Work, Asked, End), Fail>
-    requires name { blank.name ≡ B.name }
-    requires parts { blank.parts ≡ B.parts }
-    requires all { blank.parts ≡ PARTS }
-{
-    let (station, till) = station_of::<B>(alloc, UPLINKS, blank)?;
-    let numbers = heard_by(rt, alloc, &station, UPLINKS)?;
-    let served = serve(rt, alloc, &station, &numbers, till, 2, &NoGate);
-    let served = served.ok().ok_or("the workers are started")?;
-    let work = work_of(&served);
-    let Served { till, receipts, .. } = served;
-    // The last is number 500, which gateway 1 heard.
-    let cancelled = receipts.last().ok_or("there are receipts")?;
-    let asked = inquire(rt, &station, cancelled)?;
-    let end = end_of(alloc, station, till, &receipts)?;
-    Ok((work, asked, end))
-}
+static ENDED: [Sight; 2] = [
+    (Look::Booked, "20608000"),
+    (Look::Desk(AtDesk::Queue(1, b"x")), "Ok(3)"),
+];
 
 #[test]
 fn two_workers_answer_500_uplinks(rt: HostRuntime) -> Result<(), Fail> {
-    let (work, asked, end) = day::<Brand, _>(&rt, rt.alloc(), Blank::new(PARTS as u64))?;
-    equal(
-        &work,
-        &Work {
-            booked: 500,
-            all_answered: true,
-            ran: 2,
-            overrun: 0,
-        },
-    )?;
-    let answers = Asked {
-        queued: [1, 2],
-        behind: Some(TotalsFault::Behind { booked: 10_304_000 }),
-        unknown: Some(TotalsFault::UnknownGateway),
-        floors: [Some(1), Some(1)],
-        cancelled: 41_216,
-        kept: 249,
-        floors_told: [0, 1, 0],
-        other: (0, 250),
-        floors_late: [1, 7],
+    let day = Plan {
+        devices: 500,
+        before: &ANSWERED,
+        steps: &ASKED,
+        tries: &TRIES,
+        sights: &ENDED,
+        changes: &[],
     };
-    equal(&asked, &answers)?;
-    let last = End {
-        without_till: FinishCause::TillMissing,
-        with_cancelled: FinishCause::Lost { number: 500 },
-        booked: 20_608_000,
-        queued: 3,
-    };
-    equal(&end, &last)?;
-    Ok(())
+    runs(&rt, rt.alloc(), &day)
 }

@@ -4,19 +4,35 @@
 #[cfg(test)]
 mod asked_tests;
 #[cfg(test)]
+mod asks;
+#[cfg(test)]
 mod busy;
 #[cfg(test)]
 mod day_tests;
 #[cfg(test)]
 mod finish_tests;
 #[cfg(test)]
-mod fixtures;
+mod finishing;
 #[cfg(test)]
 mod gate_tests;
 #[cfg(test)]
-mod meeting_tests;
+mod gates;
+#[cfg(test)]
+mod looks;
+#[cfg(test)]
+mod meeting;
+#[cfg(test)]
+mod plans;
+#[cfg(test)]
+mod posts;
+#[cfg(test)]
+mod shifts;
 #[cfg(test)]
 mod station_tests;
+#[cfg(test)]
+mod steps;
+#[cfg(test)]
+mod tickets;
 #[cfg(test)]
 mod untouched_tests;
 #[cfg(test)]

@@ -1,21 +1,12 @@
-// Two workers who meet at two gateways: each lets the other go on.
-ghost use Rattle.std.specs.Prelude.{◌≡◌};
+// A gate at which two workers meet at two gateways: each lets the other go on.
 
-use crate::fixtures::{heard_by, station_of};
-use crate::work_tests::told;
-use server_workers::{Blank, Gate, Ledger, PARTS, serve};
-use std::alloc::Global;
-use std::marker::Brand;
-use std::sync::Wait;
+use server_workers::Gate;
 use std::sync::atomic::{AtomicU64, Ordering};
-use std::test::Fail;
-use std::thread::Threads;
-use test_asserts::equal;
 
 /// Lets a worker go on once another is at the other gateway; counts who has left, and marks whether one found the other
 /// inside while nobody had left.
 #[derive(Drop)]
-struct Meeting {
+pub(crate) struct Meeting {
     first: AtomicU64,
     second: AtomicU64,
     met: AtomicU64,
@@ -25,7 +16,7 @@ struct Meeting {
 
 impl Meeting {
     /// Nobody is there yet.
-    fn new() -> Self {
+    pub(crate) fn new() -> Self {
         Meeting {
             first: AtomicU64::new(0),
             second: AtomicU64::new(0),
@@ -41,7 +32,7 @@ impl Meeting {
     }
 
     /// Whether two were inside at once, and how many left each gateway.
-    fn told(&self) -> [u64; 3] {
+    pub(crate) fn told(&self) -> [u64; 3] {
         [
             self.met.load(Ordering::SeqCst),
             self.left_first.load(Ordering::SeqCst),
@@ -72,30 +63,4 @@ impl Gate for Meeting {
             self.left_second.fetch_add(1, Ordering::SeqCst);
         }
     }
-}
-
-/// Two workers meet at two gateways: what they did, whether they were inside at once, and how many left each gateway.
-fn meet<B: Ledger + Send + Sync, R: Threads + Wait + Sync>(
-    rt: &R,
-    alloc: Global,
-    blank: Blank,
-) -> Result<((u8, usize, usize, usize, u64), [u64; 3]), Fail>
-    requires name { blank.name ≡ B.name }
-    requires parts { blank.parts ≡ B.parts }
-    requires all { blank.parts ≡ PARTS }
-{
-    let (station, till) = station_of::<B>(alloc, 2, blank)?;
-    let numbers = heard_by(rt, alloc, &station, 2)?;
-    let meeting = Meeting::new();
-    let served = serve(rt, alloc, &station, numbers.as_slice(), till, 2, &meeting);
-    let served = served.ok().ok_or("there is memory, and a thread")?;
-    Ok((told(&served), meeting.told()))
-}
-
-#[test]
-fn two_workers_are_at_two_gateways_at_once(rt: HostRuntime) -> Result<(), Fail> {
-    let blank = Blank::new(PARTS as u64);
-    let met = meet::<Brand, _>(&rt, rt.alloc(), blank)?;
-    equal(&met, &((2, 2, 2, 0, 0), [1, 1, 1]))?;
-    Ok(())
 }

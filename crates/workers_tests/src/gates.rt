@@ -1,0 +1,117 @@
+// Gates at which workers stop.
+
+use crate::posts::TestStation;
+use server_workers::{Gate, Ledger, Till};
+use std::sync::Wait;
+use std::sync::atomic::{AtomicU64, Ordering};
+
+/// Lets nobody in; counts how often it was asked for each gateway.
+#[derive(Drop)]
+pub(crate) struct Shut {
+    first: AtomicU64,
+    second: AtomicU64,
+}
+
+impl Shut {
+    /// A gate at which nobody has asked.
+    pub(crate) fn new() -> Self {
+        Shut {
+            first: AtomicU64::new(0),
+            second: AtomicU64::new(0),
+        }
+    }
+
+    /// How often it was asked for the gateways 1 and 2.
+    pub(crate) fn asked(&self) -> [u64; 2] {
+        [
+            self.first.load(Ordering::SeqCst),
+            self.second.load(Ordering::SeqCst),
+        ]
+    }
+}
+
+impl Gate for Shut {
+    fn inside(&self, gateway: u16) -> bool {
+        if gateway == 1 {
+            self.first.fetch_add(1, Ordering::SeqCst);
+        } else {
+            self.second.fetch_add(1, Ordering::SeqCst);
+        }
+        false
+    }
+
+    fn left(&self, _gateway: u16) {}
+}
+
+/// Notes who goes where, on one thread: a digit for each call, the gateway's number for `inside` and 5 more for `left`.
+#[derive(Drop)]
+pub(crate) struct Log {
+    calls: AtomicU64,
+}
+
+impl Log {
+    /// Nobody went anywhere.
+    pub(crate) fn new() -> Self {
+        Log {
+            calls: AtomicU64::new(0),
+        }
+    }
+
+    /// Notes a digit.
+    fn note(&self, digit: u64) {
+        let calls = self.calls.load(Ordering::SeqCst);
+        self.calls.store(calls.wrapping_mul(10).wrapping_add(digit), Ordering::SeqCst);
+    }
+
+    /// The digits so far.
+    pub(crate) fn calls(&self) -> u64 {
+        self.calls.load(Ordering::SeqCst)
+    }
+}
+
+impl Gate for Log {
+    fn inside(&self, gateway: u16) -> bool {
+        self.note(gateway as u64);
+        true
+    }
+
+    fn left(&self, gateway: u16) {
+        self.note(gateway as u64 + 5);
+    }
+}
+
+/// Asks the station for what a gateway has booked when a worker has left it, and keeps that.
+#[derive(Drop)]
+struct Auditor<'a, B: Ledger, R: Wait> {
+    rt: &'a R,
+    station: &'a TestStation<B>,
+    booked: AtomicU64,
+}
+
+impl<B: Ledger, R: Wait> Gate for Auditor<'_, B, R> {
+    fn inside(&self, _gateway: u16) -> bool {
+        true
+    }
+
+    fn left(&self, gateway: u16) {
+        if let Ok(totals) = self.station.totals(self.rt, gateway, 0) {
+            self.booked.store(totals.booked, Ordering::SeqCst);
+        }
+    }
+}
+
+/// A number is answered at such a gate: what it was told that is booked.
+pub(crate) fn audited<B: Ledger, R: Wait>(
+    rt: &R,
+    station: &TestStation<B>,
+    till: &mut Till<B>,
+    number: u64,
+) -> u64 {
+    let auditor = Auditor {
+        rt,
+        station,
+        booked: AtomicU64::new(0),
+    };
+    station.answer(rt, &auditor, number, till, &mut 0);
+    auditor.booked.load(Ordering::SeqCst)
+}

@@ -1,0 +1,185 @@
+// Tickets at a station, and what becomes of them.
+
+use crate::gates::{Log, Shut, audited};
+use crate::posts::{Post, TestStation, text};
+use answer_ticket::{Ending, Outcome, Stub, Ticket};
+use server_workers::{Gate, Handled, Ledger, NoGate, Till};
+use std::alloc::Global;
+use std::sync::Wait;
+use std::test::Fail;
+use worked_inputs::{booked, next_refused};
+
+/// At which gate a station answers.
+#[derive(Clone, Copy)]
+pub(crate) enum Answer {
+    /// At none.
+    Freely,
+    /// At one that notes who goes where.
+    Logged,
+    /// At one that lets nobody in.
+    ShutOut,
+    /// At one that asks the station when the worker has left.
+    Audited,
+}
+
+/// What becomes of a ticket.
+#[derive(Clone, Copy)]
+pub(crate) enum Fate {
+    /// It is booked at once and settled.
+    Settled,
+    /// It is booked at once, and not settled.
+    Booked,
+    /// It is given up and settled.
+    GivenUp,
+    /// It is given up, and not settled.
+    Lost,
+    /// It is refused once and then given up, and not settled.
+    RefusedAndLost,
+    /// It is refused once, booked and settled.
+    RefusedAndSettled,
+}
+
+/// How an answer ended that was settled, and how many tries the gate didn't let in.
+type End = (Option<Ending>, u64);
+
+impl<B: Ledger, R: Wait> Post<'_, B, R> {
+    /// What is told of an answer.
+    pub(crate) fn told_of_answer(&mut self, number: u64, answer: Answer) -> Result<String, Fail> {
+        match answer {
+            Answer::Freely => self.answer_freely(number),
+            Answer::Logged => self.answer_logged(number),
+            Answer::ShutOut => self.answer_shut_out(number),
+            Answer::Audited => self.answer_audited(number),
+        }
+    }
+
+    /// How an answer ends.
+    fn answer_freely(&mut self, number: u64) -> Result<String, Fail> {
+        let end = self.answer(number, &NoGate)?;
+        text(self.alloc, &end)
+    }
+
+    /// How an answer ends, and who went where meanwhile.
+    fn answer_logged(&mut self, number: u64) -> Result<String, Fail> {
+        let log = Log::new();
+        let end = self.answer(number, &log)?;
+        text(self.alloc, &(end, log.calls()))
+    }
+
+    /// How an answer ends, and how often the gate was asked for each gateway.
+    fn answer_shut_out(&mut self, number: u64) -> Result<String, Fail> {
+        let shut = Shut::new();
+        let end = self.answer(number, &shut)?;
+        text(self.alloc, &(end, shut.asked()))
+    }
+
+    /// What the station told the gate that is booked when the worker had left.
+    fn answer_audited(&mut self, number: u64) -> Result<String, Fail> {
+        let till = self.tills.last_mut().ok_or("there is a till")?;
+        let booked = audited(self.rt, &self.station, till, number);
+        text(self.alloc, &booked)
+    }
+
+    /// Answers at a gate.
+    fn answer<G: Gate>(&mut self, number: u64, gate: &G) -> Result<End, Fail> {
+        let till = self.tills.last_mut().ok_or("there is a till")?;
+        let mut overrun = 0;
+        let handled = self
+            .station
+            .answer(self.rt, gate, number, till, &mut overrun);
+        Ok((self.kept(handled)?, overrun))
+    }
+
+    /// Keeps a receipt; how the answer ended.
+    fn kept(&mut self, handled: Handled<Global>) -> Result<Option<Ending>, Fail> {
+        match handled {
+            Handled::Settled(outcome, Some(receipt)) => {
+                self.receipts.push(receipt)?;
+                Ok(Some(outcome.result))
+            }
+            Handled::Settled(outcome, None) => Ok(Some(outcome.result)),
+            _ => Ok(None),
+        }
+    }
+}
+
+impl<B: Ledger, R: Wait> Post<'_, B, R> {
+    /// What is told of a ticket: whether its stub was settled, and how it ended.
+    pub(crate) fn told_of_ticket(&mut self, number: u64, fate: Fate) -> Result<String, Fail> {
+        match fate {
+            Fate::Settled => self.book(number, true),
+            Fate::Booked => self.book(number, false),
+            Fate::GivenUp => self.give_up(number, true),
+            Fate::Lost => self.give_up(number, false),
+            Fate::RefusedAndLost => self.give_up_late(number),
+            Fate::RefusedAndSettled => self.book_late(number),
+        }
+    }
+
+    /// A ticket is booked at once.
+    fn book(&mut self, number: u64, is_settled: bool) -> Result<String, Fail> {
+        let ticket = self.station.take(self.rt, number)?;
+        self.try_last(ticket, is_settled)
+    }
+
+    /// A ticket is booked once it was refused.
+    fn book_late(&mut self, number: u64) -> Result<String, Fail> {
+        let ticket = self.refused(number)?;
+        self.try_last(ticket, true)
+    }
+
+    /// A ticket is booked, and its receipt kept.
+    fn try_last(&mut self, ticket: Ticket<Global>, is_settled: bool) -> Result<String, Fail> {
+        let tried = self.station.try_once(self.rt, ticket);
+        let (stub, receipt) = booked(tried).ok_or("it is booked")?;
+        let (is_taken, outcome) = self.ended(stub, is_settled);
+        self.receipts.push(receipt)?;
+        text(self.alloc, &(is_taken, outcome.number, outcome.result))
+    }
+
+    /// A ticket that was refused once.
+    fn refused(&self, number: u64) -> Result<Ticket<Global>, Fail> {
+        let ticket = self.station.take(self.rt, number)?;
+        let tried = self.station.try_once(self.rt, ticket);
+        let (ticket, _) = next_refused(tried).ok_or("it is refused")?;
+        Ok(ticket)
+    }
+
+    /// A ticket is given up at once.
+    fn give_up(&mut self, number: u64, is_settled: bool) -> Result<String, Fail> {
+        let ticket = self.station.take(self.rt, number)?;
+        let (is_taken, outcome) = self.ended(ticket.give_up(), is_settled);
+        text(self.alloc, &(is_taken, outcome.number, outcome.result))
+    }
+
+    /// A ticket is given up once it was refused.
+    fn give_up_late(&mut self, number: u64) -> Result<String, Fail> {
+        let ticket = self.refused(number)?;
+        let (is_taken, outcome) = self.ended(ticket.give_up(), false);
+        text(self.alloc, &(is_taken, outcome.number, outcome.result))
+    }
+
+    /// Ends a stub, by settling it if that is wanted and the station takes it: whether it did, and the outcome.
+    pub(crate) fn ended(&mut self, stub: Stub, is_settled: bool) -> (bool, Outcome) {
+        if !is_settled {
+            return (false, stub.end());
+        }
+        match self.tills.last_mut() {
+            Some(till) => settled(self.rt, &self.station, stub, till),
+            None => (false, stub.end()),
+        }
+    }
+}
+
+/// Ends a stub, by settling it if the station takes it: whether it did, and the outcome.
+fn settled<B: Ledger, R: Wait>(
+    rt: &R,
+    station: &TestStation<B>,
+    stub: Stub,
+    till: &mut Till<B>,
+) -> (bool, Outcome) {
+    match station.settle(rt, stub, till) {
+        Ok(outcome) => (true, outcome),
+        Err(stub) => (false, stub.end()),
+    }
+}
