@@ -5,15 +5,13 @@ ghost use Rattle.run_lines.specs.RunInput.{KeepsInputLimit};
 ghost use Rattle.run_texts.specs.RunOutput.{Runs, RunsInPart, NamesFault, NamesFaultOfWorkers, NamesWorkers, IsPlayFault};
 ghost use Rattle.run_texts.specs.RunOutput.{IsWorkersRun, RunsByWorkers};
 ghost use Rattle.run_texts.specs.WorkersRun.{IsPlayed};
-ghost use Rattle.run_lines.specs.RunEvents.{events_of};
-ghost use Rattle.std.specs.Str.Lines.{lines};
 ghost use Rattle.run_texts.specs.PassAnswers.{IsStaffed};
 
 use crate::run_alone::tell_alone;
 use crate::run_settings::settings_in;
 use crate::station_run::{Played, play};
 use run_lines::{events_by_threads, parts_of, read_all, write_lines};
-use server_core::Settings;
+use server_core::{Event, Settings};
 use server_workers::{Blank, MAX_WORKERS, PARTS};
 use std::alloc::Global;
 use std::hash::BuildHasher;
@@ -68,22 +66,21 @@ where
     if workers > MAX_WORKERS {
         return Err(TextFault::Settings("Workers"));
     }
-    let input = match read_all(alloc, reader) {
-        Err(fault) => return Err(fault),
-        Ok(input) => input,
-    };
+    let input = read_all(alloc, reader)?;
     let (settings_text, event_text) = parts_of(input.as_slice());
-    let settings = match settings_in(alloc, settings_text) {
-        Err(fault) => return Err(fault),
-        Ok(settings) => settings,
+    let settings = settings_in(alloc, settings_text)?;
+    let Ok(events) = events_by_threads(rt, alloc, settings.devices(), event_text, workers) else {
+        return Err(TextFault::NoMemory);
     };
+    // The events have bytes of their own.
+    drop(input);
     if workers == 0 {
-        return tell_alone(alloc, hasher, &settings, event_text, writer);
+        return tell_alone(alloc, hasher, &settings, events, writer);
     }
-    tell_with_workers(rt, alloc, hasher, &settings, event_text, workers, writer)
+    tell_with_workers(rt, alloc, hasher, &settings, events, workers, writer)
 }
 
-/// Does what the events of a text ask for, with workers, and writes the answers and the report. After `Write` a front of them
+/// Does what these events ask for, with workers, and writes the answers and the report. After `Write` a front of them
 /// was written, and after each other fault nothing.
 fn tell_with_workers<
     T: Threads + Wait + Sync,
@@ -94,20 +91,19 @@ fn tell_with_workers<
     alloc: Global,
     hasher: S,
     settings: &Settings<Global>,
-    text: &[u8],
+    events: Vec<Event<Global>>,
     workers: u8,
     writer: &mut W,
 ) -> Result<bool, TextFault>
 where
     S::Hasher: Send + Sync,
     requires { IsStaffed workers }
-    ensures played { IfOk result (λ refused. IsWorkersRun settings.now (events_of settings.now.devices (lines text.now))
-        (W.taken writer.old) (W.taken writer.new) refused) }
+    ensures played { IfOk result (λ refused. IsWorkersRun settings.now events.items (W.taken writer.old) (W.taken writer.new) refused) }
     ensures untouched { IfErr result (λ fault. fault ≢ TextFault.Write → writer.new ≡ writer.old) }
     ensures fault { IfErr result (λ fault. fault ≢ TextFault.Write → IsPlayFault fault) }
     ensures write { CountsWrites (W.failed_calls writer.old) (W.failed_calls writer.new) result }
 {
-    let played = match play_text(rt, alloc, hasher, settings, text, workers) {
+    let played = match play_all(rt, alloc, hasher, settings, events.as_slice(), workers) {
         Err(fault) => return Err(fault),
         Ok(played) => played,
     };
@@ -117,34 +113,22 @@ where
     }
 }
 
-/// Does what the events of a text ask for, with workers and a ledger of its own.
-fn play_text<T: Threads + Wait + Sync, S: BuildHasher + Clone + Drop + Send + Sync>(
+/// Does what these events ask for, with workers and a ledger of its own.
+fn play_all<T: Threads + Wait + Sync, S: BuildHasher + Clone + Drop + Send + Sync>(
     rt: &T,
     alloc: Global,
     hasher: S,
     settings: &Settings<Global>,
-    text: &[u8],
+    events: &[Event<Global>],
     workers: u8,
 ) -> Result<Played, TextFault>
 where
     S::Hasher: Send + Sync,
     requires { IsStaffed workers }
-    ensures played { IfOk result (λ played. IsPlayed settings.now.gateways (events_of settings.now.devices (lines text.now))
-        played.entries.items played.totals.items played.books.items) }
+    ensures played { IfOk result
+        (λ played. IsPlayed settings.now.gateways events.now played.entries.items played.totals.items played.books.items) }
     ensures fault { IfErr result IsPlayFault }
 {
-    let events = match events_by_threads(rt, alloc, settings.devices(), text, workers) {
-        Err(_) => return Err(TextFault::NoMemory),
-        Ok(events) => events,
-    };
     let blank = Blank::new(PARTS as u64);
-    play::<Brand, S, T>(
-        rt,
-        alloc,
-        hasher,
-        settings,
-        events.as_slice(),
-        workers,
-        blank,
-    )
+    play::<Brand, S, T>(rt, alloc, hasher, settings, events, workers, blank)
 }

@@ -9,7 +9,6 @@ use Words.{Step, Take, take_by, IsAnswered, IsGivenTo, Line, take_answer, run_fr
 use Rattle.server_core.proofs.TakeStep.{IsTicket, ticket, still_waits, job_window}
 use Rattle.server_core.proofs.{DeskSteps.desk_calls_are_steps, Ready.all_rewritten, Calls.one_step, Calls.moves_on}
 use Rattle.server_desk.specs.declared.answers.Known.TheVariants.{Pending}
-use Rattle.server_core.specs.declared.event.Step.TheVariants as made
 use Rattle.server_core.specs.Steps as replies
 
 -- once an answer is settled, no ticket is out again
@@ -33,7 +32,7 @@ job_here ids reg n asked device h k c e =
     let x = job_window reg n asked device k c e in
     ap (is_among ids) x.gateway ∙ copies_heard ids reg.gathered.list n (numbered n reg.gathered.list) refl h x.copy x.heard
 
-module _ {A : Type 0} (place n : ℕ) (old mid : Seen A) (noted : mid ≡ with_step (made.Take n) old)
+module _ {A : Type 0} (place n : ℕ) (old mid : Seen A) (noted : mid ≡ with_step (Take n) old)
     (ready : IsBetweenCalls old) where
   mid_desk : mid.desk ≡ old.desk
   mid_desk = rw noted refl
@@ -119,7 +118,7 @@ module _ {A : Type 0} (place n : ℕ) (old mid : Seen A) (noted : mid ≡ with_s
         answer_goes : Moves place w (answer_steps w n) old new
         unfolding run_from
         answer_goes = moves_on place w (Take n ∷ []) rest old out new
-            (one_step place w (Take n) (made.Take n) [] old out refl at_out (rw noted refl) (rw (noted, append-nil) refl)
+            (one_step place w (Take n) [] old out at_out (rw noted refl) (rw (noted, append-nil) refl)
             (rw is_taken refl)) (rw rest_is at (a.goes v at_out stands))
 
       pub answer_done : record {
@@ -138,7 +137,7 @@ module _ {A : Type 0} (place n : ℕ) (old mid : Seen A) (noted : mid ≡ with_s
     refused_made w at =
         let is : step w (Take n) ≡ (w, replies.Given (Err fault)) = ap (take_by w n) (rw (mid_desk, at.desk) at refused) in
         let one : Take n ∷ [] ≡ answer_steps w n = rw is refl in
-        rw one at (one_step place w (Take n) (made.Take n) (line ∷ []) old new refl (rw (is, told, same, noted) at)
+        rw one at (one_step place w (Take n) (line ∷ []) old new (rw (is, told, same, noted) at)
         (rw (told, noted) refl) (rw (told, noted) refl) (rw (is, said) refl))
 
 -- a refusal that is no want of memory is the answer

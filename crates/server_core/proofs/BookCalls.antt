@@ -9,7 +9,6 @@ use Words.{place_within}
 use Rattle.server_core.proofs.BookSteps.{book_calls_are_steps, same_book}
 use Rattle.server_core.proofs.{Members.equal_where_tested, DeskSteps.desk_calls_are_steps, Calls.IsDone, Calls.done}
 use Rattle.server_core.specs.BookCalls.{IsBookAt, IsStepAt, IsCancel, sent_at}
-use Rattle.server_core.specs.declared.event.Step.TheVariants as made
 use Rattle.server_core.specs.Steps as replies
 use Rattle.server_core.specs.declared.entry.Line.TheVariants as says
 
@@ -84,7 +83,7 @@ pub books_stepped : (w : World) (step_made : Step) (id i : ℕ) (answers : List 
 books_stepped w step_made id i answers book reply books are s =
     rw s.after (zip_set IsBookOf books w.gateways i book s.gateway are s.keeps)
 
-module _ {A : Type 0} (place : ℕ) (old mid new : Seen A) (gateway now : ℕ) (noted : mid ≡ with_step (made.Tick gateway now) old)
+module _ {A : Type 0} (place : ℕ) (old mid new : Seen A) (gateway now : ℕ) (noted : mid ≡ with_step (Tick gateway now) old)
     (ready : IsBetweenCalls old) where
   -- at no gateway
   pub not_ticked : None ≡ place_of gateway mid.books → new ≡ with_lines place (says.NotTicked ∷ []) mid
@@ -92,7 +91,7 @@ module _ {A : Type 0} (place : ℕ) (old mid new : Seen A) (gateway now : ℕ) (
   not_ticked f told =
       let none : (w : World) → IsAt w mid → step w (Tick gateway now) ≡ (w, replies.Ticked None) =
       λ w at. (book_calls_are_steps A).tick_nowhere w gateway now (no_gateway gateway mid.books w.gateways at.books f) in
-      done place (Tick gateway now) (made.Tick gateway now) says.NotTicked old mid mid new refl noted
+      done place (Tick gateway now) says.NotTicked old mid mid new noted
       (record {
         steps = refl;
         outcomes = refl;
@@ -112,8 +111,8 @@ module _ {A : Type 0} (place : ℕ) (old mid new : Seen A) (gateway now : ℕ) (
       → IsStepAt w (Tick gateway now) gateway i w.answers after (replies.Ticked (Some after.floor)) =
       λ w at. (book_calls_are_steps A).tick w gateway i now book after
       (gateway_found gateway mid.books w.gateways at.books i book f b) risen in
-      done place (Tick gateway now) (made.Tick gateway now) (says.Floor gateway floor) old mid
-      (record mid { books = slice_set mid.books i after }) new refl noted
+      done place (Tick gateway now) (says.Floor gateway floor) old mid
+      (record mid { books = slice_set mid.books i after }) new noted
       (record {
         steps = refl;
         outcomes = refl;
@@ -184,11 +183,11 @@ module _ {A : Type 0} (n : ℕ) (old new : Seen A) (ready : IsBetweenCalls old) 
           }
 
 pub cancel_done : {A : Type 0} (place n : ℕ) (old mid next new : Seen A) (result : Result ℕ CancelFault) (line : Line A)
-    → mid ≡ with_step (made.Cancel n) old → IsCancelled n mid next result
+    → mid ≡ with_step (Cancel n) old → IsCancelled n mid next result
     → line ≡ cancelled_line n result → IsBetweenCalls old → new ≡ with_lines place (line ∷ []) next
     → IsDone place (Cancel n) old new
 cancel_done {A} place n old mid next new result line noted c said ready told =
-    done place (Cancel n) (made.Cancel n) line old mid next new refl noted
+    done place (Cancel n) line old mid next new noted
     (record {
       steps = c.steps;
       outcomes = c.outcomes;

@@ -1,13 +1,12 @@
 -- Steps one after another, and a call that is one step: one thread notes the step, makes it, and tells its line.
 use Rattle.server_core.proofs.Words
 use Words.{arith, ap, append-nil, append_assoc, sym, ◌∙◌, map-append, Err, IfOk, IsOkUnless, List, MatchResult, Ok, OnErr, OnOk}
-use Words.{Option, Result, [], map, refl, ℕ, ◌++◌, ◌∷◌, ◌≡◌, ◌≢◌, Payload, DeskView, desk_hear, desk_of, desk_queue, known_after}
+use Words.{Option, Some, None, Result, [], map, refl, ℕ, ◌++◌, ◌∷◌, ◌≡◌, ◌≢◌, Payload, DeskView, desk_hear, desk_of, desk_queue, known_after}
 use Words.{Decision, answer_to, copy_of, Device, Register, device_with, World, after_queueing, queue_answer, DeskFault}
-use Words.{QueueFault, Heard1, entry_at, lines_for, reached, step_of, AreHeard, IsAt, IsIdle, IsBetweenCalls, Makes, Moves, Seen}
+use Words.{QueueFault, Heard1, entry_at, lines_for, reached, noting, AreHeard, IsAt, IsIdle, IsBetweenCalls, Makes, Moves, Seen}
 use Words.{heard_line, queued_line, with_lines, with_step, Hear, Heard, Queue, Queued, Reply, Step, Line, decide, step_lines}
 use Words.{run_from, step}
 use Rattle.server_core.proofs.{DeskSteps.desk_calls_are_steps, Ready.heard_after, Ready.idle_hear}
-use Rattle.server_core.specs.{declared.event.Step.Step as Made}
 use Rattle.server_desk.specs.Hearing.{after_hearing}
 
 -- Steps one after another, and the lines for them.
@@ -22,6 +21,16 @@ pub lines_append : {A : Type 0} (w : World) (ss ts : List Step)
 unfolding run_from step_lines
 lines_append w [] ts = refl
 lines_append {A} w (s ∷ ss) ts = rw (lines_append {A = A} (step w s).0 ss ts, append_assoc) refl
+
+-- Steps that are kept, some after others.
+
+pub noting_none : (kept : Option (List Step)) → noting [] kept ≡ kept
+noting_none None = refl
+noting_none (Some made) = rw append-nil refl
+
+pub noting_twice : (ss ts : List Step) (kept : Option (List Step)) → noting ts (noting ss kept) ≡ noting (ss ++ ts) kept
+noting_twice ss ts None = refl
+noting_twice ss ts (Some made) = rw append_assoc refl
 
 -- What a server on one thread does, one thing after another.
 
@@ -46,20 +55,20 @@ pub moves_on : {A : Type 0} (place : ℕ) (w : World) (ss ts : List Step) (old m
 moves_on {A} place w ss ts old mid new a b =
     record {
       at = rw reached_append b.at;
-      steps = rw (b.steps, a.steps, append_assoc) refl;
+      steps = rw (b.steps, a.steps) (noting_twice ss ts old.steps);
       outcomes = rw (b.outcomes, a.outcomes, lines_append {A = A} w ss ts, map-append, append_assoc) refl;
     }
 
 -- one step that was noted, and its lines
-pub one_step : {A : Type 0} (place : ℕ) (w : World) (s : Step) (made : Made A) (lines : List (Line A)) (old new : Seen A)
-    → step_of made ≡ s → IsAt (step w s).0 new → new.steps ≡ old.steps ++ made ∷ []
+pub one_step : {A : Type 0} (place : ℕ) (w : World) (s : Step) (lines : List (Line A)) (old new : Seen A)
+    → IsAt (step w s).0 new → new.steps ≡ noting (s ∷ []) old.steps
     → new.outcomes ≡ old.outcomes ++ map (entry_at place) lines → lines_for w s (step w s).1 ≡ lines
     → Moves place w (s ∷ []) old new
 unfolding run_from step_lines
-one_step {A} place w s made lines old new f at t o l =
+one_step {A} place w s lines old new at t o l =
     record {
       at = at;
-      steps = rw (t, ← f) (map-append step_of old.steps (made ∷ []));
+      steps = t;
       outcomes = rw (o, append-nil, l) refl;
     }
 
@@ -76,19 +85,19 @@ pub record IsMade {A : Type 0} (s : Step) (line : Line A) (mid next : Seen A) : 
   pub lines : (w : World) → IsAt w mid → lines_for w s (step w s).1 ≡ line ∷ []
 
 -- a note leaves it ready
-pub ready_noted : {A : Type 0} (made : Made A) (old mid : Seen A) → mid ≡ with_step made old → IsBetweenCalls old
+pub ready_noted : {A : Type 0} (made : Step) (old mid : Seen A) → mid ≡ with_step made old → IsBetweenCalls old
     → IsBetweenCalls mid
 ready_noted made old mid noted r = rw noted r
 
-pub done : {A : Type 0} (place : ℕ) (s : Step) (made : Made A) (line : Line A) (old mid next new : Seen A) → step_of made ≡ s
-    → mid ≡ with_step made old → IsMade s line mid next → new ≡ with_lines place (line ∷ []) next → IsBetweenCalls old
+pub done : {A : Type 0} (place : ℕ) (s : Step) (line : Line A) (old mid next new : Seen A)
+    → mid ≡ with_step s old → IsMade s line mid next → new ≡ with_lines place (line ∷ []) next → IsBetweenCalls old
     → IsDone place s old new
-done {A} place s made line old mid next new same noted call told ready =
+done {A} place s line old mid next new noted call told ready =
     record {
       ready = rw told (call.ready (rw noted ready));
       made = λ w at.
           let a : IsAt w mid = rw noted at in
-          one_step place w s made (line ∷ []) old new same (rw told (call.at w a)) (rw (told, call.steps, noted) refl)
+          one_step place w s (line ∷ []) old new (rw told (call.at w a)) (rw (told, call.steps, noted) refl)
           (rw (told, call.outcomes, noted) refl) (call.lines w a);
     }
 
@@ -118,13 +127,13 @@ outcome : {X E : Type 0} (none : E) (q r : Result X E) (before after d : DeskVie
 outcome none q r before after d call f n = grind (arith, call.answer, call.told, call.step, call.refused, f, n)
 
 pub call_done : {A X E : Type 0} {s : Step} {q : DeskView → Result X E} {after : DeskView → DeskView}
-    {reply : Result X E → Reply} {say : Result X E → Line A} (none : E) (place : ℕ) (made : Made A) (old mid new : Seen A)
-    (r : Result X E) (d : DeskView) (line : Line A) → IsDeskStep s q after reply say → step_of made ≡ s
-    → mid ≡ with_step made old → IsCall none (q mid.desk) mid.desk (after mid.desk) r d → r ≢ Err none → line ≡ say r
+    {reply : Result X E → Reply} {say : Result X E → Line A} (none : E) (place : ℕ) (old mid new : Seen A)
+    (r : Result X E) (d : DeskView) (line : Line A) → IsDeskStep s q after reply say
+    → mid ≡ with_step s old → IsCall none (q mid.desk) mid.desk (after mid.desk) r d → r ≢ Err none → line ≡ say r
     → IsBetweenCalls old → new ≡ with_lines place (line ∷ []) (record mid { desk = d }) → IsDone place s old new
-call_done {A} {X} {E} {s} {q} {after} none place made old mid new r d line is same noted call memory said ready told =
+call_done {A} {X} {E} {s} {q} {after} none place old mid new r d line is noted call memory said ready told =
     let o = outcome none (q mid.desk) r mid.desk (after mid.desk) d call (is.refusal mid.desk) memory in
-    done place s made line old mid (record mid { desk = d }) new same noted
+    done place s line old mid (record mid { desk = d }) new noted
     (record {
       steps = refl;
       outcomes = refl;

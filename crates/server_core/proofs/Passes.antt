@@ -5,7 +5,6 @@ use Words.{slice_get, slice_set, suc, true, ℕ, ◌++◌, ◌+◌, ◌<◌, ◌
 use Words.{DeskView, desk_pass, World, closing, pass_answer, answer_steps, closing_steps, due_from, due_numbers, reached, IsAt}
 use Words.{IsBetweenCalls, Makes, Moves, Seen, pass_whole, with_step, Pass, due_of, pass_steps, run_from, step, some_inj}
 use Rattle.server_core.proofs.{Calls.one_step, Calls.moves_on, Ready.heard_closed}
-use Rattle.server_core.specs.declared.event.Step.TheVariants as made
 
 -- The gatherings that are due, one after another.
 
@@ -81,16 +80,16 @@ passing_first place now s r = record { ready = r; passing = λ w at. record { wo
 
 -- time passes at the desk, once
 pass_goes : {A : Type 0} (place now : ℕ) (s new : Seen A) (d : DeskView) → d ≡ desk_pass s.desk now
-    → new ≡ with_step (made.Pass now) (record s { desk = d }) → (w : World) → IsAt w s → Moves place w (Pass now ∷ []) s new
+    → new ≡ with_step (Pass now) (record s { desk = d }) → (w : World) → IsAt w s → Moves place w (Pass now ∷ []) s new
 unfolding step
-pass_goes place now s new d stepped noted w at = one_step place w (Pass now) (made.Pass now) [] s new refl
+pass_goes place now s new d stepped noted w at = one_step place w (Pass now) [] s new
     (rw (noted, stepped) (record { desk = ap (λ (x : DeskView). desk_pass x now) at.desk; books = at.books }))
     (rw noted refl) (rw (noted, append-nil) refl) refl
 
 -- the next that is due is closed
 module _ {A : Type 0} (place now n : ℕ) (old s mid : Seen A) (d : DeskView) (closed : Some n ≡ pass_answer s.desk.reg now)
     (stepped : d ≡ desk_pass s.desk now)
-    (noted : mid ≡ with_step (made.Pass now) (record s { desk = d })) where
+    (noted : mid ≡ with_step (Pass now) (record s { desk = d })) where
   d_is : d ≡ record (s.desk) { reg = closing (Some n) s.desk.reg }
   d_is = rw (stepped, ← closed) refl
 
@@ -150,7 +149,7 @@ module _ {A : Type 0} (place now : ℕ) (old s new : Seen A) (d : DeskView) (non
       ap (due_now now) (sym at.desk) ∙ due_none now 1 s.desk.reg.gathered.list (sym none) in
       rw due refl
 
-  pub passed_done : ArePassing place now old s → new ≡ with_step (made.Pass now) (record s { desk = d })
+  pub passed_done : ArePassing place now old s → new ≡ with_step (Pass now) (record s { desk = d })
       → record { ready : IsBetweenCalls new; made : Makes place (λ w. pass_whole w now) old new }
   passed_done p noted =
       let same_desk : d ≡ s.desk = rw (stepped, ← none) refl in

@@ -1,11 +1,13 @@
 -- Events, one after another, from a server that has heard nothing.
 use Rattle.server_core.proofs.Words
-use Words.{ap, append-nil, append_assoc, sym, ◌∙◌, drop_of_length-le, List, [], drop, get_or, length, map, refl, ℕ, ◌++◌, ◌+◌}
+use Words.{ap, append-nil, append_assoc, sym, ◌∙◌, List, [], Option, Some, get_or, length, map, refl, ℕ, ◌++◌, ◌+◌}
 use Words.{◌<◌, ◌∷◌, ◌≡◌, ◌≤◌, map-map, Book, orderly_nil, kept-nil, remembers_own, desk_of, Gateway, World, opened_gateway}
-use Words.{opening, AreSettings, SettingLists, GatewaySetting, entries, gateway_of, gateways_after, kept_gateway, reached}
-use Words.{schedule, step_of, usual_limits, AreBooksOf, Does, IsAt, IsOpened, IsBetweenCalls, Seen, with_lines, Step, Event}
-use Words.{event_steps, schedule_from, entries_from, run_from, drop_more, arith, All, All-head, All-tail, IsGatewayInRange}
-use Rattle.server_core.proofs.{Calls.reached_append, Members.none_numbered}
+use Words.{opening, AreSettings, SettingLists, GatewaySetting, entries, gateway_of, kept_gateway, reached}
+use Words.{noting, schedule, usual_limits, AreBooksOf, Does, IsAt, IsOpened, IsBetweenCalls, Seen, with_lines, Step, Event}
+use Words.{event_steps, entry_at, length-append, subst, schedule_from, entries_from, run_from, some_inj, arith, All, All-head, All-tail, IsGatewayInRange}
+use Rattle.server_core.proofs.{Calls.noting_none, Calls.noting_twice, Calls.reached_append, Members.none_numbered}
+use Rattle.server_core.specs.{Entries.event_lines, Server.IsReplayed}
+use Rattle.std.proofs.{Common.take, lemmas.List.length-take-le, lemmas.List.take_more}
 use Rattle.server_core.specs.declared.event.Event.TheVariants as events
 use Rattle.server_core.specs.declared.entry.Line.TheVariants as says
 
@@ -34,8 +36,8 @@ opened_books (b ∷ bs) (g ∷ gs) a e = (
 
 pub server_opened : {A : Type 0} (settings : SettingLists) (s : Seen A) → s.desk ≡ desk_of (opening settings usual_limits)
     → map gateway_of s.books ≡ map opened_gateway settings.gateways
-    → s.steps ≡ [] → s.outcomes ≡ [] → AreSettings settings.gateways settings.devices → IsOpened settings s
-server_opened settings s d b t o are =
+    → s.outcomes ≡ [] → AreSettings settings.gateways settings.devices → IsOpened settings s.steps s
+server_opened settings s d b o are =
     record {
       are = are;
       at = record { desk = d; books = opened_books s.books settings.gateways are.gateways_in_range b };
@@ -44,7 +46,7 @@ server_opened settings s d b t o are =
         heard = λ n g e c k. absurd (none_numbered n g e);
         idle = λ n k e. absurd (none_numbered n k e);
       });
-      steps = t;
+      steps = refl;
       outcomes = o;
     }
 
@@ -53,49 +55,65 @@ pub bad_told : {A : Type 0} (place line : ℕ) (e : Event A) (old new : Seen A) 
     → new ≡ with_lines place (says.Bad line ∷ []) old → Does place e old new
 unfolding event_steps run_from
 bad_told place line e old new is told =
-    rw is (λ w at. record { at = rw told at; steps = rw (told, append-nil) refl; outcomes = rw told refl })
+    rw is (λ w at. record { at = rw told at; steps = rw told (sym (noting_none old.steps)); outcomes = rw told refl })
 
--- how far the events got
-pub record IsReplaying {A : Type 0} (settings : SettingLists) (es : List (Event A)) (i : ℕ) (s : Seen A) : Type 0 where
-  pub world : World
-  pub at : IsAt world s
+-- one event more
+
+schedule_more : {A : Type 0} (w : World) (es : List (Event A)) (e : Event A)
+    → schedule_from w (es ++ e ∷ []) ≡ schedule_from w es ++ event_steps (reached w (schedule_from w es)) e
+unfolding schedule_from run_from
+schedule_more w [] e = append-nil (event_steps w e)
+schedule_more w (x ∷ xs) e = rw (schedule_more (reached w (event_steps w x)) xs e, append_assoc, reached_append) refl
+
+entries_more : {A : Type 0} (place : ℕ) (w : World) (es : List (Event A)) (e : Event A)
+    → entries_from place w (es ++ e ∷ [])
+    ≡ entries_from place w es ++ map (entry_at (place + length es)) (event_lines (reached w (schedule_from w es)) e)
+unfolding entries_from schedule_from run_from
+entries_more place w [] e =
+    let here : place + 0 ≡ place = omega arith in
+    rw (append-nil, here) refl
+entries_more place w (x ∷ xs) e =
+    let further : place + 1 + length xs ≡ place + length (x ∷ xs) = omega arith in
+    rw (entries_more (place + 1) (reached w (event_steps w x)) xs e, append_assoc, reached_append, further) refl
+
+-- these events were answered, from where these steps were kept
+pub record IsReplaying {A : Type 0} (settings : SettingLists) (kept : Option (List Step)) (es : List (Event A))
+    (s : Seen A) : Type 0 where
+  pub at : IsAt (reached (opening settings usual_limits) (schedule settings es)) s
   pub ready : IsBetweenCalls s
-  pub run : world ≡ reached (opening settings usual_limits) (map step_of s.steps)
-  pub steps : map step_of s.steps ++ schedule_from world (drop i es) ≡ schedule settings es
-  pub outcomes : s.outcomes ++ entries_from i world (drop i es) ≡ entries settings es
+  pub steps : s.steps ≡ noting (schedule settings es) kept
+  pub outcomes : s.outcomes ≡ entries settings es
 
-pub replaying_first : {A : Type 0} (settings : SettingLists) (es : List (Event A)) (s : Seen A) → IsOpened settings s
-    → IsReplaying settings es 0 s
-unfolding run_from
-replaying_first settings es s o =
-    record {
-      world = opening settings usual_limits;
-      at = o.at;
-      ready = o.ready;
-      run = rw o.steps refl;
-      steps = rw o.steps refl;
-      outcomes = rw o.outcomes refl;
-    }
+pub replaying_first : {A : Type 0} (settings : SettingLists) (kept : Option (List Step)) (s : Seen A)
+    → IsOpened settings kept s → IsReplaying settings s.steps [] s
+unfolding run_from schedule_from entries_from
+replaying_first settings kept s o =
+    record { at = o.at; ready = o.ready; steps = sym (noting_none s.steps); outcomes = o.outcomes }
 
-module _ {A : Type 0} (settings : SettingLists) (es : List (Event A)) (i : ℕ) (e : Event A) (s new : Seen A)
-    (within : i < length es) (event : e ≡ get_or es i e)
-    (does : Does i e s new) (ready : IsBetweenCalls new) where
-  rest : drop i es ≡ e ∷ drop (i + 1) es
-  rest = rw (← event) at (drop_more es i e within)
-
-  pub replaying_on : IsReplaying settings es i s → IsReplaying settings es (i + 1) new
-  unfolding schedule_from entries_from
-  replaying_on r =
-      let ss : List Step = event_steps r.world e in
-      let g = does r.world r.at in
+module _ {A : Type 0} (settings : SettingLists) (kept : Option (List Step)) (e : Event A) (s new : Seen A)
+    (ready : IsBetweenCalls new) where
+  pub replaying_on : (es : List (Event A)) → Does (length es) e s new → IsReplaying settings kept es s
+      → IsReplaying settings kept (es ++ e ∷ []) new
+  replaying_on es does r =
+      let w = opening settings usual_limits in
+      let g = does (reached w (schedule settings es)) r.at in
+      let first : 0 + length es ≡ length es = omega arith in
       record {
-        world = reached r.world ss;
-        at = g.at;
+        at = rw (schedule_more w es e, reached_append) g.at;
         ready = ready;
-        run = rw (g.steps, reached_append, ← r.run) refl;
-        steps = rw (g.steps, append_assoc) (rw rest at r.steps);
-        outcomes = rw (g.outcomes, append_assoc) (rw rest at r.outcomes);
+        steps = rw (g.steps, r.steps, schedule_more w es e) (noting_twice (schedule settings es) _ kept);
+        outcomes = rw (g.outcomes, r.outcomes, entries_more 0 w es e, first) refl;
       }
+
+  -- the next of a list
+  pub replaying_next : (all : List (Event A)) (i : ℕ) → i < length all → e ≡ get_or all i e → Does i e s new
+      → IsReplaying settings kept (take i all) s → IsReplaying settings kept (take (i + 1) all) new
+  replaying_next all i within event does r =
+      let taken : length (take i all) ≡ i = length-take-le i all (omega (arith, within)) in
+      let more : take (i + 1) all ≡ take i all ++ e ∷ [] =
+      take_more all i e within ∙ ap (λ x. take i all ++ x ∷ []) (sym event) in
+      let placed : Does (length (take i all)) e s new = rw taken does in
+      rw more (replaying_on (take i all) placed r)
 
 -- after the last event
 
@@ -107,19 +125,23 @@ books_kept (b ∷ bs) (g ∷ gs) z =
     cc (z.0.id, z.0.rules, r.floor, r.list, r.booked, r.cancelled, books_kept bs gs z.1)
 books_kept books gs z = absurd z
 
-module _ {A : Type 0} (settings : SettingLists) (es : List (Event A)) (i : ℕ) (s : Seen A) (over : length es ≤ i)
-    (r : IsReplaying settings es i s) where
-  pub replayed : record {
-    steps : map step_of s.steps ≡ schedule settings es;
-    outcomes : s.outcomes ≡ entries settings es;
-    books : map gateway_of s.books ≡ map kept_gateway (gateways_after settings es);
-  }
-  unfolding schedule_from entries_from
-  replayed =
-      let steps : map step_of s.steps ≡ schedule settings es = rw (drop_of_length-le es over, append-nil) at r.steps in
-      record {
-        steps = steps;
-        outcomes = rw (drop_of_length-le es over, append-nil) at r.outcomes;
-        books = books_kept s.books r.world.gateways r.at.books ∙ ap (λ (w : World). map kept_gateway w.gateways)
-            (r.run ∙ ap (reached (opening settings usual_limits)) steps);
-      }
+pub replayed : {A : Type 0} (settings : SettingLists) (kept : Option (List Step)) (es all : List (Event A)) (s : Seen A)
+    → es ≡ all → IsReplaying settings kept es s → IsReplayed settings all kept s
+replayed {A} settings kept es all s same r =
+    subst (λ (l : List (Event A)). IsReplayed settings l kept s) same (record {
+      steps = r.steps;
+      outcomes = r.outcomes;
+      books = books_kept s.books (reached (opening settings usual_limits) (schedule settings es)).gateways r.at.books;
+    })
+
+pub none_left : {X : Type 0} (yielded rest all : List X) → length rest ≡ 0 → yielded ++ rest ≡ all → yielded ≡ all
+none_left yielded [] all none e = sym (append-nil yielded) ∙ e
+none_left yielded (x ∷ xs) all none e = absurd (omega (arith, none))
+
+pub one_more : {X : Type 0} (xs : List X) (x : X) (n : ℕ) → n ≡ length xs → n + 1 ≡ length (xs ++ x ∷ [])
+one_more xs x n e = omega (arith, e, length-append xs (x ∷ []))
+
+-- the steps, where they were kept from the first one on
+pub steps_kept : (made : Option (List Step)) (first last ss : List Step) → made ≡ noting ss (Some first) → first ≡ []
+    → made ≡ Some last → last ≡ ss
+steps_kept made first last ss noted none are = some_inj (sym are ∙ noted) ∙ ap (λ l. l ++ ss) none

@@ -1,11 +1,11 @@
 -- A ticket is tried until it is booked or out, and settled.
 use Rattle.server_core.proofs.Words
-use Words.{ap, append-nil, append_assoc, arith, sym, ◌∙◌, slice_get_within, IsTrue, List, Ok, Some, [], length, map, refl, ℕ}
+use Words.{ap, append-nil, arith, sym, ◌∙◌, slice_get_within, IsTrue, List, Ok, Some, [], length, map, refl, ℕ}
 use Words.{◌++◌, ◌+◌, ◌-◌, ◌<◌, ◌∷◌, ◌≡◌, numbered, Candidate, candidates, next_of, Standing, Ending, Open, desk_of, desk_settled}
 use Words.{may_settle, World, given_steps, reached, AreHere, IsAt, Moves, Seen, ids_of, Settle, Try, AreTries, EndsTries, GoesOn}
 use Words.{IsAnswered, IsGivenTo, MovesOn, HasTicketOut, IsSame, IsSettled, end_lines, tries_from, TriedOut, step_lines, run_from}
 use Words.{step}
-use Rattle.server_core.proofs.Calls.{reached_append, lines_append}
+use Rattle.server_core.proofs.Calls.{reached_append, lines_append, noting_twice}
 use Rattle.server_core.proofs.DeskSteps.{settle_walk, settle_desk, desk_calls_are_steps}
 use Rattle.server_core.specs.Steps as replies
 
@@ -21,7 +21,7 @@ unfolding run_from step_lines
 tries_on w t old mid new ended g e =
     record {
       books = rw g.rest e.books;
-      steps = rw (g.rest, e.steps, g.steps, append_assoc) refl;
+      steps = rw (g.rest, e.steps, g.steps) (noting_twice (Try t.job.number ∷ []) _ old.steps);
       told = rw g.rest e.told;
       lines = rw (g.rest, g.lines) e.lines;
     }
@@ -133,7 +133,7 @@ module _ {A : Type 0} (place : ℕ) (t : Standing) (old mid new : Seen A) (ended
     goes_by =
         record {
           at = rw (reached_append w (tries_from w t) (Settle n ∷ [])) settled_at;
-          steps = rw (settled.steps, ends.steps, tried.number, append_assoc) refl;
+          steps = rw (settled.steps, ends.steps, tried.number) (noting_twice (tries_from w t) (Settle n ∷ []) old.steps);
           outcomes = rw (settled.outcomes, tried.same.outcomes, tried.number, lines) refl;
         }
 

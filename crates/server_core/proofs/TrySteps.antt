@@ -1,9 +1,9 @@
 -- The candidates of a ticket are tried on the books of their gateways.
 use Rattle.server_core.proofs.Words
-use Words.{ap, arith, subst, sym, ◌∙◌, map-append, IsSomeAnd, option_map, List, None, Option, Some, [], drop, get_or}
-use Words.{if◌then◌else◌, map, refl, slice_get, slice_set, ℕ, ◌++◌, ◌+◌, ◌∷◌, ◌≡◌, Book, IsAsked, refusal_of, Refusal, Candidate}
+use Words.{ap, arith, subst, sym, ◌∙◌, IsSomeAnd, option_map, List, None, Option, Some, [], drop, get_or}
+use Words.{if◌then◌else◌, map, refl, slice_get, slice_set, ℕ, ◌+◌, ◌∷◌, ◌≡◌, Book, IsAsked, refusal_of, Refusal, Candidate}
 use Words.{ask_for, candidates, IsBooked, IsReceipt, IsWrong, refusal_by, answered_as, Standing, candidate_of, Outcome, Receipt}
-use Words.{Answer, Open, map_set, some_inj, Gateway, World, gateway_with, is_accepted, is_none, step_of, up_to_first, AreBooksOf}
+use Words.{Answer, Open, map_set, some_inj, Gateway, World, gateway_with, is_accepted, is_none, noting, up_to_first, AreBooksOf}
 use Words.{AreHere, Seen, ids_of, with_step, Try, terms, AreTries, EndsTries, MovesOn, HasTicketOut, IsSame, tries_from}
 use Words.{step_lines, run_from, step, get_or_from_slice_get, slice_get_within, slice_get_cases, drop_more, drop_all}
 use Rattle.server_core.proofs.BookSteps.{book_calls_are_steps, some_and, found_for, answer_is, try_is}
@@ -11,7 +11,6 @@ use Rattle.server_core.proofs.BookCalls.{IsFound, place_of, book_found, gateway_
 use Rattle.answer_ticket.specs.Tried.{IsNext as IsRefused, IsOut as IsRefusedLast, TriedIs}
 use Rattle.answer_ticket.specs.declared.tried.Tried.{Tried}
 use Rattle.server_core.specs.BookCalls.{IsBookAt, IsTryStep, LeavesStub, LeavesTicket, IsTry}
-use Rattle.server_core.specs.declared.event.Step.TheVariants as made
 use Rattle.answer_ticket.specs.declared.tried.Tried.TheVariants as tried
 
 module _ {X : Type 0} (xs : List X) (k : ℕ) where
@@ -33,7 +32,7 @@ tries_are w t c at i g found o e =
     rw (drop_at (candidates t.job) t.at c at, found, e) refl
 
 module _ {A : Type 0} (t : Standing) (old mid : Seen A) (gateway i : ℕ) (book after : Book)
-    (noted : mid ≡ with_step (made.Try t.job.number) old) (f : Some i ≡ place_of gateway mid.books)
+    (noted : mid ≡ with_step (Try t.job.number) old) (f : Some i ≡ place_of gateway mid.books)
     (was : book ≡ get_or mid.books i book) where
   abbrev n : ℕ
   n = t.job.number
@@ -52,8 +51,8 @@ module _ {A : Type 0} (t : Standing) (old mid : Seen A) (gateway i : ℕ) (book 
         outcomes = cc;
       }
 
-  steps_noted : map step_of mid.steps ≡ map step_of old.steps ++ Try n ∷ []
-  steps_noted = rw noted (map-append step_of old.steps (made.Try n ∷ []))
+  steps_noted : mid.steps ≡ noting (Try n ∷ []) old.steps
+  steps_noted = rw noted refl
 
   module _ (w : World) (out : HasTicketOut w t old) where
     mid_books : AreBooksOf mid.books w.gateways
@@ -158,7 +157,7 @@ module _ {A : Type 0} (t : Standing) (old mid : Seen A) (gateway i : ℕ) (book 
       }
 
 -- a gateway that is among these has a book
-pub has_book : {A : Type 0} (t : Standing) (old mid : Seen A) (gateway : ℕ) → mid ≡ with_step (made.Try t.job.number) old
+pub has_book : {A : Type 0} (t : Standing) (old mid : Seen A) (gateway : ℕ) → mid ≡ with_step (Try t.job.number) old
     → AreHere (ids_of old.books) t.job → option_map (λ (c : Candidate). c.gateway) (candidate_of t) ≡ Some gateway
     → None ≡ place_of gateway mid.books → ⊥
 has_book {A} t old mid gateway noted here own f = by (candidate_of t) refl own

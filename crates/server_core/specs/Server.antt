@@ -1,4 +1,5 @@
-use Rattle.std.specs.Prelude.{ℕ, ◌≡◌, false, List, [], ◌∷◌, ◌++◌, map, Contains, IsTrue, Some, Result, Ok, Err}
+use Rattle.std.specs.Prelude.{ℕ, ◌≡◌, false, List, [], ◌∷◌, ◌++◌, map, Contains, IsTrue, Option, Some, Result, Ok, Err}
+use Rattle.std.specs.Option.{option_map}
 use Rattle.std.specs.List.{AllZip}
 use Rattle.gateway_book.specs.Book.{Book}
 use Rattle.gateway_book.specs.Orderly.{IsOrderly}
@@ -10,7 +11,6 @@ use Rattle.rx_windows.specs.declared.candidate.Candidate.{Candidate}
 use Rattle.answer_ticket.specs.Job.{Job, candidate_at}
 use Rattle.server_core.specs.declared.server.Server.{Server}
 use Rattle.server_core.specs.declared.event.Event.{Event}
-use Rattle.server_core.specs.declared.event.Step.{Step as Made}
 use Rattle.server_core.specs.declared.entry.Entry.{Entry}
 use Rattle.server_core.specs.declared.entry.Line.{Line}
 use Rattle.server_core.specs.declared.entry.Line.TheVariants as says
@@ -25,24 +25,35 @@ use Rattle.server_desk.specs.Desk.{DeskView, desk_of}
 use Rattle.server_desk.specs.World.{World, Gateway, opening}
 use Rattle.server_core.specs.Steps.{Step, Cancel, step}
 use Rattle.server_core.specs.Steps as replies
-use Rattle.server_core.specs.Schedule.{usual_limits, reached, due_numbers, pass_steps, event_steps, step_of}
-use Rattle.server_core.specs.Entries.{step_lines, event_lines, entry_at}
+use Rattle.server_core.specs.Schedule.{usual_limits, reached, due_numbers, pass_steps, event_steps, schedule, step_of}
+use Rattle.server_core.specs.Entries.{step_lines, event_lines, entry_at, entries, gateways_after, kept_gateway, gateway_of}
 
 -- What one thread keeps of the system, and how it goes on.
 
--- what it keeps: what the desk knows, the gateways' books, the steps that it made, and the lines that it told
+-- what it keeps: what the desk knows, the gateways' books, the steps that it made, where they are asked for, and the lines that
+-- it told
 pub record Seen (A : Type 0) : Type 0 where
   pub desk : DeskView
   pub books : List Book
-  pub steps : List (Made A)
+  pub steps : Option (List Step)
   pub outcomes : List (Entry A)
 
 abbrev pub seen : {S A R : Type 0} {C : _} → Server S A R C → Seen A
-seen s = record { desk = s.desk; books = s.books.items; steps = s.steps.items; outcomes = s.outcomes.items }
+seen s =
+    record {
+      desk = s.desk;
+      books = s.books.items;
+      steps = option_map (λ made. map step_of made.items) s.steps;
+      outcomes = s.outcomes.items;
+    }
+
+-- these steps more are kept, where any are
+abbrev pub noting : List Step → Option (List Step) → Option (List Step)
+noting ss kept = option_map (λ made. made ++ ss) kept
 
 -- after one more step, and after more lines
-abbrev pub with_step : {A : Type 0} → Made A → Seen A → Seen A
-with_step made s = record s { steps = s.steps ++ made ∷ [] }
+abbrev pub with_step : {A : Type 0} → Step → Seen A → Seen A
+with_step made s = record s { steps = noting (made ∷ []) s.steps }
 
 abbrev pub with_lines : {A : Type 0} → ℕ → List (Line A) → Seen A → Seen A
 with_lines place lines s = record s { outcomes = s.outcomes ++ map (entry_at place) lines }
@@ -70,7 +81,7 @@ IsAt w s = AreAt w s.desk s.books
 -- it made these steps from a world, and told these lines
 pub record Goes {A : Type 0} (w : World) (ss : List Step) (lines : List (Entry A)) (old new : Seen A) : Type 0 where
   pub at : IsAt (reached w ss) new
-  pub steps : map step_of new.steps ≡ map step_of old.steps ++ ss
+  pub steps : new.steps ≡ noting ss old.steps
   pub outcomes : new.outcomes ≡ old.outcomes ++ lines
 
 -- it made these steps from a world, and told the lines for them as an answer to the event at this place
@@ -115,12 +126,12 @@ pub record AreReady (d : DeskView) (bs : List Book) : Type 0 where
 abbrev pub IsBetweenCalls : {A : Type 0} → Seen A → Type 0
 IsBetweenCalls s = AreReady s.desk s.books
 
--- it keeps what there is before the first step
-pub record IsOpened {A : Type 0} (settings : SettingLists) (s : Seen A) : Type 0 where
+-- it keeps what there is before the first step, and these steps
+pub record IsOpened {A : Type 0} (settings : SettingLists) (kept : Option (List Step)) (s : Seen A) : Type 0 where
   pub are : AreSettings settings.gateways settings.devices
   pub at : IsAt (opening settings usual_limits) s
   pub ready : IsBetweenCalls s
-  pub steps : s.steps ≡ []
+  pub steps : s.steps ≡ kept
   pub outcomes : s.outcomes ≡ []
 
 -- the line that answers a payload, a copy of an uplink, or what was to be cancelled
@@ -148,3 +159,10 @@ pub record IsCancelled {A : Type 0} (n : ℕ) (old new : Seen A) (result : Resul
 -- the steps in which all that is due is closed and answered
 abbrev pub pass_whole : World → ℕ → List Step
 pass_whole w now = pass_steps w now (due_numbers now w.reg.gathered.list)
+
+-- it made the steps of these events, and told their lines; these steps were kept before
+pub record IsReplayed {A : Type 0} (settings : SettingLists) (es : List (Event A)) (kept : Option (List Step))
+    (s : Seen A) : Type 0 where
+  pub steps : s.steps ≡ noting (schedule settings es) kept
+  pub outcomes : s.outcomes ≡ entries settings es
+  pub books : map gateway_of s.books ≡ map kept_gateway (gateways_after settings es)

@@ -20,9 +20,9 @@ use Rattle.server_core.specs.DeskCalls.{told}
 use Rattle.server_desk.specs.World.{World}
 use Rattle.server_core.specs.Steps.{Step, Settle, Try, step}
 use Rattle.server_core.specs.Steps as replies
-use Rattle.server_core.specs.Schedule.{reached, up_to_first, is_accepted, given_steps, step_of}
+use Rattle.server_core.specs.Schedule.{reached, up_to_first, is_accepted, given_steps}
 use Rattle.server_core.specs.Entries.{lines_for, step_lines, entry_at}
-use Rattle.server_core.specs.Server.{Seen, IsAt, AreBooksOf, Moves, ids_of}
+use Rattle.server_core.specs.Server.{Seen, IsAt, AreBooksOf, Moves, ids_of, noting}
 
 -- A ticket is tried on one thread, and settled.
 
@@ -51,7 +51,7 @@ end_lines n ending receipt = []
 -- the ticket was tried until it was booked or out; what is to be told of that is told when it is settled
 pub record EndsTries {A : Type 0} (w : World) (t : Standing) (old new : Seen A) (ended : TriedOut A) : Type 0 where
   pub books : AreBooksOf new.books (reached w (tries_from w t)).gateways
-  pub steps : map step_of new.steps ≡ map step_of old.steps ++ tries_from w t
+  pub steps : new.steps ≡ noting (tries_from w t) old.steps
   pub told : told (reached w (tries_from w t)) t.job.number ≡ Some ended.stub.result
   pub lines : step_lines w (tries_from w t)
       ++ lines_for (reached w (tries_from w t)) (Settle t.job.number) (replies.Ended (Some ended.stub.result))
@@ -60,7 +60,7 @@ pub record EndsTries {A : Type 0} (w : World) (t : Standing) (old new : Seen A) 
 -- the candidate at which it stood was refused, and another follows
 pub record GoesOn {A : Type 0} (w : World) (t : Standing) (old new : Seen A) : Type 0 where
   pub books : AreBooksOf new.books (step w (Try t.job.number)).0.gateways
-  pub steps : map step_of new.steps ≡ map step_of old.steps ++ Try t.job.number ∷ []
+  pub steps : new.steps ≡ noting (Try t.job.number ∷ []) old.steps
   pub stands : numbered t.job.number (step w (Try t.job.number)).0.answers ≡ Some (Open (t.at + 1) t.job)
   pub rest : tries_from w t ≡ Try t.job.number ∷ tries_from (step w (Try t.job.number)).0 (next_of t)
   pub lines : lines_for {A = A} w (Try t.job.number) (step w (Try t.job.number)).1 ≡ []
@@ -99,7 +99,7 @@ AttemptIs t old new (On next) = MovesOn t old new next
 pub record IsSettled {A : Type 0} (place : ℕ) (ended : TriedOut A) (old new : Seen A) : Type 0 where
   pub books : new.books ≡ old.books
   pub desk : new.desk ≡ desk_settled ended.stub.result ended.stub.number old.desk
-  pub steps : map step_of new.steps ≡ map step_of old.steps ++ Settle ended.stub.number ∷ []
+  pub steps : new.steps ≡ noting (Settle ended.stub.number ∷ []) old.steps
   pub outcomes : new.outcomes ≡ old.outcomes ++ map (entry_at place) (end_lines ended.stub.number ended.stub.result ended.receipt)
 
 -- a ticket of this number is out

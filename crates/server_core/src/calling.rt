@@ -8,7 +8,6 @@ use crate::books::place_of;
 use crate::lines::{cancelled_line, heard_line, queued_line};
 use crate::server::Server;
 use crate::{Heard1, Line, NoMemory, Step};
-use answer_ticket::Bytes;
 use gateway_book::CancelFault;
 use std::alloc::Allocator;
 use std::hash::BuildHasher;
@@ -26,12 +25,7 @@ impl<S: BuildHasher, A: Allocator + Copy> Server<S, A> {
         ensures ready { OnOk result (IsBetweenCalls (seen self.new)) }
         ensures made { OnOk result (Makes place (λ w. Queue addr (port, payload.now) ∷ []) (seen self.old) (seen self.new)) }
     {
-        let copied = Vec::from_slice(*self.steps.allocator(), payload)?;
-        self.did(Step::Queue {
-            addr,
-            port,
-            payload: Bytes::new(copied),
-        })?;
+        self.did_queue(addr, port, payload)?;
         let answer = self.desk.queue(addr, port, payload);
         self.told(place, queued_line(addr, answer)?)
     }
@@ -48,12 +42,7 @@ impl<S: BuildHasher, A: Allocator + Copy> Server<S, A> {
         ensures ready { OnOk result (IsBetweenCalls (seen self.new)) }
         ensures made { OnOk result (Makes place (λ w. Hear bytes.now heard arrived ∷ []) (seen self.old) (seen self.new)) }
     {
-        let copied = Vec::from_slice(*self.steps.allocator(), bytes)?;
-        self.did(Step::Hear {
-            bytes: Bytes::new(copied),
-            heard,
-            arrived,
-        })?;
+        self.did_hear(bytes, heard, arrived)?;
         let answer = self.desk.hear(bytes, heard, arrived);
         self.told(place, heard_line(answer)?)
     }

@@ -22,8 +22,8 @@ pub use laws::{
     law_every_run_keeps_headline, law_others_leave_alone,
 };
 pub use lines::{cancelled_line, heard_line, queued_line};
-pub use replayed::Replay;
-pub use replaying::replay;
+pub use replayed::{Answers, Replay};
+pub use replaying::{answer_events, replay};
 pub use server::USUAL_LIMITS;
 pub use server_desk::{
     DataRate, Desk, DeskFault, DeskHeard, DeviceSetting, GatewaySetting, Heard1, Limits,

@@ -6,7 +6,7 @@ ghost use Rattle.server_core.specs.Entries.{entries, gateways_after, kept_gatewa
 ghost use Rattle.server_core.specs.Server.{seen, Does, Makes, IsBetweenCalls, pass_whole};
 
 use crate::server::Server;
-use crate::{Event, Line, NoMemory, Replay, Settings, Step};
+use crate::{Answers, Event, Line, NoMemory, Replay, Settings, Step};
 use std::alloc::Allocator;
 use std::hash::BuildHasher;
 
@@ -25,7 +25,7 @@ pub fn replay<S: BuildHasher + Clone, A: Allocator + Copy, B: Allocator>(
     ensures outcomes { IfOk result (λ r. r.outcomes.items ≡ entries settings.now events.now) }
     ensures books { IfOk result (λ r. map gateway_of r.books.items ≡ map kept_gateway (gateways_after settings.now events.now)) }
 {
-    let mut server = Server::new(alloc, hasher, settings)?;
+    let mut server = Server::new(alloc, hasher, settings, Some(Vec::new(alloc)))?;
     for (place, event) in events.iter().enumerate() {
         server.event(place, event)?;
     }
@@ -35,11 +35,38 @@ pub fn replay<S: BuildHasher + Clone, A: Allocator + Copy, B: Allocator>(
         steps,
         outcomes,
     } = server;
+    // They were asked for.
+    let Some(steps) = steps else { unreachable!() };
     Ok(Replay {
         steps,
         outcomes,
         books,
     })
+}
+
+/// Does what `replay` does, and keeps neither steps nor events: each event is dropped once it is answered.
+pub fn answer_events<S: BuildHasher + Clone, A: Allocator + Copy, B: Allocator>(
+    alloc: A,
+    hasher: S,
+    settings: &Settings<B>,
+    events: Vec<Event<A>, A>,
+) -> Result<Answers<A>, NoMemory>
+    ensures outcomes { IfOk result (λ r. r.outcomes.items ≡ entries settings.now events.items) }
+    ensures books { IfOk result (λ r. map gateway_of r.books.items ≡ map kept_gateway (gateways_after settings.now events.items)) }
+{
+    let mut server = Server::new(alloc, hasher, settings, None)?;
+    let mut place = 0;
+    for event in events {
+        server.use_up(place, event)?;
+        place += 1;
+    }
+    let Server {
+        desk: _,
+        books,
+        steps: _,
+        outcomes,
+    } = server;
+    Ok(Answers { outcomes, books })
 }
 
 impl<S: BuildHasher, A: Allocator + Copy> Server<S, A> {
@@ -66,6 +93,15 @@ impl<S: BuildHasher, A: Allocator + Copy> Server<S, A> {
             Event::Cancel { number } => self.cancel(place, *number),
             Event::Bad { line } => self.told(place, Line::Bad { line: *line }),
         }
+    }
+
+    /// Does what the event at this place asks for, and drops it.
+    fn use_up(&mut self, place: usize, event: Event<A>) -> Result<(), NoMemory>
+        requires { IsBetweenCalls (seen self.old) }
+        ensures ready { OnOk result (IsBetweenCalls (seen self.new)) }
+        ensures done { OnOk result (Does place event (seen self.old) (seen self.new)) }
+    {
+        self.event(place, &event)
     }
 
     /// Closes the gatherings that are due, the least number first, and answers each before it closes the next.

@@ -1,10 +1,14 @@
 // A server on one thread: what it keeps, and how it opens.
 
-ghost use Rattle.std.specs.Prelude.{◌≡◌, ◌∷◌, [], IfOk, OnOk};
+ghost use Rattle.std.specs.Prelude.{◌≡◌, ◌∷◌, [], map, IfOk, OnOk};
+ghost use Rattle.std.specs.Option.{option_map};
+ghost use Rattle.server_core.specs.Schedule.{step_of};
+ghost use Rattle.server_core.specs.Steps.{Queue, Hear};
 ghost use Rattle.server_core.specs.Server.{seen, with_step, with_lines, IsOpened};
 
 use crate::books::{Book, books_of};
-use crate::{Desk, Entry, Limits, Line, NoMemory, Settings, Step};
+use crate::{Desk, Entry, Heard1, Limits, Line, NoMemory, Settings, Step};
+use answer_ticket::Bytes;
 use std::alloc::Allocator;
 use std::hash::BuildHasher;
 
@@ -22,36 +26,77 @@ pub const USUAL_LIMITS: Limits = Limits {
 pub(crate) struct Server<S: BuildHasher, A: Allocator + Copy> {
     pub(crate) desk: Desk<S, A>,
     pub(crate) books: Vec<Book<A>, A>,
-    pub(crate) steps: Vec<Step<A>, A>,
+    /// None where nobody asks for them.
+    pub(crate) steps: Option<Vec<Step<A>, A>>,
     pub(crate) outcomes: Vec<Entry<A>, A>,
 }
 
 impl<S: BuildHasher + Clone, A: Allocator + Copy> Server<S, A> {
-    /// A server with these settings that has heard nothing.
+    /// A server with these settings that has heard nothing. Its steps go behind these.
     pub(crate) fn new<B: Allocator>(
         alloc: A,
         hasher: S,
         settings: &Settings<B>,
+        steps: Option<Vec<Step<A>, A>>,
     ) -> Result<Self, NoMemory>
-        ensures { IfOk result (λ server. IsOpened settings.now (seen server)) }
+        ensures { IfOk result
+            (λ server. IsOpened settings.now (option_map (λ kept. map step_of kept.items) steps) (seen server)) }
     {
         let desk = Desk::new(alloc, hasher, settings, USUAL_LIMITS)?;
         let books = books_of(alloc, settings.gateways())?;
         Ok(Server {
             desk,
             books,
-            steps: Vec::new(alloc),
+            steps,
             outcomes: Vec::new(alloc),
         })
     }
 }
 
 impl<S: BuildHasher, A: Allocator + Copy> Server<S, A> {
-    /// Notes a step.
+    /// Notes a step, where steps are kept.
     pub(crate) fn did(&mut self, step: Step<A>) -> Result<(), NoMemory>
-        ensures { OnOk result (seen self.new ≡ with_step step (seen self.old)) }
+        ensures { OnOk result (seen self.new ≡ with_step (step_of step) (seen self.old)) }
     {
-        Ok(self.steps.push(step)?)
+        match &mut self.steps {
+            Some(steps) => Ok(steps.push(step)?),
+            None => Ok(()),
+        }
+    }
+
+    /// Notes that a payload is queued.
+    pub(crate) fn did_queue(&mut self, addr: u32, port: u8, payload: &[u8]) -> Result<(), NoMemory>
+        ensures { OnOk result (seen self.new ≡ with_step (Queue addr (port, payload.now)) (seen self.old)) }
+    {
+        let Some(steps) = &mut self.steps else {
+            return Ok(());
+        };
+        let payload = Bytes::new(Vec::from_slice(*steps.allocator(), payload)?);
+        Ok(steps.push(Step::Queue {
+            addr,
+            port,
+            payload,
+        })?)
+    }
+
+    /// Notes that a copy of an uplink is heard.
+    pub(crate) fn did_hear(
+        &mut self,
+        bytes: &[u8],
+        heard: Heard1,
+        arrived: u64,
+    ) -> Result<(), NoMemory>
+        ensures { OnOk result (seen self.new ≡ with_step (Hear bytes.now heard arrived) (seen self.old)) }
+    {
+        let Some(steps) = &mut self.steps else {
+            return Ok(());
+        };
+        let bytes = Bytes::new(Vec::from_slice(*steps.allocator(), bytes)?);
+        Ok(steps.push(Step::Hear {
+            bytes,
+            heard,
+            arrived,
+        })?)
     }
 
     /// Notes a line that answers the event at this place.
