@@ -1,78 +1,90 @@
-// A station and a till, where growths may be refused.
-ghost use Rattle.std.specs.Prelude.{◌≡◌};
+// A station and a till.
 
-use crate::calls::{ADDR, Given, Server, given};
-use crate::stations::{RefusedStation, station_of};
+use crate::calls::{ADDR, Answer, Call, Server, given, heard, not_given, queued, told};
+use crate::cases::{Case, is_refused};
 use crate::turns::Refuser;
-use answer_ticket::Stub;
-use server_desk::{DeskFault, DeskHeard, Heard1, QueueFault, TakeFault};
-use server_workers::{Blank, Ledger, PARTS, Till};
-use std::alloc::Global;
+use answer_ticket::{Stub, Ticket};
+use server_desk::TakeFault;
+use server_workers::{Ledger, Station, Till};
+use std::alloc::{Allocator, Global};
+use std::hash::BuildHasher;
 use std::sync::Wait;
 use std::test::Fail;
-use worked_inputs::booked;
+use worked_inputs::{WorkedHasher, booked, copy_at};
 
 /// A station, and the till by which its answers are counted.
 #[derive(Drop)]
-pub(crate) struct AtStation<'a, B: Ledger> {
-    station: RefusedStation<'a, B>,
+struct AtStation<B: Ledger, S: BuildHasher, A: Allocator + Copy> {
+    station: Station<B, S, A>,
     till: Till<B>,
 }
 
-/// The station of gateways 1 and 2 and of two devices.
-pub(crate) fn at_station<'a, B: Ledger>(
-    global: Global,
-    alloc: &'a Refuser,
-    blank: Blank,
-) -> Result<AtStation<'a, B>, Fail>
-    requires name { blank.name ≡ B.name }
-    requires parts { blank.parts ≡ B.parts }
-    requires all { blank.parts ≡ PARTS }
-{
-    let (station, till) = station_of(global, alloc, 2, blank)?;
-    Ok(AtStation { station, till })
-}
-
-/// Settles a stub; one that is handed back is spent.
-fn settle<B: Ledger, R: Wait>(rt: &R, at: &mut AtStation<'_, B>, stub: Stub) {
-    if let Err(stub) = at.station.settle(rt, stub, &mut at.till) {
-        let _ = stub.end();
-    }
-}
-
-impl<'a, B: Ledger> Server for AtStation<'a, B> {
-    fn queue<R: Wait>(&mut self, rt: &R, payload: &[u8]) -> Result<usize, QueueFault> {
-        self.station.queue(rt, ADDR, 9, payload)
+impl<B: Ledger, S: BuildHasher, A: Allocator + Copy> AtStation<B, S, A> {
+    /// Settles a stub; one that is handed back is spent.
+    fn settle<R: Wait>(&mut self, rt: &R, stub: Stub) {
+        if let Err(stub) = self.station.settle(rt, stub, &mut self.till) {
+            let _ = stub.end();
+        }
     }
 
-    fn hear<R: Wait>(
-        &mut self,
-        rt: &R,
-        bytes: &[u8],
-        copy: Heard1,
-    ) -> Result<DeskHeard, DeskFault> {
-        self.station.hear(rt, bytes, copy, 0)
+    /// Gives a ticket up that was taken.
+    fn give_up<R: Wait>(&mut self, rt: &R, ticket: Result<Ticket<A>, TakeFault>) -> Answer {
+        match ticket {
+            Ok(ticket) => {
+                let (shown, stub) = given(ticket);
+                self.settle(rt, stub);
+                shown
+            }
+            Err(fault) => not_given(fault),
+        }
     }
 
-    fn pass<R: Wait>(&mut self, rt: &R, now: u64) -> Option<u64> {
-        self.station.pass(rt, now)
-    }
-
-    fn take<R: Wait>(&mut self, rt: &R, number: u64) -> Result<Given, TakeFault> {
-        let (shown, stub) = given(self.station.take(rt, number)?);
-        settle(rt, self, stub);
-        Ok(shown)
-    }
-
-    fn answer<R: Wait>(&mut self, rt: &R, number: u64) -> Option<usize> {
+    /// Takes a ticket, and books it: the length of the frame.
+    fn answer<R: Wait>(&mut self, rt: &R, number: u64) -> Option<u64> {
         let ticket = self.station.take(rt, number).ok()?;
         let (stub, receipt) = booked(self.station.try_once(rt, ticket))?;
-        settle(rt, self, stub);
-        Some(receipt.frame.as_slice().len())
+        self.settle(rt, stub);
+        Some(receipt.frame.as_slice().len() as u64)
     }
 
-    fn airtime<R: Wait>(&mut self, rt: &R, gateway: u16) -> Option<u64> {
-        let totals = self.station.totals(rt, gateway, 0).ok()?;
-        Some(totals.booked)
+    /// For how long a gateway was on air.
+    fn airtime<R: Wait>(&self, rt: &R, gateway: u16) -> Option<u64> {
+        Some(self.station.totals(rt, gateway, 0).ok()?.booked)
     }
+}
+
+impl<B: Ledger, S: BuildHasher, A: Allocator + Copy> Server for AtStation<B, S, A> {
+    fn answer_to<R: Wait>(&mut self, rt: &R, call: Call, bytes: &[u8]) -> Answer {
+        match call {
+            Call::Queue => queued(self.station.queue(rt, ADDR, 9, &[1, 2, 3])),
+            Call::Hear(gateway, ..) => heard(self.station.hear(rt, bytes, copy_at(gateway), 0)),
+            Call::Pass(now) => told("closed", self.station.pass(rt, now)),
+            Call::Take(number) => {
+                let ticket = self.station.take(rt, number);
+                self.give_up(rt, ticket)
+            }
+            Call::Answer(number) => told("sent", self.answer(rt, number)),
+            Call::Airtime(gateway) => told("on air", self.airtime(rt, gateway)),
+        }
+    }
+}
+
+/// Refuses the growth of this number of a call of a station, whose answers are counted by this till: whether there was one.
+pub(crate) fn is_refused_at<B: Ledger, A: Allocator + Copy, R: Wait>(
+    rt: &R,
+    memory: Global,
+    alloc: &Refuser,
+    station: Station<B, WorkedHasher, A>,
+    till: Till<B>,
+    case: &Case,
+    number: u64,
+) -> Result<bool, Fail> {
+    is_refused(
+        rt,
+        memory,
+        alloc,
+        &mut AtStation { station, till },
+        case,
+        number,
+    )
 }

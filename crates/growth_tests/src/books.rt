@@ -1,92 +1,127 @@
 // Rosters and books.
+ghost use Rattle.std.specs.Prelude.{◌≡◌, []};
 
-use crate::asks::{Kept, ask, book_of, booked_by};
-use crate::turns::{MOST_GROWTHS, Refuser, gave_up};
-use gateway_book::{GatewayBook, Refusal};
-use refusing_alloc::Refusing;
+use crate::turns::{Refuser, refusing, same, starves};
+use gateway_book::{Ask, GatewayBook, Refusal, Totals};
+use radio_airtime::DataRate;
 use resv_list::{Roster, VecRoster};
 use resv_tree::TreeRoster;
+use std::alloc::Global;
 use std::test::Fail;
-use test_asserts::{equal, holds};
+use test_asserts::holds;
 
-/// How many growths a booking takes, over any roster; each is refused once.
+/// Twelve bytes on 868.1 MHz at DR5, 41,216 us.
+fn ask(number: u64, start: u64) -> Ask {
+    Ask {
+        number,
+        start,
+        freq_hz: 868_100_000,
+        rate: DataRate::Dr5,
+        len: 12,
+    }
+}
+
+/// A book over an empty roster, with so many members, a second apart from 0 on.
+fn booked_by<R: Roster + Drop>(roster: R, members: u64) -> Result<GatewayBook<R>, Fail>
+    requires { R.list roster ≡ [] }
+{
+    let mut book = GatewayBook::new(roster, 1, 4_096, 0)?;
+    for number in 0..members {
+        book.book(ask(number, number.saturating_mul(1_000_000)))?;
+    }
+    Ok(book)
+}
+
+/// How many growths a booking takes, which is refused once for each, and leaves the book as it was.
 fn growths_to_book<R: Roster>(alloc: &Refuser, book: &mut GatewayBook<R>) -> Result<u64, Fail> {
     let before = book.totals();
-    for number in 1..=MOST_GROWTHS {
-        alloc.refuse(number);
-        let booked = book.book(ask(9, 9_000_000));
-        if !gave_up(alloc, number, booked == Err(Refusal::NoMemory))? {
-            holds(booked.is_ok())?;
-            equal(&book.totals().kept, &before.kept.saturating_add(1))?;
-            return Ok(number.saturating_sub(1));
-        }
-        equal(&book.totals(), &before)?;
-    }
-    Err(Fail::from("no end of growths"))
+    let starved = (Some(Refusal::NoMemory), true);
+    let growths = starves(alloc, starved, (None, false), || {
+        let fault = book.book(ask(9, 9_000_000)).err();
+        (fault, book.totals() == before)
+    })?;
+    same(book.totals().kept, before.kept.saturating_add(1))?;
+    Ok(growths)
+}
+
+/// How many growths a booking takes over a roster with so many members.
+fn growths_over<R: Roster + Drop>(alloc: &Refuser, roster: R, members: u64) -> Result<u64, Fail>
+    requires { R.list roster ≡ [] }
+{
+    growths_to_book(alloc, &mut booked_by(roster, members)?)
 }
 
 #[test]
 fn a_booking(rt: HostRuntime) -> Result<(), Fail> {
-    let alloc = Refusing::new(rt.alloc());
-    for members in [0, 1, 2, 8] {
-        let mut tree = book_of(&rt, &alloc, members);
-        equal(&growths_to_book(&alloc, &mut tree)?, &1)?;
-        let mut sorted = booked_by(&rt, VecRoster::new(&alloc), members);
-        holds(growths_to_book(&alloc, &mut sorted)? <= 1)?;
-    }
-    Ok(())
+    refusing(rt.alloc(), |alloc| {
+        for members in [0, 1, 2, 8] {
+            same(growths_over(alloc, TreeRoster::new(alloc), members)?, 1)?;
+            holds(growths_over(alloc, VecRoster::new(alloc), members)? <= 1)?;
+        }
+        Ok(())
+    })
 }
 
 /// How many growths the list of a book takes; each is refused once.
-fn growths_to_list(alloc: &Refuser, book: &Kept<'_>) -> Result<u64, Fail> {
-    for number in 1..=MOST_GROWTHS {
-        alloc.refuse(number);
-        let list = book.list(alloc);
-        if !gave_up(alloc, number, list.is_err())? {
-            equal(&list?.len(), &book.totals().kept)?;
-            return Ok(number.saturating_sub(1));
-        }
-    }
-    Err(Fail::from("no end of growths"))
+fn growths_to_list<R: Roster>(alloc: &Refuser, book: &GatewayBook<R>) -> Result<u64, Fail> {
+    let kept = Some(book.totals().kept);
+    starves(alloc, None, kept, || Some(book.list(alloc).ok()?.len()))
 }
 
 #[test]
 fn the_list_of_a_book(rt: HostRuntime) -> Result<(), Fail> {
-    let alloc = Refusing::new(rt.alloc());
-    let book = book_of(&rt, &alloc, 5);
-    equal(&growths_to_list(&alloc, &book)?, &1)?;
-    Ok(())
+    refusing(rt.alloc(), |alloc| {
+        same(
+            growths_to_list(alloc, &booked_by(TreeRoster::new(alloc), 5)?)?,
+            1,
+        )
+    })
 }
 
-/// How many growths the copy of a book takes; each is refused once.
-fn growths_to_copy(alloc: &Refuser, book: &Kept<'_>) -> Result<u64, Fail> {
-    let list = book.list(alloc)?;
+/// What a copy of a book over an empty roster has counted; nothing where there is no memory.
+fn copied<R: Roster + Drop, C: Roster + Drop>(
+    book: &GatewayBook<R>,
+    memory: Global,
+    roster: C,
+) -> Option<Totals>
+    requires { C.list roster ≡ [] }
+{
+    let list = book.list(memory).ok()?;
     let totals = book.totals();
-    for number in 1..=MOST_GROWTHS {
-        alloc.refuse(number);
-        let copy = GatewayBook::trial(
-            TreeRoster::new(alloc),
-            book.id(),
-            book.cap(),
-            book.gap(),
-            totals.floor,
-            totals.booked,
-            list.as_slice(),
-        );
-        if !gave_up(alloc, number, copy.is_err())? {
-            equal(&copy?.totals(), &totals)?;
-            return Ok(number.saturating_sub(1));
-        }
-    }
-    Err(Fail::from("no end of growths"))
+    let copy = GatewayBook::trial(
+        roster,
+        book.id(),
+        book.cap(),
+        book.gap(),
+        totals.floor,
+        totals.booked,
+        &list,
+    );
+    Some(copy.ok()?.totals())
+}
+
+/// How many growths the copy of a book takes, whose list finds memory; each is refused once.
+fn growths_to_copy<R: Roster + Drop>(
+    alloc: &Refuser,
+    memory: Global,
+    book: &GatewayBook<R>,
+) -> Result<u64, Fail> {
+    let totals = Some(book.totals());
+    starves(
+        alloc,
+        None,
+        totals,
+        || copied(book, memory, TreeRoster::new(alloc)),
+    )
 }
 
 #[test]
 fn a_copy_of_a_book(rt: HostRuntime) -> Result<(), Fail> {
-    let alloc = Refusing::new(rt.alloc());
-    for members in [1, 2, 5] {
-        let book = book_of(&rt, &alloc, members);
-        holds(growths_to_copy(&alloc, &book)? >= members)?;
-    }
-    Ok(())
+    refusing(rt.alloc(), |alloc| {
+        for members in [1, 2, 5] {
+            let book = booked_by(TreeRoster::new(alloc), members)?;
+            holds(growths_to_copy(alloc, rt.alloc(), &book)? >= members)?;
+        }
+        Ok(())
+    })
 }

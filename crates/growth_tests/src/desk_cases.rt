@@ -1,90 +1,89 @@
 // The calls of a desk whose growths are refused.
 
-use crate::calls::{Answer, Call, Row};
+use crate::calls::{ADDR, Answer, Call, Row};
 use crate::cases::Case;
-use server_desk::{DeskFault, TakeFault};
 
-const SAME_GATEWAY: Answer = Answer::NotHeard(DeskFault::SameGateway);
+const SAME_GATEWAY: Answer = ("same gateway", [0; 3]);
 
-const NOT_READY: Answer = Answer::NotGiven(TakeFault::NotReady);
+const NOT_READY: Answer = ("not ready", [0; 3]);
 
-const IS_TAKEN: Answer = Answer::NotGiven(TakeFault::Taken);
+const IS_TAKEN: Answer = ("is taken", [0; 3]);
 
 /// The uplink with counter 0 is heard by gateway 1.
-const OPENS_1: Row = (Call::Hear(1, 0), Answer::Opened(1));
+const OPENS_1: Row = (Call::Hear(1, ADDR, 0), ("opened", [1, 0, 0]));
 
 /// The uplink with counter 1 is heard by gateway 1, after that one.
-const OPENS_2: Row = (Call::Hear(1, 1), Answer::Opened(2));
+const OPENS_2: Row = (Call::Hear(1, ADDR, 1), ("opened", [2, 0, 0]));
 
-const OPENS_3: Row = (Call::Hear(1, 2), Answer::Opened(3));
+const OPENS_3: Row = (Call::Hear(1, ADDR, 2), ("opened", [3, 0, 0]));
 
-const OPENS_4: Row = (Call::Hear(1, 3), Answer::Opened(4));
+const OPENS_4: Row = (Call::Hear(1, ADDR, 3), ("opened", [4, 0, 0]));
 
-const OPENS_5: Row = (Call::Hear(1, 4), Answer::Opened(5));
+const OPENS_5: Row = (Call::Hear(1, ADDR, 4), ("opened", [5, 0, 0]));
 
 /// The second device's uplink is heard, as the second of all.
-const OPENS_OTHER_2: Row = (Call::HearOther, Answer::Opened(2));
+const OPENS_OTHER_2: Row = (Call::Hear(1, 2, 0), ("opened", [2, 0, 0]));
 
-const OPENS_OTHER_3: Row = (Call::HearOther, Answer::Opened(3));
+const OPENS_OTHER_3: Row = (Call::Hear(1, 2, 0), ("opened", [3, 0, 0]));
 
-const OPENS_OTHER_6: Row = (Call::HearOther, Answer::Opened(6));
+const OPENS_OTHER_6: Row = (Call::Hear(1, 2, 0), ("opened", [6, 0, 0]));
 
 /// Gateway 1 heard the uplink with counter 0 before.
-const HEARD_1: Row = (Call::Hear(1, 0), SAME_GATEWAY);
+const HEARD_1: Row = (Call::Hear(1, ADDR, 0), SAME_GATEWAY);
 
-const HEARD_2: Row = (Call::Hear(1, 1), SAME_GATEWAY);
+const HEARD_2: Row = (Call::Hear(1, ADDR, 1), SAME_GATEWAY);
 
 /// Gateway 2 hears the uplink with counter 0.
-const JOINS_1: Row = (Call::Hear(2, 0), Answer::Joined(1, 2));
+const JOINS_1: Row = (Call::Hear(2, ADDR, 0), ("joined", [1, 2, 0]));
 
-const CLOSES_1: Row = (Call::Pass(200_001), Answer::Passed(Some(1)));
+const CLOSES_1: Row = (Call::Pass(200_001), ("closed", [1, 0, 0]));
 
-const CLOSES_2: Row = (Call::Pass(200_001), Answer::Passed(Some(2)));
+const CLOSES_2: Row = (Call::Pass(200_001), ("closed", [2, 0, 0]));
 
-const CLOSES_3: Row = (Call::Pass(200_001), Answer::Passed(Some(3)));
+const CLOSES_3: Row = (Call::Pass(200_001), ("closed", [3, 0, 0]));
 
-const CLOSES_4: Row = (Call::Pass(200_001), Answer::Passed(Some(4)));
+const CLOSES_4: Row = (Call::Pass(200_001), ("closed", [4, 0, 0]));
 
-const CLOSES_5: Row = (Call::Pass(200_001), Answer::Passed(Some(5)));
+const CLOSES_5: Row = (Call::Pass(200_001), ("closed", [5, 0, 0]));
 
-const CLOSES_6: Row = (Call::Pass(200_001), Answer::Passed(Some(6)));
+const CLOSES_6: Row = (Call::Pass(200_001), ("closed", [6, 0, 0]));
 
-const CLOSES_NONE: Row = (Call::Pass(200_001), Answer::Passed(None));
+const CLOSES_NONE: Row = (Call::Pass(200_001), ("none", [0; 3]));
 
 const NOT_READY_1: Row = (Call::Take(1), NOT_READY);
 
 /// The first ticket, with downlink counter 0.
-const GIVES_1: Row = (Call::Take(1), Answer::Given(1, 1, 0));
+const GIVES_1: Row = (Call::Take(1), ("given", [1, 1, 0]));
 
 /// The second ticket, with downlink counter 1.
-const GIVES_2: Row = (Call::Take(2), Answer::Given(2, 1, 1));
+const GIVES_2: Row = (Call::Take(2), ("given", [2, 1, 1]));
 
 /// The second device's first ticket, with downlink counter 0.
-const GIVES_OTHER_2: Row = (Call::Take(2), Answer::Given(2, 1, 0));
+const GIVES_OTHER_2: Row = (Call::Take(2), ("given", [2, 1, 0]));
 
-const GIVES_OTHER_3: Row = (Call::Take(3), Answer::Given(3, 1, 0));
+const GIVES_OTHER_3: Row = (Call::Take(3), ("given", [3, 1, 0]));
 
-const GIVES_OTHER_6: Row = (Call::Take(6), Answer::Given(6, 1, 0));
+const GIVES_OTHER_6: Row = (Call::Take(6), ("given", [6, 1, 0]));
 
-const SILENT_1: Row = (Call::Airtime(1), Answer::Airtime(Some(0)));
+const SILENT_1: Row = (Call::Airtime(1), ("on air", [0, 0, 0]));
 
 /// Gateway 1 was on air for 12 bytes at DR5.
-const ON_AIR_1: Row = (Call::Airtime(1), Answer::Airtime(Some(41_216)));
+const ON_AIR_1: Row = (Call::Airtime(1), ("on air", [41_216, 0, 0]));
 
-const QUEUES_1: Row = (Call::Queue, Answer::Queued(1));
+const QUEUES_1: Row = (Call::Queue, ("queued", [1, 0, 0]));
 
-const QUEUES_2: Row = (Call::Queue, Answer::Queued(2));
+const QUEUES_2: Row = (Call::Queue, ("queued", [2, 0, 0]));
 
-const QUEUES_3: Row = (Call::Queue, Answer::Queued(3));
+const QUEUES_3: Row = (Call::Queue, ("queued", [3, 0, 0]));
 
-const QUEUES_4: Row = (Call::Queue, Answer::Queued(4));
+const QUEUES_4: Row = (Call::Queue, ("queued", [4, 0, 0]));
 
-const QUEUES_5: Row = (Call::Queue, Answer::Queued(5));
+const QUEUES_5: Row = (Call::Queue, ("queued", [5, 0, 0]));
 
-const QUEUES_6: Row = (Call::Queue, Answer::Queued(6));
+const QUEUES_6: Row = (Call::Queue, ("queued", [6, 0, 0]));
 
 /// A payload is queued: the first, and one behind others.
-pub(crate) static QUEUED: [Case<'static>; 2] = [
+pub(crate) static QUEUED: [Case; 2] = [
     Case {
         before: &[],
         call: QUEUES_1,
@@ -94,7 +93,7 @@ pub(crate) static QUEUED: [Case<'static>; 2] = [
             QUEUES_2,
             OPENS_1,
             CLOSES_1,
-            (Call::Answer(1), Answer::Answered(Some(16))),
+            (Call::Answer(1), ("sent", [16, 0, 0])),
             QUEUES_2,
         ],
     },
@@ -108,7 +107,7 @@ pub(crate) static QUEUED: [Case<'static>; 2] = [
 ];
 
 /// A copy of an uplink opens a gathering: the first, the second, and the fifth.
-pub(crate) static OPENED: [Case<'static>; 3] = [
+pub(crate) static OPENED: [Case; 3] = [
     Case {
         before: &[],
         call: OPENS_1,
@@ -163,13 +162,13 @@ pub(crate) static OPENED: [Case<'static>; 3] = [
 ];
 
 /// A copy of an uplink joins a gathering.
-pub(crate) static JOINED: [Case<'static>; 1] = [Case {
+pub(crate) static JOINED: [Case; 1] = [Case {
     before: &[OPENS_1],
     call: JOINS_1,
     growths: 1,
     still: &[NOT_READY_1, HEARD_1],
     after: &[
-        (Call::Hear(2, 0), SAME_GATEWAY),
+        (Call::Hear(2, ADDR, 0), SAME_GATEWAY),
         CLOSES_1,
         CLOSES_NONE,
         GIVES_1,
@@ -177,7 +176,7 @@ pub(crate) static JOINED: [Case<'static>; 1] = [Case {
 }];
 
 /// A ticket is taken: the first, and one with a payload after an answer.
-pub(crate) static GIVEN: [Case<'static>; 2] = [
+pub(crate) static GIVEN: [Case; 2] = [
     Case {
         before: &[OPENS_1, CLOSES_1],
         call: GIVES_1,
@@ -196,7 +195,7 @@ pub(crate) static GIVEN: [Case<'static>; 2] = [
         before: &[
             OPENS_1,
             CLOSES_1,
-            (Call::Answer(1), Answer::Answered(Some(12))),
+            (Call::Answer(1), ("sent", [12, 0, 0])),
             OPENS_2,
             CLOSES_2,
             QUEUES_1,

@@ -1,101 +1,66 @@
 // A station that is finished.
-ghost use Rattle.std.specs.Prelude.{◌≡◌};
+ghost use Rattle.std.specs.Prelude.{◌≡◌, ◌<◌};
 
-use crate::stations::{RefusedStation, heard_by, station_of, totals_at};
-use crate::turns::{MOST_GROWTHS, Refuser, was_refused};
+use crate::stations::{AtWork, takes, totals_at};
+use crate::turns::{Refuser, same, was_refused};
 use answer_ticket::Receipt;
-use refusing_alloc::Refusing;
-use server_workers::{
-    Blank, Closing, FinishCause, FinishFault, Handled, Ledger, NoGate, PARTS, Till,
-};
-use std::alloc::Global;
-use std::marker::Brand;
-use std::process::Abort;
+use gateway_book::Totals;
+use server_workers::{Closing, FinishCause, FinishFault, Handled, Ledger, NoGate, Station, Till};
+use std::alloc::{AllocError, Allocator};
 use std::sync::Wait;
 use std::test::Fail;
-use test_asserts::{equal, equal_at};
+use test_asserts::holds;
 use worked_inputs::WorkedHasher;
 
-type Tills<'a, B> = Vec<Till<B>, &'a Refuser>;
-
-type Finished<'a, B> = Result<
-    Closing<WorkedHasher, &'a Refuser>,
-    FinishFault<B, WorkedHasher, &'a Refuser>,
->;
-
-/// The airtime of two answers of 12 bytes at DR5.
-const TWICE: u64 = 82_432;
-
-/// A station that answered an uplink on each gateway, two tills, and the receipts.
-#[derive(Drop)]
-struct Ready<'a, B: Ledger> {
-    station: RefusedStation<'a, B>,
-    tills: Tills<'a, B>,
-    receipts: Vec<Receipt<&'a Refuser>, &'a Refuser>,
-}
-
 /// Answers an uplink: the receipt.
-fn answered<'a, B: Ledger, R: Wait>(
+fn receipt_by<B: Ledger, A: Allocator + Copy, R: Wait>(
     rt: &R,
-    station: &RefusedStation<'a, B>,
+    station: &Station<B, WorkedHasher, A>,
     till: &mut Till<B>,
     number: u64,
-) -> Result<Receipt<&'a Refuser>, Fail> {
+) -> Result<Receipt<A>, Fail> {
     match station.answer(rt, &NoGate, number, till, &mut 0) {
         Handled::Settled(_, Some(receipt)) => Ok(receipt),
         _ => Err(Fail::from("it is booked")),
     }
 }
 
-/// A station that heard two uplinks, and two tills.
-fn heard<'a, B: Ledger, R: Wait>(
+/// A list of two.
+fn two<T: Drop, A: Allocator>(memory: A, first: T, second: T) -> Result<Vec<T, A>, AllocError> {
+    let mut both = Vec::with_capacity(memory, 2)?;
+    both.push_reserved(first);
+    both.push_reserved(second);
+    Ok(both)
+}
+
+/// Two tills, and the receipts of what was counted with them.
+type Counted<B, A> = (Vec<Till<B>, A>, Vec<Receipt<A>, A>);
+
+/// Answers two uplinks, each with another till.
+fn answered<B: Ledger, A: Allocator + Copy, R: Wait>(
     rt: &R,
-    global: Global,
-    alloc: &'a Refuser,
-    blank: Blank,
-) -> Result<(RefusedStation<'a, B>, (Till<B>, Till<B>)), Fail>
-    requires name { blank.name ≡ B.name }
-    requires parts { blank.parts ≡ B.parts }
-    requires all { blank.parts ≡ PARTS }
+    memory: A,
+    station: &Station<B, WorkedHasher, A>,
+    till: Till<B>,
+) -> Result<Counted<B, A>, Fail>
+    requires { 16 < till.parts }
 {
-    let (station, mut till) = station_of::<B>(global, alloc, 2, blank)?;
-    heard_by(rt, global, &station, 2)?;
-    let own = till.split();
-    Ok((station, (till, own)))
+    let mut till = till;
+    let mut own = till.split();
+    let first = receipt_by(rt, station, &mut till, 1)?;
+    let second = receipt_by(rt, station, &mut own, 2)?;
+    Ok((two(memory, till, own)?, two(memory, first, second)?))
 }
 
-/// A station that answered both, each with another till.
-fn made_ready<'a, B: Ledger, R: Wait>(
-    rt: &R,
-    alloc: &'a Refuser,
-    station: RefusedStation<'a, B>,
-    tills: (Till<B>, Till<B>),
-) -> Result<Ready<'a, B>, Fail> {
-    let (mut first, mut second) = tills;
-    let mut receipts = Vec::new(alloc);
-    receipts.push(answered(rt, &station, &mut first, 1)?)?;
-    receipts.push(answered(rt, &station, &mut second, 2)?)?;
-    let mut tills = Vec::new(alloc);
-    tills.push(first)?;
-    tills.push(second)?;
-    Ok(Ready {
-        station,
-        tills,
-        receipts,
-    })
+/// What a station came to: the airtime that was booked, and what the books and the desk say of it.
+fn closes<A: Allocator + Copy>(closing: &Closing<WorkedHasher, A>) -> Result<(), Fail> {
+    let counts = (closing.totals.len(), closing.books.len());
+    same((closing.booked, counts), (82_432, (2, 2)))?;
+    let answered = (closing.desk.answered(1), closing.desk.answered(2));
+    same(answered, (Some(41_216), Some(41_216)))
 }
 
-/// Finishes a station.
-fn finished<'a, B: Ledger>(
-    alloc: &'a Refuser,
-    station: RefusedStation<'a, B>,
-    tills: Tills<'a, B>,
-    receipts: &[Receipt<&'a Refuser>],
-) -> Finished<'a, B> {
-    station.finish(alloc, tills, receipts)
-}
-
-/// How many parts each of the tills has.
+/// How many tills there are, and how many parts each of two has.
 fn parts_of<B: Ledger>(tills: &[Till<B>]) -> (usize, Option<u32>, Option<u32>) {
     (
         tills.len(),
@@ -104,87 +69,81 @@ fn parts_of<B: Ledger>(tills: &[Till<B>]) -> (usize, Option<u32>, Option<u32>) {
     )
 }
 
-/// What comes of a station that is finished with the growth of this number refused, and once more if that was asked for:
-/// whether it was.
-fn is_refused_at<'a, B: Ledger, R: Abort + Wait>(
+/// A station that isn't finished for want of memory comes back as it was, with its tills.
+fn is_as_before<B: Ledger, A: Allocator + Copy, R: Wait>(
     rt: &R,
-    alloc: &'a Refuser,
-    ready: Ready<'a, B>,
+    alloc: &Refuser,
+    number: u64,
+    before: [Option<Totals>; 2],
+    fault: &FinishFault<B, WorkedHasher, A>,
+) -> Result<bool, Fail> {
+    same(totals_at(rt, &fault.station), before)?;
+    same(parts_of(&fault.tills), (2, Some(65_535), Some(1)))?;
+    was_refused(alloc, number, fault.cause == FinishCause::NoMemory)
+}
+
+/// It is finished then.
+fn closes_after<B: Ledger, A: Allocator + Copy>(
+    memory: A,
+    receipts: &[Receipt<A>],
+    fault: FinishFault<B, WorkedHasher, A>,
+) -> Result<bool, Fail> {
+    let FinishFault { station, tills, .. } = fault;
+    let closing = station.finish(memory, tills, receipts).ok();
+    closes(&closing.ok_or("it is finished")?)?;
+    Ok(true)
+}
+
+/// A station that is finished asked for no growth that was refused.
+fn closes_at_once<A: Allocator + Copy>(
+    alloc: &Refuser,
+    number: u64,
+    closing: &Closing<WorkedHasher, A>,
+) -> Result<bool, Fail> {
+    closes(closing)?;
+    was_refused(alloc, number, false)
+}
+
+/// Finishes a station with the growth of this number refused, and once more if there was one, which is told.
+fn is_finished_without<B: Ledger, A: Allocator + Copy, R: Wait>(
+    rt: &R,
+    alloc: &Refuser,
+    station: Station<B, WorkedHasher, A>,
+    memory: A,
+    tills: Vec<Till<B>, A>,
+    receipts: &[Receipt<A>],
     number: u64,
 ) -> Result<bool, Fail> {
-    let Ready {
-        station,
-        tills,
-        receipts,
-    } = ready;
     let before = totals_at(rt, &station);
     alloc.refuse(number);
-    match finished(alloc, station, tills, &receipts) {
-        Ok(closing) => {
-            closes(&closing)?;
-            was_refused(alloc, number, false)
-        }
+    match station.finish(memory, tills, receipts) {
+        Ok(closing) => closes_at_once(alloc, number, &closing),
         Err(fault) => {
-            was_refused(alloc, number, fault.cause == FinishCause::NoMemory)?;
-            equal(&parts_of(&fault.tills), &(2, Some(65_535), Some(1)))?;
-            equal(&totals_at(rt, &fault.station), &before)?;
-            finishes(rt, alloc, fault, &receipts)?;
-            Ok(true)
+            holds(is_as_before(rt, alloc, number, before, &fault)?)?;
+            closes_after(memory, receipts, fault)
         }
     }
 }
 
-/// Finishes a station that was handed back.
-fn finishes<'a, B: Ledger, R: Abort>(
-    rt: &R,
-    alloc: &'a Refuser,
-    fault: FinishFault<B, WorkedHasher, &'a Refuser>,
-    receipts: &[Receipt<&'a Refuser>],
-) -> Result<(), Fail> {
-    let FinishFault {
-        cause: _,
-        station,
-        tills,
-    } = fault;
-    let again = finished(alloc, station, tills, receipts).ok();
-    closes(&again.expect(rt, "it is finished"))?;
-    Ok(())
-}
+/// A station that answered an uplink on each gateway, each with another till, is finished.
+#[derive(Drop)]
+struct Finishes;
 
-/// What a station came to: the airtime that was booked, and what the books and the desk say of it.
-fn closes(closing: &Closing<WorkedHasher, &Refuser>) -> Result<(), Fail> {
-    equal(&closing.booked, &TWICE)?;
-    equal(&closing.totals.len(), &2)?;
-    equal(&closing.books.len(), &2)?;
-    equal(&closing.desk.answered(1), &Some(41_216))?;
-    equal(&closing.desk.answered(2), &Some(41_216))?;
-    Ok(())
-}
-
-/// Refuses the growth of this number of a finish: whether there was one.
-fn is_refused<B: Ledger, R: Abort + Wait>(
-    rt: &R,
-    global: Global,
-    blank: Blank,
-    number: u64,
-) -> Result<bool, Fail>
-    requires name { blank.name ≡ B.name }
-    requires parts { blank.parts ≡ B.parts }
-    requires all { blank.parts ≡ PARTS }
-{
-    let alloc = Refusing::new(global);
-    let (station, tills) = heard::<B, R>(rt, global, &alloc, blank)?;
-    is_refused_at(rt, &alloc, made_ready(rt, &alloc, station, tills)?, number)
+impl AtWork for Finishes {
+    fn is_refused<'a, B: Ledger, R: Wait>(
+        &self,
+        rt: &R,
+        alloc: &'a Refuser,
+        station: Station<B, WorkedHasher, &'a Refuser>,
+        till: Till<B>,
+        number: u64,
+    ) -> Result<bool, Fail> {
+        let (tills, receipts) = answered(rt, alloc, &station, till)?;
+        is_finished_without(rt, alloc, station, alloc, tills, &receipts, number)
+    }
 }
 
 #[test]
 fn a_station_is_finished(rt: HostRuntime) -> Result<(), Fail> {
-    for number in 1..=MOST_GROWTHS {
-        let blank = Blank::new(PARTS as u64);
-        if !is_refused::<Brand, _>(&rt, rt.alloc(), blank, number)? {
-            equal_at(&"growths", &number.saturating_sub(1), &6)?;
-            return Ok(());
-        }
-    }
-    Err(Fail::from("no end of growths"))
+    takes(&rt, rt.alloc(), 2, &Finishes, 6)
 }

@@ -1,12 +1,10 @@
 // Frames, and the candidates of an uplink.
 
-use crate::turns::{MOST_GROWTHS, Refuser, gave_up};
+use crate::turns::{Refuser, refusing, same, starves};
 use lora_frame::{Body, Down, DownFault, Key, Keys, Up, UpFault, downlink, uplink_bytes};
 use radio_airtime::DataRate;
-use refusing_alloc::Refusing;
 use rx_windows::{Plan, candidates};
 use std::test::Fail;
-use test_asserts::{equal, holds};
 use uplink_gather::HeardCopy;
 
 fn keys() -> Keys {
@@ -16,8 +14,8 @@ fn keys() -> Keys {
     }
 }
 
-/// How many growths a downlink with this body takes; each is refused once.
-fn growths_of_downlink(alloc: &Refuser, body: Option<Body<'_>>) -> Result<u64, Fail> {
+/// A downlink with this body takes one growth, which is refused once.
+fn takes_one_growth(alloc: &Refuser, body: Option<Body<'_>>) -> Result<(), Fail> {
     let down = Down {
         addr: 7,
         counter: 1,
@@ -25,32 +23,27 @@ fn growths_of_downlink(alloc: &Refuser, body: Option<Body<'_>>) -> Result<u64, F
         pending: false,
         body,
     };
-    for number in 1..=MOST_GROWTHS {
-        alloc.refuse(number);
-        let frame = downlink(alloc, &down, &keys());
-        let is_starved = matches!(&frame, Err(DownFault::NoMemory));
-        if !gave_up(alloc, number, is_starved)? {
-            holds(frame.is_ok())?;
-            return Ok(number.saturating_sub(1));
-        }
-    }
-    Err(Fail::from("no end of growths"))
+    let starved = Some(DownFault::NoMemory);
+    let growths = starves(
+        alloc,
+        starved,
+        None,
+        || downlink(alloc, &down, &keys()).err(),
+    )?;
+    same(growths, 1)
 }
 
 #[test]
 fn a_downlink(rt: HostRuntime) -> Result<(), Fail> {
-    let alloc = Refusing::new(rt.alloc());
-    let body = Body {
-        port: 9,
-        payload: &[3; 100],
-    };
-    equal(&growths_of_downlink(&alloc, None)?, &1)?;
-    equal(&growths_of_downlink(&alloc, Some(body))?, &1)?;
-    Ok(())
+    refusing(rt.alloc(), |alloc| {
+        takes_one_growth(alloc, None)?;
+        let payload = &[3; 100];
+        takes_one_growth(alloc, Some(Body { port: 9, payload }))
+    })
 }
 
-/// How many growths an uplink takes; each is refused once.
-fn growths_of_uplink(alloc: &Refuser, options: &[u8]) -> Result<u64, Fail> {
+/// An uplink with these options takes one growth, which is refused once.
+fn takes_one_growth_up(alloc: &Refuser, options: &[u8]) -> Result<(), Fail> {
     let up = Up {
         confirmed: true,
         addr: 7,
@@ -61,24 +54,22 @@ fn growths_of_uplink(alloc: &Refuser, options: &[u8]) -> Result<u64, Fail> {
         options,
         body: None,
     };
-    for number in 1..=MOST_GROWTHS {
-        alloc.refuse(number);
-        let frame = uplink_bytes(alloc, &up, &keys());
-        let is_starved = matches!(&frame, Err(UpFault::NoMemory));
-        if !gave_up(alloc, number, is_starved)? {
-            holds(frame.is_ok())?;
-            return Ok(number.saturating_sub(1));
-        }
-    }
-    Err(Fail::from("no end of growths"))
+    let starved = Some(UpFault::NoMemory);
+    let growths = starves(
+        alloc,
+        starved,
+        None,
+        || uplink_bytes(alloc, &up, &keys()).err(),
+    )?;
+    same(growths, 1)
 }
 
 #[test]
 fn an_uplink(rt: HostRuntime) -> Result<(), Fail> {
-    let alloc = Refusing::new(rt.alloc());
-    equal(&growths_of_uplink(&alloc, &[])?, &1)?;
-    equal(&growths_of_uplink(&alloc, &[1, 2, 3])?, &1)?;
-    Ok(())
+    refusing(rt.alloc(), |alloc| {
+        takes_one_growth_up(alloc, &[])?;
+        takes_one_growth_up(alloc, &[1, 2, 3])
+    })
 }
 
 /// A copy that ended at five seconds.
@@ -100,22 +91,15 @@ const PLAN: Plan = Plan {
     payload: None,
 };
 
-/// How many growths the candidates of one copy take; each is refused once.
-fn growths_of_candidates(alloc: &Refuser) -> Result<u64, Fail> {
-    for number in 1..=MOST_GROWTHS {
-        alloc.refuse(number);
-        let found = candidates(alloc, &[COPY], &PLAN);
-        if !gave_up(alloc, number, found.is_err())? {
-            equal(&found?.len(), &2)?;
-            return Ok(number.saturating_sub(1));
-        }
-    }
-    Err(Fail::from("no end of growths"))
+/// How many candidates one copy has; nothing where there is no memory.
+fn count_of(alloc: &Refuser) -> Option<usize> {
+    Some(candidates(alloc, &[COPY], &PLAN).ok()?.len())
 }
 
 #[test]
 fn the_candidates_of_an_uplink(rt: HostRuntime) -> Result<(), Fail> {
-    let alloc = Refusing::new(rt.alloc());
-    equal(&growths_of_candidates(&alloc)?, &1)?;
-    Ok(())
+    refusing(
+        rt.alloc(),
+        |alloc| same(starves(alloc, None, Some(2), || count_of(alloc))?, 1),
+    )
 }

@@ -1,14 +1,12 @@
 // Gatherings of copies.
 
-use crate::turns::{MOST_GROWTHS, Refuser, gave_up};
+use crate::turns::{Refuser, refusing, same, starves};
 use radio_airtime::DataRate;
-use refusing_alloc::Refusing;
-use std::hash::{BuildHasherDefault, FoldHasher};
+use std::alloc::Allocator;
+use std::hash::{BuildHasher, BuildHasherDefault, FoldHasher};
 use std::test::Fail;
-use test_asserts::{equal, holds};
-use uplink_gather::{Gather, HearFault, Heard, HeardCopy, Limits};
-
-type Gathered<'a> = Gather<BuildHasherDefault<FoldHasher>, &'a Refuser>;
+use test_asserts::holds;
+use uplink_gather::{Gather, HearFault, Heard, HeardCopy, Limits, Place};
 
 const AMPLE: Limits = Limits {
     max_open: 16,
@@ -27,54 +25,63 @@ fn copy(gateway: u16) -> HeardCopy {
     }
 }
 
-/// What is seen of a gathering, and of what opens next: the copies, whether it is due, and where a copy of other bytes goes.
-fn seen(gather: &Gathered<'_>) -> (usize, Option<u64>, bool) {
+/// What is seen of the first gathering, and of what opens next: how many copies it has, whether it is due, whether no
+/// other may open, and where this gateway's copy of these bytes goes.
+type Seen = (usize, Option<u64>, bool, Result<Place, HearFault>);
+
+fn seen<S: BuildHasher, A: Allocator>(gather: &Gather<S, A>, bytes: &[u8], gateway: u16) -> Seen {
     (
         gather.copies(1).len(),
         gather.due(1_000_000),
         gather.is_crowded(),
+        gather.place(bytes, gateway, 0),
     )
 }
 
 /// How many growths it takes to hear a copy of these bytes; each is refused once, and leaves what was gathered as it was.
-fn growths_to_hear(
+fn growths_to_hear<S: BuildHasher, A: Allocator + Copy>(
     alloc: &Refuser,
-    gather: &mut Gathered<'_>,
+    gather: &mut Gather<S, A>,
     bytes: &[u8],
     gateway: u16,
     wanted: Heard,
 ) -> Result<u64, Fail> {
-    let before = seen(gather);
-    let place = gather.place(bytes, gateway, 0);
-    for number in 1..=MOST_GROWTHS {
-        alloc.refuse(number);
+    let before = seen(gather, bytes, gateway);
+    let starved = (Err(HearFault::NoMemory), true);
+    starves(alloc, starved, (Ok(wanted), false), || {
         let heard = gather.hear(bytes, copy(gateway), 0);
-        if !gave_up(alloc, number, heard == Err(HearFault::NoMemory))? {
-            equal(&heard, &Ok(wanted))?;
-            return Ok(number.saturating_sub(1));
-        }
-        equal(&seen(gather), &before)?;
-        equal(&gather.place(bytes, gateway, 0), &place)?;
+        (heard, seen(gather, bytes, gateway) == before)
+    })
+}
+
+/// Gateways 2 to 9 hear copies of the bytes that the first gathering has.
+fn eight_join<S: BuildHasher, A: Allocator + Copy>(
+    alloc: &Refuser,
+    gather: &mut Gather<S, A>,
+) -> Result<(), Fail> {
+    for gateway in 2..=9 {
+        let copies = gateway as usize;
+        growths_to_hear(alloc, gather, &[1], gateway, Heard::Joined { n: 1, copies })?;
     }
-    Err(Fail::from("no end of growths"))
+    Ok(())
+}
+
+/// A copy opens the first gathering, eight join it, and one of other bytes opens the second.
+fn gathers<S: BuildHasher, A: Allocator + Copy>(
+    alloc: &Refuser,
+    gather: &mut Gather<S, A>,
+) -> Result<(), Fail> {
+    same(alloc.asked(), 0)?;
+    holds(growths_to_hear(alloc, gather, &[1], 1, Heard::Opened { n: 1 })? > 0)?;
+    eight_join(alloc, gather)?;
+    holds(growths_to_hear(alloc, gather, &[2], 1, Heard::Opened { n: 2 })? > 0)?;
+    same(gather.copies(1).len(), 9)
 }
 
 #[test]
 fn a_copy_that_opens_and_copies_that_join(rt: HostRuntime) -> Result<(), Fail> {
-    let alloc = Refusing::new(rt.alloc());
-    let mut gather: Gathered<'_> = Gather::new(&alloc, BuildHasherDefault::new(), AMPLE)?;
-    equal(&alloc.asked(), &0)?;
-    let opened = growths_to_hear(&alloc, &mut gather, &[1], 1, Heard::Opened { n: 1 })?;
-    holds(opened > 0)?;
-    for gateway in 2..=9 {
-        let wanted = Heard::Joined {
-            n: 1,
-            copies: gateway as usize,
-        };
-        growths_to_hear(&alloc, &mut gather, &[1], gateway, wanted)?;
-    }
-    let other = growths_to_hear(&alloc, &mut gather, &[2], 1, Heard::Opened { n: 2 })?;
-    holds(other > 0)?;
-    equal(&gather.copies(1).len(), &9)?;
-    Ok(())
+    refusing(rt.alloc(), |alloc| {
+        let hasher = BuildHasherDefault::<FoldHasher>::new();
+        gathers(alloc, &mut Gather::new(alloc, hasher, AMPLE)?)
+    })
 }

@@ -3,8 +3,6 @@
 #![tactic(auto)]
 
 #[cfg(test)]
-mod asks;
-#[cfg(test)]
 mod at_desk;
 #[cfg(test)]
 mod at_station;
@@ -40,8 +38,6 @@ mod stations;
 mod texts;
 #[cfg(test)]
 mod tickets;
-#[cfg(test)]
-mod told;
 #[cfg(test)]
 mod trials;
 #[cfg(test)]

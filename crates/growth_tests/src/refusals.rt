@@ -1,11 +1,10 @@
 // The allocator that refuses one growth.
 
-use crate::turns::Refuser;
-use refusing_alloc::Refusing;
+use crate::turns::{Refuser, refusing, same};
 use std::alloc::AllocError;
 use std::test::Fail;
 use std::thread;
-use test_asserts::{equal, holds};
+use test_asserts::holds;
 
 /// A list of one byte with room for one more, which takes a growth or two.
 fn filled(alloc: &Refuser) -> Result<Vec<u8, &Refuser>, AllocError> {
@@ -15,32 +14,46 @@ fn filled(alloc: &Refuser) -> Result<Vec<u8, &Refuser>, AllocError> {
     Ok(bytes)
 }
 
+/// Whether it finds memory.
+fn is_filled(alloc: &Refuser) -> bool {
+    filled(alloc).is_ok()
+}
+
+/// The growth of this number is refused, and no other.
+fn is_refused_alone(alloc: &Refuser, number: u64) -> Result<(), Fail> {
+    alloc.refuse(number);
+    same((is_filled(alloc), alloc.asked()), (false, number))?;
+    holds(is_filled(alloc))
+}
+
+/// Of so many growths all from the last on are refused, until they are granted.
+fn is_refused_from(alloc: &Refuser, number: u64) -> Result<(), Fail> {
+    alloc.refuse_from(number);
+    same([is_filled(alloc), is_filled(alloc)], [false, false])?;
+    alloc.grant();
+    holds(is_filled(alloc))
+}
+
 #[test]
 fn only_the_growth_of_the_number_is_refused(rt: HostRuntime) -> Result<(), Fail> {
-    let alloc = Refusing::new(rt.alloc());
-    holds(filled(&alloc).is_ok())?;
-    let growths = alloc.asked();
-    holds(growths > 0)?;
-    for number in 1..=growths {
-        alloc.refuse(number);
-        holds(filled(&alloc).is_err())?;
-        equal(&alloc.asked(), &number)?;
-        holds(filled(&alloc).is_ok())?;
-    }
-    alloc.refuse_from(growths);
-    holds(filled(&alloc).is_err())?;
-    holds(filled(&alloc).is_err())?;
-    alloc.grant();
-    holds(filled(&alloc).is_ok())?;
-    Ok(())
+    refusing(rt.alloc(), |alloc| {
+        holds(is_filled(alloc))?;
+        let growths = alloc.asked();
+        holds(growths > 0)?;
+        for number in 1..=growths {
+            is_refused_alone(alloc, number)?;
+        }
+        is_refused_from(alloc, growths)
+    })
 }
 
 #[test]
 fn another_thread_may_grow_and_free(rt: HostRuntime) -> Result<(), Fail> {
-    let alloc = Refusing::new(rt.alloc());
-    let bytes = filled(&alloc)?;
-    let (len, is_kept) = thread::join(&rt, || bytes.len(), || filled(&alloc).is_ok());
-    equal(&len, &1)?;
-    holds(is_kept)?;
-    Ok(())
+    refusing(rt.alloc(), |alloc| {
+        let bytes = filled(alloc)?;
+        same(
+            thread::join(&rt, || bytes.len(), || is_filled(alloc)),
+            (1, true),
+        )
+    })
 }

@@ -1,105 +1,79 @@
 // A run of events on one thread.
 
 use crate::calls::ADDR;
-use crate::turns::{MOST_GROWTHS, Refuser, was_refused};
+use crate::turns::{Refuser, growths_of, refusing, same, was_refused};
 use answer_ticket::Bytes;
-use refusing_alloc::Refusing;
-use server_core::{DeskHeard, Event, Line, NoMemory, Replay, Settings, replay};
-use std::alloc::Global;
+use server_core::{DeskHeard, Entry, Event, Line, Replay, Settings, answer_events, replay};
+use std::alloc::{Allocator, Global};
 use std::test::Fail;
-use test_asserts::{equal, equal_at};
+use test_asserts::holds;
 use worked_inputs::{copy_at, device, hasher, settings_of, uplink};
 
-/// What a line says.
-#[derive(Clone, Copy, Debug, PartialEq, Eq)]
-enum Told {
-    Queued(u32, usize),
-    Heard(DeskHeard),
-    /// The number, the gateway and the start of what was booked.
-    Send(u64, u16, u64),
-    /// The number, and how many bytes there are.
-    Frame(u64, usize),
-    Cancelled(u64, u64),
-    Floor(u16, u64),
-    Bad(u64),
-    Other,
-}
+/// What a line says: a word, and up to three numbers.
+type Told = (&'static str, [u64; 3]);
 
-fn what_is_told(line: &Line<&Refuser>) -> Told {
+fn what_is_told<A: Allocator>(line: &Line<A>) -> Told {
     match line {
-        Line::Queued { addr, count } => Told::Queued(*addr, *count),
-        Line::Heard(heard) => Told::Heard(*heard),
+        Line::Queued { addr, count } => ("queued", [*addr as u64, *count as u64, 0]),
+        Line::Heard(heard) => what_is_heard(*heard),
         Line::Send { number, candidate } => {
-            Told::Send(*number, candidate.gateway, candidate.start)
+            ("send", [*number, candidate.gateway as u64, candidate.start])
         }
-        Line::Frame { number, bytes } => Told::Frame(*number, bytes.as_slice().len()),
-        Line::Cancelled { number, airtime } => Told::Cancelled(*number, *airtime),
-        Line::Floor { gateway, floor } => Told::Floor(*gateway, *floor),
-        Line::Bad { line } => Told::Bad(*line),
-        _ => Told::Other,
+        Line::Frame { number, bytes } => ("frame", [*number, bytes.as_slice().len() as u64, 0]),
+        Line::Cancelled { number, airtime } => ("cancelled", [*number, *airtime, 0]),
+        Line::Floor { gateway, floor } => ("floor", [*gateway as u64, *floor, 0]),
+        Line::Bad { line } => ("bad", [*line, 0, 0]),
+        _ => ("other", [0; 3]),
     }
 }
 
-/// The place of an event, and what a line that answers it says.
-type Row = (usize, Told);
-
-/// Two uplinks of a device, of which the first is answered with a payload on the gateway that heard it alone, and then
-/// cancelled.
-static LINES: [Row; 11] = [
-    (0, Told::Queued(ADDR, 1)),
-    (
-        1,
-        Told::Heard(DeskHeard::Opened {
-            n: 1,
-            repeat: false,
-        }),
-    ),
-    (2, Told::Send(1, 1, 6_000_000)),
-    (2, Told::Frame(1, 16)),
-    (3, Told::Cancelled(1, 46_336)),
-    (4, Told::Floor(2, 7)),
-    (
-        5,
-        Told::Heard(DeskHeard::Opened {
-            n: 2,
-            repeat: false,
-        }),
-    ),
-    (6, Told::Heard(DeskHeard::Joined { n: 2, copies: 2 })),
-    (7, Told::Send(2, 1, 6_000_000)),
-    (7, Told::Frame(2, 12)),
-    (8, Told::Bad(9)),
-];
-
-/// The events that these lines answer.
-fn events<'a>(global: Global, alloc: &'a Refuser) -> Result<[Event<&'a Refuser>; 9], Fail> {
-    let payload = Bytes::new([1, 2, 3].to_vec(alloc)?);
-    Ok([
-        Event::Queue {
-            addr: ADDR,
-            port: 9,
-            payload,
-        },
-        heard(global, alloc, 1, 0, 0)?,
-        Event::Pass { now: 200_001 },
-        Event::Cancel { number: 1 },
-        Event::Tick { gateway: 2, now: 7 },
-        heard(global, alloc, 1, 1, 300_000)?,
-        heard(global, alloc, 2, 1, 300_000)?,
-        Event::Pass { now: 600_000 },
-        Event::Bad { line: 9 },
-    ])
+fn what_is_heard(heard: DeskHeard) -> Told {
+    match heard {
+        DeskHeard::Opened { n, repeat: false } => ("opened", [n, 0, 0]),
+        DeskHeard::Opened { n, repeat: true } => ("repeated", [n, 0, 0]),
+        DeskHeard::Joined { n, copies } => ("joined", [n, copies as u64, 0]),
+    }
 }
 
-/// This gateway's copy of the device's confirmed uplink with this counter.
-fn heard<'a>(
-    global: Global,
-    alloc: &'a Refuser,
-    gateway: u16,
-    counter: u32,
-    arrived: u64,
-) -> Result<Event<&'a Refuser>, Fail> {
-    let bytes = uplink(global, true, ADDR, counter)?;
+/// Two uplinks of a device, of which the first is answered with a payload on the gateway that heard it alone, and then
+/// cancelled: the place of each event, and what a line that answers it says.
+static LINES: [(usize, Told); 11] = [
+    (0, ("queued", [ADDR as u64, 1, 0])),
+    (1, ("opened", [1, 0, 0])),
+    (2, ("send", [1, 1, 6_000_000])),
+    (2, ("frame", [1, 16, 0])),
+    (3, ("cancelled", [1, 46_336, 0])),
+    (4, ("floor", [2, 7, 0])),
+    (5, ("opened", [2, 0, 0])),
+    (6, ("joined", [2, 2, 0])),
+    (7, ("send", [2, 1, 6_000_000])),
+    (7, ("frame", [2, 12, 0])),
+    (8, ("bad", [9, 0, 0])),
+];
+
+/// The event at this place, of those that these lines answer.
+fn event<A: Allocator + Copy>(memory: Global, alloc: A, place: usize) -> Result<Event<A>, Fail> {
+    match place {
+        0 => Ok(Event::Queue {
+            addr: ADDR,
+            port: 9,
+            payload: Bytes::new([1, 2, 3].to_vec(alloc)?),
+        }),
+        1 => heard(memory, alloc, (1, 0, 0)),
+        2 => Ok(Event::Pass { now: 200_001 }),
+        3 => Ok(Event::Cancel { number: 1 }),
+        4 => Ok(Event::Tick { gateway: 2, now: 7 }),
+        5 => heard(memory, alloc, (1, 1, 300_000)),
+        6 => heard(memory, alloc, (2, 1, 300_000)),
+        7 => Ok(Event::Pass { now: 600_000 }),
+        _ => Ok(Event::Bad { line: 9 }),
+    }
+}
+
+/// A gateway's copy of the device's confirmed uplink with a counter, and when it arrived.
+fn heard<A: Allocator>(memory: Global, alloc: A, copy: (u16, u32, u64)) -> Result<Event<A>, Fail> {
+    let (gateway, counter, arrived) = copy;
+    let bytes = uplink(memory, true, ADDR, counter)?;
     Ok(Event::Hear {
         bytes: Bytes::new(bytes.as_slice().to_vec(alloc)?),
         heard: copy_at(gateway),
@@ -107,58 +81,134 @@ fn heard<'a>(
     })
 }
 
-/// What the events come to.
-fn replayed<'a>(
-    alloc: &'a Refuser,
-    settings: &Settings<Global>,
-    events: &[Event<&'a Refuser>],
-) -> Result<Replay<&'a Refuser>, NoMemory> {
-    replay(alloc, hasher(), settings, events)
-}
-
-/// Compares the lines of a run, each with the place of its event, and counts its steps.
-fn tells(replay: &Replay<&Refuser>) -> Result<(), Fail> {
-    equal(&replay.outcomes.len(), &LINES.len())?;
-    for (place, (entry, line)) in replay.outcomes.iter().zip(&LINES).enumerate() {
-        equal_at(&place, &(entry.event, what_is_told(&entry.line)), line)?;
+/// The nine events, in a list with this memory.
+fn events<A: Allocator + Copy, V: Allocator>(
+    memory: Global,
+    alloc: A,
+    list: V,
+) -> Result<Vec<Event<A>, V>, Fail> {
+    let mut events = Vec::new(list);
+    for place in 0..9 {
+        events.push(event(memory, alloc, place)?)?;
     }
-    equal(&replay.steps.len(), &16)?;
-    equal(&replay.books.len(), &2)?;
-    Ok(())
+    Ok(events)
 }
 
-/// One growth of a run is refused, and none after it: where something asks for less then, the run answers as ever.
-fn is_whole_or_starved<'a>(
-    alloc: &'a Refuser,
+/// Compares the lines of a run, each with the place of its event.
+fn compare<A: Allocator>(outcomes: &[Entry<A>]) -> Result<(), Fail> {
+    for (entry, line) in outcomes.iter().zip(&LINES) {
+        same((entry.event, what_is_told(&entry.line)), *line)?;
+    }
+    same(outcomes.len(), LINES.len())
+}
+
+/// Compares the lines of a run, and counts its steps and its books.
+fn tells<A: Allocator + Copy>(replay: &Replay<A>) -> Result<(), Fail> {
+    compare(&replay.outcomes)?;
+    same((replay.steps.len(), replay.books.len()), (16, 2))
+}
+
+/// Whether a run of the events finds memory; it answers as ever then.
+fn is_whole<A: Allocator + Copy>(
+    alloc: A,
     settings: &Settings<Global>,
-    events: &[Event<&'a Refuser>],
+    events: &[Event<A>],
+) -> Result<bool, Fail> {
+    match replay(alloc, hasher(), settings, events) {
+        Ok(replay) => {
+            tells(&replay)?;
+            Ok(true)
+        }
+        Err(_) => Ok(false),
+    }
+}
+
+/// Whether a run asks for the growth of this number, which is refused with all that follow it. With memory it then answers as
+/// ever; and so it does where that growth alone is refused, if something asks for less then.
+fn is_refused<A: Allocator + Copy>(
+    alloc: &Refuser,
+    own: A,
+    settings: &Settings<Global>,
+    events: &[Event<A>],
     number: u64,
-) -> Result<(), Fail> {
-    alloc.refuse(number);
-    let refused = replayed(alloc, settings, events);
-    alloc.grant();
-    match refused {
-        Ok(replay) => tells(&replay)?,
-        Err(_) => {}
+) -> Result<bool, Fail> {
+    alloc.refuse_from(number);
+    let is_starved = !is_whole(own, settings, events)?;
+    if was_refused(alloc, number, is_starved)? {
+        holds(is_whole(own, settings, events)?)?;
+        alloc.refuse(number);
+        is_whole(own, settings, events)?;
+        alloc.grant();
     }
-    Ok(())
+    Ok(is_starved)
+}
+
+/// How many growths the run of the events takes; each is refused with all that follow it.
+fn growths_to_replay<A: Allocator + Copy>(
+    alloc: &Refuser,
+    own: A,
+    settings: &Settings<Global>,
+    events: &[Event<A>],
+) -> Result<u64, Fail> {
+    growths_of(|number| is_refused(alloc, own, settings, events, number))
 }
 
 #[test]
 fn a_run_is_replayed(rt: HostRuntime) -> Result<(), Fail> {
-    let alloc = Refusing::new(rt.alloc());
     let settings = settings_of(rt.alloc(), &[device(ADDR)])?;
-    let events = events(rt.alloc(), &alloc)?;
-    for number in 1..=MOST_GROWTHS {
-        alloc.refuse_from(number);
-        let refused = replayed(&alloc, &settings, &events);
-        if !was_refused(&alloc, number, refused.is_err())? {
-            equal_at(&"growths", &number.saturating_sub(1), &42)?;
-            tells(&refused?)?;
-            return Ok(());
+    refusing(rt.alloc(), |alloc| {
+        let events = events(rt.alloc(), alloc, rt.alloc())?;
+        same(growths_to_replay(alloc, alloc, &settings, &events)?, 42)
+    })
+}
+
+/// Whether the events find memory for their answers, which are as ever then. They are used up.
+fn is_answered<A: Allocator + Copy>(
+    alloc: A,
+    settings: &Settings<Global>,
+    events: Vec<Event<A>, A>,
+) -> Result<bool, Fail> {
+    match answer_events(alloc, hasher(), settings, events) {
+        Ok(answers) => {
+            compare(&answers.outcomes)?;
+            same(answers.books.len(), 2)?;
+            Ok(true)
         }
-        tells(&replayed(&alloc, &settings, &events)?)?;
-        is_whole_or_starved(&alloc, &settings, &events, number)?;
+        Err(_) => Ok(false),
     }
-    Err(Fail::from("no end of growths"))
+}
+
+/// Whether the answers ask for the growth of this number, which is refused with all that follow it. With memory they are as ever.
+fn is_answer_refused<A: Allocator + Copy>(
+    alloc: &Refuser,
+    own: A,
+    settings: &Settings<Global>,
+    memory: Global,
+    number: u64,
+) -> Result<bool, Fail> {
+    let given = events(memory, own, own)?;
+    alloc.refuse_from(number);
+    let is_starved = !is_answered(own, settings, given)?;
+    if was_refused(alloc, number, is_starved)? {
+        holds(is_answered(own, settings, events(memory, own, own)?)?)?;
+    }
+    Ok(is_starved)
+}
+
+/// How many growths the answers to the events take; each is refused with all that follow it.
+fn growths_to_answer<A: Allocator + Copy>(
+    alloc: &Refuser,
+    own: A,
+    settings: &Settings<Global>,
+    memory: Global,
+) -> Result<u64, Fail> {
+    growths_of(|number| is_answer_refused(alloc, own, settings, memory, number))
+}
+
+#[test]
+fn events_are_answered(rt: HostRuntime) -> Result<(), Fail> {
+    let settings = settings_of(rt.alloc(), &[device(ADDR)])?;
+    refusing(rt.alloc(), |alloc| {
+        same(growths_to_answer(alloc, alloc, &settings, rt.alloc())?, 35)
+    })
 }

@@ -1,58 +1,41 @@
 // A station on one thread.
-ghost use Rattle.std.specs.Prelude.{◌≡◌};
+ghost use Rattle.std.specs.Prelude.{◌≡◌, ◌<◌};
 
-use crate::at_station::at_station;
+use crate::at_station::is_refused_at;
 use crate::calls::ADDR;
-use crate::cases::{Case, is_refused};
+use crate::cases::Case;
 use crate::desk_cases::{GIVEN, JOINED, OPENED, QUEUED};
-use crate::turns::{MOST_GROWTHS, was_refused};
-use refusing_alloc::Refusing;
+use crate::stations::{AtWork, station_of, takes};
+use crate::turns::{Refuser, refusing, same, was_refused};
 use server_desk::Settings;
-use server_workers::{Blank, Ledger, PARTS, Station};
+use server_workers::{Blank, Ledger, PARTS, Station, Till};
 use std::alloc::Global;
 use std::marker::Brand;
-use std::process::Abort;
 use std::sync::Wait;
 use std::test::Fail;
-use test_asserts::equal_at;
-use worked_inputs::{device, hasher, settings_of};
+use worked_inputs::{WorkedHasher, device, settings_of};
 
-/// Refuses the growth of this number of a call of a station: whether there was one.
-fn is_refused_there<B: Ledger, R: Abort + Wait>(
-    rt: &R,
-    global: Global,
-    blank: Blank,
-    case: &Case<'_>,
-    number: u64,
-) -> Result<bool, Fail>
-    requires name { blank.name ≡ B.name }
-    requires parts { blank.parts ≡ B.parts }
-    requires all { blank.parts ≡ PARTS }
-{
-    let alloc = Refusing::new(global);
-    let mut at = at_station::<B>(global, &alloc, blank)?;
-    is_refused(rt, global, &alloc, &mut at, case, number)
-}
+/// A call, whose frames stand where no growth is refused.
+#[derive(Drop)]
+struct Called<'c>(Global, &'c Case);
 
-/// How many growths a call of a station takes; each is refused once, and leaves the station as it was.
-fn growths_of<R: Abort + Wait>(rt: &R, global: Global, case: &Case<'_>) -> Result<u64, Fail> {
-    for number in 1..=MOST_GROWTHS {
-        let blank = Blank::new(PARTS as u64);
-        if !is_refused_there::<Brand, _>(rt, global, blank, case, number)? {
-            return Ok(number.saturating_sub(1));
-        }
+impl<'c> AtWork for Called<'c> {
+    fn is_refused<'a, B: Ledger, R: Wait>(
+        &self,
+        rt: &R,
+        alloc: &'a Refuser,
+        station: Station<B, WorkedHasher, &'a Refuser>,
+        till: Till<B>,
+        number: u64,
+    ) -> Result<bool, Fail> {
+        is_refused_at(rt, self.0, alloc, station, till, self.1, number)
     }
-    Err(Fail::from("no end of growths"))
 }
 
-/// Refuses the growths of these calls.
-fn each_is_refused<R: Abort + Wait>(
-    rt: &R,
-    global: Global,
-    cases: &[Case<'_>],
-) -> Result<(), Fail> {
-    for (place, case) in cases.iter().enumerate() {
-        equal_at(&place, &growths_of(rt, global, case)?, &case.growths)?;
+/// Refuses each growth of these calls once, which leaves the station as it was.
+fn each_is_refused<R: Wait>(rt: &R, memory: Global, cases: &[Case]) -> Result<(), Fail> {
+    for case in cases {
+        takes(rt, memory, 0, &Called(memory, case), case.growths)?;
     }
     Ok(())
 }
@@ -79,7 +62,7 @@ fn a_ticket_is_given(rt: HostRuntime) -> Result<(), Fail> {
 
 /// Refuses the growth of this number, and all after it, where a station of these settings is made: whether there was one.
 fn is_made_without<B: Ledger>(
-    global: Global,
+    alloc: &Refuser,
     settings: &Settings<Global>,
     blank: Blank,
     number: u64,
@@ -88,21 +71,23 @@ fn is_made_without<B: Ledger>(
     requires parts { blank.parts ≡ B.parts }
     requires all { blank.parts ≡ PARTS }
 {
-    let alloc = Refusing::new(global);
     alloc.refuse_from(number);
-    let is_starved = Station::<B, _, _>::new(&alloc, hasher(), settings, blank).is_err();
-    was_refused(&alloc, number, is_starved)
+    let is_starved = station_of::<B, _>(alloc, settings, blank).is_err();
+    was_refused(alloc, number, is_starved)
+}
+
+/// A station of these settings takes eight growths.
+fn takes_eight(alloc: &Refuser, settings: &Settings<Global>) -> Result<(), Fail> {
+    for number in 1..=9 {
+        let blank = Blank::new(PARTS as u64);
+        let is_refused = is_made_without::<Brand>(alloc, settings, blank, number)?;
+        same((number, is_refused), (number, number <= 8))?;
+    }
+    Ok(())
 }
 
 #[test]
 fn a_station_is_made(rt: HostRuntime) -> Result<(), Fail> {
     let settings = settings_of(rt.alloc(), &[device(ADDR)])?;
-    for number in 1..=MOST_GROWTHS {
-        let blank = Blank::new(PARTS as u64);
-        if !is_made_without::<Brand>(rt.alloc(), &settings, blank, number)? {
-            assert_eq!(rt; number.saturating_sub(1), 8, "growths");
-            return Ok(());
-        }
-    }
-    Err(Fail::from("no end of growths"))
+    refusing(rt.alloc(), |alloc| takes_eight(alloc, &settings))
 }

@@ -1,21 +1,23 @@
 // Texts of books: a booking that finds no memory is refused by a line, and a saved book that finds none by a fault, with nothing
 // written.
 
-use crate::told::booked;
-use crate::turns::Refuser;
+use crate::turns::{Refused, refuse};
+use book_texts::book_text;
 use refusing_alloc::Refusing;
 use std::alloc::Global;
 use std::test::Fail;
 use test_asserts::equal_at;
+use text_lines::{MemoryIn, MemoryOut};
 use text_words::TextFault;
 
-/// Which growths are refused: the one of this number, this one and all that follow, or none.
-#[derive(Clone, Copy, Debug)]
-enum Refused {
-    One(u64),
-    From(u64),
-    Nothing,
-}
+/// The first growth is refused, the second, both, or none.
+const FIRST: Refused = (1, false);
+
+const SECOND: Refused = (2, false);
+
+const ALL: Refused = (1, true);
+
+const NONE: Refused = (0, false);
 
 /// Which growths are refused, and what is answered and written then.
 type Row = (Refused, Result<bool, TextFault>, &'static [u8]);
@@ -31,22 +33,22 @@ const GROWTHS: u64 = 2;
 /// Where each growth is refused once, and at the end none.
 static REPORTED: [Row; 4] = [
     (
-        Refused::One(1),
+        FIRST,
         Ok(true),
         b"no 1 NoMemory\nok 2 10041216 10082432\nbooked 41216\ncancelled 0\nretired 0\nkept 1 41216\nfloor 0\nbusiest M 10041216 41216\n",
     ),
     (
-        Refused::One(2),
+        SECOND,
         Ok(true),
         b"ok 1 10000000 10041216\nno 2 NoMemory\nbooked 41216\ncancelled 0\nretired 0\nkept 1 41216\nfloor 0\nbusiest M 10000000 41216\n",
     ),
     (
-        Refused::From(1),
+        ALL,
         Ok(true),
         b"no 1 NoMemory\nno 2 NoMemory\nbooked 0\ncancelled 0\nretired 0\nkept 0 0\nfloor 0\n",
     ),
     (
-        Refused::Nothing,
+        NONE,
         Ok(false),
         b"ok 1 10000000 10041216\nok 2 10041216 10082432\nbooked 82432\ncancelled 0\nretired 0\nkept 2 82432\nfloor 0\nbusiest M 10000000 82432\n",
     ),
@@ -54,76 +56,80 @@ static REPORTED: [Row; 4] = [
 
 static KEPT: [Row; 4] = [
     (
-        Refused::One(1),
+        FIRST,
         Ok(true),
         b"no 1 NoMemory\nok 2 10041216 10082432\nairbook 2\ngateway 1 4096 0 0\nr 2 10041216 868100000 5 12\nend 1\n",
     ),
     (
-        Refused::One(2),
+        SECOND,
         Ok(true),
         b"ok 1 10000000 10041216\nno 2 NoMemory\nairbook 2\ngateway 1 4096 0 0\nr 1 10000000 868100000 5 12\nend 1\n",
     ),
     (
-        Refused::From(1),
+        ALL,
         Ok(true),
         b"no 1 NoMemory\nno 2 NoMemory\nairbook 2\ngateway 1 4096 0 0\nend 0\n",
     ),
     (
-        Refused::Nothing,
+        NONE,
         Ok(false),
         b"ok 1 10000000 10041216\nok 2 10041216 10082432\nairbook 2\ngateway 1 4096 0 0\nr 1 10000000 868100000 5 12\nr 2 10041216 868100000 5 12\nend 2\n",
     ),
 ];
 
 static RESUMED: [Row; 3] = [
-    (Refused::One(1), Err(TextFault::NoMemory), b""),
+    (FIRST, Err(TextFault::NoMemory), b""),
     (
-        Refused::One(2),
+        SECOND,
         Ok(true),
         b"no 2 NoMemory\nbooked 41216\ncancelled 0\nretired 0\nkept 1 41216\nfloor 0\nbusiest M 10000000 41216\n",
     ),
     (
-        Refused::Nothing,
+        NONE,
         Ok(false),
         b"ok 2 10041216 10082432\nbooked 82432\ncancelled 0\nretired 0\nkept 2 82432\nfloor 0\nbusiest M 10000000 82432\n",
     ),
 ];
 
 static KEPT_ON: [Row; 4] = [
-    (Refused::From(1), Err(TextFault::NoMemory), b""),
-    (Refused::One(1), Err(TextFault::NoMemory), b""),
+    (ALL, Err(TextFault::NoMemory), b""),
+    (FIRST, Err(TextFault::NoMemory), b""),
     (
-        Refused::One(2),
+        SECOND,
         Ok(true),
         b"no 2 NoMemory\nairbook 2\ngateway 1 4096 0 0\nr 1 10000000 868100000 5 12\nend 1\n",
     ),
     (
-        Refused::Nothing,
+        NONE,
         Ok(false),
         b"ok 2 10041216 10082432\nairbook 2\ngateway 1 4096 0 0\nr 1 10000000 868100000 5 12\nr 2 10041216 868100000 5 12\nend 2\n",
     ),
 ];
 
-/// Has growths refused.
-fn refuse(alloc: &Refuser, refused: Refused) {
-    match refused {
-        Refused::One(number) => alloc.refuse(number),
-        Refused::From(number) => alloc.refuse_from(number),
-        Refused::Nothing => alloc.grant(),
-    }
-}
-
-/// Compares what the text of a book answers and writes; where no growth but the last is refused, it asks for all of them.
+/// Compares what the text of a book answers and writes, whose memory is refused, and not that of the writer; where no growth
+/// but the last is refused, it asks for all of them.
 fn compare(memory: Global, is_resumed: bool, is_saved: bool, rows: &[Row]) -> Result<(), Fail> {
     let alloc = Refusing::new(memory);
-    let input = if is_resumed { SAVED } else { BOOKINGS };
     for (refused, answer, output) in rows {
+        let mut reader = MemoryIn::new(if is_resumed { SAVED } else { BOOKINGS });
+        let mut writer = MemoryOut::new(memory);
         refuse(&alloc, *refused);
-        let told = booked(&alloc, memory, input, is_resumed, is_saved);
-        equal_at(&refused, &told.answer, answer)?;
-        equal_at(&refused, &told.output.as_slice(), output)?;
+        let told = book_text(
+            &alloc,
+            4_096,
+            0,
+            is_resumed,
+            is_saved,
+            &mut reader,
+            &mut writer,
+        );
+        equal_at(
+            refused,
+            &(&told, writer.bytes.as_slice()),
+            &(answer, *output),
+        )?;
         if answer.is_ok() {
-            equal_at(&refused, &alloc.asked(), &GROWTHS)?;
+            equal_at(refused, &alloc.asked(), &GROWTHS)?;
         }
     }
     Ok(())

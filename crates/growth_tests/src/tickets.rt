@@ -2,40 +2,72 @@
 ghost use Rattle.std.specs.Prelude.{IfOk};
 ghost use Rattle.answer_ticket.specs.Job.{IsJob};
 
-use crate::asks::Kept;
-use crate::turns::{MOST_GROWTHS, Refuser, was_refused};
-use answer_ticket::{Bytes, Copies, Job, NoMemory, Receipt, Stub, Ticket, Tried};
+use crate::turns::{Refuser, growths_of, refusing, same, was_refused};
+use answer_ticket::{Bytes, Copies, Job, NoMemory, Ticket, Tried};
 use gateway_book::GatewayBook;
 use lora_frame::{Key, Keys};
 use radio_airtime::DataRate;
-use refusing_alloc::Refusing;
+use resv_list::Roster;
 use resv_tree::TreeRoster;
 use rx_windows::Plan;
-use std::process::Abort;
+use std::alloc::Allocator;
 use std::test::Fail;
-use test_asserts::equal;
+use test_asserts::holds;
 use uplink_gather::HeardCopy;
+use worked_inputs::booked;
 
-/// The answer to a confirmed uplink that gateway 1 heard until 5,000,000 us at DR5 on 868.1 MHz, with a payload of 100 bytes on
-/// port 9.
-fn job(alloc: &Refuser) -> Result<Job<&Refuser>, NoMemory>
+/// What a ticket shows: its number, its gateway and its downlink counter.
+type Shown = (u64, u16, u32);
+
+/// What came of a ticket: how many growths the first try asked for; where it came back, what it showed, and whether the books
+/// were as before; and the number and the length of the frame that was booked in the end.
+pub(crate) type Gone = (u64, Option<(Shown, bool)>, Option<(u64, usize)>);
+
+/// Whether the growth of this number was asked for, which was refused. The ticket then asked for no more, and came back as it
+/// was; in the end it was booked.
+pub(crate) fn is_wanted(number: u64, gone: Gone, wanted: (Shown, usize)) -> Result<bool, Fail> {
+    let (shown, len) = wanted;
+    let (asked, back, booked) = gone;
+    let is_refused = asked == number;
+    holds(is_refused || asked < number)?;
+    same(back, is_refused.then_some((shown, true)))?;
+    same(booked, Some((shown.0, len)))?;
+    Ok(is_refused)
+}
+
+/// What a ticket shows.
+pub(crate) fn shown_by<A: Allocator>(ticket: &Ticket<A>) -> Shown {
+    (ticket.number(), ticket.gateway(), ticket.counter())
+}
+
+/// The number and the length of the frame that was booked.
+pub(crate) fn booked_in<A: Allocator>(tried: Tried<A>) -> Option<(u64, usize)> {
+    let (stub, receipt) = booked(tried)?;
+    Some((stub.end().number, receipt.frame.as_slice().len()))
+}
+
+/// A copy that gateway 1 heard until 5,000,000 us at DR5 on 868.1 MHz.
+const COPY: HeardCopy = HeardCopy {
+    gateway: 1,
+    at: 5_000_000,
+    freq_hz: 868_100_000,
+    rate: DataRate::Dr5,
+    snr: 55,
+    rssi: -100,
+};
+
+const PLAN: Plan = Plan {
+    delay: 1,
+    offset: 0,
+    rx2_freq: 869_525_000,
+    rx2_rate: DataRate::Dr0,
+    payload: Some(100),
+};
+
+/// The answer to a confirmed uplink with that copy, with a payload of 100 bytes on port 9.
+fn job<A: Allocator + Copy>(alloc: A) -> Result<Job<A>, NoMemory>
     ensures { IfOk result IsJob }
 {
-    let copy = HeardCopy {
-        gateway: 1,
-        at: 5_000_000,
-        freq_hz: 868_100_000,
-        rate: DataRate::Dr5,
-        snr: 55,
-        rssi: -100,
-    };
-    let plan = Plan {
-        delay: 1,
-        offset: 0,
-        rx2_freq: 869_525_000,
-        rx2_rate: DataRate::Dr0,
-        payload: Some(100),
-    };
     Ok(Job {
         number: 17,
         addr: 7,
@@ -43,8 +75,8 @@ fn job(alloc: &Refuser) -> Result<Job<&Refuser>, NoMemory>
         counter: 0,
         queued: 1,
         body: Some((9, Bytes::new([0x40; 100].to_vec(alloc)?))),
-        copies: Copies::new([copy].to_vec(alloc)?),
-        plan,
+        copies: Copies::new([COPY].to_vec(alloc)?),
+        plan: PLAN,
         keys: Keys {
             nwk: Key::new([1; 16]),
             app: Key::new([2; 16]),
@@ -52,90 +84,63 @@ fn job(alloc: &Refuser) -> Result<Job<&Refuser>, NoMemory>
     })
 }
 
-/// A ticket for it, and how many growths that took; each is refused once, and all that follow it.
-fn growths_of_ticket<'a>(
-    rt: &impl Abort,
-    alloc: &'a Refuser,
-) -> Result<(u64, Ticket<&'a Refuser>), Fail> {
-    for number in 1..=MOST_GROWTHS {
-        let job = job(alloc)?;
-        alloc.refuse_from(number);
-        match Ticket::new(alloc, job) {
-            Ok(ticket) => {
-                assert!(rt; alloc.asked() < number);
-                alloc.grant();
-                return Ok((number.saturating_sub(1), ticket));
-            }
-            Err(_) => {
-                was_refused(alloc, number, true)?;
-            }
+/// Makes a ticket for it with the growth of this number refused, and all that follow it: whether there was one.
+fn is_made_without(alloc: &Refuser, number: u64) -> Result<bool, Fail> {
+    let job = job(alloc)?;
+    alloc.refuse_from(number);
+    let is_starved = match Ticket::new(alloc, job) {
+        Ok(ticket) => {
+            let _ = ticket.give_up().end();
+            false
         }
-    }
-    Err(Fail::from("no end of growths"))
+        Err(_) => true,
+    };
+    was_refused(alloc, number, is_starved)
 }
 
-/// The ticket of a try that found no memory, or the stub and the receipt of one that was booked; any other is spent.
-enum Ended<'a> {
-    Starved(Ticket<&'a Refuser>),
-    Booked(Stub, Receipt<&'a Refuser>),
-    Other,
-}
-
-fn end_of<'a>(tried: Tried<&'a Refuser>) -> Ended<'a> {
-    match tried {
-        Tried::NoMemory(ticket) => Ended::Starved(ticket),
-        Tried::Booked(stub, receipt) => Ended::Booked(stub, receipt),
-        Tried::Next(ticket, _) => spent(ticket.give_up()),
-        Tried::Out(stub, _) => spent(stub),
-        Tried::Wrong(ticket) => spent(ticket.give_up()),
-    }
-}
-
-fn spent<'a>(stub: Stub) -> Ended<'a> {
-    let _ = stub.end();
-    Ended::Other
-}
-
-/// How many growths it takes until a ticket is booked; each is refused once, and leaves ticket and book as they were.
-fn growths_to_book<'a>(
-    rt: &impl Abort,
-    alloc: &'a Refuser,
-    ticket: Ticket<&'a Refuser>,
-    book: &mut Kept<'a>,
-) -> Option<u64> {
+/// Tries a ticket on a book with the growth of this number refused, and once more if it comes back.
+fn tried_on<A: Allocator + Copy, R: Roster>(
+    alloc: &Refuser,
+    ticket: Ticket<A>,
+    book: &mut GatewayBook<R>,
+    number: u64,
+) -> Gone {
     let before = book.totals();
-    let mut ticket = ticket;
-    for number in 1..=MOST_GROWTHS {
-        alloc.refuse(number);
-        match end_of(ticket.try_on(book)) {
-            Ended::Starved(back) => {
-                assert_eq!(rt; alloc.asked(), number);
-                alloc.grant();
-                assert_eq!(rt; (back.number(), back.gateway(), back.counter()), (17, 1, 0));
-                assert_eq!(rt; book.totals(), before);
-                ticket = back;
-            }
-            Ended::Booked(stub, receipt) => {
-                assert!(rt; alloc.asked() < number);
-                alloc.grant();
-                assert_eq!(rt;
-                    (stub.end().number, receipt.frame.as_slice().len()),
-                    (17, 113)
-                );
-                return Some(number.saturating_sub(1));
-            }
-            Ended::Other => return None,
+    alloc.refuse(number);
+    let tried = ticket.try_on(book);
+    let asked = alloc.asked();
+    alloc.grant();
+    match tried {
+        Tried::NoMemory(back) => {
+            let seen = (shown_by(&back), book.totals() == before);
+            (asked, Some(seen), booked_in(back.try_on(book)))
         }
+        tried => (asked, None, booked_in(tried)),
     }
-    let _ = ticket.give_up().end();
-    None
+}
+
+/// Tries a new ticket on a book with the growth of this number refused: whether there was one.
+fn is_booked_without<A: Allocator + Copy, R: Roster>(
+    alloc: &Refuser,
+    own: A,
+    book: &mut GatewayBook<R>,
+    number: u64,
+) -> Result<bool, Fail> {
+    let ticket = Ticket::new(own, job(own)?)?;
+    let gone = tried_on(alloc, ticket, book, number);
+    is_wanted(number, gone, ((17, 1, 0), 113))
+}
+
+/// The same on the empty book of its gateway.
+fn is_tried_without(alloc: &Refuser, number: u64) -> Result<bool, Fail> {
+    let mut book = GatewayBook::new(TreeRoster::new(alloc), 1, 4_096, 0)?;
+    is_booked_without(alloc, alloc, &mut book, number)
 }
 
 #[test]
 fn a_ticket_that_is_tried(rt: HostRuntime) -> Result<(), Fail> {
-    let alloc = Refusing::new(rt.alloc());
-    let mut book = GatewayBook::new(TreeRoster::new(&alloc), 1, 4_096, 0)?;
-    let (growths, ticket) = growths_of_ticket(&rt, &alloc)?;
-    let to_book = growths_to_book(&rt, &alloc, ticket, &mut book);
-    equal(&(growths, to_book), &(1, Some(2)))
+    refusing(rt.alloc(), |alloc| {
+        same(growths_of(|number| is_made_without(alloc, number))?, 1)?;
+        same(growths_of(|number| is_tried_without(alloc, number))?, 2)
+    })
 }

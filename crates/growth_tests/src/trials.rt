@@ -1,18 +1,16 @@
 // Asks that are tried on a copy of a book, and the earliest start that is found on one, where the arena or the answers find no
 // memory.
 
-use crate::turns::{MOST_GROWTHS, Refuser, was_refused};
+use crate::turns::{Refuser, growths_of, refusing, same, was_refused};
 use airtime_planner::{what_if, what_if_earliest};
 use bumpalo::Bump;
 use gateway_book::{Ask, GatewayBook, NoMemory, Refusal};
 use radio_airtime::DataRate;
 use radio_bands::Band;
-use refusing_alloc::Refusing;
-use resv_list::{Reservation, VecRoster};
-use std::alloc::Global;
-use std::process::Abort;
+use resv_list::{Reservation, Roster, VecRoster};
+use std::alloc::{Allocator, Global};
 use std::test::Fail;
-use test_asserts::{equal, equal_at, holds};
+use test_asserts::holds;
 
 type Live = GatewayBook<VecRoster<Global>>;
 
@@ -31,15 +29,12 @@ fn ask(number: u64, start: u64) -> Ask {
 }
 
 /// A book whose three members fill an hour of the sub-band.
-fn live(rt: &impl Abort, memory: Global) -> Live {
-    let mut book = GatewayBook::new(VecRoster::new(memory), 1, 4_096, 0).expect(
-        rt,
-        "the cap and the gap are in range",
-    );
+fn live(memory: Global) -> Result<Live, Fail> {
+    let mut book = GatewayBook::new(VecRoster::new(memory), 1, 4_096, 0)?;
     for number in 1..4 {
-        assert!(rt; book.book(ask(number, number * 1_000_000)).is_ok());
+        book.book(ask(number, number * 1_000_000))?;
     }
-    book
+    Ok(book)
 }
 
 /// Asks within the hour that is full, and behind it.
@@ -53,34 +48,48 @@ fn asks() -> [Ask; 5] {
     ]
 }
 
-/// The answer that takes such an ask.
-fn taken(rt: &impl Abort, number: u64, start: u64) -> Answer {
-    Ok(Reservation::new(number, start, 863_500_000, DataRate::Dr0, 12).expect(rt, "the ask is fit"))
+/// What the live book would answer to them, behind an answer that was there before: a refusal, or the number and the start of
+/// what is taken as it was asked for.
+static ANSWERS: [Result<(u64, u64), Refusal>; 6] = [
+    Err(Refusal::Full),
+    Err(Refusal::DutyFull {
+        band: Band::K,
+        from: 1_000_000,
+        spent: 2_973_696,
+    }),
+    Ok((5, 3_601_000_000)),
+    Err(Refusal::Taken { start: 1_000_000 }),
+    Ok((7, 3_602_000_000)),
+    Ok((8, 3_603_000_000)),
+];
+
+/// Compares an answer; what is taken is taken as it was asked for.
+fn compare_one(answer: &Answer, wanted: &Result<(u64, u64), Refusal>) -> Result<(), Fail> {
+    match (*answer, *wanted) {
+        (Ok(taken), Ok((number, start))) => {
+            let rest = (taken.freq_hz, taken.rate, taken.len);
+            same(rest, (863_500_000, DataRate::Dr0, 12))?;
+            same((taken.number, taken.start), (number, start))
+        }
+        (answer, wanted) => same(answer.err(), wanted.err()),
+    }
 }
 
-/// What the live book would answer to them, behind an answer that was there before.
-fn answers(rt: &impl Abort) -> [Answer; 6] {
-    [
-        Err(Refusal::Full),
-        Err(Refusal::DutyFull {
-            band: Band::K,
-            from: 1_000_000,
-            spent: 2_973_696,
-        }),
-        taken(rt, 5, 3_601_000_000),
-        Err(Refusal::Taken { start: 1_000_000 }),
-        taken(rt, 7, 3_602_000_000),
-        taken(rt, 8, 3_603_000_000),
-    ]
+/// Compares the answers with the first of these, so many.
+fn compare(out: &[Answer], count: usize) -> Result<(), Fail> {
+    for (answer, wanted) in out.iter().zip(&ANSWERS) {
+        compare_one(answer, wanted)?;
+    }
+    same(out.len(), count)
 }
 
-/// Tries the asks on a copy of the book.
-fn tried<'a>(
-    arena: &Bump<&'a Refuser>,
-    memory: Global,
-    book: &Live,
-    out: &mut Vec<Answer, &'a Refuser>,
+/// Tries the asks on a copy of the book, whose list finds memory.
+fn tried<P: Allocator, A: Allocator, R: Roster>(
+    arena: &Bump<P>,
+    book: (&GatewayBook<R>, Global),
+    out: &mut Vec<Answer, A>,
 ) -> Result<(), NoMemory> {
+    let (book, memory) = book;
     let list = book.list(memory)?;
     let totals = book.totals();
     what_if(
@@ -96,7 +105,11 @@ fn tried<'a>(
 }
 
 /// Looks for the earliest start of one ask more, after them.
-fn sought(arena: &Bump<&Refuser>, memory: Global, book: &Live) -> Result<Option<u64>, NoMemory> {
+fn sought<P: Allocator, R: Roster>(
+    arena: &Bump<P>,
+    book: (&GatewayBook<R>, Global),
+) -> Result<Option<u64>, NoMemory> {
+    let (book, memory) = book;
     let list = book.list(memory)?;
     let totals = book.totals();
     what_if_earliest(
@@ -119,83 +132,94 @@ const EARLIEST: u64 = 7_201_000_000;
 /// The copy takes a growth at least, and so does what is booked on it, or the list of answers.
 const LEAST_GROWTHS: u64 = 2;
 
-/// A list of answers that has one.
-fn one_answer(alloc: &Refuser) -> Result<Vec<Answer, &Refuser>, Fail> {
-    let mut out = Vec::new(alloc);
-    out.push(Err(Refusal::Full))?;
-    Ok(out)
-}
-
-/// Whether a trial finds memory where this growth is refused, and all that follow it. Without, what was answered before stays
-/// alone, and with memory the same call answers as ever.
-fn is_tried_without(
-    rt: &impl Abort,
+/// Whether a trial asks for this growth, which is refused, and all that follow it. Then what was answered before stays alone,
+/// and with memory the same call answers as ever.
+fn is_tried_in<P: Allocator, A: Allocator, R: Roster>(
+    arena: &Bump<P>,
     alloc: &Refuser,
-    memory: Global,
-    book: &Live,
+    book: (&GatewayBook<R>, Global),
+    out: &mut Vec<Answer, A>,
     number: u64,
 ) -> Result<bool, Fail> {
-    let arena = Bump::new(alloc);
-    let mut out = one_answer(alloc)?;
     alloc.refuse_from(number);
-    let is_starved = tried(&arena, memory, book, &mut out).is_err();
-    was_refused(alloc, number, is_starved)?;
-    if is_starved {
-        equal(&out.as_slice(), &[Err(Refusal::Full)].as_slice())?;
-        tried(&arena, memory, book, &mut out)?;
+    let is_starved = tried(arena, book, out).is_err();
+    if was_refused(alloc, number, is_starved)? {
+        compare(out, 1)?;
+        tried(arena, book, out)?;
     }
-    equal_at(&number, &out.as_slice(), &answers(rt).as_slice())?;
-    Ok(!is_starved)
+    compare(out, ANSWERS.len())?;
+    Ok(is_starved)
+}
+
+/// The same with a new arena, and with one answer that was there before.
+fn is_tried_without<R: Roster>(
+    alloc: &Refuser,
+    book: (&GatewayBook<R>, Global),
+    number: u64,
+) -> Result<bool, Fail> {
+    let mut out = Vec::new(alloc);
+    out.push(Err(Refusal::Full))?;
+    is_tried_in(&Bump::new(alloc), alloc, book, &mut out, number)
+}
+
+/// The same of the search for the earliest start.
+fn is_sought_in<P: Allocator, R: Roster>(
+    arena: &Bump<P>,
+    alloc: &Refuser,
+    book: (&GatewayBook<R>, Global),
+    number: u64,
+) -> Result<bool, Fail> {
+    alloc.refuse_from(number);
+    let found = sought(arena, book).ok();
+    if was_refused(alloc, number, found.is_none())? {
+        same(sought(arena, book).ok(), Some(Some(EARLIEST)))?;
+        return Ok(true);
+    }
+    same(found, Some(Some(EARLIEST)))?;
+    Ok(false)
+}
+
+/// The same with a new arena.
+fn is_sought_without<R: Roster>(
+    alloc: &Refuser,
+    book: (&GatewayBook<R>, Global),
+    number: u64,
+) -> Result<bool, Fail> {
+    is_sought_in(&Bump::new(alloc), alloc, book, number)
+}
+
+/// How many growths a trial takes; each is refused with all that follow it.
+fn growths_to_try<R: Roster>(
+    alloc: &Refuser,
+    book: (&GatewayBook<R>, Global),
+) -> Result<u64, Fail> {
+    growths_of(|number| is_tried_without(alloc, book, number))
+}
+
+/// The same of a search.
+fn growths_to_seek<R: Roster>(
+    alloc: &Refuser,
+    book: (&GatewayBook<R>, Global),
+) -> Result<u64, Fail> {
+    growths_of(|number| is_sought_without(alloc, book, number))
 }
 
 #[test]
 fn each_growth_of_a_trial_is_refused(rt: HostRuntime) -> Result<(), Fail> {
-    let alloc = Refusing::new(rt.alloc());
-    let book = live(&rt, rt.alloc());
+    let book = live(rt.alloc())?;
     let before = book.totals();
-    for number in 1..MOST_GROWTHS {
-        let is_tried = is_tried_without(&rt, &alloc, rt.alloc(), &book, number)?;
-        equal(&book.totals(), &before)?;
-        if is_tried {
-            holds(number > LEAST_GROWTHS)?;
-            return Ok(());
-        }
-    }
-    Err(Fail::from("no end of growths"))
-}
-
-/// The same of the search for the earliest start.
-fn is_sought_without(
-    alloc: &Refuser,
-    memory: Global,
-    book: &Live,
-    number: u64,
-) -> Result<bool, Fail> {
-    let arena = Bump::new(alloc);
-    alloc.refuse_from(number);
-    let start = sought(&arena, memory, book);
-    let is_starved = was_refused(alloc, number, start.is_err())?;
-    let start = if is_starved {
-        sought(&arena, memory, book)
-    } else {
-        start
-    };
-    equal_at(&number, &start?, &Some(EARLIEST))?;
-    Ok(!is_starved)
+    refusing(rt.alloc(), |alloc| {
+        holds(growths_to_try(alloc, (&book, rt.alloc()))? >= LEAST_GROWTHS)?;
+        same(book.totals(), before)
+    })
 }
 
 #[test]
 fn each_growth_of_a_search_on_a_copy_is_refused(rt: HostRuntime) -> Result<(), Fail> {
-    let alloc = Refusing::new(rt.alloc());
-    let book = live(&rt, rt.alloc());
+    let book = live(rt.alloc())?;
     let before = book.totals();
-    for number in 1..MOST_GROWTHS {
-        let is_sought = is_sought_without(&alloc, rt.alloc(), &book, number)?;
-        equal(&book.totals(), &before)?;
-        if is_sought {
-            holds(number > LEAST_GROWTHS)?;
-            return Ok(());
-        }
-    }
-    Err(Fail::from("no end of growths"))
+    refusing(rt.alloc(), |alloc| {
+        holds(growths_to_seek(alloc, (&book, rt.alloc()))? >= LEAST_GROWTHS)?;
+        same(book.totals(), before)
+    })
 }

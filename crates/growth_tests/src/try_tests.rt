@@ -1,135 +1,77 @@
 // A ticket that is tried at its station.
-ghost use Rattle.std.specs.Prelude.{◌≡◌};
+ghost use Rattle.std.specs.Prelude.{◌≡◌, ◌<◌};
 
-use crate::stations::{RefusedStation, heard_by, station_of, totals_at};
-use crate::turns::{MOST_GROWTHS, Refuser, was_refused};
-use answer_ticket::{Stub, Ticket, Tried};
-use refusing_alloc::Refusing;
-use server_workers::{Blank, Ledger, PARTS};
-use std::alloc::Global;
-use std::marker::Brand;
-use std::process::Abort;
+use crate::stations::{AtWork, takes, totals_at};
+use crate::tickets::{Gone, booked_in, is_wanted, shown_by};
+use crate::turns::{Refuser, same};
+use answer_ticket::{Ticket, Tried};
+use server_workers::{Ledger, Station, Till};
+use std::alloc::Allocator;
 use std::sync::Wait;
 use std::test::Fail;
-use test_asserts::{equal, equal_at, holds_at};
+use worked_inputs::WorkedHasher;
 
-/// How a try ended: no memory, with the ticket; a booking, with its stub and the length of its frame; or else.
-enum Ended<'a> {
-    Starved(Ticket<&'a Refuser>),
-    Booked(Stub, usize),
-    Other,
-}
-
-fn end_of<'a>(tried: Tried<&'a Refuser>) -> Ended<'a> {
-    match tried {
-        Tried::NoMemory(ticket) => Ended::Starved(ticket),
-        Tried::Booked(stub, receipt) => Ended::Booked(stub, receipt.frame.as_slice().len()),
-        Tried::Next(ticket, _) => spent(ticket.give_up()),
-        Tried::Out(stub, _) => spent(stub),
-        Tried::Wrong(ticket) => spent(ticket.give_up()),
-    }
-}
-
-fn spent<'a>(stub: Stub) -> Ended<'a> {
-    let _ = stub.end();
-    Ended::Other
-}
-
-/// Tries a ticket once at its station.
-fn tried_once<'a, B: Ledger, R: Wait>(
+/// What both gateways have booked.
+fn booked_at<B: Ledger, A: Allocator + Copy, R: Wait>(
     rt: &R,
-    station: &RefusedStation<'a, B>,
-    ticket: Ticket<&'a Refuser>,
-) -> Ended<'a> {
-    end_of(station.try_once(rt, ticket))
+    station: &Station<B, WorkedHasher, A>,
+) -> [Option<u64>; 2] {
+    totals_at(rt, station).map(|totals| Some(totals?.booked))
 }
 
-/// The length of the frame that is booked; nothing where the try ended otherwise.
-fn booked_len(ended: Ended<'_>) -> Option<usize> {
-    match ended {
-        Ended::Starved(ticket) => {
-            let _ = ticket.give_up().end();
-            None
-        }
-        Ended::Booked(stub, len) => {
-            let _ = stub.end();
-            Some(len)
-        }
-        Ended::Other => None,
-    }
-}
-
-/// What a ticket shows: its number, its gateway and its downlink counter.
-fn shown(ticket: &Ticket<&Refuser>) -> (u64, u16, u32) {
-    (ticket.number(), ticket.gateway(), ticket.counter())
-}
-
-/// The ticket for an uplink; nothing where there is none.
-fn taken<'a, B: Ledger, R: Wait>(
+/// Tries a ticket with the growth of this number refused, and once more if it comes back.
+fn tried_at<B: Ledger, A: Allocator + Copy, R: Wait>(
     rt: &R,
-    station: &RefusedStation<'a, B>,
+    alloc: &Refuser,
+    station: &Station<B, WorkedHasher, A>,
+    ticket: Ticket<A>,
     number: u64,
-) -> Option<Ticket<&'a Refuser>> {
-    station.take(rt, number).ok()
-}
-
-/// A ticket is tried with the growth of this number refused, and once more if that was asked for: whether it was, what the
-/// ticket shows that comes back, and the length of the frame that is booked in the end.
-fn tried<'a, B: Ledger, R: Abort + Wait>(
-    rt: &R,
-    alloc: &'a Refuser,
-    station: &RefusedStation<'a, B>,
-    number: u64,
-) -> Result<(bool, Option<(u64, u16, u32)>, Option<usize>), Fail> {
+) -> Gone {
     let before = totals_at(rt, station);
-    let ticket = taken(rt, station, 2).ok_or("there is a ticket")?;
     alloc.refuse(number);
-    match tried_once(rt, station, ticket) {
-        Ended::Starved(back) => {
-            let (shown, asked, after) = (shown(&back), alloc.asked(), totals_at(rt, station));
-            alloc.grant();
-            let len = booked_len(tried_once(rt, station, back));
-            holds_at(&number, asked >= number)?;
-            equal(&after, &before)?;
-            Ok((true, Some(shown), len))
+    let tried = station.try_once(rt, ticket);
+    let asked = alloc.asked();
+    alloc.grant();
+    match tried {
+        Tried::NoMemory(back) => {
+            let seen = (shown_by(&back), totals_at(rt, station) == before);
+            (asked, Some(seen), booked_in(station.try_once(rt, back)))
         }
-        ended => {
-            let len = booked_len(ended);
-            Ok((was_refused(alloc, number, false)?, None, len))
-        }
+        tried => (asked, None, booked_in(tried)),
     }
 }
 
-/// Refuses the growth of this number of a try: whether there was one.
-fn is_refused<B: Ledger, R: Abort + Wait>(
+/// The same of the ticket of the second uplink, which is booked in the end: whether there was such a growth.
+fn is_tried_without<B: Ledger, A: Allocator + Copy, R: Wait>(
     rt: &R,
-    global: Global,
-    blank: Blank,
+    alloc: &Refuser,
+    station: &Station<B, WorkedHasher, A>,
     number: u64,
-) -> Result<bool, Fail>
-    requires name { blank.name ≡ B.name }
-    requires parts { blank.parts ≡ B.parts }
-    requires all { blank.parts ≡ PARTS }
-{
-    let alloc = Refusing::new(global);
-    let (station, _) = station_of::<B>(global, &alloc, 2, blank)?;
-    heard_by(rt, global, &station, 2)?;
-    let (is_starved, shown, len) = tried(rt, &alloc, &station, number)?;
-    equal(&shown, &is_starved.then_some((2, 1, 0)))?;
-    equal(&len, &Some(12))?;
-    let booked = totals_at(rt, &station).map(|totals| totals.map(|totals| totals.booked));
-    equal(&booked, &[Some(41_216), Some(0)])?;
-    Ok(is_starved)
+) -> Result<bool, Fail> {
+    let gone = tried_at(rt, alloc, station, station.take(rt, 2)?, number);
+    let is_refused = is_wanted(number, gone, ((2, 1, 0), 12))?;
+    same(booked_at(rt, station), [Some(41_216), Some(0)])?;
+    Ok(is_refused)
+}
+
+/// A ticket is tried until it is booked.
+#[derive(Drop)]
+struct Tries;
+
+impl AtWork for Tries {
+    fn is_refused<'a, B: Ledger, R: Wait>(
+        &self,
+        rt: &R,
+        alloc: &'a Refuser,
+        station: Station<B, WorkedHasher, &'a Refuser>,
+        _till: Till<B>,
+        number: u64,
+    ) -> Result<bool, Fail> {
+        is_tried_without(rt, alloc, &station, number)
+    }
 }
 
 #[test]
 fn a_ticket_is_tried(rt: HostRuntime) -> Result<(), Fail> {
-    for number in 1..=MOST_GROWTHS {
-        let blank = Blank::new(PARTS as u64);
-        if !is_refused::<Brand, _>(&rt, rt.alloc(), blank, number)? {
-            equal_at(&"growths", &number.saturating_sub(1), &2)?;
-            return Ok(());
-        }
-    }
-    Err(Fail::from("no end of growths"))
+    takes(&rt, rt.alloc(), 2, &Tries, 2)
 }

@@ -1,64 +1,65 @@
 // What a worker starts with.
-ghost use Rattle.std.specs.Prelude.{◌≡◌};
+ghost use Rattle.std.specs.Prelude.{◌≡◌, ◌<◌};
 
-use crate::stations::station_of;
-use crate::turns::{MOST_GROWTHS, Refuser, was_refused};
-use refusing_alloc::Refusing;
-use server_workers::{Blank, Ledger, PARTS, Worked};
-use std::alloc::Global;
-use std::marker::Brand;
-use std::process::Abort;
+use crate::stations::{AtWork, takes};
+use crate::turns::{Refuser, same, was_refused};
+use server_workers::{Ledger, Station, Till, Worked};
+use std::alloc::Allocator;
+use std::sync::Wait;
 use std::test::Fail;
-use test_asserts::equal;
+use worked_inputs::WorkedHasher;
 
-/// A worker starts with the growth of this number refused: the parts of the till that is handed back if there was one, and
-/// the parts of the worker's own till, who starts at once or with the till that was handed back.
-fn started<B: Ledger>(
-    global: Global,
+/// A worker starts with a share of a till, or where the growth of this number is refused with the share that was handed back:
+/// whether there was one.
+fn is_started_without<B: Ledger, A: Allocator + Copy>(
     alloc: &Refuser,
-    blank: Blank,
+    memory: A,
+    till: &mut Till<B>,
     number: u64,
-) -> Result<(Option<u32>, Option<u32>), Fail>
-    requires name { blank.name ≡ B.name }
-    requires parts { blank.parts ≡ B.parts }
-    requires all { blank.parts ≡ PARTS }
+) -> Result<bool, Fail>
+    requires { 16 < till.old.parts }
 {
-    let (_, mut till) = station_of::<B>(global, alloc, 1, blank)?;
     alloc.refuse(number);
-    match Worked::new(alloc, till.split(), 4) {
-        Ok(worked) => Ok((None, Some(worked.till.parts()))),
+    match Worked::new(memory, till.split(), 4) {
+        Ok(worked) => {
+            same(worked.till.parts(), 1)?;
+            was_refused(alloc, number, false)
+        }
         Err(back) => {
-            let parts = back.parts();
-            let again = Worked::new(alloc, back, 4).ok();
-            Ok((Some(parts), again.map(|worked| worked.till.parts())))
+            is_started_again(memory, back)?;
+            Ok(true)
         }
     }
 }
 
-/// Refuses the growth of this number of a worker who starts: whether there was one.
-fn is_refused<B: Ledger>(global: Global, blank: Blank, number: u64) -> Result<bool, Fail>
-    requires name { blank.name ≡ B.name }
-    requires parts { blank.parts ≡ B.parts }
-    requires all { blank.parts ≡ PARTS }
+/// A worker starts with a share that was handed back.
+fn is_started_again<B: Ledger, A: Allocator + Copy>(memory: A, back: Till<B>) -> Result<(), Fail>
+    requires { back ≡ record { parts = 1; amount = 0 } }
 {
-    let alloc = Refusing::new(global);
-    let (back, own) = started::<B>(global, &alloc, blank, number)?;
-    equal(&own, &Some(1))?;
-    if back.is_none() {
-        return was_refused(&alloc, number, false);
+    same(back.parts(), 1)?;
+    let worked = Worked::new(memory, back, 4).ok();
+    same(worked.ok_or("it starts")?.till.parts(), 1)
+}
+
+/// A worker starts.
+#[derive(Drop)]
+struct Starts;
+
+impl AtWork for Starts {
+    fn is_refused<'a, B: Ledger, R: Wait>(
+        &self,
+        _rt: &R,
+        alloc: &'a Refuser,
+        _station: Station<B, WorkedHasher, &'a Refuser>,
+        till: Till<B>,
+        number: u64,
+    ) -> Result<bool, Fail> {
+        let mut till = till;
+        is_started_without(alloc, alloc, &mut till, number)
     }
-    equal(&back, &Some(1))?;
-    Ok(true)
 }
 
 #[test]
 fn a_worker_starts(rt: HostRuntime) -> Result<(), Fail> {
-    for number in 1..=MOST_GROWTHS {
-        let blank = Blank::new(PARTS as u64);
-        if !is_refused::<Brand>(rt.alloc(), blank, number)? {
-            assert_eq!(rt; number.saturating_sub(1), 5, "growths");
-            return Ok(());
-        }
-    }
-    Err(Fail::from("no end of growths"))
+    takes(&rt, rt.alloc(), 0, &Starts, 5)
 }

@@ -1,4 +1,4 @@
-use Rattle.growth_tests.proofs.try_tests.a_ticket_is_tried.Given as goal
+use Rattle.growth_tests.proofs.serve_tests.growths_to_serve.Given as goal
 
 abbrev pub ghosts-is_refused : goal.ghosts-is_refused
 ghosts-is_refused g a = record { name = a.blank.name; parts = a.blank.parts }

@@ -1,4 +1,4 @@
-use Rattle.growth_tests.proofs.worked_tests.a_worker_starts.Given as goal
+use Rattle.growth_tests.proofs.stations.growths_at.Given as goal
 
 abbrev pub ghosts-is_refused : goal.ghosts-is_refused
 ghosts-is_refused g a = record { name = a.blank.name; parts = a.blank.parts }
