@@ -5,7 +5,7 @@ ghost use Rattle.uplink_gather.specs.Gatherings.{close_step};
 ghost use Rattle.uplink_gather.specs.Hearing.{place_of, is_crowded, hear_answer, after_hearing, opening, with_copy};
 
 use crate::newest::Newest;
-use crate::stored::Stored;
+use crate::stored::{Stored, make_room};
 use crate::{HearFault, Heard, HeardCopy, Limits, Place, rules};
 use std::alloc::{AllocError, Allocator, Global};
 use std::hash::BuildHasher;
@@ -82,7 +82,7 @@ impl<S: BuildHasher, A: Allocator + Copy> Gather<S, A> {
         ensures refused { OnErr result (self.new ≡ self.old) }
     {
         let gathering = &mut self.stored[n as usize - 1];
-        if gathering.copies.reserve(1).is_err() {
+        if make_room(&mut gathering.copies).is_err() {
             return Err(HearFault::NoMemory);
         }
         gathering.copies.push_reserved(copy);

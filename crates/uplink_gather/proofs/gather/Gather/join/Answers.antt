@@ -6,12 +6,12 @@ use Rattle.uplink_gather.proofs.gather.Gather.join.Goals as goal
 pub invariant_of-self : goal.invariant_of-self
 invariant_of-self g c =
     whole_joining _ _ _ _ c.self.invariant _ c.self.view_is c.args.n c.requires c.index_mut-gathering.result.now
-    c.index_mut-gathering.ensures.value c.reserve.new.self
+    c.index_mut-gathering.ensures.value c.make_room.new.copies
 
 pub returns-then-is_err-clause-refused : goal.returns-then-is_err-clause-refused
 returns-then-is_err-clause-refused g c =
     joining_refused _ _ _ _ c.self.invariant _ c.self.view_is c.args.n c.requires c.index_mut-gathering.result.now
-    c.index_mut-gathering.ensures.value c.reserve.new.self c.reserve.ensures.items
+    c.index_mut-gathering.ensures.value c.make_room.new.copies c.make_room.ensures.same
 
 pub invariant_of-self-2 : goal.invariant_of-self-2
 invariant_of-self-2 g c =
@@ -25,7 +25,7 @@ returns-clause-told g c =
       arith,
       c.len.ensures,
       c.push_reserved.ensures.len,
-      c.reserve.ensures.len,
+      c.make_room.ensures.len,
       c.index_mut-gathering.result.now.copies.ok.0,
     ) in
     ap (λ (m : ℕ). Joined c.args.n m) (joining_count _ _ _ _ c.self.invariant _ c.self.view_is c.args.n c.requires
@@ -35,4 +35,4 @@ pub returns-clause-joined : goal.returns-clause-joined
 returns-clause-joined g c =
     joining_looks _ _ _ _ c.self.invariant _ c.self.view_is c.args.n c.requires c.index_mut-gathering.result.now
     c.index_mut-gathering.ensures.value c.push_reserved.new.self c.args.copy
-    (rw c.reserve.ensures.items at c.push_reserved.ensures.items)
+    (rw c.make_room.ensures.same at c.push_reserved.ensures.items)
