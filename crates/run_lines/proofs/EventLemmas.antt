@@ -1,12 +1,10 @@
 -- Lemmas on what an event line says.
-use Rattle.std.proofs.Common.{◌≡◌, ◌≢◌, ℕ, ◌+◌, List, [], ◌∷◌, ◌++◌, length, map, get_or, Option, None, refl, sym, ap, ◌∙◌, arith}
-use Rattle.std.proofs.Common.{append_assoc, append-nil}
-use Rattle.std.specs.Option.{option_to_list}
+use Rattle.std.proofs.Common.{◌≡◌, ◌≢◌, ℕ, List, [], ◌∷◌, length, map, get_or, Option, None, refl, sym, ap, ◌∙◌, arith}
 use Rattle.server_core.specs.declared.event.Event.{Event}
 use Rattle.text_lines.specs.Number.{number_signed}
 use Rattle.server_desk.specs.declared.setting.DeviceSetting.{DeviceSetting}
 use Rattle.run_lines.specs.RunWords.{uplink_word}
-use Rattle.run_lines.specs.RunEvents.{number_of, heard_with, hear_with, hear_event, line_event, events_from, events_of}
+use Rattle.run_lines.specs.RunEvents.{number_of, heard_with, hear_with, hear_event}
 use Rattle.server_desk.specs.declared.heard.Heard1.{Heard1}
 
 -- a copy has just eight words after its name
@@ -55,22 +53,3 @@ hear_event-by {A = A} f devices words x heard arrived event eight h a e =
     (number_of 32 (f (get_or words 2 x))) (number_of 8 (f (get_or words 3 x))) (number_signed (f (get_or words 4 x)))
     (number_signed (f (get_or words 5 x)))) k (uplink_word devices (f (get_or words 7 x)))) a
     ∙ sym (hear_event-eight {A = A} f devices words x eight)
-
--- the events of the lines so far, and of those that are left
-pub events-so_far : {A : Type 0} (devices : List DeviceSetting) (all text rest : List (List ℕ)) (line : List ℕ) (number : ℕ)
-    (old new : List (Event A)) → text ≡ line ∷ rest
-    → events_of devices all ≡ old ++ events_from devices number text
-    → new ≡ old ++ option_to_list (line_event devices number line)
-    → events_of devices all ≡ new ++ events_from devices (number + 1) rest
-unfolding events_from
-events-so_far devices all text rest line number old new e so_far grown =
-    so_far ∙ ap (λ l. old ++ events_from devices number l) e
-    ∙ sym (append_assoc old (option_to_list (line_event devices number line)) (events_from devices (number + 1) rest))
-    ∙ ap (λ l. l ++ events_from devices (number + 1) rest) (sym grown)
-
-pub events-all : {A : Type 0} (devices : List DeviceSetting) (all text : List (List ℕ)) (number : ℕ) (events : List (Event A))
-    → text ≡ []
-    → events_of devices all ≡ events ++ events_from devices number text → events ≡ events_of devices all
-unfolding events_from
-events-all devices all text number events e so_far =
-    sym (so_far ∙ ap (λ l. events ++ events_from devices number l) e ∙ append-nil events)

@@ -1,8 +1,8 @@
 -- The events of lines that are cut in two.
-use Rattle.std.proofs.Common.{ℕ, ◌≡◌, ◌+◌, ◌<◌, ◌≤◌, List, [], ◌∷◌, ◌++◌, length, map, take, drop, get_or, refl, sym, ap, ◌∙◌, arith}
+use Rattle.std.proofs.Common.{ℕ, ◌≡◌, ◌+◌, ◌<◌, ◌≤◌, List, [], ◌∷◌, ◌++◌, length, map, take, drop, get_or, sym, ap, ◌∙◌, arith}
 use Rattle.std.proofs.Common.{Result, Ok, Err, IfOk, subst, append_assoc, append-nil}
 use Rattle.std.specs.Option.{option_to_list}
-use Rattle.std.proofs.lemmas.List.{length-map, length-take-le, map-append, map_more, map_push, take-append-drop}
+use Rattle.std.proofs.lemmas.List.{length-map, length-take-le, map-append, map_more, take-append-drop}
 use Rattle.server_core.specs.declared.event.Event.{Event}
 use Rattle.server_desk.specs.declared.setting.DeviceSetting.{DeviceSetting}
 use Rattle.run_lines.specs.RunEvents.{line_event, events_from}
@@ -19,13 +19,6 @@ events-append devices number (line ∷ front) back =
     (events_from devices (number + 1 + length front) back))
     ∙ ap (λ n. (option_to_list (line_event devices number line) ++ events_from devices (number + 1) front)
     ++ events_from devices n back) (omega arith)
-
--- one line more is cut off
-pub cut_more : {X : Type 0} (f : X → List ℕ) (all text rest : List (List ℕ)) (old new : List X) (line : X)
-    → all ≡ map f old ++ text → text ≡ f line ∷ rest → new ≡ old ++ line ∷ [] → all ≡ map f new ++ rest
-cut_more f all text rest old new line a t n =
-    a ∙ ap (λ l. map f old ++ l) t ∙ sym (append_assoc (map f old) (f line ∷ []) rest)
-    ∙ ap (λ l. l ++ rest) (sym (map_push f old line)) ∙ ap (λ l. map f l ++ rest) (sym n)
 
 module _ {A X : Type 0} (devices : List DeviceSetting) (number : ℕ) (f : X → List ℕ) (lines : List X) where
   one : (n : ℕ) (line : List ℕ) → events_from {A = A} devices n (line ∷ []) ≡ option_to_list (line_event devices n line)
@@ -59,7 +52,8 @@ module _ {A X : Type 0} (devices : List DeviceSetting) (number : ℕ) (f : X →
       e ∙ ap (λ l. l ++ second) e1 ∙ ap (λ l. events_from devices number front ++ l)
       (e2 ∙ ap (λ k. events_from devices k back) (b ∙ ap (λ k. number + k) (sym many)))
       ∙ sym (events-append devices number front back)
-      ∙ ap (events_from devices number) (sym (map-append f (take mid lines) (drop mid lines)) ∙ ap (map f) (take-append-drop mid lines))
+      ∙ ap (events_from devices number)
+      (sym (map-append f (take mid lines) (drop mid lines)) ∙ ap (map f) (take-append-drop mid lines))
 
 -- what holds of an Ok
 pub ok_weaker : {X E : Type 0} (P Q : X → Type 0) → ((x : X) → P x → Q x) → (r : Result X E) → IfOk r P → IfOk r Q

@@ -62,7 +62,8 @@ module _ {S : Type 0} (devices : List DeviceSetting) (i : ℕ) (d : DeviceSettin
       by false s = or_none (get nat_eq m addr)
 
 -- what a look-up by a borrow found
-pub none_found : (o : Option (Bor Keys)) (r : Option Keys) (b : Bool) → option_copied o ≡ r → is_some o ≡ not b → b ≡ true → r ≡ None
+pub none_found : (o : Option (Bor Keys)) (r : Option Keys) (b : Bool) → option_copied o ≡ r → is_some o ≡ not b → b ≡ true
+    → r ≡ None
 none_found None r b e s t = sym e
 none_found (Some x) r b e s t = absurd (true≢false (s ∙ ap not t))
 

@@ -16,7 +16,7 @@ use text_lines::{first_word, is_passed_over};
 pub const DATAGRAM_ROOM: usize = 1027;
 
 /// What the datagram of turn `number` asks for, by the devices of the settings; None where it is passed over. One that
-/// fills the room may have been cut off, and is malformed.
+/// fills the room may have been cut off, and is malformed. Err(NoMemory) where a growth was refused.
 pub fn datagram_event(
     alloc: Global,
     devices: &[DeviceSetting],

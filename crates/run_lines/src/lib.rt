@@ -1,10 +1,10 @@
 //! The lines of a run: the input's two parts and the events of its lines, and the lines that answer them and report.
 #![tactic(auto)]
 
+mod all_events;
 mod datagram;
 mod entry_line;
 mod entry_name;
-mod event_halves;
 mod gateway_report;
 mod key_ring;
 mod laws;
@@ -15,11 +15,10 @@ mod run_input;
 mod run_words;
 mod tally;
 
+pub use all_events::events_by_threads;
 pub use datagram::{DATAGRAM_ROOM, datagram_event};
-pub use event_halves::events_by_threads;
 pub use laws::law_lines_are_whole;
 pub use part_text::{write_entries, write_report};
 pub use replay_text::write_lines;
-pub use run_events::events_of;
 pub use run_input::{parts_of, read_all};
 pub use tally::Tally;

@@ -1,23 +1,22 @@
 // What the lines of `airbook run` ask for.
-ghost use Rattle.std.specs.Prelude.{◌≡◌, ◌≤◌, ◌++◌, map, Some, IfOk, OnOk};
+ghost use Rattle.std.specs.Prelude.{◌≡◌, ◌++◌, map, Some, IfOk, OnOk};
 ghost use Rattle.std.specs.Option.{option_to_list};
-ghost use Rattle.std.specs.Str.Lines.{lines};
 ghost use Rattle.text_lines.specs.Number.{number_signed};
 ghost use Rattle.run_lines.specs.RunWords.{uplink_word};
 ghost use Rattle.run_lines.specs.RunEvents.{queue_event, heard_with, number_of, hear_with, hear_event, pass_event, tick_event};
-ghost use Rattle.run_lines.specs.RunEvents.{cancel_event, worded_event, line_event, events_of};
+ghost use Rattle.run_lines.specs.RunEvents.{cancel_event, worded_event, line_event};
 
 use crate::key_ring::KeyRing;
-use crate::run_input::next_line;
 use crate::run_words::{NoMemory, addr_word, hex_word, uplink_word};
-use server_core::{DeviceSetting, Event, Heard1};
+use server_core::{Event, Heard1};
 use std::alloc::Global;
 use text_lines::{
     Words, is_passed_over, is_too_long, is_word, number_i16, number_u8, number_u16, number_u32,
     number_u64,
 };
 
-/// What line number `number` asks for, its end left out, by the devices of the settings and their keys; None where it is passed over.
+/// What line number `number` asks for, its end left out, by the devices of the settings and their keys; None where it is
+/// passed over.
 pub(crate) fn line_event(
     alloc: Global,
     ring: &KeyRing<'_>,
@@ -180,33 +179,6 @@ fn cancel_event(words: &[&[u8]]) -> Option<Event<Global>>
     })
 }
 
-/// The events that the lines of a text ask for, by the devices of the settings.
-pub fn events_of(
-    alloc: Global,
-    devices: &[DeviceSetting],
-    text: &[u8],
-) -> Result<Vec<Event<Global>>, NoMemory>
-    ensures { IfOk result (λ events. events.items ≡ events_of devices.now (lines text.now)) }
-{
-    let ring = KeyRing::new(alloc, devices)?;
-    events_by(alloc, &ring, text)
-}
-
-/// The events that the lines of a text ask for, by these devices and their keys.
-fn events_by(alloc: Global, ring: &KeyRing<'_>, text: &[u8]) -> Result<Vec<Event<Global>>, NoMemory>
-    ensures { IfOk result (λ events. events.items ≡ events_of ring.now.devices.now (lines text.now)) }
-{
-    let mut events = Vec::new(alloc);
-    let mut number = 1;
-    let mut left = text;
-    while let Some((line, rest)) = next_line(left) {
-        append_event(&mut events, alloc, ring, number, line)?;
-        number += 1;
-        left = rest;
-    }
-    Ok(events)
-}
-
 /// Puts what a line asks for behind the events, if it asks for something.
 pub(crate) fn append_event(
     events: &mut Vec<Event<Global>>,
@@ -215,7 +187,8 @@ pub(crate) fn append_event(
     number: u64,
     line: &[u8],
 ) -> Result<(), NoMemory>
-    ensures { OnOk result (events.new.items ≡ events.old.items ++ option_to_list (line_event ring.now.devices.now number line.now)) }
+    ensures { OnOk result
+        (events.new.items ≡ events.old.items ++ option_to_list (line_event ring.now.devices.now number line.now)) }
 {
     let Some(event) = line_event(alloc, ring, number, line)? else {
         return Ok(());

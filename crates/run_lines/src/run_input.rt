@@ -1,5 +1,5 @@
 // The two parts of the input of `airbook run`, and the lines of the second.
-ghost use Rattle.std.specs.Prelude.{◌≡◌, ◌<◌, ◌∷◌, ◌++◌, [], length, take, drop, slice_index, MatchOption, IfSome, IfNone, IfOk};
+ghost use Rattle.std.specs.Prelude.{◌≡◌, ◌<◌, ◌∷◌, ◌++◌, [], length, slice_index, MatchOption, IfSome, IfNone, IfOk};
 ghost use Rattle.std.specs.Prelude.{IfErr};
 ghost use Rattle.std.specs.Io.KnownBytes.{Consumes};
 ghost use Rattle.text_words.specs.Fault.{CountsReads};
@@ -83,7 +83,8 @@ fn without_return(line: &[u8]) -> &[u8]
     }
 }
 
-/// All bytes of an input. `Read`: a call of the reader failed; `TooMuch`: there are more than 2^28 bytes.
+/// All bytes of an input. `Read`: a call of the reader failed; `TooMuch`: there are more than 2^28 bytes; `NoMemory`: a
+/// growth was refused.
 pub fn read_all<R: ByteIn>(alloc: Global, reader: &mut R) -> Result<Vec<u8>, TextFault>
     ensures ok { IfOk result (λ bytes. IfSome (R.left reader.old) (λ all. bytes.items ≡ all)) }
     ensures consumed { IfOk result (λ bytes. Consumes (R.left reader.old) (R.left reader.new) bytes.items) }

@@ -1,7 +1,6 @@
 // What the words of an event line say.
-ghost use Rattle.std.specs.Prelude.{◌≡◌, ◌^◌, ◌<◌, [], ◌∷◌, ◌++◌, None, length, IfOk};
-ghost use Rattle.std.specs.Option.{option_map};
-ghost use Rattle.run_lines.specs.RunWords.{addr_word, hex_word, Kind, kind_of, bare_message, bare_uplink, made_word};
+ghost use Rattle.std.specs.Prelude.{◌≡◌, ◌<◌, [], ◌∷◌, ◌++◌, None, IfOk};
+ghost use Rattle.run_lines.specs.RunWords.{addr_word, hex_word, kind_of, bare_message, bare_uplink, made_word};
 ghost use Rattle.run_lines.specs.RunWords.{uplink_word};
 ghost use Rattle.lora_frame.specs.Frame.{with_mic, bit_worth, up_control};
 

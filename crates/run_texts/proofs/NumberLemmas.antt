@@ -30,11 +30,6 @@ module _ {X : Type 0} (key : X → ℕ) (n : ℕ) where
   found_nowhere (y ∷ xs) h =
       rw (h 0 y (omega arith)) (found_nowhere xs (λ k d l. rw add-one at (h (k + 1) d (omega (arith, l)))))
 
-  other_by : (a b : ℕ) (t : Bool) → nat_lt a b ≡ t → (t ≡ true → (a == b) ≡ false) → (t ≡ false → (a == b) ≡ false)
-      → (a == b) ≡ false
-  other_by a b true e f g = f refl
-  other_by a b false e f g = g refl
-
   module _ (xs : List X) (rising : IsNonDecreasingBy key xs) (at : ℕ) (low : AllWithin (λ y. nat_lt (key y) n ≡ true) xs 0 at)
       (high : AllWithin (λ y. nat_lt (key y) n ≡ false) xs at (length xs)) where
     -- where all numbers are lesser

@@ -25,10 +25,10 @@ use text_words::TextFault;
 /// writes an answer to each event that has one, and at the end a report. It answers whether a line of the output begins
 /// with `no` or `bad`. Devices and uplinks are looked up through this hasher and a clone of it.
 ///
-/// With no worker one thread does all. With 1 to 16 workers they answer the uplinks that one `pass` closes, at the same
-/// time; which gateway and window an answer gets then depends on the schedule. What the workers skip the calling thread
-/// answers once more, and where none of them could work it answers all. The gateways' books are compared with the answers
-/// before anything is written.
+/// With no worker one thread does all. With 1 to 16 at most so many answer the uplinks that one `pass` closes, at the same
+/// time: one, and one more for each 32 uplinks. Which gateway and window an answer gets then depends on the schedule. What
+/// the workers skip the calling thread answers once more, and where none of them could work it answers all. The gateways'
+/// books are compared with the answers before anything is written.
 ///
 /// `Settings`: the settings are refused, by the name of their fault; there are more than 16 workers, by the name Workers,
 /// and then nothing was read; or the books don't go with the answers, by the name of `Station::finish`'s fault. `Read`: a
@@ -73,11 +73,20 @@ where
         return Err(TextFault::NoMemory);
     };
     // The events have bytes of their own.
-    drop(input);
+    let _left = given_back(input);
     if workers == 0 {
         return tell_alone(alloc, hasher, &settings, events, writer);
     }
     tell_with_workers(rt, alloc, hasher, &settings, events, workers, writer)
+}
+
+/// Gives the bytes back, all but a block for one: the C library maps a block as large as an input by itself, and once it has
+/// freed one it maps no smaller block any more, so that lists which grow would leave holes in its heap.
+fn given_back(bytes: Vec<u8>) -> Vec<u8> {
+    let mut bytes = bytes;
+    bytes.clear();
+    bytes.shrink_to(1);
+    bytes
 }
 
 /// Does what these events ask for, with workers, and writes the answers and the report. After `Write` a front of them
@@ -98,7 +107,8 @@ fn tell_with_workers<
 where
     S::Hasher: Send + Sync,
     requires { IsStaffed workers }
-    ensures played { IfOk result (λ refused. IsWorkersRun settings.now events.items (W.taken writer.old) (W.taken writer.new) refused) }
+    ensures played { IfOk result
+        (λ refused. IsWorkersRun settings.now events.items (W.taken writer.old) (W.taken writer.new) refused) }
     ensures untouched { IfErr result (λ fault. fault ≢ TextFault.Write → writer.new ≡ writer.old) }
     ensures fault { IfErr result (λ fault. fault ≢ TextFault.Write → IsPlayFault fault) }
     ensures write { CountsWrites (W.failed_calls writer.old) (W.failed_calls writer.new) result }

@@ -8,7 +8,7 @@ use std::alloc::Global;
 use text_words::TextFault;
 
 /// The settings that some bytes say. `Settings`: they give none, by the name of the fault; bytes that are not UTF-8
-/// are `NotToml`.
+/// are `NotToml`. `NoMemory`: a growth was refused.
 pub fn settings_in(alloc: Global, bytes: &[u8]) -> Result<Settings<Global>, TextFault>
     ensures given { IfOk result (λ settings. settings_in bytes.now ≡ Ok settings) }
     ensures fault { IfErr result (λ fault. IsRefusedBy (settings_in bytes.now) fault) }

@@ -179,8 +179,8 @@ where
     Answered { till, ran, told }
 }
 
-/// How many of so many workers so many numbers want: one for each 32 numbers, as a thread costs what some answers cost, and one at
-/// least. A number of workers that no station has stays as it is.
+/// How many of so many workers so many numbers want: one, and one more for each 32 numbers, as a thread costs what some
+/// answers cost. A number of workers that no station has stays as it is.
 fn wanted(workers: u8, count: usize) -> u8
     ensures fewer { result ≤ workers }
     ensures outside { IsOutside result ↔ IsOutside workers }

@@ -75,7 +75,8 @@ where
 }
 
 impl<B: Ledger, S: BuildHasher + Clone + Drop> Shift<B, S> {
-    /// A station with these settings that has heard nothing.
+    /// A station with these settings that has heard nothing, for 1 to 16 workers. Devices and uplinks are looked up through
+    /// this hasher and a clone of it. Err(NoMemory) where a growth was refused.
     pub fn new(
         alloc: Global,
         hasher: S,
@@ -128,7 +129,8 @@ where
         shift.close(alloc)
     }
 
-    /// Does what an event asks for.
+    /// Does what the event at this place, counted from 0, asks for: its lines go behind those that were told. Err(NoMemory)
+    /// where a growth was refused; the shift is gone then.
     pub fn answer<R: Threads + Wait + Sync>(
         self,
         rt: &R,

@@ -6,7 +6,7 @@ use Words.{opening, AreSettings, SettingLists, GatewaySetting, entries, gateway_
 use Words.{noting, schedule, usual_limits, AreBooksOf, Does, IsAt, IsOpened, IsBetweenCalls, Seen, with_lines, Step, Event}
 use Words.{event_steps, entry_at, length-append, subst, schedule_from, entries_from, run_from, some_inj, arith, All, All-head, All-tail, IsGatewayInRange}
 use Rattle.server_core.proofs.{Calls.noting_none, Calls.noting_twice, Calls.reached_append, Members.none_numbered}
-use Rattle.server_core.specs.{Entries.event_lines, Server.IsReplayed}
+use Rattle.server_core.specs.Entries.{event_lines, gateways_after}
 use Rattle.std.proofs.{Common.take, lemmas.List.length-take-le, lemmas.List.take_more}
 use Rattle.server_core.specs.declared.event.Event.TheVariants as events
 use Rattle.server_core.specs.declared.entry.Line.TheVariants as says
@@ -124,6 +124,13 @@ books_kept (b ∷ bs) (g ∷ gs) z =
     let r = z.0.remembers in
     cc (z.0.id, z.0.rules, r.floor, r.list, r.booked, r.cancelled, books_kept bs gs z.1)
 books_kept books gs z = absurd z
+
+-- it made the steps of these events, and told their lines; these steps were kept before
+pub record IsReplayed {A : Type 0} (settings : SettingLists) (es : List (Event A)) (kept : Option (List Step))
+    (s : Seen A) : Type 0 where
+  pub steps : s.steps ≡ noting (schedule settings es) kept
+  pub outcomes : s.outcomes ≡ entries settings es
+  pub books : map gateway_of s.books ≡ map kept_gateway (gateways_after settings es)
 
 pub replayed : {A : Type 0} (settings : SettingLists) (kept : Option (List Step)) (es all : List (Event A)) (s : Seen A)
     → es ≡ all → IsReplaying settings kept es s → IsReplayed settings all kept s

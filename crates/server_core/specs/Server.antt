@@ -25,8 +25,8 @@ use Rattle.server_desk.specs.Desk.{DeskView, desk_of}
 use Rattle.server_desk.specs.World.{World, Gateway, opening}
 use Rattle.server_core.specs.Steps.{Step, Cancel, step}
 use Rattle.server_core.specs.Steps as replies
-use Rattle.server_core.specs.Schedule.{usual_limits, reached, due_numbers, pass_steps, event_steps, schedule, step_of}
-use Rattle.server_core.specs.Entries.{step_lines, event_lines, entry_at, entries, gateways_after, kept_gateway, gateway_of}
+use Rattle.server_core.specs.Schedule.{usual_limits, reached, due_numbers, pass_steps, event_steps, step_of}
+use Rattle.server_core.specs.Entries.{step_lines, event_lines, entry_at}
 
 -- What one thread keeps of the system, and how it goes on.
 
@@ -159,10 +159,3 @@ pub record IsCancelled {A : Type 0} (n : ℕ) (old new : Seen A) (result : Resul
 -- the steps in which all that is due is closed and answered
 abbrev pub pass_whole : World → ℕ → List Step
 pass_whole w now = pass_steps w now (due_numbers now w.reg.gathered.list)
-
--- it made the steps of these events, and told their lines; these steps were kept before
-pub record IsReplayed {A : Type 0} (settings : SettingLists) (es : List (Event A)) (kept : Option (List Step))
-    (s : Seen A) : Type 0 where
-  pub steps : s.steps ≡ noting (schedule settings es) kept
-  pub outcomes : s.outcomes ≡ entries settings es
-  pub books : map gateway_of s.books ≡ map kept_gateway (gateways_after settings es)

@@ -44,7 +44,8 @@ pub fn replay<S: BuildHasher + Clone, A: Allocator + Copy, B: Allocator>(
     })
 }
 
-/// Does what `replay` does, and keeps neither steps nor events: each event is dropped once it is answered.
+/// Does what `replay` does, and keeps neither steps nor events: each event is dropped once it is answered. Err(NoMemory)
+/// where a growth was refused.
 pub fn answer_events<S: BuildHasher + Clone, A: Allocator + Copy, B: Allocator>(
     alloc: A,
     hasher: S,

@@ -4,7 +4,7 @@ ghost use Rattle.std.specs.Prelude.{◌≡◌, IfOk};
 
 use airbook_text::{Settings, read_settings};
 use answer_ticket::{Ending, Outcome};
-use run_lines::{events_of, write_lines};
+use run_lines::{events_by_threads, write_lines};
 use run_texts::{Answer, Answered, Ends, Told, answer_with_workers};
 use server_core::{Book, Entry, Event, Line, NoMemory, TakeFault};
 use server_workers::{Blank, Ledger, PARTS, ServeCause, Station, Till};
@@ -49,7 +49,7 @@ const RARE: &[u8] =
 type Text = (bool, Vec<u8>);
 
 /// A station that heard these copies and closed their gatherings, and the till with all parts of its ledger.
-fn station_that_heard<B: Ledger, R: Wait>(
+fn station_that_heard<B: Ledger, R: Threads + Wait + Sync>(
     rt: &R,
     alloc: Global,
     copies: &[u8],
@@ -67,14 +67,14 @@ fn station_that_heard<B: Ledger, R: Wait>(
 }
 
 /// Has a station hear these copies and close their gatherings.
-fn hear_all<B: Ledger, R: Wait>(
+fn hear_all<B: Ledger, R: Threads + Wait + Sync>(
     rt: &R,
     alloc: Global,
     station: &TestStation<B>,
     settings: &Settings<Global>,
     copies: &[u8],
 ) -> Result<(), Fail> {
-    let events = events_of(alloc, settings.devices(), copies)?;
+    let events = events_by_threads(rt, alloc, settings.devices(), copies, 0)?;
     for event in events.as_slice() {
         if let Event::Hear {
             bytes,

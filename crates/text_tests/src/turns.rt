@@ -165,10 +165,11 @@ fn long_line(alloc: Global, len: usize, end: &[u8]) -> Result<Vec<u8>, Fail> {
 }
 
 /// How long a line is, its end, and what is answered to it.
-static LONG: [(usize, &[u8], &[u8]); 9] = [
+static LONG: [(usize, &[u8], &[u8]); 10] = [
     (1024, b"", b"no cancel 1 NotHere\n"),
     (1024, b"\n", b"no cancel 1 NotHere\n"),
     (1024, b"\r\n", b"no cancel 1 NotHere\n"),
+    (1024, b"\r\ncancel 1", b"bad 1 Syntax\n"),
     (1025, b"", b"bad 1 Syntax\n"),
     (1025, b"\n", b"bad 1 Syntax\n"),
     (1025, b"\r\n", b"bad 1 Syntax\n"),

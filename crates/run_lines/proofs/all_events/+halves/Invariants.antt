@@ -1,6 +1,6 @@
 -- Each half has fewer threads than the whole.
 use Rattle.std.proofs.Common.{◌+◌, ◌*◌}
-use Rattle.run_lines.proofs.event_halves.+halves.Given as goal
+use Rattle.run_lines.proofs.all_events.+halves.Given as goal
 
 abbrev pub decreases-events_between : goal.decreases-events_between
 decreases-events_between g l = 2 * l.threads

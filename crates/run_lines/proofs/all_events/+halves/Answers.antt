@@ -1,7 +1,7 @@
 use Rattle.std.proofs.Common.{◌≡◌, ◌+◌, ◌/◌, ◌≤◌, ◌++◌, length, map, refl, arith}
 use Rattle.run_lines.specs.RunEvents.{events_from}
 use Rattle.run_lines.proofs.HalfLemmas.{events_joined, ok_weaker, ok_has}
-use Rattle.run_lines.proofs.event_halves.+halves.Goals as goal
+use Rattle.run_lines.proofs.all_events.+halves.Goals as goal
 
 pub returns : goal.returns
 returns g t c =

@@ -1,4 +1,4 @@
-// The lines of a run are made into events by several threads, each of which takes some of them.
+// The lines of a run are made into events, by one thread or by several, each of which takes some of them.
 ghost use Rattle.std.specs.Prelude.{◌≡◌, ◌+◌, ◌^◌, ◌<◌, ◌≤◌, ◌++◌, length, map, IfOk};
 ghost use Rattle.std.specs.Str.Lines.{lines};
 ghost use Rattle.std.specs.Thread.{IsSync};
@@ -15,8 +15,9 @@ use std::thread::{Threads, join};
 /// Fewer lines than these are worth no thread.
 const LINES_EACH: usize = 1_024;
 
-/// The events that the lines of a text ask for, by the devices of the settings, made by at most so many threads. What they are
-/// does not depend on the threads.
+/// The events that the lines of a text ask for, by the devices of the settings, made by at most so many threads, and by the
+/// calling one alone where that is 0 or 1. What they are does not depend on the threads. Err(NoMemory) where a growth was
+/// refused.
 pub fn events_by_threads<R: Threads + Sync>(
     rt: &R,
     alloc: Global,
@@ -45,8 +46,8 @@ fn lines_of(alloc: Global, text: &[u8]) -> Result<Vec<&[u8]>, NoMemory>
     Ok(cut)
 }
 
-/// The events of some lines, of which the first has this number, made by at most so many threads: half of them for each half of the
-/// lines.
+/// The events of some lines, of which the first has this number, made by at most so many threads: half of them for each half
+/// of the lines.
 #[cycle(halves)]
 fn events_between<R: Threads + Sync>(
     rt: &R,

@@ -1,6 +1,6 @@
 use Rattle.run_lines.specs.RunEvents.{events_from}
 use Rattle.run_lines.proofs.HalfLemmas.{events_more}
-use Rattle.run_lines.proofs.event_halves.events_alone.Goals as goal
+use Rattle.run_lines.proofs.all_events.events_alone.Goals as goal
 
 pub loop-place-init : goal.loop-place-init
 unfolding events_from

@@ -1,6 +1,6 @@
 use Rattle.std.proofs.Common.{◌≡◌, take, map}
 use Rattle.run_lines.specs.RunEvents.{events_from}
-use Rattle.run_lines.proofs.event_halves.events_alone.Given as goal
+use Rattle.run_lines.proofs.all_events.events_alone.Given as goal
 
 abbrev pub invariant-loop-place : goal.invariant-loop-place
 invariant-loop-place l =

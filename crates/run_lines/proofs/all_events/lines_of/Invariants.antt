@@ -1,6 +1,6 @@
 use Rattle.std.proofs.Common.{◌≡◌, ◌≤◌, ◌+◌, ◌++◌, length, map}
 use Rattle.std.specs.Str.Lines.{lines}
-use Rattle.run_lines.proofs.event_halves.lines_of.Given as goal
+use Rattle.run_lines.proofs.all_events.lines_of.Given as goal
 
 abbrev pub invariant-loop-line : goal.invariant-loop-line
 invariant-loop-line l = record {
