@@ -1,5 +1,6 @@
 -- What a server that listens has come to, turn by turn.
-use Rattle.std.proofs.Common.{◌≡◌, ℕ, ◌+◌, ◌*◌, ◌^◌, ◌≤◌, ◌<◌, ◌⊎◌, inl, inr, Bool, false, ◌||◌, Some, None, Result, Ok, Err, IfOk, IfErr, List, [], ◌∷◌, ◌++◌, length, Option}
+use Rattle.std.proofs.Common.{◌≡◌, ℕ, ◌+◌, ◌*◌, ◌^◌, ◌≤◌, ◌<◌, ◌⊎◌, inl, inr, Bool, false, ◌||◌, Some, None, Result, Ok, Err}
+use Rattle.std.proofs.Common.{IfOk, IfErr, List, [], ◌∷◌, ◌++◌, length, Option}
 use Rattle.std.proofs.Common.{refl, sym, ap, ◌∙◌, arith, subst, append-nil}
 use Rattle.std.specs.Global.{Global}
 use Rattle.std.specs.Io.KnownBytes.{Appends}
@@ -35,7 +36,8 @@ pub record HasListened (devices : List DeviceSetting) (turns : ℕ) (seen seen_n
   pub refused : now.refused ≡ has_refusal said.lines
   pub written : Appends before after (text_of said.lines)
 
-pub listened_none : (devices : List DeviceSetting) (seen : Seen) (a : Option (List ℕ)) → HasListened devices 0 seen seen opened a a
+pub listened_none : (devices : List DeviceSetting) (seen : Seen) (a : Option (List ℕ))
+    → HasListened devices 0 seen seen opened a a
 listened_none devices seen a =
     record {
       received = [];
@@ -248,7 +250,8 @@ asked_in_part devices turn datagram asked event bookings a b r is some h =
     subst (λ e. IfErr r (λ x. SaysInPart (IsAnswered turn e bookings) a b)) (sym some ∙ is) h
 
 -- an event was answered by the lines that were told for it
-pub answered_by : (turn : ℕ) (event : Event Global) (old new : List Booking) (before told taken : List (Entry Global)) → before ≡ []
+pub answered_by : (turn : ℕ) (event : Event Global) (old new : List Booking) (before told taken : List (Entry Global))
+    → before ≡ []
     → IsDone turn event (kept old before) (kept new told) → taken ≡ told
     → IsAnswered turn (Some event) old new (record { entries = taken; lines = entry_lines taken })
 answered_by turn event old new before told taken none done same = (
