@@ -212,6 +212,18 @@ def port_taken(program):
     return None if answered[:2] == (["floor 1 5"] + NO_REPORT, 0) else f"the first program: {answered}"
 
 
+def tell(trials):
+    """Makes these trials, and prints what failed, and how many did: the status."""
+    failed = 0
+    for name, trial in trials:
+        fault = trial()
+        if fault:
+            failed += 1
+            print(f"failed: {name}: {fault}")
+    print(f"{len(trials) - failed} passed, {failed} failed")
+    return 1 if failed else 0
+
+
 def main():
     if len(sys.argv) < 2 or not pathlib.Path(sys.argv[1]).is_file():
         print(__doc__.strip(), file=sys.stderr)
@@ -226,14 +238,7 @@ def main():
         ("settings with a line of dashes", lambda: refused(program, SETTINGS + "---\n", "NotToml")),
         ("no settings", lambda: refused(program, "", "Count")),
     ]
-    failed = 0
-    for name, trial in trials:
-        fault = trial()
-        if fault:
-            failed += 1
-            print(f"failed: {name}: {fault}")
-    print(f"{len(trials) - failed} passed, {failed} failed")
-    return 1 if failed else 0
+    return tell(trials)
 
 
 if __name__ == "__main__":

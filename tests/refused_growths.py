@@ -7,9 +7,10 @@ It is for the texts that take the global allocator, which no test can replace: a
 refuses what the program itself asks of `malloc`, `realloc` and `posix_memalign`, by its number. A C compiler makes it, `cc` or
 that of CC. Each growth is refused alone, and then with all that follow, until there is none of that number. The program has
 to end within SECONDS, by no signal, and
-    with status 2    a fault is named on standard error, and what was written is a front of what is written with memory
-    with 0 or 1      output and status are as with memory, or a line of the output ends in NoMemory; with workers only the report
-                     has to be as with memory, since what a worker finds no memory for is answered after the others
+    as with memory   it may always end
+    with status 2    want of memory is named on standard error, and what was written is a front of what is written with memory
+    with 0 or 1      a line of the output ends in NoMemory; with workers only the report has to be as with memory, since what a
+                     worker finds no memory for is answered after the others
 Prints a line for each run that ends otherwise, and one for each case with the number of its growths and how often each answer
 came. The status is 0 where none ended otherwise, 1 where one did, 2 where nothing could be run.
 """
@@ -156,13 +157,13 @@ def report_of(out):
 
 def answer(case, how, ordinary):
     """What a run answered, in a word or two; nothing where it had to end otherwise."""
+    if how == ordinary:
+        return "as with memory"
     if how.status == 2:
-        fault = re.search(rb"(?m)^(airbook: \w+|error: .*)$", how.err)
+        fault = re.search(rb"(?m)^(airbook: NoMemory|error: .*)$", how.err)
         return fault[1].decode() if fault and ordinary.out.startswith(how.out) else None
     if how.status not in (0, 1):
         return None
-    if how == ordinary:
-        return "as with memory"
     if re.search(rb"(?m) NoMemory$", how.out):
         return "a line with NoMemory"
     is_moved = "--workers" in case[1] and how.status == ordinary.status and report_of(how.out) == report_of(ordinary.out)

@@ -18,7 +18,7 @@ static ANSWERED: [Row; 2] = [
 ];
 
 /// The station is asked this and that; the last receipt is that of number 500, which gateway 1 heard.
-static ASKED: [Row; 14] = [
+static ASKED: [Row; 16] = [
     (Step::Ask(Ask::Queue(1, b"x")), "Ok(1)"),
     (Step::Ask(Ask::Queue(1, b"x")), "Ok(2)"),
     (
@@ -49,6 +49,11 @@ static ASKED: [Row; 14] = [
     (
         Step::Ask(Ask::Totals(2, 0)),
         "Ok(Totals { booked: 10304000, cancelled: 0, retired: 0, kept_airtime: 10304000, kept: 250, floor: 7 })",
+    ),
+    (Step::Ask(Ask::Tick(2, 3_700_500_000)), "Some(3700500000)"),
+    (
+        Step::Ask(Ask::Totals(2, 0)),
+        "Ok(Totals { booked: 10304000, cancelled: 0, retired: 2060800, kept_airtime: 8243200, kept: 200, floor: 3700500000 })",
     ),
     (Step::Ask(Ask::Queue(501, b"x")), "Err(UnknownDevice)"),
 ];

@@ -1,5 +1,6 @@
 // Workers at a station, and what they tell.
 
+use crate::gates::Shut;
 use crate::meeting::Meeting;
 use crate::posts::{Post, text};
 use answer_ticket::{Ending, Outcome};
@@ -17,6 +18,8 @@ pub(crate) enum Shift {
     Crew(u64, u64, u8),
     /// So many workers who meet, at the numbers from the one to the other.
     Meeting(u64, u64, u8),
+    /// So many workers whom no gate lets in, at the numbers from the one to the other.
+    ShutOut(u64, u64, u8),
     /// One with room for so many numbers, at these.
     One(u32, &'static [u64]),
 }
@@ -27,6 +30,7 @@ impl<B: Ledger + Send + Sync, R: Threads + Wait + Sync> Post<'_, B, R> {
         match shift {
             Shift::Crew(first, last, workers) => self.serve(first, last, workers, &NoGate),
             Shift::Meeting(first, last, workers) => self.meet(first, last, workers),
+            Shift::ShutOut(first, last, workers) => self.serve(first, last, workers, &Shut::new()),
             Shift::One(room, numbers) => self.work(room, numbers),
         }
     }

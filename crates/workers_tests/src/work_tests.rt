@@ -39,6 +39,20 @@ fn sixteen_workers_answer_five_hundred_devices(rt: HostRuntime) -> Result<(), Fa
     tells(&rt, rt.alloc(), 500, &FIVE_HUNDRED)
 }
 
+/// Each worker goes on once it has asked the gate often enough, and tells so.
+static SHUT_OUT: [Row; 2] = [
+    (Step::Hear(Heard::All(3)), "3"),
+    (
+        Step::Work(Shift::ShutOut(1, 3, 2)),
+        "(2, [3, 3], ([], 0, 0), 3, true)",
+    ),
+];
+
+#[test]
+fn workers_whom_no_gate_lets_in_go_on(rt: HostRuntime) -> Result<(), Fail> {
+    tells(&rt, rt.alloc(), 3, &SHUT_OUT)
+}
+
 /// The till is handed back with all its parts.
 static TOO_FEW_AND_TOO_MANY: [Row; 2] = [
     (Step::Work(Shift::Crew(1, 1, 0)), "(Workers, 65536)"),

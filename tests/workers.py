@@ -1,0 +1,130 @@
+#!/usr/bin/env python3
+"""Runs a program with workers and without on inputs that are larger than those of cases/, and compares what it writes.
+
+Usage: workers.py PROGRAM
+
+With workers which gateway and window an answer gets may depend on the schedule; here no two answers stand in each other's way,
+so all have to write the same. A failing trial has a line; the last line is 'N passed, M failed'. The status is 0 where none
+failed, 1 where one did, 2 where nothing could be run.
+"""
+import pathlib
+import subprocess
+import sys
+
+sys.dont_write_bytecode = True
+from listen import tell
+
+SECONDS = 120
+DEVICES = 1_000
+GATEWAYS = 4
+OPEN_AT_MOST = 4_096
+ROUNDS = 5
+# So far apart, in microseconds, a gateway may answer for days.
+SPACE = 5_000_000
+KEYS = 'nwkskey = "2b7e151628aed2a6abf7158809cf4f3c"\nappskey = "000102030405060708090a0b0c0d0e0f"\n'
+# Clocks that run for longer than 25 days.
+LONG_AGO = 1 << 41
+
+
+def addr(device):
+    return f"{0x26010000 + device:08x}"
+
+
+def settings(gateways, devices, cap=OPEN_AT_MOST):
+    rows = [f"[[gateway]]\nid = {gateway}\ncap = {cap}\ngap = 100000\n" for gateway in range(1, gateways + 1)]
+    return "".join(rows + [f'[[device]]\naddr = "{addr(device)}"\n{KEYS}' for device in range(devices)]) + "---\n"
+
+
+def hear(device, gateway, at, counter=0):
+    return f"hear {gateway} {LONG_AGO + at} 868100000 5 0 -100 {LONG_AGO} @c:{addr(device)}:{counter}"
+
+
+def apart():
+    """Each device is heard once, by one gateway, and is answered in RX1. After that four are heard whose RX1 begins in the gap
+    behind a transmission, so that they are answered in RX2; and what was booked is cancelled, in part, and retired."""
+    lines = [f"queue {addr(device)} 9 0102" for device in range(0, DEVICES, 3)]
+    lines += [hear(device, 1 + device % GATEWAYS, 200_000 * (device // GATEWAYS)) for device in range(DEVICES)]
+    lines += [f"pass {LONG_AGO + 1_000_000}"]
+    last = 200_000 * ((DEVICES - 1) // GATEWAYS)
+    lines += [hear(device, 1 + device, last + 100_000, 1) for device in range(GATEWAYS)]
+    lines += [f"pass {LONG_AGO + 1_000_000}"]
+    lines += [f"cancel {number}" for number in [*range(1, DEVICES + GATEWAYS + 2, 7), 1]]
+    lines += [f"tick {gateway} {LONG_AGO + 3_620_000_000 + gateway}" for gateway in range(1, GATEWAYS + 2)]
+    return settings(GATEWAYS, DEVICES) + "\n".join(lines) + "\n"
+
+
+def crammed():
+    """One gateway, whose book keeps more than one does where nobody says so, hears each device once in each of its rounds."""
+    lines = []
+    for turn in range(ROUNDS):
+        lines += [hear(device, 1, SPACE * (DEVICES * turn + device), turn) for device in range(DEVICES)]
+        lines += [f"pass {LONG_AGO + 1_000_000}"]
+    return settings(1, DEVICES, ROUNDS * DEVICES) + "\n".join(lines) + "\n"
+
+
+def crowded():
+    """One device is heard with more uplinks than are gathered at a time."""
+    return settings(1, 1) + "\n".join(hear(0, 1, 0, counter) for counter in range(OPEN_AT_MOST + 2)) + "\n"
+
+
+def written(program, text, workers):
+    words = [program, "run", "--workers", str(workers)]
+    ran = subprocess.run(words, input=text.encode(), capture_output=True, timeout=SECONDS)
+    return ran.returncode, ran.stdout.decode().splitlines(), ran.stderr.decode()
+
+
+def first_difference(wanted, got):
+    for place, (want, line) in enumerate(zip(wanted, got), 1):
+        if want != line:
+            return f"line {place}: wanted {want}, got {line}"
+    return f"wanted {len(wanted)} lines, got {len(got)}"
+
+
+def alike(program, text, is_wanted):
+    """What differs from what one thread writes, or is not wanted of it, if anything."""
+    wanted = written(program, text, 0)
+    if not is_wanted(wanted):
+        return f"without workers: status {wanted[0]}, {wanted[1][-3:]}, {wanted[2]!r}"
+    for workers in (1, 2, 4, 16):
+        got = written(program, text, workers)
+        if got != wanted:
+            return f"{workers} workers: status {got[0]}, {first_difference(wanted[1], got[1])}, {got[2]!r}"
+    return None
+
+
+def windows(wanted):
+    """The windows in which uplinks are answered."""
+    return [line.split()[3] for line in wanted[1] if line.startswith("send ")]
+
+
+def is_answered(wanted):
+    """Every uplink is answered, the last ones in RX2."""
+    return windows(wanted) == ["RX1"] * DEVICES + ["RX2"] * GATEWAYS
+
+
+def is_full(wanted):
+    """Every uplink is answered in RX1."""
+    return windows(wanted) == ["RX1"] * (ROUNDS * DEVICES)
+
+
+def is_crowded(wanted):
+    """As many gatherings open as may, and no more."""
+    opened = [f"opened {number}" for number in range(1, OPEN_AT_MOST + 1)]
+    return wanted[1][: OPEN_AT_MOST + 2] == opened + ["no hear Crowded"] * 2
+
+
+def main():
+    if len(sys.argv) != 2 or not pathlib.Path(sys.argv[1]).is_file():
+        print(__doc__.strip(), file=sys.stderr)
+        return 2
+    program = str(pathlib.Path(sys.argv[1]).resolve())
+    trials = [
+        (f"{DEVICES} uplinks apart", lambda: alike(program, apart(), is_answered)),
+        (f"{ROUNDS * DEVICES} uplinks of one gateway", lambda: alike(program, crammed(), is_full)),
+        (f"{OPEN_AT_MOST + 2} uplinks at a time", lambda: alike(program, crowded(), is_crowded)),
+    ]
+    return tell(trials)
+
+
+if __name__ == "__main__":
+    sys.exit(main())
