@@ -1,14 +1,13 @@
 // The session keys of the devices, each expanded once.
 ghost use Rattle.std.specs.Prelude.{◌≡◌, IfOk};
 ghost use Rattle.std.specs.Option.{ForSome};
-ghost use Rattle.server_core.specs.Taking.{keys_of};
 ghost use Rattle.run_lines.specs.RunWords.{keys_for};
 ghost use Rattle.run_lines.specs.KeyRing.{KeepsKeys};
 
 use crate::run_words::NoMemory;
 use indexmap::IndexMap;
-use lora_frame::{Key, Keys};
-use server_core::DeviceSetting;
+use lora_frame::Keys;
+use server_core::{DeviceSetting, keys_of};
 use std::alloc::Global;
 use std::hash::{BuildHasherDefault, FoldHasher};
 
@@ -76,14 +75,4 @@ fn keys_for(addr: u32, devices: &[DeviceSetting]) -> Option<Keys>
 {
     let device = devices.iter().find(|device| device.addr == addr)?;
     Some(keys_of(device))
-}
-
-/// The session keys of a device, expanded.
-fn keys_of(device: &DeviceSetting) -> Keys
-    ensures { result ≡ keys_of device.now }
-{
-    Keys {
-        nwk: Key::new(device.nwk),
-        app: Key::new(device.app),
-    }
 }

@@ -7,6 +7,7 @@ ghost use Rattle.std.specs.Str.Lines.{lines, strip_carriage_return};
 ghost use Rattle.run_lines.specs.RunInput.{NoFeedBefore, raw_lines, is_rule, settings_part, event_part, KeepsInputLimit};
 ghost use Rattle.run_lines.specs.RunInput.{IsInputFault};
 
+use memchr::memchr;
 use std::alloc::Global;
 use text_lines::{ByteIn, INPUT_LIMIT, READ_SIZE};
 use text_words::TextFault;
@@ -18,12 +19,7 @@ fn feed_at(bytes: &[u8]) -> Option<usize>
     ensures within { IfSome result (λ end. end < length bytes.now) }
     ensures feed { IfSome result (λ end. slice_index bytes.now end ≡ 10) }
 {
-    for (place, byte) in bytes.iter().enumerate() {
-        if *byte == b'\n' {
-            return Some(place);
-        }
-    }
-    None
+    memchr(b'\n', bytes)
 }
 
 /// The first line with its end, and what follows it; None where there are no bytes.

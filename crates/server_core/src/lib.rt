@@ -27,5 +27,5 @@ pub use replaying::{answer_events, replay};
 pub use server::USUAL_LIMITS;
 pub use server_desk::{
     DataRate, Desk, DeskFault, DeskHeard, DeviceSetting, GatewaySetting, Heard1, Limits,
-    MAX_DEVICES, MAX_GATEWAYS, NoMemory, QueueFault, Settings, SettingsFault, TakeFault,
+    MAX_DEVICES, MAX_GATEWAYS, NoMemory, QueueFault, Settings, SettingsFault, TakeFault, keys_of,
 };

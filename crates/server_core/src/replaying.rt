@@ -53,7 +53,8 @@ pub fn answer_events<S: BuildHasher + Clone, A: Allocator + Copy, B: Allocator>(
     events: Vec<Event<A>, A>,
 ) -> Result<Answers<A>, NoMemory>
     ensures outcomes { IfOk result (λ r. r.outcomes.items ≡ entries settings.now events.items) }
-    ensures books { IfOk result (λ r. map gateway_of r.books.items ≡ map kept_gateway (gateways_after settings.now events.items)) }
+    ensures books { IfOk result (λ r. map gateway_of r.books.items
+        ≡ map kept_gateway (gateways_after settings.now events.items)) }
 {
     let mut server = Server::new(alloc, hasher, settings, None)?;
     let mut place = 0;

@@ -9,9 +9,9 @@ ghost use Rattle.server_desk.specs.Register.{opened_device};
 
 use crate::answers::Asked;
 use crate::device::KnownDevice;
-use crate::{DeviceSetting, QueueFault, TakeFault};
+use crate::{DeviceSetting, QueueFault, TakeFault, keys_of};
 use answer_ticket::{Bytes, Copies, Job};
-use lora_frame::{Key, Keys};
+use lora_frame::Key;
 use rx_windows::Plan;
 use std::alloc::{AllocError, Allocator};
 
@@ -26,10 +26,7 @@ impl<A: Allocator + Copy> KnownDevice<A> {
     {
         KnownDevice {
             setting: *setting,
-            keys: Keys {
-                nwk: Key::new(setting.nwk),
-                app: Key::new(setting.app),
-            },
+            keys: keys_of(setting),
             queue: Vec::new(alloc),
             up: setting.up,
             down: setting.down,

@@ -23,7 +23,7 @@ pub use desk::{Desk, NoMemory};
 pub use faults::{DeskFault, QueueFault, TakeFault};
 pub use heard::{DeskHeard, Heard1};
 pub use radio_airtime::DataRate;
-pub use setting::{DeviceSetting, GatewaySetting};
+pub use setting::{DeviceSetting, GatewaySetting, keys_of};
 pub use settings::{MAX_DEVICES, MAX_GATEWAYS, Settings};
 pub use settings_fault::SettingsFault;
 pub use uplink_gather::Limits;

@@ -1,5 +1,8 @@
 // What is set for one gateway and for one device.
+ghost use Rattle.std.specs.Prelude.{◌≡◌};
+ghost use Rattle.server_desk.specs.Taking.{keys_of};
 
+use lora_frame::{Key, Keys};
 use radio_airtime::DataRate;
 use std::fmt;
 
@@ -35,6 +38,17 @@ pub struct DeviceSetting {
     pub up: Option<u32>,
     /// The next downlink counter, 0 to 2^32; at 2^32 all are spent.
     pub down: u64,
+}
+
+/// The session keys of a device as they are set, NwkSKey and AppSKey (LoRaWAN L2 1.0.4, section 6.1.1), each with its round
+/// keys (FIPS 197, section 5.2). Takes no memory.
+pub fn keys_of(setting: &DeviceSetting) -> Keys
+    ensures { result ≡ keys_of setting.now }
+{
+    Keys {
+        nwk: Key::new(setting.nwk),
+        app: Key::new(setting.app),
+    }
 }
 
 /// Shows all but the keys.

@@ -1,17 +1,14 @@
 -- Lemmas on the numbers that words are.
-use Rattle.std.proofs.Common.{◌≡◌, ℕ, ◌^◌, ◌<◌, ◌≤◌, List, length, get_or, true, cond, ◌&&◌, ltb, leb, None, Some, Result, Ok}
-use Rattle.std.proofs.Common.{Err, sym, ap, ◌∙◌, ⊎_elim, arith, rules, decimal}
+use Rattle.std.proofs.Common.{◌≡◌, ℕ, suc, ◌+◌, ◌-◌, ◌*◌, ◌^◌, ◌<◌, ◌≤◌, List, length, drop, get_or, true, cond, ◌&&◌, ltb, None}
+use Rattle.std.proofs.Common.{Some, ap, subst, ◌∙◌, ⊎_elim, arith, rules, decimal}
+use Rattle.std.proofs.Math.Nat.{le-mul_of_pos_right, one-le-pow, pow-succ'}
+use Rattle.std.proofs.Math.Seq.{drop-cons, drop-length}
 use Rattle.std.proofs.lemmas.Bool.{and_parts, and_from, leb-true, le-leb, lt-ltb, ltb-true, cases_Bool}
 use Rattle.std.proofs.lemmas.Fmt.{digits_decimal, digits_value-decimal, decimal_nonempty, length-decimal-le, decimal-digits_value}
 use Rattle.std.proofs.lemmas.List.{get_or_default}
-use Rattle.std.proofs.lemmas.List.Sums.{list_all-from_AllPass, AllPass-from_list_all}
-use Rattle.std.proofs.lemmas.Str.{IsUtf8-from_ascii}
-use Rattle.std.proofs.lemmas.Str.Ascii.{IsAscii-from_all}
-use Rattle.std.proofs.lemmas.Str.Parse.{IsNumeralModel, numerals_by_weight, parse_digits}
+use Rattle.std.proofs.lemmas.List.Sums.{list_all-from_AllPass}
+use Rattle.std.proofs.lemmas.Str.Parse.{IsNumeralModel, numerals_by_weight}
 use Rattle.std.specs.List.{list_all}
-use Rattle.std.specs.Result.{result_ok, OkIff}
-use Rattle.std.specs.Str.{IsUtf8}
-use Rattle.std.specs.Str.Parse.{ParsesUnsigned}
 use Rattle.text_lines.specs.Number.{is_digit, is_digits, value_of, number_below, NumbersReadBack}
 
 -- digits alone, told one by one, and their value, are what `parse` reads
@@ -31,14 +28,6 @@ digits_alone most word digits = (and_parts _ _ digits).1
 some_digit : (most : ℕ) (word : List ℕ) → is_digits most word ≡ true → 0 < length word
 some_digit most word digits = omega (arith, leb-true 1 (length word) (and_parts _ _ (and_parts _ _ digits).0).0)
 
--- digits are a text
-pub digits_are_text : (most : ℕ) (word : List ℕ) → is_digits most word ≡ true → IsUtf8 word
-digits_are_text most word digits =
-    IsUtf8-from_ascii word (IsAscii-from_all word
-    (λ k d h.
-    let digit : is_digit (get_or word k d) ≡ true = AllPass-from_list_all is_digit word (digits_alone most word digits) k d h in
-    omega (arith, leb-true (get_or word k d) 57 (and_parts (leb 48 (get_or word k d)) (leb (get_or word k d) 57) digit).1)))
-
 -- digits with a small value are that number
 pub in_bound : (bound : ℕ) (word : List ℕ) → is_digits 20 word ≡ true → value_of word < bound
     → number_below bound word ≡ Some (value_of word)
@@ -51,16 +40,42 @@ past_bound bound word large = ⊎_elim
     (λ no. ap (λ b. cond b (Some (value_of word)) None) no)
     (cases_Bool (is_digits 20 word && ltb (value_of word) bound))
 
-parsed_ok : {E : Type 0} (k : ℕ) (word : List ℕ) (r : Result ℕ E) → is_digits 20 word ≡ true
-    → OkIff r ((0 < length word) × (value_of word < 2 ^ k)) (value_of word)
-    → result_ok r ≡ number_below (2 ^ k) word
-parsed_ok k word (Ok x) digits answer = ap Some answer.1 ∙ sym (in_bound (2 ^ k) word digits answer.0.1)
-parsed_ok k word (Err e) digits answer = sym (past_bound (2 ^ k) word (λ small. answer (some_digit 20 word digits, small)))
+-- `value` is what the first k digits are, so far as the places of the others allow to tell
+abbrev pub IsFront : List ℕ → ℕ → ℕ → Type 0
+IsFront word k value = value * 10 ^ length (drop k word) + value_of (drop k word) ≡ value_of word
 
--- what `parse` gives for digits
-pub parsed : {E : Type 0} (k : ℕ) (word : List ℕ) (r : Result ℕ E) → is_digits 20 word ≡ true → ParsesUnsigned k 10 word r
-    → result_ok r ≡ number_below (2 ^ k) word
-parsed k word r digits answer = parsed_ok k word r digits (parse_digits own k word r answer (digits_alone 20 word digits))
+-- one digit more
+digit_behind : (word : List ℕ) (k value : ℕ) → k < length word → IsFront word k value
+    → IsFront word (suc k) (value * 10 + (get_or word k 0 - 48))
+digit_behind word k value inside so_far =
+    let rest : List ℕ = drop (suc k) word in
+    let is_rest : List ℕ → Type 0 = λ l. value * 10 ^ length l + value_of l ≡ value_of word in
+    let split : value * 10 ^ suc (length rest) + ((get_or word k 0 - 48) * 10 ^ length rest + value_of rest) ≡ value_of word =
+    subst is_rest (drop-cons word k 0 inside) so_far in
+    omega (arith, split, ap (λ x. value * x) (pow-succ' 10 (length rest)))
+
+pub digit_more : (word : List ℕ) (k value : ℕ) → k < length word → IsFront word k value
+    → IsFront word (k + 1) (value * 10 + (get_or word k 0 - 48))
+digit_more word k value inside so_far =
+    let next : suc k ≡ k + 1 = omega arith in
+    subst (λ j. IsFront word j (value * 10 + (get_or word k 0 - 48))) next (digit_behind word k value inside so_far)
+
+-- so where the next digit makes the value too large, the word's is
+pub front_too_large : (bound : ℕ) (word : List ℕ) (k value : ℕ) → k < length word → IsFront word k value
+    → (value * 10 + (get_or word k 0 - 48) < bound → ⊥) → number_below bound word ≡ None
+front_too_large bound word k value inside so_far large =
+    let front : ℕ = value * 10 + (get_or word k 0 - 48) in
+    let places : ℕ = length (drop (k + 1) word) in
+    let whole : front * 10 ^ places + value_of (drop (k + 1) word) ≡ value_of word = digit_more word k value inside so_far in
+    past_bound bound word (λ small. large (omega (arith, small, whole, le-mul_of_pos_right front (one-le-pow places 10 (omega arith)))))
+
+-- and with all digits it is the word's
+pub all_digits : (word : List ℕ) (k value : ℕ) → k ≡ length word → IsFront word k value → value ≡ value_of word
+all_digits word k value ended so_far =
+    let is_rest : List ℕ → Type 0 = λ l. value * 10 ^ length l + value_of l ≡ value_of word in
+    let none : value * 1 + 0 ≡ value_of word =
+    subst is_rest (ap (λ j. drop j word) ended ∙ drop-length word) so_far in
+    omega (arith, none)
 
 -- what is written of a number is digits, whose value it is
 pub decimal_is_digits : (number : ℕ) → number < 2 ^ 64 → is_digits 20 (decimal number) ≡ true

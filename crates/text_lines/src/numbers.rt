@@ -31,10 +31,11 @@ pub fn number_u64(word: &[u8]) -> Option<u64>
     if !is_digits(word, 20) {
         return None;
     }
-    match std::str::from_utf8(word) {
-        Err(_) => None,
-        Ok(text) => text.parse().ok(),
+    let mut value = 0_u64;
+    for byte in word {
+        value = value.checked_mul(10)?.checked_add(u64::from(*byte - b'0'))?;
     }
+    Some(value)
 }
 
 /// The number that a word of 1 to 20 digits is, zeros before it allowed; None for any other word, and above 2^32 - 1.

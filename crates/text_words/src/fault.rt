@@ -16,7 +16,7 @@ pub enum TextFault {
     /// The input has more than 268,435,456 bytes.
     #[error("the input has more than 268435456 bytes")]
     TooMuch,
-    /// A setting was refused, by the name of its fault. Nothing was written.
+    /// A setting was refused, by the name of its fault.
     #[error("the settings were refused: {0}")]
     Settings(&'static str),
     /// There was no memory.

@@ -9,6 +9,7 @@ mod limits;
 mod newest;
 mod rules;
 mod stored;
+mod text;
 
 pub use answers::{Heard, Place};
 pub use fault::HearFault;

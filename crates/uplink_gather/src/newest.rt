@@ -1,6 +1,7 @@
 ghost use Rattle.std.specs.Prelude.{◌≡◌, ◌++◌, [], ◌∷◌, length, None, IfOk, OnOk, OnErr};
 ghost use Rattle.uplink_gather.specs.Indexed.{number_of, text_at, Renews};
 
+use crate::text::{Sought, Text};
 use indexmap::IndexMap;
 use std::alloc::{AllocError, Allocator};
 use std::hash::BuildHasher;
@@ -10,7 +11,7 @@ use std::marker::Model;
 /// bytes. A text keeps the place at which it was first put.
 #[derive(Drop)]
 pub(crate) struct Newest<S: BuildHasher, A: Allocator> {
-    numbers: IndexMap<Vec<u8, A>, u64, S, A>,
+    numbers: IndexMap<Text<A>, u64, S, A>,
 }
 
 impl<S: BuildHasher, A: Allocator> Model for Newest<S, A> {
@@ -18,7 +19,7 @@ impl<S: BuildHasher, A: Allocator> Model for Newest<S, A> {
 
     ghost Value = { List (List ℕ × ℕ) };
 
-    ghost view = { λ n. map (λ e. (e.0.items, e.1)) n.numbers.entries };
+    ghost view = { λ n. map (λ e. (e.0.bytes.items, e.1)) n.numbers.entries };
 }
 
 impl<S: BuildHasher, A: Allocator + Copy> Newest<S, A> {
@@ -36,7 +37,7 @@ impl<S: BuildHasher, A: Allocator + Copy> Newest<S, A> {
         ensures renewed { IfOk result (Renews self.old self.new bytes.now number) }
         ensures refused { OnErr result (self.new ≡ self.old) }
     {
-        match self.numbers.get_index_of(bytes) {
+        match self.numbers.get_index_of(Sought { bytes }) {
             Some(place) => {
                 self.numbers[place] = number;
                 Ok(place)
@@ -54,7 +55,7 @@ impl<S: BuildHasher, A: Allocator + Copy> Newest<S, A> {
     {
         let place = self.numbers.len();
         let text = Vec::from_slice(*self.numbers.allocator(), bytes)?;
-        self.numbers.insert(text, number)?;
+        self.numbers.insert(Text { bytes: text }, number)?;
         Ok(place)
     }
 }
@@ -64,7 +65,7 @@ impl<S: BuildHasher, A: Allocator> Newest<S, A> {
     pub(crate) fn number_of(&self, bytes: &[u8]) -> Option<u64>
         ensures { result ≡ number_of bytes.now self.now }
     {
-        self.numbers.get(bytes).copied()
+        self.numbers.get(Sought { bytes }).copied()
     }
 
     /// The bytes at a place, and none past the end.
@@ -72,7 +73,7 @@ impl<S: BuildHasher, A: Allocator> Newest<S, A> {
         ensures { result.now ≡ text_at self.now place }
     {
         match self.numbers.get_index(place) {
-            Some((text, _)) => text.as_slice(),
+            Some((text, _)) => text.bytes.as_slice(),
             None => &[],
         }
     }

@@ -7,5 +7,5 @@ pub returns : goal.returns
 returns g c =
     c.copied.ensures
     ∙ c.get.ensures.value
-    ∙ lookup-as_index (λ k. k.items) c.args.bytes.now c.self.inside.numbers.entries
+    ∙ lookup-as_index (λ k. k.bytes.items) c.args.bytes.now c.self.inside.numbers.entries
     ∙ ap (number_of c.args.bytes.now) c.self.view_is

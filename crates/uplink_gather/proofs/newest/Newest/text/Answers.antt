@@ -9,11 +9,11 @@ pub returns-in-Some : goal.returns-in-Some
 returns-in-Some g c =
     let there = sym c.get_index.ensures.entry ∙ ap (option_map deref_pair) c.in-Some.is in
     c.as_slice.ensures.value
-    ∙ sym (text_at-as_index (λ k. k.items) c.self.inside.numbers.entries c.args.place _ there)
+    ∙ sym (text_at-as_index (λ k. k.bytes.items) c.self.inside.numbers.entries c.args.place _ there)
     ∙ ap (λ index. text_at index c.args.place) c.self.view_is
 
 pub returns-in-None : goal.returns-in-None
 returns-in-None g c =
     let there = sym c.get_index.ensures.entry ∙ ap (option_map deref_pair) c.in-None.is in
-    sym (text_at-as_index (λ k. k.items) c.self.inside.numbers.entries c.args.place _ there)
+    sym (text_at-as_index (λ k. k.bytes.items) c.self.inside.numbers.entries c.args.place _ there)
     ∙ ap (λ index. text_at index c.args.place) c.self.view_is
