@@ -1,7 +1,6 @@
 -- What is done for events, one after another.
 use Rattle.std.proofs.Common.{◌≡◌, ℕ, ◌+◌, ◌<◌, ◌++◌, List, [], ◌∷◌, length, take, get_or, refl, sym}
 use Rattle.std.proofs.Common.{ap, ◌∙◌, arith, subst, Result, Ok, Err, IfOk, Vec, Bool, false, ◌==◌, ◌≤◌}
-use Rattle.std.proofs.lemmas.List.{take_more, take_all, length-take-le}
 use Rattle.std.specs.Global.{Global}
 use Rattle.server_core.specs.declared.entry.Entry.{Entry}
 use Rattle.server_core.specs.declared.event.Event.{Event}
@@ -22,14 +21,6 @@ done_more place (f ∷ es) e old mid new so_far done = (
       (subst (λ p. IsDone p e mid new) (omega arith) done),
 )
 
--- the same at the place of the next of some events
-pub done_next : (es : List (Event Global)) (at : ℕ) (e : Event Global) (old mid new : Kept) → at < length es → e ≡ get_or es at e
-    → AreDone 0 (take at es) old mid → IsDone at e mid new → AreDone 0 (take (at + 1) es) old new
-done_next es at e old mid new within there so_far done =
-    subst (λ l. AreDone 0 l old new) (sym (take_more es at e within ∙ ap (λ x. take at es ++ x ∷ []) (sym there)))
-    (done_more 0 (take at es) e old mid new so_far
-    (subst (λ p. IsDone p e mid new) (omega (arith, length-take-le at es (omega (arith, within)))) done))
-
 -- some numbers were answered
 pub dealt_with : (place : ℕ) (numbers : List ℕ) (old new : Kept) → 0 < length numbers → AreAnswered place numbers old new
     → AreDealtWith place numbers old new
@@ -41,19 +32,18 @@ of_ok P r x e h = subst (λ s. IfOk s P) e h
 
 -- what was done for all events, and the books then
 pub finished_with : {E : Type 0} (ids : List ℕ) (es : List (Event Global)) (bookings : List Booking)
-    (entries : Vec (Entry Global) Global) (r : Result Played E) (at : ℕ) → length es ≤ at
-    → AreDone 0 (take at es) (kept [] []) (kept bookings entries.items)
+    (entries : Vec (Entry Global) Global) (r : Result Played E)
+    → AreDone 0 es (kept [] []) (kept bookings entries.items)
     → IfOk r (λ (p : Played). p.entries ≡ entries)
     → IfOk r (λ (p : Played). IsClosing ids (open_receipts bookings) p.totals.items p.books.items)
     → IfOk r (λ (p : Played). IsFinished ids es p.entries.items p.totals.items p.books.items)
-finished_with ids es bookings entries (Ok p) at past done same closing =
+finished_with ids es bookings entries (Ok p) done same closing =
     record {
       bookings = bookings;
-      done = subst (λ (v : Vec (Entry Global) Global). AreDone 0 es (kept [] []) (kept bookings v.items)) (sym same)
-          (subst (λ l. AreDone 0 l (kept [] []) (kept bookings entries.items)) (take_all at es past) done);
+      done = subst (λ (v : Vec (Entry Global) Global). AreDone 0 es (kept [] []) (kept bookings v.items)) (sym same) done;
       closing = closing;
     }
-finished_with ids es bookings entries (Err e) at past done same closing = tt
+finished_with ids es bookings entries (Err e) done same closing = tt
 
 -- a list that isn't empty
 pub some_left : (l m : List ℕ) (t : Bool) → t ≡ (length l == 0) → t ≡ false → l ≡ m → 0 < length m

@@ -113,7 +113,7 @@ where
     ensures fault { IfErr result (λ fault. fault ≢ TextFault.Write → IsPlayFault fault) }
     ensures write { CountsWrites (W.failed_calls writer.old) (W.failed_calls writer.new) result }
 {
-    let played = match play_all(rt, alloc, hasher, settings, events.as_slice(), workers) {
+    let played = match play_all(rt, alloc, hasher, settings, events, workers) {
         Err(fault) => return Err(fault),
         Ok(played) => played,
     };
@@ -129,14 +129,14 @@ fn play_all<T: Threads + Wait + Sync, S: BuildHasher + Clone + Drop + Send + Syn
     alloc: Global,
     hasher: S,
     settings: &Settings<Global>,
-    events: &[Event<Global>],
+    events: Vec<Event<Global>>,
     workers: u8,
 ) -> Result<Played, TextFault>
 where
     S::Hasher: Send + Sync,
     requires { IsStaffed workers }
     ensures played { IfOk result
-        (λ played. IsPlayed settings.now.gateways events.now played.entries.items played.totals.items played.books.items) }
+        (λ played. IsPlayed settings.now.gateways events.items played.entries.items played.totals.items played.books.items) }
     ensures fault { IfErr result IsPlayFault }
 {
     let blank = Blank::new(PARTS as u64);

@@ -44,7 +44,7 @@ pub struct Shift<B: Ledger, S: BuildHasher> {
 }
 
 /// Does what the events ask for at a station with these settings, with so many workers for the numbers that a `pass`
-/// closes, and compares the books at the end.
+/// closes, and compares the books at the end. Each event is dropped once it is answered.
 pub(crate) fn play<
     B: Ledger + Send + Sync,
     S: BuildHasher + Clone + Drop + Send + Sync,
@@ -54,7 +54,7 @@ pub(crate) fn play<
     alloc: Global,
     hasher: S,
     settings: &Settings<Global>,
-    events: &[Event<Global>],
+    events: Vec<Event<Global>>,
     workers: u8,
     blank: Blank,
 ) -> Result<Played, TextFault>
@@ -64,7 +64,7 @@ where
     requires parts { blank.parts ≡ B.parts }
     requires all { blank.parts ≡ PARTS }
     requires staffed { IsStaffed workers }
-    ensures played { IfOk result (λ played. IsPlayed settings.now.gateways events.now played.entries.items
+    ensures played { IfOk result (λ played. IsPlayed settings.now.gateways events.items played.entries.items
         played.totals.items played.books.items) }
     ensures fault { IfErr result IsPlayFault }
 {
@@ -112,21 +112,38 @@ where
         self,
         rt: &R,
         alloc: Global,
-        events: &[Event<Global>],
+        events: Vec<Event<Global>>,
     ) -> Result<Played, TextFault>
         requires { HasOpened (kept self.receipts.bookings.items self.entries.items) }
-        ensures played { IfOk result (λ played. IsFinished self.station events.now played.entries.items played.totals.items
-            played.books.items) }
+        ensures played { IfOk result (λ played. IsFinished self.station events.items played.entries.items
+            played.totals.items played.books.items) }
         ensures fault { IfErr result IsPlayFault }
     {
         let mut shift = self;
-        for (place, event) in events.iter().enumerate() {
-            shift = match shift.answer(rt, alloc, place, event) {
+        let mut place = 0;
+        for event in events {
+            shift = match shift.use_up(rt, alloc, place, event) {
                 Ok(shift) => shift,
                 Err(_) => return Err(TextFault::NoMemory),
             };
+            place += 1;
         }
         shift.close(alloc)
+    }
+
+    /// Does what the event at this place asks for, as `answer` does, and drops it.
+    fn use_up<R: Threads + Wait + Sync>(
+        self,
+        rt: &R,
+        alloc: Global,
+        place: usize,
+        event: Event<Global>,
+    ) -> Result<Self, NoMemory>
+        ensures station { IfOk result (λ shift. shift.station ≡ self.station) }
+        ensures done { IfOk result (λ shift. IsDone place event (kept self.receipts.bookings.items self.entries.items)
+            (kept shift.receipts.bookings.items shift.entries.items)) }
+    {
+        self.answer(rt, alloc, place, &event)
     }
 
     /// Does what the event at this place, counted from 0, asks for: its lines go behind those that were told. Err(NoMemory)

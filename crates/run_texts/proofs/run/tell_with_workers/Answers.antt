@@ -17,14 +17,14 @@ returns-clause-played g c =
       entries = entries;
       totals = c.in-Ok.played.totals.items;
       books = books;
-      played = rw c.as_slice.ensures.value at c.in-Ok.ensures.played;
+      played = c.in-Ok.ensures.played;
       written =
-          subst (λ es. Appends before after (text_of (replay_lines es (map gateway_of books)))) c.as_slice-2.ensures.value
-          (subst (λ bs. Appends before after (text_of (replay_lines c.as_slice-2.result.now (map gateway_of bs))))
-          c.as_slice-3.ensures.value wrote.ok);
+          subst (λ es. Appends before after (text_of (replay_lines es (map gateway_of books)))) c.as_slice.ensures.value
+          (subst (λ bs. Appends before after (text_of (replay_lines c.as_slice.result.now (map gateway_of bs))))
+          c.as_slice-2.ensures.value wrote.ok);
       told =
           subst (λ es. c.in-Ok-write_lines.refused ≡ has_refusal (replay_lines es (map gateway_of books)))
-          c.as_slice-2.ensures.value
-          (subst (λ bs. c.in-Ok-write_lines.refused ≡ has_refusal (replay_lines c.as_slice-2.result.now (map gateway_of bs)))
-          c.as_slice-3.ensures.value wrote.told);
+          c.as_slice.ensures.value
+          (subst (λ bs. c.in-Ok-write_lines.refused ≡ has_refusal (replay_lines c.as_slice.result.now (map gateway_of bs)))
+          c.as_slice-2.ensures.value wrote.told);
     }

@@ -1,9 +1,11 @@
-use Rattle.std.proofs.Common.{◌≡◌, take, []}
+use Rattle.std.proofs.Common.{◌≡◌, ◌++◌, [], length}
 use Rattle.run_texts.specs.WorkersRun.{kept, AreDone}
 use Rattle.run_texts.proofs.station_run.Shift.play.Given as goal
 
-abbrev pub invariant-loop-place : goal.invariant-loop-place
-invariant-loop-place g l = record {
+abbrev pub invariant-loop-event : goal.invariant-loop-event
+invariant-loop-event g l = record {
+  left : l.yielded ++ l.event-iterator.rest.items ≡ l.fn.events.items;
+  place : l.place ≡ length l.yielded;
   station : l.shift.station ≡ l.fn.self.station;
-  done : AreDone 0 (take l.place l.events) (kept [] []) (kept l.shift.receipts.bookings.items l.shift.entries.items);
+  done : AreDone 0 l.yielded (kept [] []) (kept l.shift.receipts.bookings.items l.shift.entries.items);
 }
