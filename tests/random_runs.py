@@ -1,0 +1,545 @@
+#!/usr/bin/env python3
+"""Compares `airbook run` with a plain model of the server on random settings and events.
+
+Usage: tests/random_runs.py [PROGRAM [RUNS [SEED]]]     (the program that the gate leaves, 200, 1)
+
+The model is written from docs/FORMATS.md alone: lists that are gone over, with the frames of tests/lorawan.py. Each run has 1
+to 6 gateways, 1 to 6 devices and some dozens of lines: uplinks heard by one or more gateways, given as bytes or made by the
+program, heard again in time, late or later; payloads; moments; cancellations; and frames, counters, MICs and lines with faults.
+A few runs have settings with a fault. All of the output, what stands on standard error and the status are compared.
+
+What differs has a line. Then comes how many of each answer were wanted; where 200 runs or more were asked for, a common kind
+that never came is one failure. Kinds that no such run reaches: TooManyCopies, Crowded (tests/workers.py) and NoMemory. The last
+line is 'N passed, M failed', of the runs. The status is 0 where none failed, 1 where one did, 2 where there is no program.
+"""
+import collections
+import random
+import subprocess
+import sys
+
+sys.dont_write_bytecode = True
+import lorawan
+from plain_book import PlainBook
+from random_books import HOUR, asked_for, status_of
+
+RUNS, SECONDS = 200, 60
+LAST_MOMENT = 1 << 60
+COUNTERS = 1 << 32
+JOINS, LATE = 200_000, 1_000_000
+QUEUED_AT_MOST, OPEN_AT_MOST, COPIES_AT_MOST = 16, 4_096, 64
+DIGITS, HEX = b"0123456789", b"0123456789abcdefABCDEF"
+COMMON = """queued;no queue UnknownDevice;no queue Port;no queue Long;no queue QueueFull;opened;opened repeat;joined;no hear Short
+no hear Long;no hear NotData;no hear Major;no hear OptionsCut;no hear UnknownGateway;no hear NoRate;no hear NoBand;no hear Moment
+no hear SameGateway;no hear Late;no hear UnknownDevice;no hear BadMic;silent;send RX1;send RX2;frame;unanswered Passed
+unanswered Taken;unanswered DutyFull;unanswered Full;no CounterSpent;floor;no tick UnknownGateway;cancelled;no cancel Begun
+no cancel NotHere;bad Syntax;gateway;busiest;answered;refused Missing;refused Kind;refused Range"""
+
+
+class Malformed(Exception):
+    """A line that asks for nothing."""
+
+
+def unsigned(word, bits):
+    if not 1 <= len(word) <= 20 or word.strip(DIGITS) or int(word) >> bits:
+        raise Malformed
+    return int(word)
+
+
+def signed(word):
+    digits = word[1:] if word.startswith(b"-") else word
+    if not 1 <= len(digits) <= 5 or digits.strip(DIGITS) or not -(1 << 15) <= int(word) < 1 << 15:
+        raise Malformed
+    return int(word)
+
+
+def address(word):
+    if len(word) != 8 or word.strip(HEX):
+        raise Malformed
+    return int(word, 16)
+
+
+def data_of(word):
+    if word == b"-":
+        return b""
+    if len(word) % 2 or word.strip(HEX):
+        raise Malformed
+    return bytes.fromhex(word.decode())
+
+
+def lines_of(text):
+    """The lines: a carriage return is dropped where a line feed follows."""
+    *ended, last = text.split(b"\n")
+    return [line[:-1] if line.endswith(b"\r") else line for line in ended] + ([last] if last else [])
+
+
+class Server:
+    """What a run does and answers, over lists alone."""
+
+    def __init__(self, gateways, devices):
+        self.books = {one["id"]: PlainBook(one["cap"], one["gap"]) for one in gateways}
+        self.devices = {one["addr"]: dict(one, queue=[]) for one in devices}
+        self.gathered, self.booked = [], {}
+        self.counts = {"send": 0, "unanswered": 0, "silent": 0}
+
+    def answers(self, line, place):
+        """The lines that answer the line at this place."""
+        words = [word for word in line.replace(b"\t", b" ").split(b" ") if word]
+        if len(line) <= 1024 and (not words or line.startswith(b"#")):
+            return []
+        try:
+            if len(line) > 1024:
+                raise Malformed
+            return self.done(words[0], words[1:])
+        except Malformed:
+            return [f"bad {place} Syntax"]
+
+    def done(self, first, words):
+        calls = {b"queue": (self.queue, 3), b"hear": (self.hear, 8), b"pass": (self.passes, 1)}
+        calls |= {b"tick": (self.tick, 2), b"cancel": (self.cancel, 1)}
+        call, count = calls.get(first, (None, 0))
+        if call is None or len(words) != count:
+            raise Malformed
+        return call(*words)
+
+    def queue(self, addr, port, payload):
+        addr, port, payload = address(addr), unsigned(port, 8), data_of(payload)
+        if addr not in self.devices:
+            return ["no queue UnknownDevice"]
+        if not 1 <= port <= 223:
+            return ["no queue Port"]
+        if len(payload) > 242:
+            return ["no queue Long"]
+        waiting = self.devices[addr]["queue"]
+        if len(waiting) == QUEUED_AT_MOST:
+            return ["no queue QueueFull"]
+        waiting.append((port, payload))
+        return [f"queued {addr:08x} {len(waiting)}"]
+
+    def uplink(self, word):
+        """The bytes that a word gives, or asks to be made."""
+        if not word.startswith(b"@"):
+            return data_of(word)
+        parts = word[1:].split(b":")
+        if len(parts) != 3 or parts[0] not in (b"c", b"u", b"a"):
+            raise Malformed
+        addr, counter = address(parts[1]), unsigned(parts[2], 32)
+        known = self.devices.get(addr)
+        keys = known["keys"] if known else (bytes(16), bytes(16))
+        made = lorawan.uplink(parts[0] == b"c", addr, counter, keys, adr_ack_req=parts[0] == b"a")
+        return made if known else made[:-4] + bytes(4)
+
+    def hear(self, gateway, at, frequency, rate, snr, rssi, arrived, word):
+        gateway, at, frequency, rate = unsigned(gateway, 16), unsigned(at, 64), unsigned(frequency, 32), unsigned(rate, 8)
+        snr, rssi, arrived, data = signed(snr), signed(rssi), unsigned(arrived, 64), self.uplink(word)
+        fault = lorawan.uplink_fault(data) or self.copy_fault(gateway, at, frequency, rate, arrived)
+        if fault:
+            return [f"no hear {fault}"]
+        copy = {"gateway": gateway, "at": at, "frequency": frequency, "rate": rate, "snr": snr, "rssi": rssi}
+        number = max((n for n, one in enumerate(self.gathered, 1) if one["data"] == data), default=0)
+        if number:
+            newest = self.gathered[number - 1]
+            since = max(arrived - newest["opened"], 0)
+            if not newest["closed"] and since <= JOINS:
+                return [self.joined(number, newest["copies"], copy)]
+            if since <= LATE:
+                return ["no hear Late"]
+        return [self.opened(data, copy, arrived)]
+
+    def copy_fault(self, gateway, at, frequency, rate, arrived):
+        if gateway not in self.books:
+            return "UnknownGateway"
+        if rate > 6:
+            return "NoRate"
+        if lorawan.band_of(frequency, rate) is None:
+            return "NoBand"
+        return "Moment" if max(at, arrived) > LAST_MOMENT else None
+
+    def joined(self, number, copies, copy):
+        if any(one["gateway"] == copy["gateway"] for one in copies):
+            return "no hear SameGateway"
+        if len(copies) == COPIES_AT_MOST:
+            return "no hear TooManyCopies"
+        copies.append(copy)
+        return f"joined {number} {len(copies)}"
+
+    def opened(self, data, copy, arrived):
+        device = self.devices.get(int.from_bytes(data[1:5], "little"))
+        if device is None:
+            return "no hear UnknownDevice"
+        counter = lorawan.inferred(device["up"], int.from_bytes(data[6:8], "little"))
+        if counter is None or not lorawan.has_mic(data, counter, device["keys"][0]):
+            return "no hear BadMic"
+        if sum(not one["closed"] for one in self.gathered) == OPEN_AT_MOST:
+            return "no hear Crowded"
+        repeat = " repeat" if counter == device["up"] else ""
+        device["up"] = counter
+        self.gathered.append({"data": data, "opened": arrived, "copies": [copy], "closed": False, "device": device})
+        return f"opened {len(self.gathered)}{repeat}"
+
+    def passes(self, now):
+        now, told = unsigned(now, 64), []
+        for number, one in enumerate(self.gathered, 1):
+            if not one["closed"] and now > one["opened"] + JOINS:
+                one["closed"] = True
+                told += self.answered(number, one)
+        return told
+
+    def answered(self, number, gathering):
+        device, data = gathering["device"], gathering["data"]
+        confirmed, queue = data[0] >> 5 == lorawan.CONFIRMED_UP, device["queue"]
+        if not confirmed and not data[5] & 0x40 and not queue:
+            self.counts["silent"] += 1
+            return [f"silent {number}"]
+        if device["down"] == COUNTERS:
+            return [f"no {number} CounterSpent"]
+        counter, refusal = device["down"], ""
+        device["down"] += 1
+        for window, copy, start, frequency, rate in candidates(gathering["copies"], device):
+            carries = bool(queue) and 13 + len(queue[0][1]) <= lorawan.greatest(rate)
+            length = 13 + len(queue[0][1]) if carries else 12
+            told = self.books[copy["gateway"]].ask(number, start, frequency, rate, length).split()
+            if told[0] == "ok":
+                self.booked[number], self.counts["send"] = (copy["gateway"], start), self.counts["send"] + 1
+                body, pending = queue[0] if carries else None, len(queue) > carries
+                frame = lorawan.downlink(device["addr"], counter, device["keys"], confirmed, pending, body)
+                del queue[:carries]
+                sent = f"send {number} {copy['gateway']} {window} {start} {frequency} {rate} {length}"
+                return [sent, f"frame {number} {frame.hex()}"]
+            refusal = told[2]
+        self.counts["unanswered"] += 1
+        return [f"unanswered {number} {refusal}"]
+
+    def tick(self, gateway, now):
+        gateway, now = unsigned(gateway, 16), unsigned(now, 64)
+        if gateway not in self.books:
+            return ["no tick UnknownGateway"]
+        self.books[gateway].tick(now)
+        return [f"floor {gateway} {self.books[gateway].floor}"]
+
+    def cancel(self, number):
+        number = unsigned(number, 64)
+        if number not in self.booked:
+            return [f"no cancel {number} NotHere"]
+        gateway, start = self.booked[number]
+        told = self.books[gateway].cancel(number, start)
+        return [told if told.startswith("cancelled") else told.replace("no", "no cancel", 1)]
+
+    def report(self):
+        told = []
+        for gateway, book in sorted(self.books.items()):
+            told.append(f"gateway {gateway} booked {book.booked} cancelled {book.cancelled} retired {book.retired}")
+            told[-1] += f" kept {len(book.members)}"
+            told += [line.replace("busiest", f"busiest {gateway}") for band in "KLMNPQ" for line in book.busiest(band)]
+        return told + ["answered {send} unanswered {unanswered} silent {silent}".format(**self.counts)]
+
+
+def candidates(copies, device):
+    """RX1 of each copy, the best first, and then RX2 of each."""
+    ranked = sorted(copies, key=lambda copy: (-copy["snr"], -copy["rssi"], copy["gateway"]))
+    for copy in ranked:
+        start = copy["at"] + device["delay"] * 1_000_000
+        yield "RX1", copy, start, copy["frequency"], max(copy["rate"] - device["offset"], 0)
+    for copy in ranked:
+        start = copy["at"] + (device["delay"] + 1) * 1_000_000
+        yield "RX2", copy, start, device["rx2_freq"], device["rx2_dr"]
+
+
+def played(gateways, devices, events):
+    """All that is written for these settings and events."""
+    server = Server(gateways, devices)
+    told = [answer for place, line in enumerate(lines_of(events), 1) for answer in server.answers(line, place)]
+    return told + server.report()
+
+
+# What is drawn: settings, and then events.
+
+# A frequency in a sub-band at each data rate, or at 125 kHz alone where it is an edge; the last ones are in none.
+CHANNELS = [868_100_000, 868_300_000, 868_537_500, 867_100_000, 863_500_000, 868_850_000, 869_525_000, 869_850_000]
+NO_CHANNELS = [868_537_501, 865_000_000, 868_650_000, 433_000_000, 0]
+RX2 = [(869_525_000, 0)] * 4 + [(868_100_000, 5), (869_850_000, 3), (869_525_000, 6)]
+# Channels on which three frames of 12 bytes at data rate 0 fill the hour.
+NARROW = [863_500_000, 868_850_000]
+STEPS = [0, 0, 1_000, 50_000, 150_000, 200_000, 200_001, 1_000_001, 5_000_000]
+
+
+def settings_of(chance):
+    """Gateways and devices."""
+    ids = chance.sample([1, 2, 3, 9, 255, 256, 65_535, chance.randrange(1, 65_536)], chance.randrange(1, 7))
+    gateways = []
+    for one in dict.fromkeys(ids):
+        cap, gap = chance.choice([4_096, 4_096, 4_096, 1, 2, 5, 65_536]), chance.choice([0, 0, 0, 1, 20_000, 100_000])
+        gateways.append({"id": one, "cap": cap, "gap": gap})
+    devices, second = [], RX2 if chance.random() < 0.8 else [(frequency, 0) for frequency in NARROW]
+    for _ in range(chance.randrange(1, 7)):
+        rx2_freq, rx2_dr = chance.choice(second)
+        one = {"addr": chance.choice([chance.randrange(1 << 32), 0x26010000 + len(devices)])}
+        one |= {"keys": (chance.randbytes(16), chance.randbytes(16)), "rx2_freq": rx2_freq, "rx2_dr": rx2_dr}
+        one |= {"delay": chance.choice([1, 1, 1, 2, 5, 15]), "offset": chance.choice([0, 0, 1, 2, 5])}
+        one |= {"up": chance.choice([None] * 4 + [0, 65_530, 0x1FFFF, chance.choice([COUNTERS - 3, COUNTERS - 1])])}
+        one |= {"down": chance.choice([0] * 6 + [65_535, 7, COUNTERS - 2, COUNTERS])}
+        devices.append(one)
+    return gateways, list({one["addr"]: one for one in devices}.values())
+
+
+def rows_of(chance, gateways, devices):
+    """The settings as tables, each a kind and its keys: a key may be left out where it says what holds without it."""
+    rows, left_out = [], {"cap": 4_096, "gap": 0, "delay": 1, "offset": 0, "rx2_freq": 869_525_000, "rx2_dr": 0, "down": 0}
+    left_out["up"] = None
+    for kind, ones in ("gateway", gateways), ("device", devices):
+        for one in ones:
+            said = dict(one)
+            if kind == "device":
+                nwk, app = said.pop("keys")
+                said |= {"addr": f'"{one["addr"]:08x}"', "nwkskey": f'"{nwk.hex()}"', "appskey": f'"{app.hex().upper()}"'}
+            for key, value in left_out.items():
+                if key in said and said[key] == value and (value is None or chance.random() < 0.5):
+                    del said[key]
+            rows.append((kind, said))
+    return rows
+
+
+def spoiled(chance, rows):
+    """The settings with one fault, and its name."""
+    gateway, device = (next(said for kind, said in rows if kind == one) for one in ("gateway", "device"))
+    table, key, value, name = chance.choice([
+        (gateway, "id", None, "Missing"), (device, "addr", None, "Missing"), (device, "nwkskey", None, "Missing"),
+        (gateway, "id", '"1"', "Kind"), (gateway, "cap", 1 << 32, "Kind"), (gateway, "gap", -1, "Kind"),
+        (device, "addr", '"2601"', "Kind"), (device, "rx2_dr", 7, "Kind"), (device, "up", COUNTERS, "Kind"),
+        (device, "delay", 256, "Kind"), (gateway, "id", 0, "Range"), (gateway, "cap", 0, "Range"),
+        (gateway, "gap", 100_001, "Range"), (device, "delay", 16, "Range"), (device, "offset", 6, "Range"),
+        (device, "down", COUNTERS + 1, "Range"), (device, "rx2_freq", 865_000_000, "NoBand"),
+        (gateway, "id", "twice", "DoubleGateway"), (device, "addr", "twice", "DoubleDevice"), (gateway, "id", "[", "NotToml"),
+    ])
+    if value == "twice":
+        rows.append(("gateway" if table is gateway else "device", dict(table)))
+    elif value is None:
+        del table[key]
+    else:
+        table[key] = value
+    return name
+
+
+def table_text(rows):
+    return "".join(f"[[{kind}]]\n" + "".join(f"{key} = {value}\n" for key, value in said.items()) for kind, said in rows)
+
+
+class Traffic:
+    """Draws lines, beside a server that says how far devices and gatherings have come."""
+
+    def __init__(self, chance, gateways, devices):
+        self.chance, self.server, self.lines = chance, Server(gateways, devices), []
+        self.now = chance.choice([0, 0, 0, 7_000_000_000, 7_000_000_000, LAST_MOMENT - 20_000_000])
+        ahead = [0, 0, 3_000_000, HOUR] if self.now < LAST_MOMENT // 2 else [0]
+        self.clocks = {one["id"]: chance.choice(ahead) for one in gateways}
+        self.channels, self.rates, self.steps = chance.sample(CHANNELS, 2), chance.sample(range(7), 3), STEPS
+        if devices[0]["rx2_freq"] in NARROW:
+            self.channels, self.rates, self.steps = NARROW, [0, 0, 1], STEPS[-4:] + [5_000_000, 60_000_000]
+        self.heard = []
+
+    def add(self, line):
+        self.server.answers(line, 0)
+        self.lines.append(line)
+
+    def drawn(self):
+        """Some dozens of lines."""
+        steps = [self.uplink] * 9 + [self.again, self.payload] * 3 + [self.passing] * 6 + [self.ticking, self.cancelling] * 2
+        steps += [self.odd_copy, self.odd_frame, self.odd_counter, self.damaged, self.nothing]
+        for _ in range(self.chance.randrange(10, 60)):
+            self.now += self.chance.choice(self.steps)
+            self.chance.choice(steps)()
+        self.now += 200_001
+        self.add(b"pass %d" % self.now)
+        return self.lines
+
+    def counter(self, device):
+        """A counter that may come next, or none."""
+        last = device["up"]
+        first = 0 if last is None else last + 1
+        counter = first + self.chance.choice([0, 0, 0, 1, 7, 65_534])
+        return counter if counter < COUNTERS else last
+
+    def copy(self, where, word, **other):
+        """A line `hear`, but for what is told otherwise."""
+        chance = self.chance
+        after = chance.choice([0, 0, 1, 41_216, chance.randrange(600_000)])
+        said = {"gateway": where, "at": self.now + self.clocks.get(where, 0) + after}
+        said |= {"frequency": chance.choice(self.channels), "rate": chance.choice(self.rates)}
+        while lorawan.band_of(said["frequency"], said["rate"]) is None:
+            said["rate"] = chance.randrange(6)
+        said |= {"snr": chance.choice([-200, -20, 55, 55, 0]), "rssi": chance.choice([-120, -90, -90, 0])}
+        said |= {"arrived": max(self.now + chance.choice([0, 0, 0, -5, 100, 90_000]), 0)} | other
+        words = " ".join(str(value) for value in said.values())
+        return b"hear " + words.encode() + b" " + word
+
+    def uplink(self):
+        """An uplink that some gateways hear."""
+        chance = self.chance
+        device = chance.choice(list(self.server.devices.values()))
+        counter = self.counter(device)
+        kind = chance.choice("cccua")
+        word = f"@{kind}:{device['addr']:08x}:{counter}".encode()
+        if chance.random() < 0.5:
+            body = chance.choice([None, (0, b""), (chance.randrange(224), chance.randbytes(chance.randrange(40)))])
+            said = {"adr": chance.random() < 0.5, "ack": chance.random() < 0.2, "body": body}
+            said |= {"options": chance.randbytes(chance.choice([0, 0, 3, 15])), "adr_ack_req": kind == "a"}
+            made = lorawan.uplink(kind == "c", device["addr"], counter, device["keys"], **said)
+            # The bits that are not looked at.
+            unseen = chance.choice([0, 0, 0, 0x1C]), chance.choice([0, 0, 0, 0x10])
+            made = bytes([made[0] | unseen[0]]) + made[1:5] + bytes([made[5] | unseen[1]]) + made[6:-4]
+            word = (made + lorawan.mic(device["keys"][0], lorawan.UP, device["addr"], counter, made)).hex().encode()
+        self.heard.append(word)
+        gateways = list(self.clocks)
+        for gateway in chance.sample(gateways, chance.randrange(1, len(gateways) + 1)):
+            self.add(self.copy(gateway, word))
+
+    def again(self):
+        """An uplink that was heard before, now or about where copies no longer join, or where they open a gathering."""
+        word = self.chance.choice(self.heard) if self.heard else b"-"
+        edges = JOINS, JOINS + 1, LATE, LATE + 1
+        arrived = self.chance.choice([self.now] + [one["opened"] + far for one in self.server.gathered[-3:] for far in edges])
+        self.add(self.copy(self.chance.choice(list(self.clocks)), word, arrived=arrived))
+
+    def payload(self):
+        chance = self.chance
+        addr = chance.choice(list(self.server.devices) + [chance.randrange(1 << 32)] * (chance.random() < 0.2))
+        length = chance.choice([0, 1, 10, 38, 39, 46, 47, 51, 52, 102, 110, 115, 116, 242] + [243] * (chance.random() < 0.3))
+        port = chance.choice([1, 9, 223, 223, 1] + [0, 224, 255] * (chance.random() < 0.2))
+        line = f"queue {addr:08x} {port} {chance.randbytes(length).hex() or '-'}".encode()
+        for _ in range(17 if chance.random() < 0.03 and length < 20 else 1):
+            self.add(line)
+
+    def passing(self):
+        opened = [one["opened"] for one in self.server.gathered if not one["closed"]]
+        self.add(b"pass %d" % self.chance.choice([self.now] + [moment + far for moment in opened for far in (JOINS, JOINS + 1)]))
+
+    def ticking(self):
+        gateway = self.chance.choice(list(self.clocks) + [4])
+        clock = self.now + self.clocks.get(gateway, 0)
+        ahead = self.chance.choice([-1_000_000, -100_000, 0, 0, 500_000, 1_500_000, 3_000_000, HOUR + 2_000_000])
+        self.add(b"tick %d %d" % (gateway, max(clock + (ahead if ahead < HOUR or self.chance.random() < 0.3 else 0), 0)))
+
+    def cancelling(self):
+        booked = list(self.server.booked)
+        self.add(b"cancel %d" % self.chance.choice(booked[-3:] + [len(self.server.gathered), self.chance.randrange(9)]))
+
+    def odd_copy(self):
+        """A copy that no gateway may have."""
+        word = self.chance.choice(self.heard + [b"@c:00000000:0", b"@u:ffffffff:70000"])
+        gateway = self.chance.choice(list(self.clocks))
+        other = self.chance.choice([
+            {"rate": self.chance.choice([7, 255])}, {"frequency": self.chance.choice(NO_CHANNELS)}, {"at": LAST_MOMENT + 1},
+            {"at": (1 << 64) - 1}, {"arrived": LAST_MOMENT + 1}, {"at": LAST_MOMENT}, {"gateway": 4, "rate": 7}, {"gateway": 4},
+            {"frequency": 868_537_501, "rate": 5}, {}, {"snr": 32_767, "rssi": -32_768}, {"frequency": 0, "rate": 7},
+        ])
+        self.add(self.copy(gateway, word, **other))
+
+    def odd_frame(self):
+        """Bytes that are no uplink, or one of no device, or with a fault."""
+        chance, device = self.chance, self.chance.choice(list(self.server.devices.values()))
+        good = lorawan.uplink(True, device["addr"], self.counter(device), device["keys"])
+        flipped = bytearray(good)
+        flipped[chance.randrange(len(flipped))] ^= 1 << chance.randrange(8)
+        other = lorawan.uplink(False, device["addr"] ^ 1 << 31, 0, device["keys"])
+        major, cut = bytes([good[0] | chance.randrange(1, 4)]) + good[1:], good[:5] + b"\x01" + good[6:]
+        kind = bytes([chance.choice([0x00, 0x20, 0x60, 0xA0, 0xE0])]) + good[1:]
+        short = good[:chance.randrange(12)]
+        word = chance.choice([bytes(flipped), bytes(flipped), other, major, kind, cut, good[:11], short, good + bytes(244)])
+        self.add(self.copy(chance.choice(list(self.clocks)), word.hex().encode() or b"-"))
+
+    def odd_counter(self):
+        """A counter that can't come next, or that the last uplink had; or other keys."""
+        chance, device = self.chance, self.chance.choice(list(self.server.devices.values()))
+        last = device["up"] or 0
+        counter = max(last + chance.choice([-1, -1, 0, 0, 65_536, 65_537, -65_536, 200_000]), 0) % COUNTERS
+        keys = device["keys"] if chance.random() < 0.8 else device["keys"][::-1]
+        made = lorawan.uplink(chance.random() < 0.5, device["addr"], counter, keys, adr=True)
+        self.heard.append(made.hex().encode())
+        self.add(self.copy(chance.choice(list(self.clocks)), self.heard[-1]))
+
+    def damaged(self):
+        """A line of before, spelled otherwise, or no line of any kind."""
+        chance = self.chance
+        line = chance.choice(self.lines) if self.lines else b"pass 0"
+        at, words = chance.randrange(len(line) + 1), line.split(b" ")
+        place = chance.randrange(len(words))
+        byte = chance.choice([b" ", b"\t", b"-", b"\r", b"\0", b"0", b":", b"\xff"])
+        odd = [b"", b"-0", b"+1", b"18446744073709551616", b"0" * 20 + b"1", b"4294967296", b"65536", b"256", b"32768", b"-32769"]
+        odd += [b"@", b"@c:1:2", b"0" + words[place]]
+        drawn = [b" ".join(words[:place] + [word] + words[place + 1:]) for word in chance.sample(odd, 6)]
+        drawn += [line[:at] + new + line[at + old:] for new, old in ((b"", 1), (byte, 0), (bytes([chance.randrange(256)]), 1))]
+        drawn += [line[:at], line + b" 0", b"\t" + line.replace(b" ", b" \t ") + b"  ", b"#" + line, b" #" + line, line.upper()]
+        drawn += [line.ljust(1024), line.ljust(1025), b"#".ljust(1025), b" " * 1024, b"---"]
+        self.add(chance.choice(drawn))
+
+    def nothing(self):
+        self.add(self.chance.choice([b"", b"# nothing", b" \t ", b"#" * 1024]))
+
+
+def trial(seed):
+    """The input of a run, and what is wanted: output, standard error, status."""
+    chance = random.Random(seed)
+    gateways, devices = settings_of(chance)
+    rows = rows_of(chance, gateways, devices)
+    name = spoiled(chance, rows) if chance.random() < 0.08 else None
+    if name is None:
+        chance.shuffle(rows)
+    end = b"\r\n" if chance.random() < 0.1 else b"\n"
+    events = end.join(Traffic(chance, gateways, devices).drawn()) + chance.choice([end, end, b""])
+    text = table_text(rows).encode() + b"---" + end + events
+    if name is not None:
+        return text, b"", f"airbook: {name}\n".encode(), 2
+    told = played(gateways, devices, events)
+    refused = any(line.split(" ")[0] in ("no", "bad") for line in told)
+    return text, "".join(line + "\n" for line in told).encode(), b"", int(refused)
+
+
+def kinds_of(out, err):
+    """The kind of each answer: its first word, with the words behind it that are no number and no bytes."""
+    for line in out.decode().splitlines():
+        words = line.split()
+        word = {"opened": words[2:], "send": words[3:4], "unanswered": words[2:], "bad": words[2:]}.get(words[0], [])
+        yield " ".join(["no"] + [w for w in words[1:] if not w.isdigit()] if words[0] == "no" else [words[0], *word])
+    if err:
+        yield "refused " + err.decode().split()[-1]
+
+
+def shown(seed, wanted, got):
+    """The first differences of a run."""
+    for name, want, have in zip(("output", "standard error"), wanted, got):
+        lines, written = want.decode().splitlines(), have.decode("utf-8", "backslashreplace").splitlines()
+        places = [i for i in range(max(len(lines), len(written))) if lines[i:i + 1] != written[i:i + 1]]
+        for i in places[:3]:
+            print(f"run {seed}, {name}, line {i + 1}: wanted {lines[i:i + 1]}, written {written[i:i + 1]}")
+    if wanted[2] != got[2]:
+        print(f"run {seed}: status {wanted[2]} wanted, {got[2]} found")
+
+
+def ran(program, words, text):
+    """What a program writes, and how it ends."""
+    done = subprocess.run([program, *words], input=text, capture_output=True, timeout=SECONDS)
+    return done.stdout, done.stderr, done.returncode
+
+
+def main(words):
+    lorawan.checked()
+    asked = asked_for(words, RUNS)
+    if asked is None:
+        return 2
+    program, count, seed = asked
+    passed, kinds = [], collections.Counter()
+    for one in range(seed, seed + count):
+        text, *wanted = trial(one)
+        got = ran(program, ["run"], text)
+        passed.append(tuple(wanted) == got)
+        kinds.update(kinds_of(*wanted[:2]))
+        if not passed[-1]:
+            shown(one, wanted, got)
+    print(", ".join(f"{kinds[kind]} {kind}" for kind in sorted(kinds)))
+    missing = [kind for kind in COMMON.replace("\n", ";").split(";") if not kinds[kind]] if count >= RUNS else []
+    if missing:
+        print(f"never came: {', '.join(missing)}")
+    return status_of(passed + [False] * bool(missing))
+
+
+if __name__ == "__main__":
+    sys.exit(main(sys.argv[1:]))
