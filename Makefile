@@ -11,12 +11,15 @@ demo:
 	@echo 'airbook run < examples/two-gateways.txt'
 	@cd crates/airbook && rt try -- run < ../../examples/two-gateways.txt
 
-# The gate, then what must not compile, and then the cases, workers beside one thread and a server that listens, on the program
-# that the gate has proved and built. Where one fails, what comes after it is not run.
+# The gate, then what must not compile, and then the cases, random runs and saved books beside plain models, workers beside one
+# thread and a server that listens, on the program that the gate has proved and built. Where one fails, what comes after it is
+# not run.
 test:
 	rt ci
 	python3 tests/misuse.py
 	python3 tests/cases.py $(PROGRAM)
+	python3 tests/random_runs.py $(PROGRAM)
+	python3 tests/random_saved.py $(PROGRAM)
 	python3 tests/workers.py $(PROGRAM)
 	python3 tests/listen.py $(PROGRAM)
 
