@@ -3,8 +3,8 @@
 
 Usage: tests/random_runs.py [PROGRAM [RUNS [SEED]]]     (the program that the gate leaves, 200, 1)
 
-The model is written from docs/FORMATS.md alone: lists that are gone over, with the frames of tests/lorawan.py. Each run has 1
-to 6 gateways, 1 to 6 devices and some dozens of lines: uplinks heard by one or more gateways, given as bytes or made by the
+The model is written from docs/FORMATS.md and docs/MODEL.md: lists that are gone over, with the frames of tests/lorawan.py. Each
+run has 1 to 6 gateways, 1 to 6 devices and some dozens of lines: uplinks heard by one or more gateways, given as bytes or made by the
 program, heard again in time, late or later; payloads; moments; cancellations; and frames, counters, MICs and lines with faults.
 A few runs have settings with a fault. All of the output, what stands on standard error and the status are compared.
 
