@@ -134,6 +134,7 @@ def header(first, way, addr, counter, last):
     return bytes([first, 0, 0, 0, 0, way]) + addr.to_bytes(4, "little") + counter.to_bytes(4, "little") + bytes([0, last])
 
 
+@functools.lru_cache(maxsize=None)
 def mic(key, way, addr, counter, message):
     return cmac(key, header(0x49, way, addr, counter, len(message)) + message)[:4]
 

@@ -1,4 +1,4 @@
-"""The plain list of tests/random_books.py with any channel, data rate and length: for random_runs.py and random_saved.py."""
+"""The plain list of random_books.py with any channel, data rate and length: for plain_server.py and random_saved.py."""
 from lorawan import END, LIMITS, airtime, band_of, greatest
 from random_books import Book
 

@@ -20,14 +20,15 @@ import sys
 sys.dont_write_bytecode = True
 import lorawan
 from plain_book import PlainBook
+from plain_server import DIGITS, Malformed, lines_of, unsigned
 from random_books import HOUR, asked_for, status_of
-from random_runs import DIGITS, NO_CHANNELS, Malformed, lines_of, ran, shown, unsigned
+from random_runs import NO_CHANNELS, ran, shown
 
 BOOKS = 500
 CHANNELS = [863_500_000, 864_000_000, 867_100_000, 868_100_000, 868_537_500, 868_850_000, 869_525_000, 869_850_000]
 COMMON = """ok;no NoBand;no TooLong;no PastEnd;no Passed;no Taken;no DutyFull;no Full;cancelled;no Begun;no NotHere;floor;at
-no NoStart;bad;booked;busiest;airbook;gateway;r;end;Syntax of the version;Syntax of the gateway;Syntax of a member;Syntax of the end
-Version of the version;Unlawful of the gateway;Unlawful of a member"""
+no NoStart;bad;booked;busiest;airbook;gateway;r;end;Syntax of the version;Syntax of the gateway;Syntax of a member
+Syntax of the end;Version of the version;Unlawful of the gateway;Unlawful of a member"""
 
 
 def plain(word, bits):
@@ -235,7 +236,8 @@ def renumbered(chance, lines):
         told[-1] = ["end", str(len(members) + chance.choice([-1, 0, 1]))]
     elif one:
         drawn = [(2, chance.choice(members)[2]), (2, str(lorawan.END)), (2, str((1 << 64) - 1)), (4, chance.choice("0567"))]
-        drawn += [(3, str(chance.choice(NO_CHANNELS))), (3, "863500000"), (3, "868850000"), (5, chance.choice("64 65 255".split()))]
+        drawn += [(3, str(chance.choice(NO_CHANNELS))), (3, "863500000"), (3, "868850000")]
+        drawn += [(5, chance.choice(["64", "65", "255"]))]
         if one[2].isdigit():
             drawn += [(2, str(max(int(one[2]) + chance.choice([-1, 1, -HOUR, HOUR]), 0)))] * 3
         place, word = chance.choice(drawn)
