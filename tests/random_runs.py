@@ -183,7 +183,7 @@ class Traffic:
     def payload(self):
         chance = self.chance
         addr = chance.choice(list(self.server.devices) + [chance.randrange(1 << 32)] * (chance.random() < 0.2))
-        length = chance.choice([0, 1, 10, 38, 39, 46, 47, 51, 52, 102, 110, 115, 116, 242] + [243] * (chance.random() < 0.3))
+        length = chance.choice([0, 1, 10, 38, 39, 46, 47, 51, 52, 102, 110, 115, 116, 242, 243])
         port = chance.choice([1, 9, 223, 223, 1] + [0, 224, 255] * (chance.random() < 0.2))
         line = f"queue {addr:08x} {port} {chance.randbytes(length).hex() or '-'}".encode()
         for _ in range(17 if chance.random() < 0.03 and length < 20 else 1):
