@@ -29,7 +29,7 @@ COMMON = """queued;no queue UnknownDevice;no queue Port;no queue Long;no queue Q
 no hear Long;no hear NotData;no hear Major;no hear OptionsCut;no hear UnknownGateway;no hear NoRate;no hear NoBand
 no hear Moment;no hear SameGateway;no hear Late;no hear UnknownDevice;no hear BadMic;no hear Crowded;silent;send RX1;send RX2
 frame;unanswered Passed;unanswered Taken;unanswered DutyFull;unanswered Full;no CounterSpent;floor;no tick UnknownGateway
-cancelled;no cancel Begun;no cancel NotHere;bad Syntax;gateway;busiest;answered;refused Missing;refused Kind;refused Range"""
+cancelled;no cancel Begun;no cancel NotHere;bad Syntax;gateway;busiest;answered;refused Kind;refused Range"""
 
 
 # What is drawn: settings, and then events.
@@ -83,7 +83,7 @@ def spoiled(chance, rows):
     """The settings with one fault, and its name."""
     gateway, device = (next(said for kind, said in rows if kind == one) for one in ("gateway", "device"))
     table, key, value, name = chance.choice([
-        (gateway, "id", None, "Missing"), (device, "addr", None, "Missing"), (device, "nwkskey", None, "Missing"),
+        (gateway, "id", None, "Missing"), (device, "addr", None, "Missing"), (device, "appskey", None, "Missing"),
         (gateway, "id", '"1"', "Kind"), (gateway, "cap", 1 << 32, "Kind"), (gateway, "gap", -1, "Kind"),
         (device, "addr", '"2601"', "Kind"), (device, "rx2_dr", 7, "Kind"), (device, "up", COUNTERS, "Kind"),
         (device, "delay", 256, "Kind"), (gateway, "id", 0, "Range"), (gateway, "cap", 0, "Range"),
@@ -186,7 +186,7 @@ class Traffic:
         length = chance.choice([0, 1, 10, 38, 39, 46, 47, 51, 52, 102, 110, 115, 116, 242, 243])
         port = chance.choice([1, 9, 223, 223, 1] + [0, 224, 255] * (chance.random() < 0.2))
         line = f"queue {addr:08x} {port} {chance.randbytes(length).hex() or '-'}".encode()
-        for _ in range(17 if chance.random() < 0.03 and length < 20 else 1):
+        for _ in range(17 if chance.random() < 0.03 else 1):
             self.add(line)
 
     def passing(self):
@@ -261,7 +261,7 @@ def trial(seed):
     chance = random.Random(seed)
     gateways, devices = settings_of(chance)
     rows = rows_of(chance, gateways, devices)
-    name = spoiled(chance, rows) if chance.random() < 0.08 else None
+    name = spoiled(chance, rows) if chance.random() < 0.12 else None
     if name is None:
         chance.shuffle(rows)
     end = b"\r\n" if chance.random() < 0.1 else b"\n"

@@ -202,7 +202,7 @@ def respelled(chance, lines):
     at = chance.randrange(len(lines))
     words, line = lines[at].split(" "), lines[at]
     place = chance.randrange(len(words))
-    odd = ["0" + words[place], words[place] + "0", "", "0", "1", "x", "+1", "-1", "7", "65", "256", "65536", "65537"]
+    odd = ["0" + words[place]] * 4 + [words[place] + "0", "", "0", "1", "x", "+1", "-1", "7", "65", "256", "65536", "65537"]
     odd += ["4294967296", "18446744073709551616", "1" * 21]
     drawn = [" ".join(words[:place] + [word] + words[place + 1:]) for word in odd]
     drawn += [line + end for end in (" ", "\r", " 1")] + [line.replace(" ", blanks, 1) for blanks in ("  ", "\t", "")]
