@@ -269,8 +269,7 @@ def trial(seed):
     text = table_text(rows).encode() + b"---" + end + events
     if name is not None:
         return text, b"", f"airbook: {name}\n".encode(), 2
-    told = played(gateways, devices, events)
-    return wanted_of(text, told)
+    return wanted_of(text, played(gateways, devices, events))
 
 
 def wanted_of(text, told):
@@ -315,7 +314,10 @@ def shown(seed, wanted, got):
 
 def ran(program, words, text):
     """What a program writes, and how it ends."""
-    done = subprocess.run([program, *words], input=text, capture_output=True, timeout=SECONDS)
+    try:
+        done = subprocess.run([program, *words], input=text, capture_output=True, timeout=SECONDS)
+    except subprocess.TimeoutExpired:
+        return b"", f"it did not end within {SECONDS} seconds".encode(), None
     return done.stdout, done.stderr, done.returncode
 
 

@@ -252,6 +252,13 @@ def damaged(chance, lines):
     return lines
 
 
+def padded(chance, text):
+    """The text with a zero before a number, which only the lines behind a saved book may have."""
+    places = [at for at in range(1, len(text)) if text[at - 1:at] == b" " and text[at:at + 1].isdigit()]
+    at = chance.choice(places or [len(text)])
+    return text[:at] + b"0" + text[at:]
+
+
 def trial(seed):
     """The arguments and the input of a run; what is wanted: output, standard error, status; and the fault, with its place."""
     chance = random.Random(seed)
@@ -267,6 +274,8 @@ def trial(seed):
     is_saved = chance.random() < 0.5
     words = ["book", "--resume"] + ["--save"] * is_saved
     words += chance.choice([[], [], [], ["--cap", "0"], ["--cap", "1", "--gap", "5"], ["--gap", "100001"]])
+    if chance.random() < 0.1:
+        text = padded(chance, text)
     try:
         found, rest = reader(text)
     except Fault as fault:
