@@ -1,6 +1,6 @@
 -- What is done for events, one after another.
-use Rattle.std.proofs.Common.{◌≡◌, ℕ, ◌+◌, ◌<◌, ◌++◌, List, [], ◌∷◌, length, take, get_or, refl, sym}
-use Rattle.std.proofs.Common.{ap, ◌∙◌, arith, subst, Result, Ok, Err, IfOk, Vec, Bool, false, ◌==◌, ◌≤◌}
+use Rattle.std.proofs.Common.{◌≡◌, ℕ, ◌+◌, ◌<◌, ◌++◌, List, [], ◌∷◌, length, refl, sym}
+use Rattle.std.proofs.Common.{arith, subst, Result, Ok, Err, IfOk, Vec, Bool, false, ◌==◌}
 use Rattle.std.specs.Global.{Global}
 use Rattle.server_core.specs.declared.entry.Entry.{Entry}
 use Rattle.server_core.specs.declared.event.Event.{Event}
@@ -20,6 +20,12 @@ done_more place (f ∷ es) e old mid new so_far done = (
   done_more (place + 1) es e so_far.0 mid new so_far.2
       (subst (λ p. IsDone p e mid new) (omega arith) done),
 )
+
+-- the same at the place behind all events from the first on
+pub done_behind : (es : List (Event Global)) (e : Event Global) (place : ℕ) (old mid new : Kept) → place ≡ length es
+    → AreDone 0 es old mid → IsDone place e mid new → AreDone 0 (es ++ e ∷ []) old new
+done_behind es e place old mid new behind so_far done =
+    done_more 0 es e old mid new so_far (subst (λ p. IsDone p e mid new) (omega (arith, behind)) done)
 
 -- some numbers were answered
 pub dealt_with : (place : ℕ) (numbers : List ℕ) (old new : Kept) → 0 < length numbers → AreAnswered place numbers old new

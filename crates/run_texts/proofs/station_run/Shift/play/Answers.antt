@@ -1,8 +1,8 @@
 use Rattle.std.proofs.Common.{rules, ap, append_assoc, arith, refl, sym, ◌++◌, ◌∙◌, subst, [], IfOk}
 use Rattle.server_core.proofs.Replays.{none_left, one_more}
-use Rattle.run_texts.specs.WorkersRun.{kept, AreDone, IsDone, IsClosing}
+use Rattle.run_texts.specs.WorkersRun.{kept, AreDone, IsClosing}
 use Rattle.run_texts.specs.Bookings.{open_receipts}
-use Rattle.run_texts.proofs.DoneLemmas.{done_more, finished_with}
+use Rattle.run_texts.proofs.DoneLemmas.{done_behind, finished_with}
 use Rattle.run_texts.proofs.station_run.Shift.play.Goals as goal
 
 pub loop-event-init : goal.loop-event-init
@@ -19,9 +19,9 @@ loop-event-preserved g c =
       place = one_more before.yielded c.in-Some.event before.place before.invariant.place;
       station = c.in-Ok.ensures.station ∙ before.invariant.station;
       done =
-          done_more 0 before.yielded c.in-Some.event (kept [] []) (kept here.receipts.bookings.items here.entries.items)
-          (kept after.receipts.bookings.items after.entries.items) before.invariant.done
-          (rw before.invariant.place at c.in-Ok.ensures.done);
+          done_behind before.yielded c.in-Some.event before.place (kept [] [])
+          (kept here.receipts.bookings.items here.entries.items) (kept after.receipts.bookings.items after.entries.items)
+          before.invariant.place before.invariant.done c.in-Ok.ensures.done;
     }
 
 pub returns-clause-played : goal.returns-clause-played
