@@ -1,7 +1,7 @@
 #!/bin/sh
 # What workers bring in `airbook run`: 50,000 uplinks of 1,000 devices over 64 gateways, closed by tens and by thousands,
-# on one thread without a station (0) and with 1, 2 and 4 workers. Prints seconds, and their ratio to those with 1 worker
-# in the same run. Needs python3 and the program that the gate builds (or PROGRAM=path).
+# on one thread without a station (0) and with 1, 2 and 4 workers. Prints the least seconds of nine runs of each in turn, and
+# their ratio to those with 1 worker. Needs python3 and the program that the gate builds (or PROGRAM=path).
 set -eu
 top=$(cd "$(dirname "$0")/.." && pwd)
 exec python3 - "$top/bench/uplinks.py" "${PROGRAM:-$top/crates/airbook/out/airbook}" <<'P'
@@ -12,25 +12,23 @@ uplinks, devices, gateways = 50_000, 1000, 64
 
 
 def seconds(given, workers):
-    best, last = None, b""
-    for _ in range(3):
-        given.seek(0)
-        with tempfile.TemporaryFile() as answers:
-            started = time.monotonic()
-            ended = subprocess.run([program, "run", "--workers", str(workers)], stdin=given, stdout=answers)
-            took = time.monotonic() - started
-            answers.seek(0)
-            last = answers.read().splitlines()[-1]
-        if ended.returncode not in (0, 1):
-            raise SystemExit(f"{program} run --workers {workers} ended with {ended.returncode}")
-        best = took if best is None else min(best, took)
-    return best, last.decode()
+    given.seek(0)
+    with tempfile.TemporaryFile() as answers:
+        started = time.monotonic()
+        ended = subprocess.run([program, "run", "--workers", str(workers)], stdin=given, stdout=answers)
+        took = time.monotonic() - started
+        answers.seek(0)
+        last = answers.read().splitlines()[-1]
+    if ended.returncode not in (0, 1):
+        raise SystemExit(f"{program} run --workers {workers} ended with {ended.returncode}")
+    return took, last.decode()
 
 
 for each in (10, 1000):
     with tempfile.TemporaryFile() as given:
         subprocess.run([sys.executable, generator, *map(str, (uplinks, devices, gateways, each))], stdout=given, check=True)
-        took = {workers: seconds(given, workers) for workers in (0, 1, 2, 4)}
+        turns = [{workers: seconds(given, workers) for workers in (0, 1, 2, 4)} for _ in range(9)]
+        took = {workers: min(turn[workers] for turn in turns) for workers in (0, 1, 2, 4)}
         for workers, (best, last) in took.items():
             print(f"{each:5} closed at a time, {workers} workers: {best:6.2f} s, {best / took[1][0]:4.2f} of 1 worker; {last}")
 P

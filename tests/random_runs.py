@@ -321,25 +321,38 @@ def ran(program, words, text):
     return done.stdout, done.stderr, done.returncode
 
 
-def main(words):
+def compared(words, usual, common, tried):
+    """Compares a program with a model, and answers the status. `tried` gives, for a seed and whether it is the last of as many as
+    are usual, the arguments, the input, what is wanted, its kinds, and what is told beside a difference; of `common` each kind
+    has to come among as many as are usual."""
     lorawan.checked()
-    asked = asked_for(words, RUNS)
+    asked = asked_for(words, usual)
     if asked is None:
         return 2
     program, count, seed = asked
     passed, kinds = [], collections.Counter()
     for one in range(seed, seed + count):
-        text, *wanted = crowded() if count >= RUNS and one == seed + count - 1 else trial(one)
-        got = ran(program, ["run"], text)
-        passed.append(tuple(wanted) == got)
-        kinds.update(kinds_of(*wanted[:2]))
+        arguments, text, wanted, came, note = tried(one, count >= usual and one == seed + count - 1)
+        got = ran(program, arguments, text)
+        passed.append(wanted == got)
+        kinds.update(came)
         if not passed[-1]:
             shown(one, wanted, got)
+            print(f"    {note}")
     print(", ".join(f"{kinds[kind]} {kind}" for kind in sorted(kinds)))
-    missing = [kind for kind in COMMON.replace("\n", ";").split(";") if not kinds[kind]] if count >= RUNS else []
+    missing = [kind for kind in common.replace("\n", ";").split(";") if not kinds[kind]] if count >= usual else []
     if missing:
         print(f"never came: {', '.join(missing)}")
     return status_of(passed + [False] * bool(missing))
+
+
+def tried(seed, is_last):
+    text, *wanted = crowded() if is_last else trial(seed)
+    return ["run"], text, tuple(wanted), kinds_of(*wanted[:2]), "run"
+
+
+def main(words):
+    return compared(words, RUNS, COMMON, tried)
 
 
 if __name__ == "__main__":

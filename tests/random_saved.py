@@ -13,7 +13,6 @@ What differs has a line. Then comes how many of each answer were wanted, and of 
 fault; where 500 books or more were asked for, a common kind that never came is one failure. The last line is 'N passed, M
 failed', of the books. The status is 0 where none failed, 1 where one did, 2 where there is no program.
 """
-import collections
 import random
 import sys
 
@@ -21,8 +20,8 @@ sys.dont_write_bytecode = True
 import lorawan
 from plain_book import PlainBook
 from plain_server import DIGITS, Malformed, lines_of, unsigned
-from random_books import HOUR, asked_for, status_of
-from random_runs import NO_CHANNELS, ran, shown
+from random_books import HOUR
+from random_runs import NO_CHANNELS, compared
 
 BOOKS = 500
 CHANNELS = [863_500_000, 864_000_000, 867_100_000, 868_100_000, 868_537_500, 868_850_000, 869_525_000, 869_850_000]
@@ -291,27 +290,15 @@ def kind_of_answer(line):
     return f"no {words[2]}" if words[0] == "no" else words[0]
 
 
+def tried(seed, _is_last):
+    arguments, text, *wanted, fault = trial(seed)
+    came = [kind_of_answer(line) for line in wanted[0].decode().splitlines()] + ([fault[0]] if fault else [])
+    told = f"{fault[0]}, in line {fault[1]}" if fault else "none"
+    return arguments, text, tuple(wanted), came, f"{' '.join(arguments)}; the first fault: {told}"
+
+
 def main(words):
-    lorawan.checked()
-    asked = asked_for(words, BOOKS)
-    if asked is None:
-        return 2
-    program, count, seed = asked
-    passed, kinds = [], collections.Counter()
-    for one in range(seed, seed + count):
-        arguments, text, *wanted, fault = trial(one)
-        got = ran(program, arguments, text)
-        passed.append(tuple(wanted) == got)
-        kinds.update(kind_of_answer(line) for line in wanted[0].decode().splitlines())
-        kinds.update([fault[0]] if fault else [])
-        if not passed[-1]:
-            shown(one, wanted, got)
-            print(f"    {' '.join(arguments)}; the first fault: {f'{fault[0]}, in line {fault[1]}' if fault else 'none'}")
-    print(", ".join(f"{kinds[kind]} {kind}" for kind in sorted(kinds)))
-    missing = [kind for kind in COMMON.replace("\n", ";").split(";") if not kinds[kind]] if count >= BOOKS else []
-    if missing:
-        print(f"never came: {', '.join(missing)}")
-    return status_of(passed + [False] * bool(missing))
+    return compared(words, BOOKS, COMMON, tried)
 
 
 if __name__ == "__main__":
