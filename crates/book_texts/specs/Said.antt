@@ -13,14 +13,14 @@ use Rattle.book_texts.specs.declared.command.Command.{Command}
 use Rattle.book_texts.specs.declared.command.Command.TheVariants.{Book, Cancel, Tick, Earliest}
 use Rattle.book_texts.specs.declared.command.Said.{Said}
 use Rattle.book_texts.specs.declared.command.Said.TheVariants.{Nothing, Order, Malformed}
-use Rattle.text_words.specs.Rates.{rate_numbered}
+use Rattle.radio_airtime.specs.DataRate.{known_rate}
 use Rattle.text_words.specs.Words.{is_named}
 
 -- What a line of input says: a command by its words.
 
 -- the data rate whose number the word is
 abbrev pub rate_word : List ℕ → Option DataRate
-rate_word word = option_and_then rate_numbered (number_below (2 ^ 8) word)
+rate_word word = option_and_then known_rate (number_below (2 ^ 8) word)
 
 -- an ask of these fields, where each is there
 abbrev pub ask_with : Option ℕ → Option ℕ → Option ℕ → Option DataRate → Option ℕ → Option Ask

@@ -1,8 +1,7 @@
 use Rattle.std.specs.Prelude.{ℕ, nat_lt, if◌then◌else◌, List, [], ◌∷◌, Option, Some, None, codes, decimal}
 use Rattle.radio_airtime.specs.declared.data_rate.DataRate.{DataRate}
-use Rattle.radio_airtime.specs.DataRate.{max_phy_of}
+use Rattle.radio_airtime.specs.DataRate.{max_phy_of, known_rate}
 use Rattle.radio_airtime.specs.TimeOnAir.{airtime_of}
-use Rattle.text_words.specs.Rates.{rate_numbered}
 use Rattle.text_words.specs.Words.{spaced}
 
 -- The line of `airbook toa`: how long a PHYPayload is on air.
@@ -14,4 +13,4 @@ toa_words (Some rate) len =
 
 -- the airtime in microseconds, or why there is none
 abbrev pub toa_line : ℕ → ℕ → List ℕ
-toa_line rate len = spaced (toa_words (rate_numbered rate) len)
+toa_line rate len = spaced (toa_words (known_rate rate) len)

@@ -5,8 +5,8 @@ ghost use Rattle.book_texts.specs.Said.{ask_words, book_command, cancel_command,
 ghost use Rattle.book_texts.specs.Said.{command_of, said};
 
 use gateway_book::Ask;
+use radio_airtime::DataRate;
 use text_lines::{Words, is_passed_over, is_too_long, is_word, number_u8, number_u32, number_u64};
-use text_words::numbered_rate;
 
 /// What is asked of a gateway's book.
 #[derive(Clone, Copy, Debug, PartialEq, Eq)]
@@ -100,7 +100,7 @@ fn read_ask(number: &[u8], start: &[u8], freq_hz: &[u8], rate: &[u8], len: &[u8]
         number: number_u64(number)?,
         start: number_u64(start)?,
         freq_hz: number_u32(freq_hz)?,
-        rate: numbered_rate(number_u8(rate)?)?,
+        rate: DataRate::from_number(number_u8(rate)?)?,
         len: number_u8(len)?,
     })
 }

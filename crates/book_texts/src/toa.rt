@@ -6,9 +6,9 @@ ghost use Rattle.text_lines.specs.Writing.{WritesFront};
 ghost use Rattle.text_words.specs.Words.{is_refusal};
 ghost use Rattle.book_texts.specs.Toa.{toa_line};
 
-use radio_airtime::airtime;
+use radio_airtime::{DataRate, airtime};
 use text_lines::{ByteOut, TextLine, write_all};
-use text_words::{TextFault, numbered_rate};
+use text_words::TextFault;
 
 /// Writes the time on air of a PHYPayload of `len` bytes at data rate `rate`, in microseconds, as one line:
 /// `no NoRate` for a rate above 6, `no TooLong` for a length above the rate's greatest. It answers whether the line
@@ -34,7 +34,7 @@ fn toa_onto(rate: u8, len: u8, text: &mut TextLine) -> bool
     ensures text { text.new ≡ toa_line rate len ++ (10 ∷ []) }
     ensures refused { result ≡ is_refusal (toa_line rate len) }
 {
-    match numbered_rate(rate) {
+    match DataRate::from_number(rate) {
         None => {
             text.text(b"no NoRate\n");
             true

@@ -7,7 +7,7 @@ use Rattle.std.proofs.lemmas.Bool.{ne_eqb, le-ltb}
 use Rattle.std.proofs.lemmas.Fmt.{length-decimal-le}
 use Rattle.std.proofs.lemmas.List.Splits.{join_with_byte-slice_split}
 use Rattle.std.specs.List.{join_with_byte, list_all, All}
-use Rattle.radio_airtime.specs.DataRate.{number_of}
+use Rattle.radio_airtime.specs.DataRate.{number_of, known_rate}
 use Rattle.radio_airtime.specs.declared.data_rate.DataRate.{DataRate}
 use Rattle.radio_airtime.specs.declared.data_rate.DataRate.TheVariants.{Dr0, Dr1, Dr2, Dr3, Dr4, Dr5, Dr6}
 use Rattle.resv_list.specs.declared.reservation.Reservation.{Reservation}
@@ -23,7 +23,6 @@ use Rattle.gateway_book.specs.Loading.{joined, IsSavable, SavedIsReadAgain}
 use Rattle.gateway_book.specs.Answer.{Rules}
 use Rattle.gateway_book.specs.Book.{IsBookList}
 use Rattle.gateway_book.specs.Opening.{open_fault}
-use Rattle.gateway_book.specs.Rates.{rate_numbered}
 use Rattle.gateway_book.specs.Saved.{Saved, version_words, gateway_words, member_words, members_text, end_words, text_in}
 use Rattle.gateway_book.specs.SavedLines.{members_from, gateway_from}
 use Rattle.gateway_book.specs.Step.{reservation_of}
@@ -52,7 +51,7 @@ end_is_read number s rest few =
     ∙ ap (λ t. cond t (Ok (s, join_with_byte 10 (lines_between rest))) (Err (Syntax number))) (eq-eqb count count refl)
     ∙ ap (λ l. Ok (s, l)) (join_with_byte-slice_split 10 rest)
 
-rate_again : (rate : DataRate) → rate_numbered (number_of rate) ≡ Some rate
+rate_again : (rate : DataRate) → known_rate (number_of rate) ≡ Some rate
 rate_again Dr0 = refl
 rate_again Dr1 = refl
 rate_again Dr2 = refl

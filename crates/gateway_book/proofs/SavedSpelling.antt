@@ -3,7 +3,7 @@ use Rattle.std.specs.Prelude.{Option, Some, None, cond, option_and_then}
 use Rattle.std.proofs.Common.{refl, sym, ap, ◌∙◌, arith, eqb, ltb, get_or, true≢false}
 use Rattle.std.proofs.lemmas.Bool.{and_parts, ltb-true, ltb-false, leb-true, eqb-true, eq-eqb}
 use Rattle.std.specs.Cmp.Lexicographic.{bytes_decides}
-use Rattle.radio_airtime.specs.DataRate.{number_of}
+use Rattle.radio_airtime.specs.DataRate.{number_of, rates, known_rate}
 use Rattle.radio_airtime.specs.declared.data_rate.DataRate.{DataRate}
 use Rattle.resv_list.proofs.Walk.{found_passes}
 use Rattle.text_lines.specs.Number.{is_digits, value_of, number_below}
@@ -15,7 +15,6 @@ use Rattle.gateway_book.specs.Loading.{leads_zero, plain_number, version_in, gat
 use Rattle.gateway_book.specs.Loading.{member_with}
 use Rattle.gateway_book.specs.Loading.{count_in, saved_empty}
 use Rattle.gateway_book.specs.Saved.{gateway_words, gap_words}
-use Rattle.gateway_book.specs.Rates.{rates, rate_numbered}
 
 -- Words that are read are spelled as they are written.
 
@@ -62,12 +61,12 @@ named : (name word : List ℕ) → is_named name word ≡ true → word ≡ name
 named name word e = (bytes_decides word name).0 e
 
 -- a rate that is read is numbered so
-rate_is : (number : ℕ) (rate : DataRate) → rate_numbered number ≡ Some rate → number_of rate ≡ number
+rate_is : (number : ℕ) (rate : DataRate) → known_rate number ≡ Some rate → number_of rate ≡ number
 rate_is number rate e =
     eqb-true (number_of rate) number (found_passes number_of (λ r. eqb (number_of r) number) rate rates e)
 
 rate_word_by : (word : List ℕ) (o : Option ℕ) (rate : DataRate) → plain_number (2 ^ 8) word ≡ o
-    → option_and_then rate_numbered o ≡ Some rate → word ≡ decimal (number_of rate)
+    → option_and_then known_rate o ≡ Some rate → word ≡ decimal (number_of rate)
 rate_word_by word None rate e f = absurd (cc)
 rate_word_by word (Some number) rate e f =
     (plain_is_spelled (2 ^ 8) word number e (omega arith)).written ∙ ap decimal (sym (rate_is number rate f))
@@ -107,7 +106,7 @@ pub record IsMemberLine (words : List (List ℕ)) (ask : Ask) : Type 0 where
 
 member_by : (name number start freq_hz rate len : List ℕ) (ask : Ask) (t : Bool) → is_named (codes "r") name ≡ t
     → cond t (member_with (plain_number (2 ^ 64) number) (plain_number (2 ^ 64) start) (plain_number (2 ^ 32) freq_hz)
-    (option_and_then rate_numbered (plain_number (2 ^ 8) rate)) (plain_number (2 ^ 8) len)) None ≡ Some ask
+    (option_and_then known_rate (plain_number (2 ^ 8) rate)) (plain_number (2 ^ 8) len)) None ≡ Some ask
     → IsMemberLine (name ∷ number ∷ start ∷ freq_hz ∷ rate ∷ len ∷ []) ask
 member_by name number start freq_hz rate len ask true n e =
     let read = are_member ask _ _ _ _ _ e in

@@ -15,7 +15,6 @@ pub mod Book
 pub mod Opening
 pub mod Remembers
 pub mod Forgetting
-pub mod Rates
 pub mod Saved
 pub mod Loading
 pub mod SavedLines

@@ -18,7 +18,7 @@ use Rattle.gateway_book.specs.declared.loading.LoadFault.TheVariants.{Read, Synt
 use Rattle.gateway_book.specs.Answer.{no_band, too_long, past_end, taken, duty_full, first_some}
 use Rattle.gateway_book.specs.Book.{Book, IsBookList}
 use Rattle.gateway_book.specs.Opening.{open_fault}
-use Rattle.gateway_book.specs.Rates.{rate_numbered}
+use Rattle.radio_airtime.specs.DataRate.{known_rate}
 use Rattle.gateway_book.specs.Saved.{Saved, saved_of, end_words, text_in}
 use Rattle.gateway_book.specs.Step.{reservation_of}
 
@@ -75,7 +75,7 @@ abbrev pub member_in : List (List ℕ) → Option Ask
 member_in (name ∷ number ∷ start ∷ freq_hz ∷ rate ∷ len ∷ []) =
     if is_named (codes "r") name
     then member_with (plain_number (2 ^ 64) number) (plain_number (2 ^ 64) start) (plain_number (2 ^ 32) freq_hz)
-    (option_and_then rate_numbered (plain_number (2 ^ 8) rate)) (plain_number (2 ^ 8) len)
+    (option_and_then known_rate (plain_number (2 ^ 8) rate)) (plain_number (2 ^ 8) len)
     else None
 member_in _ = None
 

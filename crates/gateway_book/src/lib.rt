@@ -13,7 +13,6 @@ mod listing;
 mod loading;
 mod opening;
 mod overlap;
-mod rate;
 mod refusal;
 mod saved_line;
 mod saved_reader;
@@ -32,7 +31,6 @@ pub use laws::{
 };
 pub use loading::LoadFault;
 pub use opening::{MAX_CAP, MAX_GAP, OpenFault};
-pub use rate::numbered_rate;
 pub use refusal::Refusal;
 pub use resv_list::HOUR;
 pub use saving::SaveFault;

@@ -3,8 +3,9 @@ ghost use Rattle.std.specs.Prelude.{◌≡◌, map, None, if◌then◌else◌};
 ghost use Rattle.gateway_book.specs.Loading.{leads_zero, version_in, gateway_in, gap_in, member_in, count_in};
 ghost use Rattle.gateway_book.specs.Loading.{entry_in, words_between};
 
+use crate::Ask;
 use crate::saved_words::SavedWords;
-use crate::{Ask, numbered_rate};
+use radio_airtime::DataRate;
 use text_lines::{is_word, number_u8, number_u16, number_u32, number_u64};
 
 /// What the gateway's line says.
@@ -105,7 +106,7 @@ fn member_in(words: &[&[u8]]) -> Option<Ask>
             number: plain(number, number_u64(number))?,
             start: plain(start, number_u64(start))?,
             freq_hz: plain(freq_hz, number_u32(freq_hz))?,
-            rate: numbered_rate(plain(rate, number_u8(rate))?)?,
+            rate: DataRate::from_number(plain(rate, number_u8(rate))?)?,
             len: plain(len, number_u8(len))?,
         }),
         _ => None,

@@ -1,4 +1,4 @@
-use Rattle.std.specs.Prelude.{ℕ, ◌+◌, ◌==◌, if◌then◌else◌}
+use Rattle.std.specs.Prelude.{ℕ, ◌+◌, ◌==◌, if◌then◌else◌, List, [], ◌∷◌, find, Option}
 use Rattle.radio_airtime.specs.declared.data_rate.DataRate.{DataRate}
 use Rattle.radio_airtime.specs.declared.data_rate.DataRate.TheVariants.{Dr0, Dr1, Dr2, Dr3, Dr4, Dr5, Dr6}
 
@@ -13,6 +13,14 @@ number_of Dr3 = 3
 number_of Dr4 = 4
 number_of Dr5 = 5
 number_of Dr6 = 6
+
+-- the data rates that this project knows
+abbrev pub rates : List DataRate
+rates = Dr0 ∷ Dr1 ∷ Dr2 ∷ Dr3 ∷ Dr4 ∷ Dr5 ∷ Dr6 ∷ []
+
+-- the data rate with this number, where there is one
+abbrev pub known_rate : ℕ → Option DataRate
+known_rate number = find (λ rate. number_of rate == number) rates
 
 -- the data rate with a number 0 to 6 (RP002, EU863-870, "Data rate")
 abbrev pub rate_numbered : ℕ → DataRate

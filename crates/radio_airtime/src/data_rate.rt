@@ -14,10 +14,11 @@ pub enum DataRate {
 }
 
 impl DataRate {
-    ghost use Rattle.radio_airtime.specs.DataRate.{number_of, bandwidth_of, max_phy_of, spreading_factor_of};
+    ghost use Rattle.radio_airtime.specs.DataRate.{known_rate, number_of, bandwidth_of, max_phy_of, spreading_factor_of};
 
     /// The data rate with this number: `Some` for 0 to 6.
     pub fn from_number(number: u8) -> Option<DataRate>
+        ensures exact { result ≡ known_rate number }
         ensures known { IsSome result ↔ (number ≤ 6) }
         ensures value { IfSome result (λ rate. number_of rate ≡ number) }
     {

@@ -5,7 +5,7 @@ use Rattle.hex.specs.Hex.{decode_sized}
 use Rattle.toml.specs.Data.{Data, string, integer, Members, get_member}
 use Rattle.radio_airtime.specs.declared.data_rate.DataRate.{DataRate}
 use Rattle.radio_airtime.specs.declared.data_rate.DataRate.TheVariants.{Dr0}
-use Rattle.text_words.specs.Rates.{rate_numbered}
+use Rattle.radio_airtime.specs.DataRate.{known_rate}
 use Rattle.settings_text.specs.declared.settings_fault.ReadFault.{ReadFault}
 use Rattle.settings_text.specs.declared.settings_fault.ReadFault.TheVariants.{Missing, Kind}
 
@@ -42,7 +42,7 @@ addr_in value = do
 abbrev pub rate_in : Data → Result DataRate ReadFault
 rate_in value = do
   number ← whole_below (2 ^ 8) value
-  ok_or (rate_numbered number) Kind
+  ok_or (known_rate number) Kind
 
 -- a counter
 abbrev pub counter_in : Data → Result (Option ℕ) ReadFault

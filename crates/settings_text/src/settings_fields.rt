@@ -9,7 +9,6 @@ ghost use Rattle.settings_text.specs.SettingsFields as fields;
 use crate::ReadFault;
 use hex::FromHex;
 use server_desk::DataRate;
-use text_words::numbered_rate;
 use toml::{Table, Value};
 
 /// What a value may say.
@@ -82,7 +81,7 @@ impl FromValue for DataRate {
     ghost of = { fields.rate_in };
 
     fn from_value(value: &Value) -> Result<Self, ReadFault> {
-        numbered_rate(u8::from_value(value)?).ok_or(ReadFault::Kind)
+        DataRate::from_number(u8::from_value(value)?).ok_or(ReadFault::Kind)
     }
 }
 

@@ -1,4 +1,3 @@
 pub mod Fault
-pub mod Rates
 pub mod Words
 pub mod Busiest

@@ -1,5 +1,4 @@
-//! What the texts of `airbook` share: why a text call stops, a data rate by its number, and the words of answers
-//! and reports.
+//! What the texts of `airbook` share: why a text call stops, and the words of answers and reports.
 #![tactic(auto)]
 
 mod busiest;
@@ -8,5 +7,4 @@ mod words;
 
 pub use busiest::add_busiest;
 pub use fault::TextFault;
-pub use gateway_book::numbered_rate;
 pub use words::{add_band, add_fault, add_number, add_refusal, add_word, refusal_name};

@@ -2,16 +2,15 @@ use Rattle.std.proofs.Common.{◌≡◌, ℕ, ◌≤◌, false, Some, nat_lt, re
 use Rattle.std.proofs.lemmas.Bool.{le-ltb}
 use Rattle.std.proofs.lemmas.Fmt.{decimal_is_IsNumeral}
 use Rattle.radio_airtime.specs.declared.data_rate.DataRate.{DataRate}
-use Rattle.radio_airtime.specs.DataRate.{max_phy_of}
+use Rattle.radio_airtime.specs.DataRate.{max_phy_of, known_rate}
 use Rattle.radio_airtime.specs.TimeOnAir.{airtime_of}
 use Rattle.text_words.specs.Words.{is_refusal, spaced}
-use Rattle.text_words.specs.Rates.{rate_numbered}
 use Rattle.book_texts.specs.Toa.{toa_words, toa_line}
 use Rattle.book_texts.proofs.LineLemmas.{is_refusal-numeral}
 use Rattle.book_texts.proofs.toa.toa_onto.Goals as goal
 
 -- the line of a length that is not too long
-toa_line-fits : (number len : ℕ) (rate : DataRate) → rate_numbered number ≡ Some rate → len ≤ max_phy_of rate
+toa_line-fits : (number len : ℕ) (rate : DataRate) → known_rate number ≡ Some rate → len ≤ max_phy_of rate
     → toa_line number len ≡ decimal (airtime_of rate len)
 toa_line-fits number len rate e h =
     let short : nat_lt (max_phy_of rate) len ≡ false = le-ltb (max_phy_of rate) len h in
