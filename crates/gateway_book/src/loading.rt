@@ -21,16 +21,16 @@ pub enum LoadFault {
     #[error("the saved book could not be read")]
     Read,
     /// The line is not spelled as it would be saved.
-    #[error("line {line} is not one of a saved book")]
+    #[error("line {line} of the saved book is not spelled as it would be saved")]
     Syntax { line: u64 },
     /// The version is another than 1 and 2.
-    #[error("the version of the saved book is not known")]
+    #[error("the version of the saved book is neither 1 nor 2")]
     Version,
     /// No book could hold what the line says beside what the lines before it say.
-    #[error("line {line} says what no book may hold")]
+    #[error("line {line} of the saved book says what no book may hold beside the lines before it")]
     Unlawful { line: u64 },
     /// There was no memory for a member.
-    #[error("there is no memory for one more transmission")]
+    #[error("there is no memory for a transmission of the saved book")]
     NoMemory,
 }
 
