@@ -19,6 +19,6 @@ toa_line-fits number len rate e h =
 pub returns-in-Some-2-clause-refused : goal.returns-in-Some-2-clause-refused
 returns-in-Some-2-clause-refused c =
     let numeral = (decimal_is_IsNumeral c.airtime.result (omega (arith, c.airtime.ensures.short))).0 in
-    let line = toa_line-fits c.args.rate c.args.len c.in-Some.rate (sym c.in-Some.ensures)
+    let line = toa_line-fits c.args.rate c.args.len c.in-Some.rate (sym c.in-Some.ensures.exact)
     (omega (arith, c.if-len-max_phy.false, c.max_phy.ensures)) in
     sym (ap is_refusal (line ∙ ap decimal (sym c.airtime.ensures.value)) ∙ is_refusal-numeral _ numeral)
