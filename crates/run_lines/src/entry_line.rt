@@ -15,6 +15,9 @@ use std::alloc::Allocator;
 use text_lines::{ByteOut, CallFailed, TextLine, WriteBehind};
 use text_words::{add_fault, add_number, add_word, refusal_name};
 
+/// So many bytes are made hexadecimal digits at a time.
+const BYTES_AT_ONCE: usize = 32;
+
 /// Writes a line behind what is gathered, with its end.
 pub(crate) fn put_line<A: Allocator, W: ByteOut>(
     line: &Line<A>,
@@ -264,20 +267,31 @@ fn put_digits<W: ByteOut>(
     ensures err { OnErr result (WritesFront (W.taken writer.old) (W.taken writer.new) (output.old ++ encode_lower bytes.now)) }
     ensures failed { CountsFailure (W.failed_calls writer.old) (W.failed_calls writer.new) result }
 {
-    for byte in bytes {
-        match output.put(writer, &digits_of(*byte)) {
+    let mut place = 0;
+    while place < bytes.len() {
+        let end = bytes.len().min(place.saturating_add(BYTES_AT_ONCE));
+        match put_few(&bytes[place..end], output, writer) {
             Err(failed) => return Err(failed),
-            Ok(()) => {}
+            Ok(()) => place = end,
         }
     }
     Ok(())
 }
 
-/// The two hexadecimal digits of a byte.
-fn digits_of(byte: u8) -> [u8; 2]
-    ensures { result ≡ encode_lower (byte ∷ []) }
+/// The same for at most so many bytes as are made digits at a time.
+fn put_few<W: ByteOut>(
+    bytes: &[u8],
+    output: &mut WriteBehind,
+    writer: &mut W,
+) -> Result<(), CallFailed>
+    requires { length bytes.now ≤ BYTES_AT_ONCE }
+    ensures ok { OnOk result (WritesAllBut (W.taken writer.old) (W.taken writer.new)
+        (output.old ++ encode_lower bytes.now) output.new) }
+    ensures err { OnErr result (WritesFront (W.taken writer.old) (W.taken writer.new) (output.old ++ encode_lower bytes.now)) }
+    ensures failed { CountsFailure (W.failed_calls writer.old) (W.failed_calls writer.new) result }
 {
-    let mut digits = [0; 2];
-    let _ = encode_to_slice([byte], &mut digits);
-    digits
+    let mut room = [0; 2 * BYTES_AT_ONCE];
+    let digits = &mut room[..2 * bytes.len()];
+    let _ = encode_to_slice(bytes, digits);
+    output.put(writer, digits)
 }
