@@ -18,9 +18,10 @@ use text_words::{add_fault, add_number, add_word, refusal_name};
 /// So many bytes are made hexadecimal digits at a time.
 const BYTES_AT_ONCE: usize = 32;
 
-/// Writes a line behind what is gathered, with its end.
+/// Writes a line behind what is gathered, with its end. It is made in `text`, whatever stands there.
 pub(crate) fn put_line<A: Allocator, W: ByteOut>(
     line: &Line<A>,
+    text: &mut TextLine,
     output: &mut WriteBehind,
     writer: &mut W,
 ) -> Result<(), CallFailed>
@@ -32,10 +33,9 @@ pub(crate) fn put_line<A: Allocator, W: ByteOut>(
 {
     match line {
         // It may be longer than a text line has room for.
-        Line::Frame { number, bytes } => put_frame(*number, bytes.as_slice(), output, writer),
+        Line::Frame { number, bytes } => put_frame(*number, bytes.as_slice(), text, output, writer),
         _ => {
-            let mut text = TextLine::new();
-            write_but_frame(line, &mut text);
+            write_but_frame(line, text);
             output.put(writer, text.as_slice())
         }
     }
@@ -202,6 +202,7 @@ fn add_queued(text: &mut TextLine, addr: u32, count: usize)
 fn put_frame<W: ByteOut>(
     number: u64,
     bytes: &[u8],
+    text: &mut TextLine,
     output: &mut WriteBehind,
     writer: &mut W,
 ) -> Result<(), CallFailed>
@@ -211,7 +212,7 @@ fn put_frame<W: ByteOut>(
         (output.old ++ (spaced (codes "frame" ∷ decimal number ∷ hex_digits bytes.now ∷ []) ++ (10 ∷ [])))) }
     ensures failed { CountsFailure (W.failed_calls writer.old) (W.failed_calls writer.new) result }
 {
-    match put_frame_number(number, output, writer) {
+    match put_frame_number(number, text, output, writer) {
         Err(failed) => return Err(failed),
         Ok(()) => {}
     }
@@ -224,6 +225,7 @@ fn put_frame<W: ByteOut>(
 /// Writes `frame`, a number and a space behind what is gathered.
 fn put_frame_number<W: ByteOut>(
     number: u64,
+    text: &mut TextLine,
     output: &mut WriteBehind,
     writer: &mut W,
 ) -> Result<(), CallFailed>
@@ -233,8 +235,8 @@ fn put_frame_number<W: ByteOut>(
         (output.old ++ (codes "frame " ++ (decimal number ++ (32 ∷ []))))) }
     ensures failed { CountsFailure (W.failed_calls writer.old) (W.failed_calls writer.new) result }
 {
-    let mut text = TextLine::new();
-    begin(&mut text, b"frame", number);
+    text.clear();
+    begin(text, b"frame", number);
     text.text(b" ");
     output.put(writer, text.as_slice())
 }

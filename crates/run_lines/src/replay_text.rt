@@ -18,7 +18,7 @@ use gateway_book::GatewayBook;
 use resv_list::Roster;
 use server_core::Entry;
 use std::alloc::Allocator;
-use text_lines::{ByteOut, CallFailed, WriteBehind};
+use text_lines::{ByteOut, CallFailed, TextLine, WriteBehind};
 
 /// Writes the lines that answer events and the report of the gateways' books, and answers whether one of them begins with
 /// `no` or `bad`. After an Err a front of them was written.
@@ -102,8 +102,9 @@ pub(crate) fn put_entries<A: Allocator, W: ByteOut>(
         (output.old ++ text_of (entry_lines entries.now))) }
     ensures failed { CountsFailure (W.failed_calls writer.old) (W.failed_calls writer.new) result }
 {
+    let mut text = TextLine::new();
     for entry in entries {
-        match put_line(&entry.line, output, writer) {
+        match put_line(&entry.line, &mut text, output, writer) {
             Err(failed) => return Err(failed),
             Ok(()) => {}
         }
