@@ -2,6 +2,7 @@
 #![tactic(auto)]
 
 mod all_events;
+mod all_lines;
 mod datagram;
 mod entry_line;
 mod entry_name;
@@ -16,6 +17,7 @@ mod run_words;
 mod tally;
 
 pub use all_events::events_by_threads;
+pub use all_lines::write_lines_by_threads;
 pub use datagram::{DATAGRAM_ROOM, datagram_event};
 pub use laws::law_lines_are_whole;
 pub use part_text::{write_entries, write_report};

@@ -10,7 +10,7 @@ ghost use Rattle.run_texts.specs.PassAnswers.{IsStaffed};
 use crate::run_alone::tell_alone;
 use crate::run_settings::settings_in;
 use crate::station_run::{Played, play};
-use run_lines::{events_by_threads, parts_of, read_all, write_lines};
+use run_lines::{events_by_threads, parts_of, read_all, write_lines_by_threads};
 use server_core::{Event, Settings};
 use server_workers::{Blank, MAX_WORKERS, PARTS};
 use std::alloc::Global;
@@ -117,7 +117,8 @@ where
         Err(fault) => return Err(fault),
         Ok(played) => played,
     };
-    match write_lines(played.entries.as_slice(), played.books.as_slice(), writer) {
+    let (entries, books) = (played.entries.as_slice(), played.books.as_slice());
+    match write_lines_by_threads(rt, alloc, entries, books, workers, writer) {
         Err(_) => Err(TextFault::Write),
         Ok(refused) => Ok(refused),
     }

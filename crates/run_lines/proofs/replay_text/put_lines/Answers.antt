@@ -1,4 +1,4 @@
-use Rattle.std.proofs.Common.{List, ℕ, map}
+use Rattle.std.proofs.Common.{map}
 use Rattle.text_lines.specs.Line.{text_of}
 use Rattle.server_core.specs.Entries.{gateway_of}
 use Rattle.run_lines.specs.Tally.{tally_of}

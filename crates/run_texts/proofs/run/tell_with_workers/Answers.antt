@@ -8,11 +8,11 @@ use Rattle.run_texts.proofs.run.tell_with_workers.Goals as goal
 
 pub returns-clause-played : goal.returns-clause-played
 returns-clause-played g c =
-    let wrote = c.in-Ok-write_lines.ensures in
+    let wrote = c.in-Ok-write_lines_by_threads.ensures in
     let entries = c.in-Ok.played.entries.items in
     let books = c.in-Ok.played.books.items in
     let before = g.W.ByteOut.taken c.args.writer.now in
-    let after = g.W.ByteOut.taken c.write_lines.new.writer in
+    let after = g.W.ByteOut.taken c.write_lines_by_threads.new.writer in
     record {
       entries = entries;
       totals = c.in-Ok.played.totals.items;
@@ -23,8 +23,8 @@ returns-clause-played g c =
           (subst (λ bs. Appends before after (text_of (replay_lines c.as_slice.result.now (map gateway_of bs))))
           c.as_slice-2.ensures.value wrote.ok);
       told =
-          subst (λ es. c.in-Ok-write_lines.refused ≡ has_refusal (replay_lines es (map gateway_of books)))
+          subst (λ es. c.in-Ok-write_lines_by_threads.refused ≡ has_refusal (replay_lines es (map gateway_of books)))
           c.as_slice.ensures.value
-          (subst (λ bs. c.in-Ok-write_lines.refused ≡ has_refusal (replay_lines c.as_slice.result.now (map gateway_of bs)))
+          (subst (λ bs. c.in-Ok-write_lines_by_threads.refused ≡ has_refusal (replay_lines c.as_slice.result.now (map gateway_of bs)))
           c.as_slice-2.ensures.value wrote.told);
     }

@@ -1,0 +1,123 @@
+// The lines of a run's answers are made by one thread or by several, each of which makes some of them.
+ghost use Rattle.std.specs.Prelude.{◌≡◌, ◌++◌, map, IfOk, OnOk, OnErr};
+ghost use Rattle.std.specs.Io.KnownBytes.{Appends};
+ghost use Rattle.std.specs.Thread.{IsSync};
+ghost use Rattle.text_lines.specs.Calls.{CountsFailure};
+ghost use Rattle.text_lines.specs.Line.{text_of};
+ghost use Rattle.text_lines.specs.Writing.{WritesFront};
+ghost use Rattle.text_words.specs.Words.{has_refusal};
+ghost use Rattle.server_core.specs.Entries.{gateway_of};
+ghost use Rattle.run_lines.specs.ReplayText.{entry_lines, replay_lines};
+
+use crate::part_text::{write_entries, write_report};
+use crate::replay_text::{has_refused, write_lines};
+use crate::run_words::NoMemory;
+use crate::tally::Tally;
+use gateway_book::GatewayBook;
+use resv_list::Roster;
+use server_core::Entry;
+use std::alloc::{AllocError, Global};
+use std::thread::{Threads, join};
+use text_lines::{ByteOut, CallFailed, MemoryOut, write_all};
+
+/// Fewer entries than these are worth no thread.
+const ENTRIES_EACH: usize = 1_024;
+
+/// Writes what `write_lines` writes. The lines of the answers are made by at most so many threads in memory of their own, and
+/// by the calling one alone where that is 0 or 1, or where there is no memory for them.
+pub fn write_lines_by_threads<R: Threads + Sync, B: Roster, W: ByteOut>(
+    rt: &R,
+    alloc: Global,
+    entries: &[Entry<Global>],
+    books: &[GatewayBook<B>],
+    threads: u8,
+    writer: &mut W,
+) -> Result<bool, CallFailed>
+    ensures ok { OnOk result (Appends (W.taken writer.old) (W.taken writer.new)
+        (text_of (replay_lines entries.now (map gateway_of books.now)))) }
+    ensures told { IfOk result (λ refused. refused ≡ has_refusal (replay_lines entries.now (map gateway_of books.now))) }
+    ensures err { OnErr result (WritesFront (W.taken writer.old) (W.taken writer.new)
+        (text_of (replay_lines entries.now (map gateway_of books.now)))) }
+    ensures failed { CountsFailure (W.failed_calls writer.old) (W.failed_calls writer.new) result }
+{
+    if threads < 2 {
+        return write_lines(entries, books, writer);
+    }
+    let Ok(text) = text_between(rt, alloc, entries, threads) else {
+        return write_lines(entries, books, writer);
+    };
+    write_made(text.as_slice(), entries, books, writer)
+}
+
+/// The same, where the text of the answers is made.
+fn write_made<B: Roster, W: ByteOut>(
+    text: &[u8],
+    entries: &[Entry<Global>],
+    books: &[GatewayBook<B>],
+    writer: &mut W,
+) -> Result<bool, CallFailed>
+    requires { text.now ≡ text_of (entry_lines entries.now) }
+    ensures ok { OnOk result (Appends (W.taken writer.old) (W.taken writer.new)
+        (text_of (replay_lines entries.now (map gateway_of books.now)))) }
+    ensures told { IfOk result (λ refused. refused ≡ has_refusal (replay_lines entries.now (map gateway_of books.now))) }
+    ensures err { OnErr result (WritesFront (W.taken writer.old) (W.taken writer.new)
+        (text_of (replay_lines entries.now (map gateway_of books.now)))) }
+    ensures failed { CountsFailure (W.failed_calls writer.old) (W.failed_calls writer.new) result }
+{
+    match write_all(writer, text) {
+        Err(failed) => return Err(failed),
+        Ok(()) => {}
+    }
+    match write_report(&Tally::of(entries), books, writer) {
+        Err(failed) => Err(failed),
+        Ok(()) => Ok(has_refused(entries)),
+    }
+}
+
+/// The text of some entries, made by at most so many threads: half of them for each half of the entries.
+#[cycle(halves_of_text)]
+fn text_between<R: Threads + Sync>(
+    rt: &R,
+    alloc: Global,
+    entries: &[Entry<Global>],
+    threads: u8,
+) -> Result<Vec<u8>, NoMemory>
+    ensures { IfOk result (λ text. text.items ≡ text_of (entry_lines entries.now)) }
+{
+    if threads < 2 || entries.len() < ENTRIES_EACH {
+        return text_alone(alloc, entries);
+    }
+    let (front, back) = entries.split_at(entries.len() / 2);
+    let some = threads / 2;
+    let others = threads - some;
+    let first_text = move || -> Result<Vec<u8>, NoMemory>
+        requires { IsSync R.row }
+        ensures { IfOk result (λ text. text.items ≡ text_of (entry_lines front.entry.now)) }
+    { text_between(rt, alloc, front, some) };
+    let second_text = move || -> Result<Vec<u8>, NoMemory>
+        requires { IsSync R.row }
+        ensures { IfOk result (λ text. text.items ≡ text_of (entry_lines back.entry.now)) }
+    { text_between(rt, alloc, back, others) };
+    let (first, second) = join(rt, first_text, second_text);
+    joined(first?, second?)
+}
+
+/// The text of some entries.
+fn text_alone(alloc: Global, entries: &[Entry<Global>]) -> Result<Vec<u8>, NoMemory>
+    ensures { IfOk result (λ text. text.items ≡ text_of (entry_lines entries.now)) }
+{
+    let mut writer = MemoryOut::new(alloc);
+    match write_entries(entries, &mut writer) {
+        Ok(_) => Ok(writer.bytes),
+        Err(_) => Err(AllocError),
+    }
+}
+
+/// This text, and what follows it.
+fn joined(first: Vec<u8>, second: Vec<u8>) -> Result<Vec<u8>, NoMemory>
+    ensures { IfOk result (λ text. text.items ≡ first.items ++ second.items) }
+{
+    let mut text = first;
+    text.extend_from_slice(second.as_slice())?;
+    Ok(text)
+}
