@@ -40,7 +40,7 @@ pub struct DeviceSetting {
     pub down: u64,
 }
 
-/// The session keys of a device as they are set, NwkSKey and AppSKey (LoRaWAN L2 1.0.4, section 6.1.1), each with its round
+/// The session keys of a device as they are set, NwkSKey and AppSKey (LoRaWAN L2 1.0.4, section 6.1.2), each with its round
 /// keys (FIPS 197, section 5.2). Takes no memory.
 pub fn keys_of(setting: &DeviceSetting) -> Keys
     ensures { result ≡ keys_of setting.now }
