@@ -61,10 +61,9 @@ module _ (ids : List ℕ) (reg : Register) (bytes : List ℕ) (heard : Heard1) (
       record { place = p.0; room = p.1; found = found; here = g.3; early = g.4 }
 
   -- what a verdict was given for
-  pub record IsJoin : Type 0 where
-    pub number : ℕ
-    pub decided_so : decide ids reg bytes heard arrived ≡ Join number
-    pub so : IsToJoin number
+  pub record IsJoin (n : ℕ) : Type 0 where
+    pub decided_so : decide ids reg bytes heard arrived ≡ Join n
+    pub so : IsToJoin n
 
   pub record IsNew (new : NewUplink) : Type 0 where
     pub opening : Opening
@@ -73,8 +72,8 @@ module _ (ids : List ℕ) (reg : Register) (bytes : List ℕ) (heard : Heard1) (
     pub is : record { counter = opening.counter; repeat = is_last opening.device opening.counter; asked = asked_by opening bytes }
         ≡ new
 
-  pub is_join : verdict_of bytes (decide ids reg bytes heard arrived) ≡ says.Join → IsJoin
-  is_join e = grind (arith, join_decided)
+  pub is_join : (n : ℕ) → verdict_of bytes (decide ids reg bytes heard arrived) ≡ says.Join n → IsJoin n
+  is_join n e = grind (arith, join_decided)
 
   pub is_new : (new : NewUplink) → verdict_of bytes (decide ids reg bytes heard arrived) ≡ says.Open new → IsNew new
   is_new new e = grind (arith, open_decided)

@@ -37,8 +37,8 @@ pub was_told : (repeat : Bool) (a r : Result Heard HearFault) (x : DeskHeard) �
 was_told repeat a r x q h = grind arith
 
 -- a copy joins a gathering
-module _ {ids : List ℕ} {reg : Register} {bytes : List ℕ} {heard : Heard1} {arrived : ℕ}
-    (j : IsJoin ids reg bytes heard arrived) where
+module _ {ids : List ℕ} {reg : Register} {bytes : List ℕ} {heard : Heard1} {arrived n : ℕ}
+    (j : IsJoin ids reg bytes heard arrived n) where
   pub join_answer : answer_to (decide ids reg bytes heard arrived) reg
       ≡ desk_answer false (hear_answer reg.gathered bytes heard.gateway arrived)
   join_answer = rw (j.decided_so, j.so.place) refl

@@ -84,7 +84,7 @@ pub record MayBeGiven (reg : Register) (known : List Known) (n : ℕ) (asked : A
 -- what is to be done with a copy, as the desk finds it
 abbrev pub verdict_of : List ℕ → Decision → Verdict
 verdict_of bytes (Refuse fault) = says.Refuse fault
-verdict_of bytes (Join n) = says.Join
+verdict_of bytes (Join n) = says.Join n
 verdict_of bytes (Open o) =
     says.Open (record { counter = o.counter; repeat = is_last o.device o.counter; asked = asked_by o bytes })
 

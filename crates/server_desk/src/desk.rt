@@ -129,14 +129,20 @@ impl<S: BuildHasher, A: Allocator + Copy> Desk<S, A> {
     {
         match self.verdict(bytes, &heard, arrived) {
             Verdict::Refuse(fault) => Err(fault),
-            Verdict::Join => self.join(bytes, &heard, arrived),
+            Verdict::Join(n) => self.join(n, bytes, &heard, arrived),
             Verdict::Open(new) => self.open(new, bytes, &heard, arrived),
         }
     }
 
-    /// Puts a copy to those of its gathering.
-    fn join(&mut self, bytes: &[u8], heard: &Heard1, arrived: u64) -> Result<DeskHeard, DeskFault>
-        requires { verdict_of bytes.now (decide self.old.ids self.old.reg bytes.now heard.now arrived) ≡ Verdict.Join }
+    /// Puts a copy to those of gathering `n`.
+    fn join(
+        &mut self,
+        n: u64,
+        bytes: &[u8],
+        heard: &Heard1,
+        arrived: u64,
+    ) -> Result<DeskHeard, DeskFault>
+        requires { verdict_of bytes.now (decide self.old.ids self.old.reg bytes.now heard.now arrived) ≡ Verdict.Join n }
         ensures answer { MatchResult (answer_to (decide self.old.ids self.old.reg bytes.now heard.now arrived) self.old.reg)
             (λ _. IsOkUnless result DeskFault.NoMemory) (λ fault. result ≡ Err fault) }
         ensures told { IfOk result (λ told. answer_to (decide self.old.ids self.old.reg bytes.now heard.now arrived) self.old.reg
@@ -144,7 +150,9 @@ impl<S: BuildHasher, A: Allocator + Copy> Desk<S, A> {
         ensures step { OnOk result (self.new ≡ desk_hear self.old bytes.now heard.now arrived) }
         ensures refused { OnErr result (self.new ≡ self.old) }
     {
-        let answer = self.gather.hear(bytes, copy_of(heard), arrived);
+        let answer = self
+            .gather
+            .hear_at(Place::Joins(n), bytes, copy_of(heard), arrived);
         desk_answer(answer, false)
     }
 
@@ -171,7 +179,9 @@ impl<S: BuildHasher, A: Allocator + Copy> Desk<S, A> {
         let Ok(()) = self.known.reserve(1) else {
             return Err(DeskFault::NoMemory);
         };
-        let answer = self.gather.hear(bytes, copy_of(heard), arrived);
+        let answer = self
+            .gather
+            .hear_at(Place::Opens, bytes, copy_of(heard), arrived);
         let told = match desk_answer(answer, new.repeat) {
             Ok(told) => told,
             Err(fault) => return Err(fault),
@@ -208,7 +218,7 @@ impl<S: BuildHasher, A: Allocator> Desk<S, A> {
             return Verdict::Refuse(fault);
         }
         match self.gather.place(bytes, heard.gateway, arrived) {
-            Ok(Place::Joins(_)) => Verdict::Join,
+            Ok(Place::Joins(n)) => Verdict::Join(n),
             Ok(Place::Opens) => self.verdict_on(bytes, uplink),
             Err(fault) => Verdict::Refuse(named_fault(fault)),
         }

@@ -16,8 +16,8 @@ pub(crate) struct NewUplink {
 pub(crate) enum Verdict {
     /// It is refused.
     Refuse(DeskFault),
-    /// It joins a gathering.
-    Join,
+    /// It joins the gathering with this number.
+    Join(u64),
     /// It opens one.
     Open(NewUplink),
 }

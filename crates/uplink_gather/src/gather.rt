@@ -67,9 +67,29 @@ impl<S: BuildHasher, A: Allocator + Copy> Gather<S, A> {
         ensures refused { OnErr result (self.new ≡ self.old) }
     {
         match self.place(bytes, copy.gateway, arrived) {
-            Ok(Place::Joins(n)) => self.join(n, copy),
-            Ok(Place::Opens) => self.begin(bytes, copy, arrived),
+            Ok(place) => self.hear_at(place, bytes, copy, arrived),
             Err(fault) => Err(fault),
+        }
+    }
+
+    /// As `hear`, for a caller that has what `place` answered, so that the bytes aren't looked up again.
+    pub fn hear_at(
+        &mut self,
+        place: Place,
+        bytes: &[u8],
+        copy: HeardCopy,
+        arrived: u64,
+    ) -> Result<Heard, HearFault>
+        requires { place_of self.old bytes.now copy.gateway arrived ≡ Ok place }
+        ensures answer { MatchResult (hear_answer self.old bytes.now copy.gateway arrived)
+            (λ _. IsOkUnless result HearFault.NoMemory) (λ fault. result ≡ Err fault) }
+        ensures told { IfOk result (λ heard. hear_answer self.old bytes.now copy.gateway arrived ≡ Ok heard) }
+        ensures step { self.new ≡ after_hearing result self.old bytes.now copy arrived }
+        ensures refused { OnErr result (self.new ≡ self.old) }
+    {
+        match place {
+            Place::Joins(n) => self.join(n, copy),
+            Place::Opens => self.begin(bytes, copy, arrived),
         }
     }
 

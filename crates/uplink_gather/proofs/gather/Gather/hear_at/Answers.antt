@@ -3,7 +3,7 @@ use Rattle.uplink_gather.specs.declared.answers.Place.TheVariants.{Joins}
 use Rattle.uplink_gather.specs.Gatherings.{Gathering, Gatherings, numbered}
 use Rattle.uplink_gather.specs.Hearing.{place_of}
 use Rattle.uplink_gather.proofs.HearingLaws.{joins_at}
-use Rattle.uplink_gather.proofs.gather.Gather.hear.Goals as goal
+use Rattle.uplink_gather.proofs.gather.Gather.hear_at.Goals as goal
 
 joins_some : (s : Gatherings) (bytes : List ℕ) (gateway arrived n : ℕ) → place_of s bytes gateway arrived ≡ Ok (Joins n)
     → IsSome (numbered n s.list)
@@ -12,5 +12,4 @@ joins_some s bytes gateway arrived n e =
 
 pub join-requires : goal.join-requires
 join-requires g c =
-    joins_some c.args.self.now c.args.bytes.now c.args.copy.gateway c.args.arrived c.in-Ok-Joins.n
-    (sym c.place.ensures ∙ c.in-Ok-Joins.is ∙ ap Ok c.in-Ok-Joins.field-0-is)
+    joins_some c.args.self.now c.args.bytes.now c.args.copy.gateway c.args.arrived c.in-Joins.n (c.requires ∙ ap Ok c.in-Joins.is)
