@@ -1,4 +1,4 @@
-ghost use Rattle.std.specs.Prelude.{◌≡◌, ◌++◌, [], ◌∷◌, length, None, IfOk, OnOk, OnErr};
+ghost use Rattle.std.specs.Prelude.{◌≡◌, [], IfOk, OnErr};
 ghost use Rattle.uplink_gather.specs.Indexed.{number_of, text_at, Renews};
 
 use crate::text::{Sought, Text};
@@ -32,30 +32,14 @@ impl<S: BuildHasher, A: Allocator + Copy> Newest<S, A> {
         }
     }
 
-    /// Leads from these bytes to this number, and answers their place. A refusal changes nothing.
+    /// Leads from these bytes to this number, and answers their place. A refusal changes nothing. The bytes are copied even
+    /// where they stand there, so that one look-up serves.
     pub(crate) fn renew(&mut self, bytes: &[u8], number: u64) -> Result<usize, AllocError>
         ensures renewed { IfOk result (Renews self.old self.new bytes.now number) }
         ensures refused { OnErr result (self.new ≡ self.old) }
     {
-        match self.numbers.get_index_of(Sought { bytes }) {
-            Some(place) => {
-                self.numbers[place] = number;
-                Ok(place)
-            }
-            None => self.add(bytes, number),
-        }
-    }
-
-    /// Puts bytes that aren't there behind the others.
-    fn add(&mut self, bytes: &[u8], number: u64) -> Result<usize, AllocError>
-        requires { number_of bytes.now self.old ≡ None }
-        ensures added { OnOk result (self.new ≡ self.old ++ (bytes.now, number) ∷ []) }
-        ensures place { IfOk result (λ place. place ≡ length self.old) }
-        ensures refused { OnErr result (self.new ≡ self.old) }
-    {
-        let place = self.numbers.len();
         let text = Vec::from_slice(*self.numbers.allocator(), bytes)?;
-        self.numbers.insert(Text { bytes: text }, number)?;
+        let (place, _) = self.numbers.insert_full(Text { bytes: text }, number)?;
         Ok(place)
     }
 }
