@@ -1,10 +1,11 @@
 // The session keys of the devices, each expanded once.
 ghost use Rattle.std.specs.Prelude.{◌≡◌, IfOk};
 ghost use Rattle.std.specs.Option.{ForSome};
-ghost use Rattle.run_lines.specs.RunWords.{keys_for};
+ghost use Rattle.run_lines.specs.RunWords.{keys_for, bare_uplink};
 ghost use Rattle.run_lines.specs.KeyRing.{KeepsKeys};
 
-use crate::run_words::NoMemory;
+use crate::run_words::{NoMemory, bare_uplink};
+use answer_ticket::Bytes;
 use indexmap::IndexMap;
 use lora_frame::Keys;
 use server_core::{DeviceSetting, keys_of};
@@ -45,13 +46,22 @@ impl<'a> KeyRing<'a> {
         }
     }
 
-    /// The session keys of the device with this address.
-    pub(crate) fn keys_for(&self, addr: u32) -> Option<Keys>
-        ensures { result ≡ keys_for addr self.now.devices.now }
+    /// A bare uplink, made with the session keys of the device with this address.
+    pub(crate) fn bare_uplink(
+        &self,
+        alloc: Global,
+        kind: (bool, bool),
+        addr: u32,
+        counter: u32,
+    ) -> Result<Bytes<Global>, NoMemory>
+        ensures { IfOk result (λ bytes. bytes ≡ bare_uplink (keys_for addr self.now.devices.now) kind addr counter) }
     {
         match &self.keys {
-            Some(keys) => keys.get(&addr).copied(),
-            None => keys_for(addr, self.devices),
+            Some(keys) => bare_uplink(alloc, keys.get(&addr), kind, addr, counter),
+            None => {
+                let keys = keys_for(addr, self.devices);
+                bare_uplink(alloc, keys.as_ref(), kind, addr, counter)
+            }
         }
     }
 }

@@ -3,6 +3,7 @@ ghost use Rattle.std.specs.Prelude.{◌≡◌, ◌<◌, [], ◌∷◌, ◌++◌,
 ghost use Rattle.run_lines.specs.RunWords.{addr_word, hex_word, kind_of, bare_message, bare_uplink, made_word};
 ghost use Rattle.run_lines.specs.RunWords.{uplink_word};
 ghost use Rattle.lora_frame.specs.Frame.{with_mic, bit_worth, up_control};
+ghost use Rattle.std.specs.Option.{option_copied};
 
 use crate::key_ring::KeyRing;
 use answer_ticket::Bytes;
@@ -49,17 +50,17 @@ fn kind_of(byte: u8) -> Option<(bool, bool)>
 }
 
 /// An uplink of a device without FOpts, FPort and FRMPayload, made with its keys; without keys its MIC is four zeros.
-fn bare_uplink(
+pub(crate) fn bare_uplink(
     alloc: Global,
-    keys: Option<Keys>,
+    keys: Option<&Keys>,
     kind: (bool, bool),
     addr: u32,
     counter: u32,
 ) -> Result<Bytes<Global>, NoMemory>
-    ensures { IfOk result (λ bytes. bytes ≡ bare_uplink keys kind addr counter) }
+    ensures { IfOk result (λ bytes. bytes ≡ bare_uplink (option_copied keys.entry) kind addr counter) }
 {
     match keys {
-        Some(keys) => made_uplink(alloc, &keys, kind, addr, counter),
+        Some(keys) => made_uplink(alloc, keys, kind, addr, counter),
         None => unsigned_uplink(alloc, kind, addr, counter),
     }
 }
@@ -134,7 +135,7 @@ fn made_word(
     let Some(counter) = number_u32(&word[12..]) else {
         return Ok(None);
     };
-    let bytes = bare_uplink(alloc, ring.keys_for(addr), kind, addr, counter)?;
+    let bytes = ring.bare_uplink(alloc, kind, addr, counter)?;
     Ok(Some(bytes))
 }
 
