@@ -17,3 +17,4 @@ pub mod OwnLemmas
 pub mod OwnHourLemmas
 pub mod AheadLemmas
 pub mod BuildLemmas
+pub mod PlaceLemmas

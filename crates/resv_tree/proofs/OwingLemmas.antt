@@ -1,4 +1,4 @@
-use Rattle.std.specs.Prelude.{ℕ, ◌≡◌, ◌≢◌, ◌+◌, ◌-◌, ◌<◌, ◌≤◌, max, Bool, true, false, ◌∷◌, ◌++◌, map, cond}
+use Rattle.std.specs.Prelude.{ℕ, ◌≡◌, ◌≢◌, ◌+◌, ◌-◌, ◌<◌, ◌≤◌, max, Bool, true, false, ◌∷◌, ◌++◌, cond}
 use Rattle.std.specs.Prelude.{Option, Box}
 use Rattle.std.proofs.Common.{refl, arith, sym, ap, ◌∙◌, subst}
 use Rattle.radio_airtime.specs.Bounds.{airtime_of-positive}
@@ -16,7 +16,7 @@ use Rattle.resv_tree.specs.declared.node.Node.{Node, out-Node, roll-Node}
 use Rattle.resv_tree.specs.Shape.{shape, shape_of, kept_of}
 use Rattle.resv_tree.proofs.ShapeLemmas.{shape-out, shape-roll}
 use Rattle.resv_tree.proofs.EntryLemmas.{each-left, each-right, own_here}
-use Rattle.resv_tree.proofs.EntryLemmas.{banded, amount_at, own_same, each, each-with, each-of-map, map-same}
+use Rattle.resv_tree.proofs.EntryLemmas.{banded, amount_at, own_same, each-with, each-of-map, map-same}
 use Rattle.resv_tree.proofs.EntryLemmas.{map-map}
 use Rattle.resv_tree.proofs.EntryLemmas.{each_there}
 use Rattle.resv_tree.proofs.OwedLemmas.{covered_settled, idle_of, made_of-Fork, parts_total, parts_within}
@@ -185,6 +185,30 @@ owing k greatest =
       sums = k.sums;
       greatest = greatest;
     }
+
+-- what it keeps once that is written anew
+abbrev pub anew : Kept → Sums → Kept
+anew k greatest =
+    record {
+      height = k.height;
+      left_height = k.left_height;
+      right_height = k.right_height;
+      count = k.count;
+      owes = false;
+      sums = k.sums;
+      greatest = greatest;
+    }
+
+pub sides_anew : {k : Kept} {l r : Shape} {e : Entry} → HasSides k l e r → (greatest : Sums) → HasSides (anew k greatest) l e r
+sides_anew h greatest = record {
+  level = h.level;
+  height = h.height;
+  left_height = h.left_height;
+  right_height = h.right_height;
+  count = h.count;
+  sums = h.sums;
+  short = h.short;
+}
 
 owes-owing : (k : Kept) (greatest : Sums) (more less : Band → ℕ)
     → ((band : Band) → sum_in k.sums band ≢ 0 → quarters_in greatest band ≡ quarters_in k.greatest band + more band - less band)

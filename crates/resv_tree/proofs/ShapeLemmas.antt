@@ -5,7 +5,7 @@ use Rattle.resv_tree.specs.declared.node.Node.{Node, Node', None', Some', out-No
 use Rattle.resv_tree.specs.declared.kept.Kept.{Kept}
 use Rattle.resv_tree.specs.declared.entry.Entry.{Entry}
 use Rattle.resv_tree.specs.Shape.{Shape, Leaf, Fork, shape, shape_of, entry_of, kept_of, height_of, count_of, kept_sum}
-use Rattle.resv_tree.specs.Shape.{IsWhole, IsKept, TellsOf, IsBeside, HasSides}
+use Rattle.resv_tree.specs.Shape.{left_of, right_of, IsWhole, IsKept, TellsOf, IsBeside, HasSides}
 use Rattle.resv_list.specs.Reservations.{airtime_in}
 use Rattle.resv_tree.specs.Parts.{IsSeenAs, IsOwing}
 
@@ -99,6 +99,30 @@ module _ {A : Type 0} where
   kept_of-roll None (Some q) e k = refl
   kept_of-roll (Some p) None e k = refl
   kept_of-roll (Some p) (Some q) e k = refl
+
+  -- what stands to its left
+  pub left_of-roll : (l r : Option (Box (Node A) A)) (e : Entry) (k : Kept)
+      → (out-Node A (roll-Node A record { left = l; entry = e; right = r; kept = k })).left ≡ l
+  unfolding roll-Node denote.Hole.Carrier.roll out-Node denote.Hole.Carrier.out
+  left_of-roll None None e k = refl
+  left_of-roll None (Some q) e k = refl
+  left_of-roll (Some p) None e k = refl
+  left_of-roll (Some p) (Some q) e k = refl
+
+  -- a node that is made has the parts that it is made of
+  pub out-roll : (l r : Option (Box (Node A) A)) (e : Entry) (k : Kept)
+      → out-Node A (roll-Node A record { left = l; entry = e; right = r; kept = k })
+      ≡ record { left = l; entry = e; right = r; kept = k }
+  unfolding roll-Node denote.Hole.Carrier.roll out-Node denote.Hole.Carrier.out
+  out-roll None None e k = refl
+  out-roll None (Some q) e k = refl
+  out-roll (Some p) None e k = refl
+  out-roll (Some p) (Some q) e k = refl
+
+  -- what holds of a whole node's parts
+  pub whole-out : (n : Node A) → IsWhole (shape n)
+      → IsWhole (left_of n) × IsWhole (right_of n) × IsKept (left_of n) (entry_of n) (right_of n) (kept_of n)
+  whole-out n w = subst IsWhole (shape-out n) w
 
   -- and what stands to its right
   pub right_of-roll : (l r : Option (Box (Node A) A)) (e : Entry) (k : Kept)

@@ -34,6 +34,13 @@ shape_of (Some b) = shape b.value
 abbrev pub entry_of : {A : Type 0} → Node A → Entry
 entry_of n = (out-Node _ n).entry
 
+-- the trees on its two sides
+abbrev pub left_of : {A : Type 0} → Node A → Shape
+left_of n = shape_of (out-Node _ n).left
+
+abbrev pub right_of : {A : Type 0} → Node A → Shape
+right_of n = shape_of (out-Node _ n).right
+
 -- the greatest own hour that is kept for a sub-band, in quarters of the shortest symbol; of nothing 0
 abbrev pub greatest_of : Shape → Band → ℕ
 greatest_of Leaf band = 0

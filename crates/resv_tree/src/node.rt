@@ -1,10 +1,10 @@
-ghost use Rattle.std.specs.Prelude.{◌≡◌, ◌+◌, ◌<◌};
+ghost use Rattle.std.specs.Prelude.{◌≡◌, ◌+◌, ◌-◌, ◌<◌, ◌≤◌, ◌^◌, max};
 ghost use Rattle.radio_bands.specs.declared.band.Band.{Band as SubBand};
 ghost use Rattle.resv_tree.specs.Sums.{quarters_in};
 ghost use Rattle.resv_tree.specs.Shape.{shape, shape_of, entry_of, kept_of, height_of, count_of};
 ghost use Rattle.resv_tree.specs.Shape.{IsWhole, IsLevel, IsKept, IsBeside, HasSides};
-ghost use Rattle.resv_tree.specs.Shape.{Fork, top_of};
-ghost use Rattle.resv_tree.specs.Entries.{moved};
+ghost use Rattle.resv_tree.specs.Shape.{Fork, top_of, left_of, right_of, entries, greatest_of};
+ghost use Rattle.resv_tree.specs.Entries.{moved, amount, CanMove, Each};
 ghost use Rattle.resv_tree.specs.Parts.{IsMadeOf, IsSeenAs, IsOwing, IsMoved};
 
 use crate::entry::Entry;
@@ -19,12 +19,12 @@ use std::alloc::Allocator;
 pub(crate) type Link<A> = Option<Box<Node<A>, A>>;
 
 /// A member with what stands before it and behind it, and what it keeps of the tree of which it is the top. Only `fork`,
-/// `with_left` and `with_right` make a node that stands in a tree, so they alone compute that.
+/// `with_left` and `with_right` compute all of that; `renew` and `owe` write in its place what it keeps of own hours.
 #[derive(Drop)]
 pub(crate) struct Node<A: Allocator + Clone> {
-    left: Link<A>,
+    pub(crate) left: Link<A>,
     entry: Entry,
-    right: Link<A>,
+    pub(crate) right: Link<A>,
     pub(crate) kept: Kept,
 }
 
@@ -61,6 +61,32 @@ impl<A: Allocator + Clone> Node<A> {
     {
         self.kept
     }
+
+    /// Owes to all below it so much more, and then so much less.
+    pub(crate) fn owe(&mut self, more: &Sums, less: &Sums)
+        requires whole { IsWhole (shape self.old) }
+        requires fits { (band : SubBand) → greatest_of (shape self.old) band - quarters_in less.now band
+            + quarters_in more.now band ≤ max (quarters_in more.now band) (2 ^ 32 - 1) }
+        requires covered { Each (CanMove (quarters_in more.now) (quarters_in less.now)) (entries (shape self.old)) }
+        ensures { IsMoved (shape self.new) (shape self.old) (quarters_in more.now) (quarters_in less.now) }
+    {
+        let there = self.kept.sums;
+        self.kept.greatest = self.kept.greatest.moved(more, less, &there);
+        self.kept.owes = true;
+    }
+
+    /// Has an entry whose own hour has so much more, and then so much less.
+    pub(crate) fn move_entry(&mut self, more: &Sums, less: &Sums)
+        requires fits { (entry_of self.old).own - amount (quarters_in less.now) (entry_of self.old).reservation
+            + amount (quarters_in more.now) (entry_of self.old).reservation
+            ≤ max (amount (quarters_in more.now) (entry_of self.old).reservation) (2 ^ 32 - 1) }
+        ensures entry { entry_of self.new ≡ moved (quarters_in more.now) (quarters_in less.now) (entry_of self.old) }
+        ensures left { left_of self.new ≡ left_of self.old }
+        ensures right { right_of self.new ≡ right_of self.old }
+        ensures kept { kept_of self.new ≡ kept_of self.old }
+    {
+        self.entry = self.entry.moved(more, less);
+    }
 }
 
 /// The parts of a tree, left in it.
@@ -89,17 +115,14 @@ pub(crate) fn look_closer<'a, A: Allocator + Clone>(node: &'a Node<A>) -> Parts<
 
 /// The parts of a tree, taken out of it. What its top owes is handed down to them.
 pub(crate) fn open<A: Allocator + Clone>(
-    top: Box<Node<A>, A>,
+    mut top: Box<Node<A>, A>,
 ) -> (Link<A>, Box<Node<A>, A>, Link<A>)
     requires { IsWhole (shape top.value) }
     ensures made { IsMadeOf (shape top.value) (shape_of result.0) (entry_of result.1.value) (shape_of result.2) }
     ensures kept { IsKept (shape_of result.0) (entry_of result.1.value) (shape_of result.2) (kept_of result.1.value) }
 {
-    let (left, top, right) = part(top);
-    if !top.kept.owes {
-        return (left, top, right);
-    }
-    settle(left, top, right)
+    settle(&mut top);
+    part(top)
 }
 
 /// The parts of a tree as they stand in it.
@@ -112,41 +135,20 @@ fn part<A: Allocator + Clone>(mut top: Box<Node<A>, A>) -> (Link<A>, Box<Node<A>
     (left, top, right)
 }
 
-/// Hands down to an entry and two sides what the node about them owes.
-fn settle<A: Allocator + Clone>(
-    left: Link<A>,
-    mut top: Box<Node<A>, A>,
-    right: Link<A>,
-) -> (Link<A>, Box<Node<A>, A>, Link<A>)
-    requires left { IsWhole (shape_of left) }
-    requires right { IsWhole (shape_of right) }
-    requires kept { IsKept (shape_of left) (entry_of top.value) (shape_of right) (kept_of top.value) }
-    ensures left { IsMoved (shape_of result.0) (shape_of left) (quarters_in (kept_of top.value).greatest)
-        (top_of (shape_of left) (entry_of top.value) (shape_of right)) }
-    ensures entry { entry_of result.1.value ≡ moved (quarters_in (kept_of top.value).greatest)
-        (top_of (shape_of left) (entry_of top.value) (shape_of right)) (entry_of top.value) }
-    ensures right { IsMoved (shape_of result.2) (shape_of right) (quarters_in (kept_of top.value).greatest)
-        (top_of (shape_of left) (entry_of top.value) (shape_of right)) }
-    ensures kept { kept_of result.1.value ≡ kept_of top.value }
+/// Hands down to a node's entry and its two sides what it owes them; what it keeps stays.
+pub(crate) fn settle<A: Allocator + Clone>(node: &mut Node<A>)
+    requires { IsWhole (shape node.old) }
+    ensures made { IsMadeOf (shape node.old) (left_of node.new) (entry_of node.new) (right_of node.new) }
+    ensures kept { IsKept (left_of node.new) (entry_of node.new) (right_of node.new) (kept_of node.new) }
 {
-    let more = top.kept.greatest;
-    let less = greatest_about(&left, &top.entry, &right);
-    let left = hand(left, &more, &less);
-    let right = hand(right, &more, &less);
-    top.entry = top.entry.moved(&more, &less);
-    (left, top, right)
-}
-
-/// The node with another entry.
-pub(crate) fn with_entry<A: Allocator + Clone>(
-    mut top: Box<Node<A>, A>,
-    entry: Entry,
-) -> Box<Node<A>, A>
-    ensures entry { entry_of result.value ≡ entry }
-    ensures kept { kept_of result.value ≡ kept_of top.value }
-{
-    top.entry = entry;
-    top
+    if !node.kept.owes {
+        return;
+    }
+    let more = node.kept.greatest;
+    let less = greatest_about(&node.left, &node.entry, &node.right);
+    hand(&mut node.left, &more, &less);
+    hand(&mut node.right, &more, &less);
+    node.entry = node.entry.moved(&more, &less);
 }
 
 /// The greatest of an entry's own hour and of what the tops of its two sides keep, in each sub-band.
@@ -190,35 +192,16 @@ pub(crate) fn fork<A: Allocator + Clone>(
     top
 }
 
-/// The tree of a node whose sides were taken out of it, with sides that differ in their own hours alone; takes no memory.
-pub(crate) fn with_other_hours<A: Allocator + Clone>(
-    left: Link<A>,
-    mut top: Box<Node<A>, A>,
-    right: Link<A>,
-) -> Box<Node<A>, A>
-    requires left { IsWhole (shape_of left) }
-    requires right { IsWhole (shape_of right) }
-    requires sides { HasSides (kept_of top.value) (shape_of left) (entry_of top.value) (shape_of right) }
-    ensures made { IsMadeOf (shape result.value) (shape_of left) (entry_of top.value) (shape_of right) }
-    ensures whole { IsWhole (shape result.value) }
+/// Writes what a node keeps of own hours, once these alone have changed below it.
+pub(crate) fn renew<A: Allocator + Clone>(node: &mut Node<A>)
+    requires left { IsWhole (left_of node.old) }
+    requires right { IsWhole (right_of node.old) }
+    requires sides { HasSides (kept_of node.old) (left_of node.old) (entry_of node.old) (right_of node.old) }
+    ensures made { IsMadeOf (shape node.new) (left_of node.old) (entry_of node.old) (right_of node.old) }
+    ensures whole { IsWhole (shape node.new) }
 {
-    let (entry, all) = (top.entry, top.kept);
-    let kept = Kept {
-        height: all.height,
-        left_height: all.left_height,
-        right_height: all.right_height,
-        count: all.count,
-        owes: false,
-        sums: all.sums,
-        greatest: greatest_about(&left, &entry, &right),
-    };
-    *top = Node {
-        left,
-        entry,
-        right,
-        kept,
-    };
-    top
+    node.kept.greatest = greatest_about(&node.left, &node.entry, &node.right);
+    node.kept.owes = false;
 }
 
 /// The tree of a node whose sides were taken out of it, with another left side than the one of which `old` tells; of

@@ -6,32 +6,19 @@ ghost use Rattle.resv_tree.specs.Parts.{IsMoved};
 ghost use Rattle.resv_tree.specs.Shape.{shape_of, entries, IsWhole, greatest_of};
 ghost use Rattle.resv_tree.specs.Sums.{quarters_in};
 
-use crate::kept::Kept;
 use crate::node::Link;
 use crate::sums::Sums;
 use std::alloc::Allocator;
 
-/// The tree in which the own hour of each member has so much more, and then so much less; only its top is written, which
-/// owes that to all below it.
-pub(crate) fn hand<A: Allocator + Clone>(link: Link<A>, more: &Sums, less: &Sums) -> Link<A>
-    requires whole { IsWhole (shape_of link) }
-    requires fits { (band : SubBand) → greatest_of (shape_of link) band - quarters_in less.now band + quarters_in more.now band
-        ≤ max (quarters_in more.now band) (2 ^ 32 - 1) }
-    requires covered { Each (CanMove (quarters_in more.now) (quarters_in less.now)) (entries (shape_of link)) }
-    ensures { IsMoved (shape_of result) (shape_of link) (quarters_in more.now) (quarters_in less.now) }
+/// In the tree the own hour of each member has so much more, and then so much less; only its top is written, which owes that
+/// to all below it.
+pub(crate) fn hand<A: Allocator + Clone>(link: &mut Link<A>, more: &Sums, less: &Sums)
+    requires whole { IsWhole (shape_of link.old) }
+    requires fits { (band : SubBand) → greatest_of (shape_of link.old) band - quarters_in less.now band
+        + quarters_in more.now band ≤ max (quarters_in more.now band) (2 ^ 32 - 1) }
+    requires covered { Each (CanMove (quarters_in more.now) (quarters_in less.now)) (entries (shape_of link.old)) }
+    ensures { IsMoved (shape_of link.new) (shape_of link.old) (quarters_in more.now) (quarters_in less.now) }
 {
-    let Some(mut top) = link else {
-        return None;
-    };
-    let all = top.kept;
-    top.kept = Kept {
-        height: all.height,
-        left_height: all.left_height,
-        right_height: all.right_height,
-        count: all.count,
-        owes: true,
-        sums: all.sums,
-        greatest: all.greatest.moved(more, less, &all.sums),
-    };
-    Some(top)
+    let Some(top) = link else { return };
+    top.owe(more, less);
 }

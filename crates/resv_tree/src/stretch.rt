@@ -4,7 +4,7 @@ ghost use Rattle.resv_tree.specs.Entries.{IsByKey, Each, moved_in, CanMoveIn};
 ghost use Rattle.resv_tree.specs.Shape.{shape_of, entries, IsWhole, count_of, height_of, greatest_of};
 ghost use Rattle.resv_tree.specs.Sums.{quarters_in};
 
-use crate::node::{Link, open, with_entry, with_other_hours};
+use crate::node::{Link, renew, settle};
 use crate::owed::hand;
 use crate::sums::Sums;
 use resv_list::MAX_MEMBERS;
@@ -13,48 +13,47 @@ use std::alloc::Allocator;
 /// The end of a stretch without one.
 const NO_END: u64 = u64::MAX;
 
-/// The tree in which the own hour of each member that begins from `from` on and before `to` has so much more, and then so much
-/// less, by its sub-band; takes no memory. Below a node of the stretch only one of its ends is left on either side, so it is
-/// two walks at most, and each tree beside them that lies within is written at its top alone.
+/// In the tree the own hour of each member that begins from `from` on and before `to` has so much more, and then so much less,
+/// by its sub-band; takes no memory. Below a node of the stretch only one of its ends is left on either side, so it is two walks
+/// at most, and each tree beside them that lies within is written at its top alone.
 #[tactic(auto, using(crate::proofs::StretchLemmas::shifting))]
 pub(crate) fn shift<A: Allocator + Clone>(
-    link: Link<A>,
+    link: &mut Link<A>,
     from: u64,
     to: u64,
     more: &Sums,
     less: &Sums,
-) -> Link<A>
-    requires whole { IsWhole (shape_of link) }
-    requires by_key { IsByKey (entries (shape_of link)) }
-    requires room { count_of (shape_of link) ≤ MAX_MEMBERS }
-    requires fits { (band : SubBand) → greatest_of (shape_of link) band + quarters_in more.now band < 2 ^ 32 }
-    requires covered { Each (CanMoveIn from to (quarters_in more.now) (quarters_in less.now)) (entries (shape_of link)) }
-    ensures entries { entries (shape_of result)
-        ≡ map (moved_in from to (quarters_in more.now) (quarters_in less.now)) (entries (shape_of link)) }
-    ensures count { count_of (shape_of result) ≡ count_of (shape_of link) }
-    ensures height { height_of (shape_of result) ≡ height_of (shape_of link) }
-    ensures whole { IsWhole (shape_of result) }
+)
+    requires whole { IsWhole (shape_of link.old) }
+    requires by_key { IsByKey (entries (shape_of link.old)) }
+    requires room { count_of (shape_of link.old) ≤ MAX_MEMBERS }
+    requires fits { (band : SubBand) → greatest_of (shape_of link.old) band + quarters_in more.now band < 2 ^ 32 }
+    requires covered { Each (CanMoveIn from to (quarters_in more.now) (quarters_in less.now)) (entries (shape_of link.old)) }
+    ensures entries { entries (shape_of link.new)
+        ≡ map (moved_in from to (quarters_in more.now) (quarters_in less.now)) (entries (shape_of link.old)) }
+    ensures count { count_of (shape_of link.new) ≡ count_of (shape_of link.old) }
+    ensures height { height_of (shape_of link.new) ≡ height_of (shape_of link.old) }
+    ensures whole { IsWhole (shape_of link.new) }
 {
     if is_endless(from, to) {
         return hand(link, more, less);
     }
-    let Some(top) = link else {
-        return None;
-    };
-    let (left, top, right) = open(top);
-    let entry = top.entry();
-    if entry.reservation.start < from {
-        let right = shift(right, from, to, more, less);
-        return Some(with_other_hours(left, top, right));
+    let Some(top) = link else { return };
+    let node = &mut **top;
+    settle(node);
+    let start = node.entry().reservation.start;
+    if start < from {
+        shift(&mut node.right, from, to, more, less);
+        return renew(node);
     }
-    if to <= entry.reservation.start {
-        let left = shift(left, from, to, more, less);
-        return Some(with_other_hours(left, top, right));
+    if to <= start {
+        shift(&mut node.left, from, to, more, less);
+        return renew(node);
     }
-    let left = shift(left, from, NO_END, more, less);
-    let right = shift(right, 0, to, more, less);
-    let top = with_entry(top, entry.moved(more, less));
-    Some(with_other_hours(left, top, right))
+    shift(&mut node.left, from, NO_END, more, less);
+    shift(&mut node.right, 0, to, more, less);
+    node.move_entry(more, less);
+    renew(node);
 }
 
 /// Whether the stretch leaves out no moment that a member begins at.

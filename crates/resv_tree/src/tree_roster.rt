@@ -19,35 +19,35 @@ use radio_bands::Band;
 use resv_list::{Dropped, HOUR, MAX_MEMBERS, Reservation, Roster, RosterFault};
 use std::alloc::{AllocError, Allocator};
 
-/// The tree in which the hours before a member that is placed, and that reach it, have its airtime too.
-fn raise<A: Allocator + Clone>(root: Link<A>, member: &Reservation) -> Link<A>
-    requires whole { IsWhole (shape_of root) }
-    requires by_key { IsByKey (entries (shape_of root)) }
-    requires room { count_of (shape_of root) ≤ MAX_MEMBERS }
-    requires fits { (band : SubBand) → greatest_of (shape_of root) band ≤ 2 ^ 31 }
-    ensures entries { entries (shape_of result) ≡ map (raised member.now) (entries (shape_of root)) }
-    ensures count { count_of (shape_of result) ≡ count_of (shape_of root) }
-    ensures whole { IsWhole (shape_of result) }
+/// In the tree the hours before a member that is placed, and that reach it, have its airtime too.
+fn raise<A: Allocator + Clone>(root: &mut Link<A>, member: &Reservation)
+    requires whole { IsWhole (shape_of root.old) }
+    requires by_key { IsByKey (entries (shape_of root.old)) }
+    requires room { count_of (shape_of root.old) ≤ MAX_MEMBERS }
+    requires fits { (band : SubBand) → greatest_of (shape_of root.old) band ≤ 2 ^ 31 }
+    ensures entries { entries (shape_of root.new) ≡ map (raised member.now) (entries (shape_of root.old)) }
+    ensures count { count_of (shape_of root.new) ≡ count_of (shape_of root.old) }
+    ensures whole { IsWhole (shape_of root.new) }
 {
     let more = Sums::around(&Sums::NONE, member, &Sums::NONE);
     let from = (member.start + 1).saturating_sub(HOUR);
-    shift(root, from, member.start, &more, &Sums::NONE)
+    shift(root, from, member.start, &more, &Sums::NONE);
 }
 
-/// The tree in which the hours before a member that was taken out have its airtime no more.
-fn lower<A: Allocator + Clone>(root: Link<A>, member: &Reservation) -> Link<A>
-    requires whole { IsWhole (shape_of root) }
-    requires by_key { IsByKey (entries (shape_of root)) }
-    requires room { count_of (shape_of root) ≤ MAX_MEMBERS }
-    requires fits { (band : SubBand) → greatest_of (shape_of root) band ≤ 2 ^ 31 }
-    requires counted { Each (CountsIn member.now) (entries (shape_of root)) }
-    ensures entries { entries (shape_of result) ≡ map (lowered member.now) (entries (shape_of root)) }
-    ensures count { count_of (shape_of result) ≡ count_of (shape_of root) }
-    ensures whole { IsWhole (shape_of result) }
+/// In the tree the hours before a member that was taken out have its airtime no more.
+fn lower<A: Allocator + Clone>(root: &mut Link<A>, member: &Reservation)
+    requires whole { IsWhole (shape_of root.old) }
+    requires by_key { IsByKey (entries (shape_of root.old)) }
+    requires room { count_of (shape_of root.old) ≤ MAX_MEMBERS }
+    requires fits { (band : SubBand) → greatest_of (shape_of root.old) band ≤ 2 ^ 31 }
+    requires counted { Each (CountsIn member.now) (entries (shape_of root.old)) }
+    ensures entries { entries (shape_of root.new) ≡ map (lowered member.now) (entries (shape_of root.old)) }
+    ensures count { count_of (shape_of root.new) ≡ count_of (shape_of root.old) }
+    ensures whole { IsWhole (shape_of root.new) }
 {
     let less = Sums::around(&Sums::NONE, member, &Sums::NONE);
     let from = (member.start + 1).saturating_sub(HOUR);
-    shift(root, from, member.start, &Sums::NONE, &less)
+    shift(root, from, member.start, &Sums::NONE, &less);
 }
 
 /// Which part of a bound the ends of a stretch may count for together before `is_within` looks closer.
@@ -141,13 +141,14 @@ impl<A: Allocator + Clone> Roster for TreeRoster<A> {
 
     #[tactic(auto, using(crate::proofs::TreeLemmas::staying))]
     fn remove(&mut self, start: u64) -> Option<Reservation> {
-        let (root, removed) = change::remove(self.root.take(), start);
+        let (mut root, removed) = change::remove(self.root.take(), start);
         let Some(entry) = removed else {
             self.root = root;
             return None;
         };
         let member = entry.reservation;
-        self.root = lower(root, &member);
+        lower(&mut root, &member);
+        self.root = root;
         Some(member)
     }
 
@@ -174,7 +175,8 @@ impl<A: Allocator + Clone> Roster for TreeRoster<A> {
         let Ok(node) = Box::new(alloc, Node::apart(Entry { reservation, own })) else {
             return Err((RosterFault::NoMemory, reservation));
         };
-        let root = raise(self.root.take(), &reservation);
+        let mut root = self.root.take();
+        raise(&mut root, &reservation);
         self.root = Some(change::insert(root, node));
         Ok(())
     }

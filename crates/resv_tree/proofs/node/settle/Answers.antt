@@ -1,33 +1,56 @@
-use Rattle.std.proofs.Common.{ap, arith, sym, ◌∙◌}
+use Rattle.std.proofs.Common.{refl, arith, ap, subst, ◌∙◌, ◌≡◌}
+use Rattle.resv_tree.specs.Entries.{moved}
 use Rattle.resv_tree.specs.Sums.{quarters_in}
-use Rattle.resv_tree.specs.Shape.{shape_of, entry_of, kept_of, top_of}
+use Rattle.resv_tree.specs.Shape.{shape_of, entry_of, kept_of, left_of, right_of, top_of}
+use Rattle.resv_tree.specs.Parts.{IsMoved}
+use Rattle.resv_tree.proofs.ShapeLemmas.{out-roll, shape-out, whole-out, entry_of-roll, kept_of-roll}
 use Rattle.resv_tree.proofs.OwingLemmas.{covered_left, covered_right, own_in_top}
+use Rattle.resv_tree.proofs.OwedLemmas.{opened-settled, opened-made, opened-kept}
 use Rattle.resv_tree.proofs.node.settle.Goals as goal
 
-pub hand-left-requires-clause-fits : goal.hand-left-requires-clause-fits
-hand-left-requires-clause-fits g c = λ band. omega (arith, c.greatest_about-less.ensures band)
+pub returns-then-not-node-clause-made : goal.returns-then-not-node-clause-made
+returns-then-not-node-clause-made g c =
+    opened-settled _ _ _ _ _ (shape-out c.args.node.now) c.requires (cc (c.if-not-node.true))
 
-pub hand-left-requires-clause-covered : goal.hand-left-requires-clause-covered
-hand-left-requires-clause-covered g c =
-    let more = ap (λ n. quarters_in (kept_of n).greatest) c.deref.ensures in
-    let below = ap (λ n. top_of (shape_of c.args.left) (entry_of n) (shape_of c.args.right)) c.deref-2.ensures in
-    covered_left _ (shape_of c.args.right) (entry_of c.args.top.value) (kept_of c.args.top.value) _ _ more
-    ((λ i band. c.greatest_about-less.ensures band i) ∙ below) c.requires.kept
+pub hand-requires-clause-covered : goal.hand-requires-clause-covered
+hand-requires-clause-covered g c =
+    let n = c.args.node.now in
+    simp out-roll (covered_left (left_of n) (right_of n) (entry_of n) (kept_of n) _ _ refl
+    (λ i band. c.greatest_about-less.ensures band i) (whole-out n c.requires).2)
 
-pub hand-right-requires-clause-fits : goal.hand-right-requires-clause-fits
-hand-right-requires-clause-fits g c = λ band. omega (arith, c.greatest_about-less.ensures band)
+pub hand-requires-2-clause-covered : goal.hand-requires-2-clause-covered
+hand-requires-2-clause-covered g c =
+    let n = c.args.node.now in
+    simp out-roll (covered_right (left_of n) (right_of n) (entry_of n) (kept_of n) _ _ refl
+    (λ i band. c.greatest_about-less.ensures band i) (whole-out n c.requires).2)
 
-pub hand-right-requires-clause-covered : goal.hand-right-requires-clause-covered
-hand-right-requires-clause-covered g c =
-    let more = ap (λ n. quarters_in (kept_of n).greatest) c.deref.ensures in
-    let below = ap (λ n. top_of (shape_of c.args.left) (entry_of n) (shape_of c.args.right)) c.deref-2.ensures in
-    covered_right (shape_of c.args.left) _ (entry_of c.args.top.value) (kept_of c.args.top.value) _ _ more
-    ((λ i band. c.greatest_about-less.ensures band i) ∙ below) c.requires.kept
+pub moved-node-requires : goal.moved-node-requires
+moved-node-requires g c =
+    let n = c.args.node.now in
+    let h = own_in_top (left_of n) (right_of n) (entry_of n) _ (λ i band. c.greatest_about-less.ensures band i) in
+    simp out-roll (record { fits = omega (arith, h) })
 
-pub moved-requires : goal.moved-requires
-moved-requires g c =
-    let same = c.deref-2.ensures ∙ sym c.deref-3.ensures in
-    let below = ap (λ n. top_of (shape_of c.args.left) (entry_of n) (shape_of c.args.right)) same in
-    let h = own_in_top (shape_of c.args.left) (shape_of c.args.right) (entry_of c.deref-3.result.now) _
-    ((λ i band. c.greatest_about-less.ensures band i) ∙ below) in
-    record { fits = omega (arith, h) }
+pub returns-clause-made : goal.returns-clause-made
+returns-clause-made g c =
+    let n = c.args.node.now in
+    let more = quarters_in (kept_of n).greatest in
+    let less : quarters_in c.greatest_about-less.result ≡ top_of (left_of n) (entry_of n) (right_of n) =
+    λ i band. c.greatest_about-less.ensures band i in
+    let left = subst (IsMoved (shape_of c.hand.new.link) (left_of n) more) less (simp out-roll at c.hand.ensures) in
+    let right = subst (IsMoved (shape_of c.hand-2.new.link) (right_of n) more) less (simp out-roll at c.hand-2.ensures) in
+    let entry = entry_of-roll c.hand.new.link c.hand-2.new.link c.moved-node.result (kept_of n)
+    ∙ (simp out-roll at c.moved-node.ensures) ∙ ap (λ f. moved more f (entry_of n)) less in
+    simp out-roll (opened-made _ _ _ _ _ _ _ _ (shape-out n) c.requires left entry right)
+
+pub returns-clause-kept : goal.returns-clause-kept
+returns-clause-kept g c =
+    let n = c.args.node.now in
+    let more = quarters_in (kept_of n).greatest in
+    let less : quarters_in c.greatest_about-less.result ≡ top_of (left_of n) (entry_of n) (right_of n) =
+    λ i band. c.greatest_about-less.ensures band i in
+    let left = subst (IsMoved (shape_of c.hand.new.link) (left_of n) more) less (simp out-roll at c.hand.ensures) in
+    let right = subst (IsMoved (shape_of c.hand-2.new.link) (right_of n) more) less (simp out-roll at c.hand-2.ensures) in
+    let entry = entry_of-roll c.hand.new.link c.hand-2.new.link c.moved-node.result (kept_of n)
+    ∙ (simp out-roll at c.moved-node.ensures) ∙ ap (λ f. moved more f (entry_of n)) less in
+    simp out-roll (opened-kept _ _ _ _ _ _ _ _ _ (shape-out n) c.requires left entry right
+    (kept_of-roll c.hand.new.link c.hand-2.new.link c.moved-node.result (kept_of n)))

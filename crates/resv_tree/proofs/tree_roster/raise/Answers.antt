@@ -9,5 +9,5 @@ pub returns-clause-entries : goal.returns-clause-entries
 returns-clause-entries g c =
     c.shift.ensures.entries
     ∙ raised_by c.args.member.now c.saturating_sub-from.result (quarters_in c.around-more.result) _
-    (entries (shape_of c.args.root)) c.saturating_sub-from.ensures
+    (entries (shape_of c.args.root.now)) c.saturating_sub-from.ensures
     (λ band. omega (arith, c.around-more.ensures.value band, no_quarters band)) no_quarters

@@ -66,7 +66,7 @@ pub invariant_of-self-2 : goal.invariant_of-self-2
 invariant_of-self-2 g c =
     let s = shape_of c.args.self.now.root in
     let t = shape_of c.remove-root.result.0 in
-    let u = shape_of c.lower.result in
+    let u = shape_of c.lower.new.root in
     let b = c.args.self.now.by_start in
     let left : entries t ≡ entries_without c.args.start (entries s) =
     rw (sym c.take.ensures.value) c.remove-root.ensures.left in
@@ -100,4 +100,4 @@ returns-clause-left g c =
     let found : entry_at c.args.start (entries s) ≡ Some c.in-Some.entry =
     rw (sym c.take.ensures.value) (sym c.remove-root.ensures.removed ∙ c.in-Some.is) in
     lowered_members s (shape_of c.remove-root.result.0) c.args.start c.args.self.now.by_start left c.in-Some.entry found
-    (shape_of c.lower.result) c.lower.ensures.entries
+    (shape_of c.lower.new.root) c.lower.ensures.entries

@@ -1,0 +1,20 @@
+use Rattle.std.proofs.Common.{refl}
+use Rattle.resv_tree.specs.declared.node.Node.{out-Node}
+use Rattle.resv_tree.specs.Shape.{entry_of, kept_of}
+use Rattle.resv_tree.proofs.ShapeLemmas.{out-roll}
+use Rattle.resv_tree.proofs.OwingLemmas.{made-node, whole-node, anew, sides_anew}
+use Rattle.resv_tree.proofs.node.renew.Goals as goal
+
+pub returns-clause-made : goal.returns-clause-made
+returns-clause-made g c =
+    let n = c.args.node.now in
+    let greatest = c.greatest_about-node.result in
+    simp out-roll (made-node (out-Node _ n).left (out-Node _ n).right (entry_of n) (entry_of n) (anew (kept_of n) greatest) refl
+    c.requires.left c.requires.right (sides_anew c.requires.sides greatest) c.greatest_about-node.ensures)
+
+pub returns-clause-whole : goal.returns-clause-whole
+returns-clause-whole g c =
+    let n = c.args.node.now in
+    let greatest = c.greatest_about-node.result in
+    simp out-roll (whole-node (out-Node _ n).left (out-Node _ n).right (entry_of n) (anew (kept_of n) greatest) c.requires.left
+    c.requires.right (sides_anew c.requires.sides greatest) c.greatest_about-node.ensures)
