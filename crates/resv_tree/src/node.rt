@@ -11,7 +11,7 @@ use crate::entry::Entry;
 use crate::kept::Kept;
 use crate::owed::hand;
 use crate::sums::Sums;
-use crate::told::kept;
+use crate::told::{greatest, kept};
 use resv_list::MAX_MEMBERS;
 use std::alloc::Allocator;
 
@@ -155,7 +155,7 @@ pub(crate) fn settle<A: Allocator + Clone>(node: &mut Node<A>)
 fn greatest_about<A: Allocator + Clone>(left: &Link<A>, entry: &Entry, right: &Link<A>) -> Sums
     ensures { (band : SubBand) → quarters_in result band ≡ top_of (shape_of left.now) entry.now (shape_of right.now) band }
 {
-    let sides = kept(left).greatest.greater(&kept(right).greatest);
+    let sides = greatest(left).greater(greatest(right));
     Sums::own(entry).greater(&sides)
 }
 

@@ -2,7 +2,7 @@
 ghost use Rattle.std.specs.Prelude.{◌≡◌, ◌≤◌};
 ghost use Rattle.radio_bands.specs.declared.band.Band.{Band as SubBand};
 ghost use Rattle.resv_list.specs.Reservations.{net};
-ghost use Rattle.resv_tree.specs.Sums.{sum_in as sum_of};
+ghost use Rattle.resv_tree.specs.Sums.{quarters_in, sum_in as sum_of};
 ghost use Rattle.resv_tree.specs.Shape.{shape_of, height_of, count_of, kept_sum, greatest_of, members_of, IsWhole, TellsOf};
 
 use crate::kept::Kept;
@@ -18,6 +18,16 @@ pub(crate) fn kept<A: Allocator + Clone>(link: &Link<A>) -> Kept
     match link {
         None => Kept::NONE,
         Some(node) => node.kept,
+    }
+}
+
+/// What the top of the tree keeps of own hours, left in it.
+pub(crate) fn greatest<'a, A: Allocator + Clone>(link: &'a Link<A>) -> &'a Sums
+    ensures { (band : SubBand) → quarters_in result.now band ≡ greatest_of (shape_of link.now) band }
+{
+    match link {
+        None => &Sums::NONE,
+        Some(node) => &node.kept.greatest,
     }
 }
 
@@ -72,5 +82,5 @@ pub(crate) fn airtime<A: Allocator + Clone>(link: &Link<A>) -> u64
 pub(crate) fn greatest_in<A: Allocator + Clone>(link: &Link<A>, band: Band) -> u32
     ensures { result ≡ greatest_of (shape_of link.now) band }
 {
-    kept(link).greatest.quarters(band)
+    greatest(link).quarters(band)
 }
