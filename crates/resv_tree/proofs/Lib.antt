@@ -18,3 +18,4 @@ pub mod OwnHourLemmas
 pub mod AheadLemmas
 pub mod BuildLemmas
 pub mod PlaceLemmas
+pub mod StillLemmas

@@ -1,4 +1,4 @@
-use Rattle.std.specs.Prelude.{ℕ, ◌+◌, ◌*◌, List, [], ◌∷◌}
+use Rattle.std.specs.Prelude.{ℕ, ◌≡◌, ◌+◌, ◌*◌, List, [], ◌∷◌, Bool, false, nat_eq}
 use Rattle.radio_bands.specs.declared.band.Band.{Band}
 use Rattle.radio_bands.specs.declared.band.Band.TheVariants.{K, L, M, N, P, Q}
 use Rattle.resv_list.specs.declared.reservation.Reservation.{Reservation}
@@ -19,6 +19,22 @@ quarters_in s Q = s.q
 -- the same in microseconds
 abbrev pub sum_in : Sums → Band → ℕ
 sum_in s band = 128 * quarters_in s band
+
+-- the sub-bands by their order, and whether two of them are one
+abbrev pub place_of : Band → ℕ
+place_of K = 0
+place_of L = 1
+place_of M = 2
+place_of N = 3
+place_of P = 4
+place_of Q = 5
+
+abbrev pub is_same : Band → Band → Bool
+is_same a b = nat_eq (place_of a) (place_of b)
+
+-- in each other sub-band there is neither more nor less
+abbrev pub IsOnly : Band → (Band → ℕ) → (Band → ℕ) → Type 0
+IsOnly band more less = (other : Band) → is_same other band ≡ false → more other + less other ≡ 0
 
 -- the sum of all sub-bands in microseconds
 abbrev pub sum_of_all : Sums → ℕ

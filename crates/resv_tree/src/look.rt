@@ -2,12 +2,12 @@ ghost use Rattle.std.specs.Prelude.{◌≡◌, ◌≤◌, ◌+◌, ◌&&◌, nat
 ghost use Rattle.resv_list.specs.Reservations.{begun, is_in, start_of, IsByStart};
 ghost use Rattle.resv_list.specs.Sorted.{first_from, last_below};
 ghost use Rattle.resv_tree.specs.Entries.{IsByKey, first_reaching};
-ghost use Rattle.resv_tree.specs.Shape.{shape_of, members_of, entries, IsWhole, count_of, top_of};
+ghost use Rattle.resv_tree.specs.Shape.{shape_of, members_of, entries, IsWhole, count_of};
 
 use crate::entry::Entry;
 use crate::node::{Link, Parts, look, look_closer};
-use crate::sums::{Sums, moved};
-use crate::told::{greatest_in, sum_in};
+use crate::sums::moved;
+use crate::told::{greatest_in, sum_in, top_in};
 use radio_bands::Band;
 use resv_list::{MAX_MEMBERS, Reservation};
 use std::alloc::Allocator;
@@ -123,12 +123,4 @@ fn has_own(entry: &Entry, band: Band, least: u32) -> bool
     ensures { result ≡ is_in band entry.now.reservation && nat_le least entry.now.own }
 {
     band.holds(entry.reservation.freq_hz, entry.reservation.rate) && entry.own >= least
-}
-
-/// The greatest of an entry's own hour and of what the tops of its two sides keep, in one sub-band.
-fn top_in<A: Allocator + Clone>(left: &Link<A>, entry: &Entry, right: &Link<A>, band: Band) -> u32
-    ensures { result ≡ top_of (shape_of left.now) entry.now (shape_of right.now) band }
-{
-    let sides = greatest_in(left, band).max(greatest_in(right, band));
-    Sums::own_in(entry, band).max(sides)
 }

@@ -1,6 +1,6 @@
-ghost use Rattle.std.specs.Prelude.{◌≡◌, ◌+◌, ◌-◌, ◌<◌, ◌≤◌, ◌^◌, max};
+ghost use Rattle.std.specs.Prelude.{◌≡◌, ◌+◌, ◌-◌, ◌<◌, ◌≤◌, ◌^◌, max, false};
 ghost use Rattle.radio_bands.specs.declared.band.Band.{Band as SubBand};
-ghost use Rattle.resv_tree.specs.Sums.{quarters_in};
+ghost use Rattle.resv_tree.specs.Sums.{quarters_in, is_same};
 ghost use Rattle.resv_tree.specs.Shape.{shape, shape_of, entry_of, kept_of, height_of, count_of};
 ghost use Rattle.resv_tree.specs.Shape.{IsWhole, IsLevel, IsKept, IsBeside, HasSides};
 ghost use Rattle.resv_tree.specs.Shape.{Fork, top_of, left_of, right_of, entries, greatest_of};
@@ -11,7 +11,8 @@ use crate::entry::Entry;
 use crate::kept::Kept;
 use crate::owed::hand;
 use crate::sums::Sums;
-use crate::told::{greatest, kept};
+use crate::told::{greatest, kept, top_in};
+use radio_bands::Band;
 use resv_list::MAX_MEMBERS;
 use std::alloc::Allocator;
 
@@ -140,6 +141,7 @@ pub(crate) fn settle<A: Allocator + Clone>(node: &mut Node<A>)
     requires { IsWhole (shape node.old) }
     ensures made { IsMadeOf (shape node.old) (left_of node.new) (entry_of node.new) (right_of node.new) }
     ensures kept { IsKept (left_of node.new) (entry_of node.new) (right_of node.new) (kept_of node.new) }
+    ensures same { kept_of node.new ≡ kept_of node.old }
 {
     if !node.kept.owes {
         return;
@@ -192,15 +194,18 @@ pub(crate) fn fork<A: Allocator + Clone>(
     top
 }
 
-/// Writes what a node keeps of own hours, once these alone have changed below it.
-pub(crate) fn renew<A: Allocator + Clone>(node: &mut Node<A>)
+/// Writes what a node keeps of own hours, once these alone have changed below it, and in this sub-band alone.
+pub(crate) fn renew<A: Allocator + Clone>(node: &mut Node<A>, band: Band)
     requires left { IsWhole (left_of node.old) }
     requires right { IsWhole (right_of node.old) }
     requires sides { HasSides (kept_of node.old) (left_of node.old) (entry_of node.old) (right_of node.old) }
+    requires others { (other : SubBand) → is_same other band ≡ false → quarters_in (kept_of node.old).greatest other
+        ≡ top_of (left_of node.old) (entry_of node.old) (right_of node.old) other }
     ensures made { IsMadeOf (shape node.new) (left_of node.old) (entry_of node.old) (right_of node.old) }
     ensures whole { IsWhole (shape node.new) }
 {
-    node.kept.greatest = greatest_about(&node.left, &node.entry, &node.right);
+    let greatest = top_in(&node.left, &node.entry, &node.right, band);
+    node.kept.greatest.put(band, greatest);
     node.kept.owes = false;
 }
 

@@ -1,4 +1,4 @@
-ghost use Rattle.std.specs.Prelude.{◌≡◌, ◌+◌, ◌-◌, ◌*◌, ◌≤◌, ◌<◌, ◌^◌, ◌≢◌, max};
+ghost use Rattle.std.specs.Prelude.{◌≡◌, ◌+◌, ◌-◌, ◌*◌, ◌≤◌, ◌<◌, ◌^◌, ◌≢◌, max, if◌then◌else◌};
 ghost use Rattle.radio_bands.specs.declared.band.Band.{Band as SubBand};
 ghost use Rattle.resv_list.specs.Reservations.{airtime_in};
 ghost use Rattle.resv_tree.specs.Entries.{own_in};
@@ -23,7 +23,7 @@ pub(crate) struct Sums {
 }
 
 impl Sums {
-    ghost use Rattle.resv_tree.specs.Sums.{sum_in, quarters_in, sum_of_all};
+    ghost use Rattle.resv_tree.specs.Sums.{sum_in, quarters_in, sum_of_all, is_same};
 
     /// The sums of no member.
     pub(crate) const NONE: Sums = Sums {
@@ -139,6 +139,21 @@ impl Sums {
             entry.own
         } else {
             0
+        }
+    }
+
+    /// Has another amount in one sub-band.
+    pub(crate) fn put(&mut self, band: Band, amount: u32)
+        ensures { (other : SubBand) → quarters_in self.new other
+            ≡ (if is_same other band then amount else quarters_in self.old other) }
+    {
+        match band {
+            Band::K => self.k = amount,
+            Band::L => self.l = amount,
+            Band::M => self.m = amount,
+            Band::N => self.n = amount,
+            Band::P => self.p = amount,
+            Band::Q => self.q = amount,
         }
     }
 

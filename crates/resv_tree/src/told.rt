@@ -3,8 +3,10 @@ ghost use Rattle.std.specs.Prelude.{◌≡◌, ◌≤◌};
 ghost use Rattle.radio_bands.specs.declared.band.Band.{Band as SubBand};
 ghost use Rattle.resv_list.specs.Reservations.{net};
 ghost use Rattle.resv_tree.specs.Sums.{quarters_in, sum_in as sum_of};
-ghost use Rattle.resv_tree.specs.Shape.{shape_of, height_of, count_of, kept_sum, greatest_of, members_of, IsWhole, TellsOf};
+ghost use Rattle.resv_tree.specs.Shape.{shape_of, height_of, count_of, kept_sum, greatest_of, top_of};
+ghost use Rattle.resv_tree.specs.Shape.{members_of, IsWhole, TellsOf};
 
+use crate::entry::Entry;
 use crate::kept::Kept;
 use crate::node::Link;
 use crate::sums::Sums;
@@ -83,4 +85,17 @@ pub(crate) fn greatest_in<A: Allocator + Clone>(link: &Link<A>, band: Band) -> u
     ensures { result ≡ greatest_of (shape_of link.now) band }
 {
     greatest(link).quarters(band)
+}
+
+/// The greatest of an entry's own hour and of what the tops of its two sides keep, in one sub-band.
+pub(crate) fn top_in<A: Allocator + Clone>(
+    left: &Link<A>,
+    entry: &Entry,
+    right: &Link<A>,
+    band: Band,
+) -> u32
+    ensures { result ≡ top_of (shape_of left.now) entry.now (shape_of right.now) band }
+{
+    let sides = greatest_in(left, band).max(greatest_in(right, band));
+    Sums::own_in(entry, band).max(sides)
 }

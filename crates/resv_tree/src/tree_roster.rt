@@ -31,7 +31,7 @@ fn raise<A: Allocator + Clone>(root: &mut Link<A>, member: &Reservation)
 {
     let more = Sums::around(&Sums::NONE, member, &Sums::NONE);
     let from = (member.start + 1).saturating_sub(HOUR);
-    shift(root, from, member.start, &more, &Sums::NONE);
+    shift(root, from, member.start, member.band(), &more, &Sums::NONE);
 }
 
 /// In the tree the hours before a member that was taken out have its airtime no more.
@@ -47,7 +47,7 @@ fn lower<A: Allocator + Clone>(root: &mut Link<A>, member: &Reservation)
 {
     let less = Sums::around(&Sums::NONE, member, &Sums::NONE);
     let from = (member.start + 1).saturating_sub(HOUR);
-    shift(root, from, member.start, &Sums::NONE, &less);
+    shift(root, from, member.start, member.band(), &Sums::NONE, &less);
 }
 
 /// Which part of a bound the ends of a stretch may count for together before `is_within` looks closer.

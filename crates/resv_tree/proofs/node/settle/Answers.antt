@@ -54,3 +54,8 @@ returns-clause-kept g c =
     ∙ (simp out-roll at c.moved-node.ensures) ∙ ap (λ f. moved more f (entry_of n)) less in
     simp out-roll (opened-kept _ _ _ _ _ _ _ _ _ (shape-out n) c.requires left entry right
     (kept_of-roll c.hand.new.link c.hand-2.new.link c.moved-node.result (kept_of n)))
+
+pub returns-clause-same : goal.returns-clause-same
+returns-clause-same g c =
+    let n = c.args.node.now in
+    simp out-roll (kept_of-roll c.hand.new.link c.hand-2.new.link c.moved-node.result (kept_of n))

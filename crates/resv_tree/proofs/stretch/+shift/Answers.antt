@@ -1,7 +1,7 @@
 use Rattle.std.proofs.Common.{rules, arith, ap, sym, subst, ◌∙◌, ◌≡◌, ◌++◌, ◌∷◌, ◌+◌, ◌<◌, map}
 use Rattle.radio_bands.specs.declared.band.Band.{Band}
-use Rattle.resv_tree.specs.Entries.{key_of, member_of, moved, moved_in, IsByKey, Each, CanMoveIn}
-use Rattle.resv_tree.specs.Shape.{entries, right_of, height_of, count_of, greatest_of}
+use Rattle.resv_tree.specs.Entries.{key_of, member_of, moved, moved_in, IsByKey, Each, CanMoveIn, own_in}
+use Rattle.resv_tree.specs.Shape.{entries, entry_of, right_of, height_of, count_of, greatest_of}
 use Rattle.resv_tree.specs.Shape.{kept_sum, IsWhole}
 use Rattle.resv_tree.specs.Sums.{quarters_in}
 use Rattle.resv_tree.proofs.TreeLemmas.{left_by_key, right_by_key}
@@ -9,8 +9,10 @@ use Rattle.resv_tree.proofs.StretchLemmas.{covered_right_of, covered_left_of, co
 use Rattle.resv_tree.proofs.StretchLemmas.{shifted_left, shifted_right, shifted_middle, own_fits}
 use Rattle.resv_tree.proofs.ShapeLemmas.{has_sides}
 use Rattle.resv_tree.proofs.OwnLemmas.{shifted_sums}
-use Rattle.resv_tree.proofs.PlaceLemmas.{made-behind, moves_fit, left_set, left_set-left, left_set-right, left_set-entry}
+use Rattle.resv_tree.proofs.PlaceLemmas.{made-behind, moves_fit, left_set, right_set, left_set-left, left_set-right}
+use Rattle.resv_tree.proofs.PlaceLemmas.{left_set-entry}
 use Rattle.resv_tree.proofs.PlaceLemmas.{left_set-kept, right_set-left, right_set-right, right_set-entry, right_set-kept}
+use Rattle.resv_tree.proofs.StillLemmas.{greatest_still, own_still, top_still, top_settled}
 use Rattle.resv_tree.proofs.stretch.+shift.Goals as goal
 
 pub shift-requires : goal.shift-requires
@@ -29,7 +31,7 @@ shift-requires g t c κs within =
               omega (arith, made.count, c.requires.room),
               (
                 fits_right more less made c.requires.fits,
-                covered_right_of more less c.args.from c.args.to made c.requires.covered,
+                (covered_right_of more less c.args.from c.args.to made c.requires.covered, c.requires.only),
               ),
             ),
           ),
@@ -53,7 +55,7 @@ shift-requires-then-to-start g t c κs within =
               omega (arith, made.count, c.requires.room),
               (
                 fits_left more less made c.requires.fits,
-                covered_left_of more less c.args.from c.args.to made c.requires.covered,
+                (covered_left_of more less c.args.from c.args.to made c.requires.covered, c.requires.only),
               ),
             ),
           ),
@@ -77,8 +79,11 @@ shift-requires-2 g t c κs within =
               omega (arith, made.count, c.requires.room),
               (
                 fits_left more less made c.requires.fits,
-                covered_low more less c.args.from c.args.to made c.requires.by_key
-                    (omega (arith, ap key_of c.entry-start.ensures, c.if-to-start.false)) c.requires.covered,
+                (
+                  covered_low more less c.args.from c.args.to made c.requires.by_key
+                      (omega (arith, ap key_of c.entry-start.ensures, c.if-to-start.false)) c.requires.covered,
+                  c.requires.only,
+                ),
               ),
             ),
           ),
@@ -107,7 +112,7 @@ shift-requires-3 g t c κs within =
               (
                 subst (λ s. (band : Band) → greatest_of s band + more band < 4294967296) (sym same)
                     (fits_right more less made c.requires.fits),
-                subst (λ s. Each (CanMoveIn 0 c.args.to more less) (entries s)) (sym same) high,
+                (subst (λ s. Each (CanMoveIn 0 c.args.to more less) (entries s)) (sym same) high, c.requires.only),
               ),
             ),
           ),
@@ -219,3 +224,54 @@ returns-clause-entries g t c =
     ∙ sym (shifted_middle more less c.args.from c.args.to made c.requires.by_key
     (omega (arith, ap key_of c.entry-start.ensures, c.if-start-from.false))
     (omega (arith, ap key_of c.entry-start.ensures, c.if-to-start.false)))
+
+pub renew-requires-clause-others : goal.renew-requires-clause-others
+renew-requires-clause-others g t c = λ other f.
+    let m = c.settle.new.node in
+    let s = c.shift.new.link in
+    let made = made-behind _ _ _ c.in-Some.is c.deref_mut-node.ensures.value c.settle.ensures.made in
+    let more = quarters_in c.args.more.now in
+    let less = quarters_in c.args.less.now in
+    let right = c.shift.ensures in
+    let still = greatest_still more less other (c.requires.only other f) _ _ _ _ right.whole made.right right.entries in
+    top_still m (right_set m s) other (right_set-kept m s) (top_settled _ m c.settle.ensures.same c.settle.ensures.made other)
+    (ap (λ x. greatest_of x other) (right_set-left m s)) (ap (own_in other) (right_set-entry m s))
+    (ap (λ x. greatest_of x other) (right_set-right m s) ∙ still)
+
+pub renew-requires-then-to-start-clause-others : goal.renew-requires-then-to-start-clause-others
+renew-requires-then-to-start-clause-others g t c = λ other f.
+    let m = c.settle.new.node in
+    let s = c.shift-then-to-start.new.link in
+    let made = made-behind _ _ _ c.in-Some.is c.deref_mut-node.ensures.value c.settle.ensures.made in
+    let more = quarters_in c.args.more.now in
+    let less = quarters_in c.args.less.now in
+    let left = c.shift-then-to-start.ensures in
+    let still = greatest_still more less other (c.requires.only other f) _ _ _ _ left.whole made.left left.entries in
+    top_still m (left_set m s) other (left_set-kept m s) (top_settled _ m c.settle.ensures.same c.settle.ensures.made other)
+    (ap (λ x. greatest_of x other) (left_set-left m s) ∙ still) (ap (own_in other) (left_set-entry m s))
+    (ap (λ x. greatest_of x other) (left_set-right m s))
+
+pub renew-requires-2-clause-others : goal.renew-requires-2-clause-others
+renew-requires-2-clause-others g t c = λ other f.
+    let m = c.settle.new.node in
+    let s = c.shift-2.new.link in
+    let u = c.shift-3.new.link in
+    let made = made-behind _ _ _ c.in-Some.is c.deref_mut-node.ensures.value c.settle.ensures.made in
+    let more = quarters_in c.args.more.now in
+    let less = quarters_in c.args.less.now in
+    let moves = c.move_entry.ensures in
+    let same = left_set-right m s in
+    let left = c.shift-2.ensures in
+    let right = c.shift-3.ensures in
+    let none = c.requires.only other f in
+    let new_left = moves.left ∙ right_set-left (left_set m s) u ∙ left_set-left m s in
+    let new_right = moves.right ∙ right_set-right (left_set m s) u in
+    let entry = right_set-entry (left_set m s) u ∙ left_set-entry m s in
+    let kept = moves.kept ∙ right_set-kept (left_set m s) u ∙ left_set-kept m s in
+    let still_left = greatest_still more less other none _ _ _ _ left.whole made.left left.entries in
+    let still_right = greatest_still more less other none _ _ _ _ right.whole (subst IsWhole (sym same) made.right)
+    right.entries in
+    top_still m c.move_entry.new.self other kept (top_settled _ m c.settle.ensures.same c.settle.ensures.made other)
+    (ap (λ x. greatest_of x other) new_left ∙ still_left)
+    (ap (own_in other) (moves.entry ∙ ap (moved more less) entry) ∙ own_still more less other none (entry_of m))
+    (ap (λ x. greatest_of x other) new_right ∙ still_right ∙ ap (λ x. greatest_of x other) same)

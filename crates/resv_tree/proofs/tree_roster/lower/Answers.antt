@@ -3,6 +3,7 @@ use Rattle.resv_tree.specs.Sums.{quarters_in}
 use Rattle.resv_tree.specs.Shape.{shape_of, entries}
 use Rattle.resv_tree.proofs.HourLemmas.{lowered_by, lower_covered}
 use Rattle.resv_tree.proofs.QuarterLemmas.{no_quarters}
+use Rattle.resv_tree.proofs.StillLemmas.{none_beside}
 use Rattle.resv_tree.proofs.tree_roster.lower.Goals as goal
 
 pub shift-requires-clause-covered : goal.shift-requires-clause-covered
@@ -17,3 +18,11 @@ returns-clause-entries g c =
     ∙ lowered_by c.args.member.now c.saturating_sub-from.result _ (quarters_in c.around-less.result)
     (entries (shape_of c.args.root.now)) c.saturating_sub-from.ensures no_quarters
     (λ band. omega (arith, c.around-less.ensures.value band, no_quarters band))
+
+pub shift-requires-clause-only : goal.shift-requires-clause-only
+shift-requires-clause-only g c = λ other f. omega (
+  arith,
+  c.around-less.ensures.value other,
+  none_beside c.args.member.now _ other c.band.ensures f,
+  no_quarters other,
+)
