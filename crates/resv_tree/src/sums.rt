@@ -117,7 +117,6 @@ impl Sums {
     }
 
     /// The airtime of the entry's own hour in its own sub-band, and 0 in each other one.
-    #[inline(always)]
     pub(crate) fn own(entry: &Entry) -> Sums
         ensures { (band : SubBand) → quarters_in result band ≡ own_in band entry.now }
     {
@@ -158,7 +157,6 @@ impl Sums {
     }
 
     /// The greater ones.
-    #[inline(always)]
     pub(crate) fn greater(&self, other: &Sums) -> Sums
         ensures { (band : SubBand) → quarters_in result band ≡ max (quarters_in self.now band) (quarters_in other.now band) }
     {
