@@ -4,7 +4,9 @@ use Rattle.std.proofs.Common.{arith, subst, Result, Ok, Err, IfOk, Vec, Bool, fa
 use Rattle.std.specs.Global.{Global}
 use Rattle.server_core.specs.declared.entry.Entry.{Entry}
 use Rattle.server_core.specs.declared.event.Event.{Event}
-use Rattle.run_texts.specs.WorkersRun.{Kept, kept, IsDone, AreDone, AreAnswered, AreDealtWith, IsClosing, IsFinished}
+use Rattle.server_core.specs.declared.event.Event.TheVariants as events
+use Rattle.run_texts.specs.WorkersRun.{Kept, kept, HasPassed, IsDone, AreDone, AreAnswered, AreDealtWith}
+use Rattle.run_texts.specs.WorkersRun.{IsClosing, IsFinished}
 use Rattle.run_texts.specs.Bookings.{open_receipts}
 use Rattle.run_texts.specs.declared.receipts.Booking.{Booking}
 use Rattle.run_texts.specs.declared.station_run.Played.{Played}
@@ -55,3 +57,9 @@ finished_with ids es bookings entries (Err e) done same closing = tt
 pub some_left : (l m : List ℕ) (t : Bool) → t ≡ (length l == 0) → t ≡ false → l ≡ m → 0 < length m
 some_left [] m t e f same = absurd (cc (e, f))
 some_left (n ∷ l) m t e f same = subst (λ k. 0 < length k) same (omega arith)
+
+-- what was left of a `Pass` was done
+pub passed_then : (place now : ℕ) (e : Event Global) (old mid new : Kept) → (e ≡ events.Pass now) × (mid ≡ old)
+    → HasPassed place now mid new → IsDone place e old new
+passed_then place now e old mid new left passed =
+    subst (λ f. IsDone place f old new) (sym left.0) (subst (λ k. HasPassed place now k new) left.1 passed)

@@ -93,7 +93,12 @@ IsDone place (events.Tick gateway now) old new =
 IsDone place (events.Cancel n) old new = HasCancelled place n old new
 IsDone place (events.Bad line) old new = HasOneLine place (lines.Bad line) old new
 
--- the same for some events, the first of them at this place, one after another
+-- the same, unless it is a `Pass`, of which nothing was done until the moment that is left
+abbrev pub IsDoneButPass : ℕ → Event Global → Kept → Kept → Option ℕ → Type 0
+IsDoneButPass place e old new None = IsDone place e old new
+IsDoneButPass place e old new (Some now) = (e ≡ events.Pass now) × (new ≡ old)
+
+-- what was done for some events, the first of them at this place, one after another
 abbrev pub AreDone : ℕ → List (Event Global) → Kept → Kept → Type 0
 AreDone place [] old new = new ≡ old
 AreDone place (e ∷ es) old new = (mid : Kept) × IsDone place e old mid × AreDone (place + 1) es mid new

@@ -5,7 +5,7 @@ ghost use Rattle.server_core.specs.Entries.{entry_at};
 ghost use Rattle.server_station.specs.Stations.{AreInOrder};
 ghost use Rattle.run_texts.specs.Bookings.{booked_for, IsCancelTold};
 ghost use Rattle.run_texts.specs.PassAnswers.{IsStaffed};
-ghost use Rattle.run_texts.specs.WorkersRun.{kept, floor_line, AreDone, IsDone, IsPlayed, IsFinished, HasOpened};
+ghost use Rattle.run_texts.specs.WorkersRun.{kept, floor_line, AreDone, IsDone, IsDoneButPass, IsPlayed, IsFinished, HasOpened};
 ghost use Rattle.run_texts.specs.RunOutput.{IsPlayFault};
 
 use crate::receipts::Receipts;
@@ -122,28 +122,35 @@ where
         let mut shift = self;
         let mut place = 0;
         for event in events {
-            shift = match shift.use_up(rt, alloc, place, event) {
-                Ok(shift) => shift,
-                Err(_) => return Err(TextFault::NoMemory),
+            let Ok(left) = shift.use_up(rt, place, event) else {
+                return Err(TextFault::NoMemory);
             };
+            match left {
+                None => {}
+                Some(now) => {
+                    shift = match shift.pass(rt, alloc, place, now) {
+                        Ok(shift) => shift,
+                        Err(_) => return Err(TextFault::NoMemory),
+                    }
+                }
+            }
             place += 1;
         }
         shift.close(alloc)
     }
 
-    /// Does what the event at this place asks for, as `answer` does, and drops it.
-    fn use_up<R: Threads + Wait + Sync>(
-        self,
+    /// Does what the event at this place asks for, as `answer_all_but_pass` does, and drops it.
+    fn use_up<R: Wait>(
+        &mut self,
         rt: &R,
-        alloc: Global,
         place: usize,
         event: Event<Global>,
-    ) -> Result<Self, NoMemory>
-        ensures station { IfOk result (λ shift. shift.station ≡ self.station) }
-        ensures done { IfOk result (λ shift. IsDone place event (kept self.receipts.bookings.items self.entries.items)
-            (kept shift.receipts.bookings.items shift.entries.items)) }
+    ) -> Result<Option<u64>, NoMemory>
+        ensures station { self.new.station ≡ self.old.station }
+        ensures done { IfOk result (IsDoneButPass place event (kept self.old.receipts.bookings.items self.old.entries.items)
+            (kept self.new.receipts.bookings.items self.new.entries.items)) }
     {
-        self.answer(rt, alloc, place, &event)
+        self.answer_all_but_pass(rt, place, &event)
     }
 
     /// Does what the event at this place, counted from 0, asks for: its lines go behind those that were told. Err(NoMemory)
@@ -160,29 +167,48 @@ where
             (kept shift.receipts.bookings.items shift.entries.items)) }
     {
         let mut shift = self;
+        match shift.answer_all_but_pass(rt, place, event)? {
+            None => Ok(shift),
+            Some(now) => shift.pass(rt, alloc, place, now),
+        }
+    }
+
+    /// Does what the event at this place asks for, unless it is a `Pass`, which is left to be done until the moment that is
+    /// answered. Err(NoMemory) where a growth was refused.
+    fn answer_all_but_pass<R: Wait>(
+        &mut self,
+        rt: &R,
+        place: usize,
+        event: &Event<Global>,
+    ) -> Result<Option<u64>, NoMemory>
+        ensures station { self.new.station ≡ self.old.station }
+        ensures done { IfOk result (IsDoneButPass place event.now
+            (kept self.old.receipts.bookings.items self.old.entries.items)
+            (kept self.new.receipts.bookings.items self.new.entries.items)) }
+    {
         let line = match event {
-            Event::Pass { now } => return shift.pass(rt, alloc, place, *now),
+            Event::Pass { now } => return Ok(Some(*now)),
             Event::Queue {
                 addr,
                 port,
                 payload,
             } => queued_line(
                 *addr,
-                shift.station.queue(rt, *addr, *port, payload.as_slice()),
+                self.station.queue(rt, *addr, *port, payload.as_slice()),
             )?,
             Event::Hear {
                 bytes,
                 heard,
                 arrived,
-            } => heard_line(shift.station.hear(rt, bytes.as_slice(), *heard, *arrived))?,
+            } => heard_line(self.station.hear(rt, bytes.as_slice(), *heard, *arrived))?,
             Event::Tick { gateway, now } => {
-                floor_line(*gateway, shift.station.tick(rt, *gateway, *now))
+                floor_line(*gateway, self.station.tick(rt, *gateway, *now))
             }
-            Event::Cancel { number } => shift.cancel(rt, *number),
+            Event::Cancel { number } => self.cancel(rt, *number),
             Event::Bad { line } => Line::Bad { line: *line },
         };
-        shift.tell(place, line)?;
-        Ok(shift)
+        self.tell(place, line)?;
+        Ok(None)
     }
 
     /// Takes the lines out that were told.

@@ -1,9 +1,10 @@
-use Rattle.std.proofs.Common.{rules, ap, append_assoc, arith, refl, sym, ◌++◌, ◌∙◌, subst, [], IfOk}
+use Rattle.std.proofs.Common.{rules, ap, append_assoc, arith, refl, sym, ◌≡◌, ◌++◌, ◌∙◌, subst, [], IfOk}
 use Rattle.server_core.proofs.Replays.{none_left, one_more}
-use Rattle.run_texts.specs.WorkersRun.{kept, AreDone, IsClosing}
+use Rattle.run_texts.specs.WorkersRun.{kept, IsDone, IsDoneButPass, AreDone, IsClosing}
 use Rattle.run_texts.specs.Bookings.{open_receipts}
-use Rattle.run_texts.proofs.DoneLemmas.{done_behind, finished_with}
+use Rattle.run_texts.proofs.DoneLemmas.{passed_then, done_behind, finished_with}
 use Rattle.run_texts.proofs.station_run.Shift.play.Goals as goal
+use Rattle.run_texts.proofs.station_run.Shift.play.Goals.{in-None-left, in-Some-left+in-Ok-pass}
 
 pub loop-event-init : goal.loop-event-init
 loop-event-init g c = record { left = search; place = refl; station = refl; done = search rules }
@@ -12,16 +13,33 @@ pub loop-event-preserved : goal.loop-event-preserved
 loop-event-preserved g c =
     let before = c.loop-event in
     let here = before.shift in
-    let after = c.in-Ok.shift in
+    let after = c.match-left.shift in
+    let old = kept here.receipts.bookings.items here.entries.items in
+    let new = kept after.receipts.bookings.items after.entries.items in
+    let mid = kept c.use_up.new.self.receipts.bookings.items c.use_up.new.self.entries.items in
+    let step : (after.station ≡ here.station) × IsDone before.place c.in-Some.event old new =
+    elim c.match-left.branch [
+      | in-None-left w ↦
+          rw w.shift-is (
+            c.use_up.ensures.station,
+            subst (IsDoneButPass before.place c.in-Some.event old mid) w.in-None-left.is c.in-Ok.ensures.done,
+          )
+      | in-Some-left+in-Ok-pass w ↦
+          rw w.shift-is (
+            w.in-Ok-pass.ensures.station ∙ c.use_up.ensures.station,
+            passed_then before.place w.in-Some-left.now c.in-Some.event old mid _
+                (subst (IsDoneButPass before.place c.in-Some.event old mid) w.in-Some-left.is c.in-Ok.ensures.done)
+                w.in-Ok-pass.ensures.done,
+          )
+    ] in
     record {
       left = append_assoc before.yielded _ _ ∙ ap (λ rest. before.yielded ++ rest) (sym c.in-Some.ensures.steps.0)
           ∙ before.invariant.left;
       place = one_more before.yielded c.in-Some.event before.place before.invariant.place;
-      station = c.in-Ok.ensures.station ∙ before.invariant.station;
+      station = step.0 ∙ before.invariant.station;
       done =
-          done_behind before.yielded c.in-Some.event before.place (kept [] [])
-          (kept here.receipts.bookings.items here.entries.items) (kept after.receipts.bookings.items after.entries.items)
-          before.invariant.place before.invariant.done c.in-Ok.ensures.done;
+          done_behind before.yielded c.in-Some.event before.place (kept [] []) old new before.invariant.place
+          before.invariant.done step.1;
     }
 
 pub returns-clause-played : goal.returns-clause-played
