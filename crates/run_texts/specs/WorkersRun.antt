@@ -93,7 +93,7 @@ IsDone place (events.Tick gateway now) old new =
 IsDone place (events.Cancel n) old new = HasCancelled place n old new
 IsDone place (events.Bad line) old new = HasOneLine place (lines.Bad line) old new
 
--- the same, unless it is a `Pass`, of which nothing was done until the moment that is left
+-- the same for all but a `Pass`: of that nothing was done, and the moment until which time passes is left
 abbrev pub IsDoneButPass : ℕ → Event Global → Kept → Kept → Option ℕ → Type 0
 IsDoneButPass place e old new None = IsDone place e old new
 IsDoneButPass place e old new (Some now) = (e ≡ events.Pass now) × (new ≡ old)
