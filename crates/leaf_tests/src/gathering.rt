@@ -13,6 +13,8 @@ type Gathered = Gather<BuildHasherDefault<FoldHasher>>;
 enum Step {
     Place(u8, u16, u64, Result<Place, HearFault>),
     Hear(u8, u16, u64, Result<Heard, HearFault>),
+    /// The same, at the place that was found for the copy.
+    HearAt(u8, u16, u64, Result<Heard, HearFault>),
     Due(u64, Option<u64>),
     Close(u64, bool),
     IsClosed(u64, bool),
@@ -28,7 +30,7 @@ const AMPLE: Limits = Limits {
 };
 
 /// How much there may be of everything, and the steps.
-static RUNS: [(&str, Limits, &[Step]); 8] = [
+static RUNS: [(&str, Limits, &[Step]); 9] = [
     (
         "the copies of one uplink",
         AMPLE,
@@ -53,6 +55,24 @@ static RUNS: [(&str, Limits, &[Step]); 8] = [
             Step::Hear(1, 3, 1_001_001, Ok(Heard::Opened { n: 2 })),
             Step::Copies(2, &[3]),
             Step::Bytes(2, &[1]),
+        ],
+    ),
+    (
+        "copies at the place that was found",
+        Limits {
+            max_open: 1,
+            ..AMPLE
+        },
+        &[
+            Step::HearAt(1, 1, 1_000, Ok(Heard::Opened { n: 1 })),
+            Step::HearAt(1, 2, 201_000, Ok(Heard::Joined { n: 1, copies: 2 })),
+            Step::HearAt(1, 1, 201_000, Err(HearFault::SameGateway)),
+            Step::HearAt(2, 1, 201_000, Err(HearFault::Crowded)),
+            Step::Copies(1, &[1, 2]),
+            Step::Bytes(1, &[1]),
+            Step::Close(1, true),
+            Step::HearAt(1, 1, 1_001_001, Ok(Heard::Opened { n: 2 })),
+            Step::Copies(2, &[1]),
         ],
     ),
     (
@@ -178,12 +198,27 @@ fn hear(gather: &mut Gathered, byte: u8, gateway: u16, arrived: u64) -> Result<H
     gather.hear(&[byte], copy_of(gateway), arrived)
 }
 
+fn hear_at(
+    gather: &mut Gathered,
+    byte: u8,
+    gateway: u16,
+    arrived: u64,
+) -> Result<Heard, HearFault> {
+    let copy = copy_of(gateway);
+    match gather.place(&[byte], copy.gateway, arrived) {
+        Ok(place) => gather.hear_at(place, &[byte], copy, arrived),
+        Err(fault) => Err(fault),
+    }
+}
+
 /// Whether the call answers as it is to.
 fn holds(gather: &mut Gathered, step: &Step) -> bool {
     match *step {
         Step::Place(byte, gateway, arrived, wanted) => gather.place(&[byte], gateway, arrived)
             == wanted,
         Step::Hear(byte, gateway, arrived, wanted) => hear(gather, byte, gateway, arrived)
+            == wanted,
+        Step::HearAt(byte, gateway, arrived, wanted) => hear_at(gather, byte, gateway, arrived)
             == wanted,
         Step::Due(now, wanted) => gather.due(now) == wanted,
         Step::Close(n, wanted) => gather.close(n) == wanted,
