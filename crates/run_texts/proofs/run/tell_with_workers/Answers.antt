@@ -9,8 +9,11 @@ use Rattle.run_texts.proofs.run.tell_with_workers.Goals as goal
 pub returns-clause-played : goal.returns-clause-played
 returns-clause-played g c =
     let wrote = c.in-Ok-write_lines_by_threads.ensures in
+    let refused = c.in-Ok-write_lines_by_threads.refused in
     let entries = c.in-Ok.played.entries.items in
     let books = c.in-Ok.played.books.items in
+    let given = c.as_slice-entries in
+    let beside = c.as_slice-books in
     let before = g.W.ByteOut.taken c.args.writer.now in
     let after = g.W.ByteOut.taken c.write_lines_by_threads.new.writer in
     record {
@@ -19,12 +22,11 @@ returns-clause-played g c =
       books = books;
       played = c.in-Ok.ensures.played;
       written =
-          subst (λ es. Appends before after (text_of (replay_lines es (map gateway_of books)))) c.as_slice.ensures.value
-          (subst (λ bs. Appends before after (text_of (replay_lines c.as_slice.result.now (map gateway_of bs))))
-          c.as_slice-2.ensures.value wrote.ok);
+          subst (λ es. Appends before after (text_of (replay_lines es (map gateway_of books)))) given.ensures.value
+          (subst (λ bs. Appends before after (text_of (replay_lines given.result.now (map gateway_of bs))))
+          beside.ensures.value wrote.ok);
       told =
-          subst (λ es. c.in-Ok-write_lines_by_threads.refused ≡ has_refusal (replay_lines es (map gateway_of books)))
-          c.as_slice.ensures.value
-          (subst (λ bs. c.in-Ok-write_lines_by_threads.refused ≡ has_refusal (replay_lines c.as_slice.result.now (map gateway_of bs)))
-          c.as_slice-2.ensures.value wrote.told);
+          subst (λ es. refused ≡ has_refusal (replay_lines es (map gateway_of books))) given.ensures.value
+          (subst (λ bs. refused ≡ has_refusal (replay_lines given.result.now (map gateway_of bs))) beside.ensures.value
+          wrote.told);
     }
