@@ -67,7 +67,7 @@ pub record Banded (r : Reservation) : Type 0 where
 pub in_band : (r : Reservation) (band : Band) → is_in band r ≡ true → band_of r.freq_hz r.rate ≡ Some band
 in_band r band e = LiesIn-band_of r.freq_hz r.rate band (lies_in-true r.freq_hz r.rate band e)
 
-held : (r : Reservation) (band : Band) → band_of r.freq_hz r.rate ≡ Some band → is_in band r ≡ true
+pub held : (r : Reservation) (band : Band) → band_of r.freq_hz r.rate ≡ Some band → is_in band r ≡ true
 unfolding band_of
 held r band e = found_passes (λ (b : Band). 0) (lies_in r.freq_hz r.rate) band bands e
 

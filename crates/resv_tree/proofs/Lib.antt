@@ -19,3 +19,4 @@ pub mod AheadLemmas
 pub mod BuildLemmas
 pub mod PlaceLemmas
 pub mod StillLemmas
+pub mod GrowLemmas

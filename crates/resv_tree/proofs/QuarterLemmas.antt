@@ -18,7 +18,7 @@ use Rattle.resv_tree.proofs.EntryLemmas.{banded, amount_at}
 -- Airtime in quarters of the shortest symbol.
 
 -- each time on air is a whole number of them
-airtime_of-quarters : (rate : DataRate) (len : ℕ) → 128 * (airtime_of rate len / 128) ≡ airtime_of rate len
+pub airtime_of-quarters : (rate : DataRate) (len : ℕ) → 128 * (airtime_of rate len / 128) ≡ airtime_of rate len
 airtime_of-quarters Dr0 len = omega (arith, airtime_of-whole Dr0 len)
 airtime_of-quarters Dr1 len = omega (arith, airtime_of-whole Dr1 len)
 airtime_of-quarters Dr2 len = omega (arith, airtime_of-whole Dr2 len)

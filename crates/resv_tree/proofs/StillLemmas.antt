@@ -1,4 +1,4 @@
-use Rattle.std.specs.Prelude.{ℕ, ◌≡◌, ◌+◌, nat_le, nat_lt, Bool, true, false, ◌&&◌, List, [], ◌∷◌, map, cond, max, Some}
+use Rattle.std.specs.Prelude.{ℕ, ◌≡◌, ◌+◌, ◌/◌, nat_le, nat_lt, Bool, true, false, ◌&&◌, List, [], ◌∷◌, map, cond, max, Some}
 use Rattle.std.proofs.Common.{refl, arith, zero, suc, ap, sym, subst, ◌∙◌}
 use Rattle.std.proofs.lemmas.Bool.Decides.{nat_tests}
 use Rattle.radio_bands.specs.declared.band.Band.{Band}
@@ -10,10 +10,11 @@ use Rattle.resv_tree.specs.declared.entry.Entry.{Entry}
 use Rattle.resv_tree.specs.declared.node.Node.{Node}
 use Rattle.resv_tree.specs.declared.sums.Sums.{Sums}
 use Rattle.resv_tree.specs.Entries.{key_of, moved, moved_in, own_in, most_own}
-use Rattle.resv_tree.specs.Sums.{quarters_in, place_of, is_same}
+use Rattle.resv_tree.specs.Sums.{quarters_in, sum_in, place_of, is_same}
 use Rattle.resv_tree.specs.Shape.{Shape, shape, entries, entry_of, kept_of, left_of, right_of, greatest_of, top_of, IsWhole}
 use Rattle.resv_tree.specs.Parts.{IsMadeOf}
-use Rattle.resv_tree.proofs.EntryLemmas.{own_moved, in_band}
+use Rattle.resv_tree.proofs.EntryLemmas.{own_moved, in_band, held}
+use Rattle.resv_tree.proofs.QuarterLemmas.{airtime_of-quarters}
 use Rattle.resv_tree.proofs.OwedLemmas.{greatest_is_most}
 use Rattle.resv_tree.proofs.ShapeLemmas.{shape-out}
 
@@ -50,18 +51,41 @@ same-self N = refl
 same-self P = refl
 same-self Q = refl
 
--- a member has airtime in its own sub-band alone
-pub none_beside : (r : Reservation) (band other : Band) → band_of r.freq_hz r.rate ≡ Some band → is_same other band ≡ false
-    → airtime_in other r ≡ 0
-none_beside r band other is e = by (is_in other r) refl
+-- a member's channel lies in its own sub-band alone
+pub in_own_alone : (r : Reservation) (band other : Band) → band_of r.freq_hz r.rate ≡ Some band → is_in other r ≡ is_same other band
+in_own_alone r band other is = by (is_in other r) refl (is_same other band) refl
   where
-    by : (t : Bool) → is_in other r ≡ t → cond t (airtime_us r) 0 ≡ 0
-    by true h =
+    by : (t : Bool) → is_in other r ≡ t → (u : Bool) → is_same other band ≡ u → is_in other r ≡ is_same other band
+    by true h true e = h ∙ sym e
+    by false h false e = h ∙ sym e
+    by true h false e =
         let found = in_band r other h in
         let one : other ≡ band = cc in
         let self = subst (λ (b : Band). is_same b band ≡ true) (sym one) (same-self band) in
         absurd (cc)
-    by false h = refl
+    by false h true e =
+        let here = subst (λ (b : Band). is_in b r ≡ true) (sym (one_band other band e)) (held r band is) in
+        absurd (cc)
+
+-- and so does its airtime
+pub none_beside : (r : Reservation) (band other : Band) → band_of r.freq_hz r.rate ≡ Some band → is_same other band ≡ false
+    → airtime_in other r ≡ 0
+none_beside r band other is e = ap (λ t. cond t (airtime_us r) 0) (in_own_alone r band other is ∙ e)
+
+-- what is put in a member's own sub-band, where its airtime comes to what was there
+pub airtime_put : (old new : Sums) (r : Reservation) (band : Band) (amount : ℕ) → band_of r.freq_hz r.rate ≡ Some band
+    → amount ≡ quarters_in old band + airtime_us r / 128
+    → ((other : Band) → quarters_in new other ≡ cond (is_same other band) amount (quarters_in old other)) → (other : Band)
+    → sum_in new other ≡ sum_in old other + airtime_in other r
+airtime_put old new r band amount is here put other = by (is_same other band) refl (put other)
+  where
+    by : (t : Bool) → is_same other band ≡ t → quarters_in new other ≡ cond t amount (quarters_in old other)
+        → sum_in new other ≡ sum_in old other + airtime_in other r
+    by true e p =
+        let air = ap (λ t. cond t (airtime_us r) 0) (in_own_alone r band other is ∙ e) in
+        let there = ap (quarters_in old) (one_band other band e) in
+        omega (arith, p, here, there, air, airtime_of-quarters r.rate r.len)
+    by false e p = omega (arith, p, none_beside r band other is e)
 
 -- what is put in one sub-band, where the others stay
 pub put_top : (old new : Sums) (band : Band) (amount : ℕ) (f : Band → ℕ)

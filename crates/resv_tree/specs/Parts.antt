@@ -1,9 +1,12 @@
 use Rattle.std.specs.Prelude.{ℕ, ◌≡◌, ◌+◌, ◌≤◌, max, map, ◌∷◌, ◌++◌, ◌-◌, ◌≢◌}
 use Rattle.radio_bands.specs.declared.band.Band.{Band}
+use Rattle.resv_list.specs.Reservations.{airtime_in}
+use Rattle.resv_tree.specs.declared.kept.Kept.{Kept}
 use Rattle.resv_tree.specs.declared.entry.Entry.{Entry}
 use Rattle.resv_tree.specs.Entries.{moved, CanMove, Each}
 use Rattle.resv_tree.specs.Shape.{Shape, entries, members_of, height_of, count_of, greatest_of, top_of, kept_sum, IsLevel}
 use Rattle.resv_tree.specs.Shape.{IsWhole}
+use Rattle.resv_tree.specs.Sums.{quarters_in, sum_in}
 
 -- What a tree is made of.
 
@@ -32,6 +35,12 @@ pub record IsOwing (t l : Shape) (e : Entry) (r : Shape) : Type 0 where
   pub height : height_of t ≡ max (height_of l) (height_of r) + 1
   pub left : IsWhole l
   pub right : IsWhole r
+
+-- what is kept of a tree lacks one entry of those about its top: so much airtime, and so much in its own hour
+pub record LacksOne (k : Kept) (l : Shape) (e : Entry) (r : Shape) (airtime own : Band → ℕ) : Type 0 where
+  pub count : k.count ≡ count_of l + count_of r
+  pub sums : (band : Band) → sum_in k.sums band + airtime band ≡ kept_sum l band + airtime_in band e.reservation + kept_sum r band
+  pub greatest : (band : Band) → max (quarters_in k.greatest band) (own band) ≡ top_of l e r band
 
 -- the tree is whole and has the entries of two sides and one between them; it is as high as the higher side, or one
 -- level higher, and this where the sides are level

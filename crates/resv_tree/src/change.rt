@@ -1,21 +1,32 @@
 ghost use Rattle.std.specs.Prelude.{◌≡◌, ◌+◌, ◌≤◌, ◌<◌, ◌∷◌, [], ◌++◌};
+ghost use Rattle.radio_bands.specs.declared.band.Band.{Band as SubBand};
+ghost use Rattle.resv_list.specs.Reservations.{airtime_in};
 ghost use Rattle.resv_list.specs.Sorted.{place_by, rest_from};
-ghost use Rattle.resv_tree.specs.Entries.{key_of, IsByKey, entry_at, entries_without};
+ghost use Rattle.resv_tree.specs.Entries.{key_of, own_in, IsByKey, entry_at, entries_without};
+ghost use Rattle.resv_tree.specs.Sums.{quarters_in, sum_in};
 ghost use Rattle.resv_tree.specs.Shape.{shape, shape_of, entry_of, entries, IsWhole, count_of};
 
 use crate::entry::Entry;
-use crate::join::{join, join_left, join_right};
+use crate::join::{grow, join, join_left, join_right};
 use crate::node::{Link, Node, fork, open};
+use crate::sums::Sums;
 use crate::told::kept;
 use resv_list::MAX_MEMBERS;
 use std::alloc::Allocator;
 
-/// The tree with one more node in its place.
+/// The tree with one more node in its place, of whose entry this is the airtime and the own hour.
 #[tactic(auto, using(crate::proofs::TreeLemmas::placing))]
-pub(crate) fn insert<A: Allocator + Clone>(link: Link<A>, node: Box<Node<A>, A>) -> Box<Node<A>, A>
+pub(crate) fn insert<A: Allocator + Clone>(
+    link: Link<A>,
+    node: Box<Node<A>, A>,
+    airtime: &Sums,
+    own: &Sums,
+) -> Box<Node<A>, A>
     requires whole { IsWhole (shape_of link) }
     requires by_key { IsByKey (entries (shape_of link)) }
     requires room { count_of (shape_of link) < MAX_MEMBERS }
+    requires airtime { (band : SubBand) → sum_in airtime.now band ≡ airtime_in band (entry_of node.value).reservation }
+    requires own { (band : SubBand) → quarters_in own.now band ≡ own_in band (entry_of node.value) }
     ensures entries { entries (shape result.value) ≡ place_by key_of (entry_of node.value) (entries (shape_of link)) }
     ensures count { count_of (shape result.value) ≡ count_of (shape_of link) + 1 }
     ensures whole { IsWhole (shape result.value) }
@@ -25,13 +36,11 @@ pub(crate) fn insert<A: Allocator + Clone>(link: Link<A>, node: Box<Node<A>, A>)
     };
     let (left, top, right) = open(top);
     if top.entry().reservation.start < node.entry().reservation.start {
-        let old = kept(&right);
-        let right = insert(right, node);
-        join_right(left, top, &old, Some(right))
+        let right = insert(right, node, airtime, own);
+        grow(left, top, Some(right), airtime, own)
     } else {
-        let old = kept(&left);
-        let left = insert(left, node);
-        join_left(Some(left), top, &old, right)
+        let left = insert(left, node, airtime, own);
+        grow(Some(left), top, right, airtime, own)
     }
 }
 

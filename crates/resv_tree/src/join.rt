@@ -1,9 +1,11 @@
 ghost use Rattle.std.specs.Prelude.{◌≡◌, ◌+◌, ◌≤◌, ◌<◌, ◌&&◌, nat_le};
 ghost use Rattle.resv_tree.specs.Shape.{shape, shape_of, entry_of, kept_of, IsWhole, IsBeside, height_of, count_of};
-ghost use Rattle.resv_tree.specs.Parts.{IsMadeOf, IsJoined};
+ghost use Rattle.resv_tree.specs.Parts.{IsMadeOf, IsJoined, LacksOne};
+ghost use Rattle.resv_tree.specs.Sums.{quarters_in, sum_in};
 
 use crate::kept::Kept;
-use crate::node::{Link, Node, fork, open, with_left, with_right};
+use crate::node::{Link, Node, fork, open, with_left, with_one_more, with_right};
+use crate::sums::Sums;
 use crate::told::height;
 use resv_list::MAX_MEMBERS;
 use std::alloc::Allocator;
@@ -71,6 +73,28 @@ pub(crate) fn join_right<A: Allocator + Clone>(
 {
     if are_level(top.kept().left_height as u32, height(&right)) {
         return with_right(left, top, old, right);
+    }
+    join(left, top, right)
+}
+
+/// The same where one of the sides has one entry more than what is kept, of which this is the airtime and the own hour; where the
+/// sides are level it looks at their heights alone.
+pub(crate) fn grow<A: Allocator + Clone>(
+    left: Link<A>,
+    top: Box<Node<A>, A>,
+    right: Link<A>,
+    airtime: &Sums,
+    own: &Sums,
+) -> Box<Node<A>, A>
+    requires left { IsWhole (shape_of left) }
+    requires right { IsWhole (shape_of right) }
+    requires lacks { LacksOne (kept_of top.value) (shape_of left) (entry_of top.value) (shape_of right)
+        (sum_in airtime.now) (quarters_in own.now) }
+    requires room { count_of (shape_of left) + count_of (shape_of right) < MAX_MEMBERS }
+    ensures { IsJoined (shape result.value) (shape_of left) (entry_of top.value) (shape_of right) }
+{
+    if are_level(height(&left), height(&right)) {
+        return with_one_more(left, top, right, airtime, own);
     }
     join(left, top, right)
 }

@@ -1,3 +1,7 @@
+ghost use Rattle.std.specs.Prelude.{◌≡◌, ◌+◌, ◌-◌, ◌<◌, ◌^◌, max, false};
+ghost use Rattle.radio_bands.specs.declared.band.Band.{Band as SubBand};
+ghost use Rattle.resv_tree.specs.Sums.{quarters_in, sum_in};
+
 use crate::sums::Sums;
 
 /// What a node keeps of the tree of which it is the top. The heights of its two sides stand beside its own, so that where one
@@ -27,4 +31,30 @@ impl Kept {
         sums: Sums::NONE,
         greatest: Sums::NONE,
     };
+
+    /// What is kept of the tree once one entry more stands in it, whose airtime and own hour are these, and its sides are so high.
+    pub(crate) fn grown(&self, left_height: u8, right_height: u8, airtime: &Sums, own: &Sums) -> Kept
+        requires left { left_height < 255 }
+        requires right { right_height < 255 }
+        requires count { self.now.count < 2 ^ 32 - 1 }
+        requires fits { (band : SubBand) → sum_in self.now.sums band + sum_in airtime.now band < 2 ^ 39 }
+        ensures height { result.height ≡ max left_height right_height + 1 }
+        ensures left_height { result.left_height ≡ left_height }
+        ensures right_height { result.right_height ≡ right_height }
+        ensures count { result.count ≡ self.now.count + 1 }
+        ensures owes { result.owes ≡ false }
+        ensures sums { (band : SubBand) → sum_in result.sums band ≡ sum_in self.now.sums band + sum_in airtime.now band }
+        ensures greatest { (band : SubBand) → quarters_in result.greatest band
+            ≡ max (quarters_in self.now.greatest band) (quarters_in own.now band) }
+    {
+        Kept {
+            height: left_height.max(right_height) + 1,
+            left_height,
+            right_height,
+            owes: false,
+            count: self.count + 1,
+            sums: self.sums.plus(airtime),
+            greatest: self.greatest.greater(own),
+        }
+    }
 }

@@ -1,17 +1,17 @@
 ghost use Rattle.std.specs.Prelude.{◌≡◌, ◌+◌, ◌-◌, ◌<◌, ◌≤◌, ◌^◌, max, false};
 ghost use Rattle.radio_bands.specs.declared.band.Band.{Band as SubBand};
-ghost use Rattle.resv_tree.specs.Sums.{quarters_in, is_same};
+ghost use Rattle.resv_tree.specs.Sums.{quarters_in, sum_in, is_same};
 ghost use Rattle.resv_tree.specs.Shape.{shape, shape_of, entry_of, kept_of, height_of, count_of};
 ghost use Rattle.resv_tree.specs.Shape.{IsWhole, IsLevel, IsKept, IsBeside, HasSides};
 ghost use Rattle.resv_tree.specs.Shape.{Fork, top_of, left_of, right_of, entries, greatest_of};
 ghost use Rattle.resv_tree.specs.Entries.{moved, amount, CanMove, Each};
-ghost use Rattle.resv_tree.specs.Parts.{IsMadeOf, IsSeenAs, IsOwing, IsMoved};
+ghost use Rattle.resv_tree.specs.Parts.{IsMadeOf, IsSeenAs, IsOwing, IsMoved, LacksOne};
 
 use crate::entry::Entry;
 use crate::kept::Kept;
 use crate::owed::hand;
 use crate::sums::Sums;
-use crate::told::{greatest, kept, top_in};
+use crate::told::{greatest, kept, levels, top_in};
 use radio_bands::Band;
 use resv_list::MAX_MEMBERS;
 use std::alloc::Allocator;
@@ -20,7 +20,7 @@ use std::alloc::Allocator;
 pub(crate) type Link<A> = Option<Box<Node<A>, A>>;
 
 /// A member with what stands before it and behind it, and what it keeps of the tree of which it is the top. Only `fork`,
-/// `with_left` and `with_right` compute all of that; `renew` and `owe` write in its place what it keeps of own hours.
+/// `with_left`, `with_right` and `with_one_more` compute all of that; `renew` and `owe` write in its place what it keeps of own hours.
 #[derive(Drop)]
 pub(crate) struct Node<A: Allocator + Clone> {
     pub(crate) left: Link<A>,
@@ -121,6 +121,8 @@ pub(crate) fn open<A: Allocator + Clone>(
     requires { IsWhole (shape top.value) }
     ensures made { IsMadeOf (shape top.value) (shape_of result.0) (entry_of result.1.value) (shape_of result.2) }
     ensures kept { IsKept (shape_of result.0) (entry_of result.1.value) (shape_of result.2) (kept_of result.1.value) }
+    ensures greatest { (band : SubBand) → quarters_in (kept_of result.1.value).greatest band
+        ≡ greatest_of (shape top.value) band }
 {
     settle(&mut top);
     part(top)
@@ -271,6 +273,35 @@ pub(crate) fn with_right<A: Allocator + Clone>(
         sums: all.sums.exchanged(&old.sums, &new.sums),
         greatest: greatest_about(&left, &entry, &right),
     };
+    *top = Node {
+        left,
+        entry,
+        right,
+        kept,
+    };
+    top
+}
+
+/// The tree of a node whose sides were taken out of it, once one entry more stands in one of them, of which this is the airtime
+/// and the own hour; of the sides it looks at the heights alone, and takes no memory.
+pub(crate) fn with_one_more<A: Allocator + Clone>(
+    left: Link<A>,
+    mut top: Box<Node<A>, A>,
+    right: Link<A>,
+    airtime: &Sums,
+    own: &Sums,
+) -> Box<Node<A>, A>
+    requires left { IsWhole (shape_of left) }
+    requires right { IsWhole (shape_of right) }
+    requires level { IsLevel (shape_of left) (shape_of right) }
+    requires lacks { LacksOne (kept_of top.value) (shape_of left) (entry_of top.value) (shape_of right)
+        (sum_in airtime.now) (quarters_in own.now) }
+    requires room { count_of (shape_of left) + count_of (shape_of right) < MAX_MEMBERS }
+    ensures made { IsMadeOf (shape result.value) (shape_of left) (entry_of top.value) (shape_of right) }
+    ensures whole { IsWhole (shape result.value) }
+{
+    let (entry, all) = (top.entry, top.kept);
+    let kept = all.grown(levels(&left), levels(&right), airtime, own);
     *top = Node {
         left,
         entry,

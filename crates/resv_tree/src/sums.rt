@@ -71,24 +71,43 @@ impl Sums {
             ≡ sum_in left.now band + airtime_in band entry.now + sum_in right.now band }
         ensures short { (band : SubBand) → airtime_in band entry.now < 2 ^ 22 }
     {
+        let mut sums = left.plus(right);
+        sums.add(entry);
+        sums
+    }
+
+    /// The sums of two sides.
+    pub(crate) fn plus(&self, other: &Sums) -> Sums
+        requires fits { (band : SubBand) → sum_in self.now band + sum_in other.now band < 2 ^ 39 }
+        ensures { (band : SubBand) → sum_in result band ≡ sum_in self.now band + sum_in other.now band }
+    {
         Sums {
-            k: left.with(entry, right, Band::K),
-            l: left.with(entry, right, Band::L),
-            m: left.with(entry, right, Band::M),
-            n: left.with(entry, right, Band::N),
-            p: left.with(entry, right, Band::P),
-            q: left.with(entry, right, Band::Q),
+            k: self.plus_in(other, Band::K),
+            l: self.plus_in(other, Band::L),
+            m: self.plus_in(other, Band::M),
+            n: self.plus_in(other, Band::N),
+            p: self.plus_in(other, Band::P),
+            q: self.plus_in(other, Band::Q),
         }
     }
 
     /// The same in one sub-band.
-    fn with(&self, entry: &Reservation, right: &Sums, band: Band) -> u32
-        requires fits { sum_in self.now band + sum_in right.now band + 2 ^ 22 ≤ 2 ^ 39 }
-        ensures value { 128 * result ≡ sum_in self.now band + airtime_in band entry.now + sum_in right.now band }
-        ensures short { airtime_in band entry.now < 2 ^ 22 }
+    fn plus_in(&self, other: &Sums, band: Band) -> u32
+        requires fits { sum_in self.now band + sum_in other.now band < 2 ^ 39 }
+        ensures { 128 * result ≡ sum_in self.now band + sum_in other.now band }
     {
-        let airtime = (entry.airtime_in(band) / QUARTER_US) as u32;
-        self.quarters(band) + airtime + right.quarters(band)
+        self.quarters(band) + other.quarters(band)
+    }
+
+    /// Takes in one member more, which has airtime in its own sub-band alone.
+    fn add(&mut self, member: &Reservation)
+        requires fits { (band : SubBand) → sum_in self.old band + 2 ^ 22 ≤ 2 ^ 39 }
+        ensures value { (band : SubBand) → sum_in self.new band ≡ sum_in self.old band + airtime_in band member.now }
+        ensures short { (band : SubBand) → airtime_in band member.now < 2 ^ 22 }
+    {
+        let band = member.band();
+        let airtime = (member.airtime() / QUARTER_US) as u32;
+        self.put(band, self.quarters(band) + airtime);
     }
 
     /// These sums, of which `old` is a part, with `new` in place of that part.
@@ -120,14 +139,9 @@ impl Sums {
     pub(crate) fn own(entry: &Entry) -> Sums
         ensures { (band : SubBand) → quarters_in result band ≡ own_in band entry.now }
     {
-        Sums {
-            k: Self::own_in(entry, Band::K),
-            l: Self::own_in(entry, Band::L),
-            m: Self::own_in(entry, Band::M),
-            n: Self::own_in(entry, Band::N),
-            p: Self::own_in(entry, Band::P),
-            q: Self::own_in(entry, Band::Q),
-        }
+        let mut sums = Sums::NONE;
+        sums.put(entry.reservation.band(), entry.own);
+        sums
     }
 
     /// The same in one sub-band.

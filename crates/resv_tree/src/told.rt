@@ -38,9 +38,16 @@ pub(crate) fn height<A: Allocator + Clone>(link: &Link<A>) -> u32
     ensures value { result ≡ height_of (shape_of link.now) }
     ensures bounded { IsWhole (shape_of link.now) → result ≤ count_of (shape_of link.now) }
 {
+    levels(link) as u32
+}
+
+/// The same, as a node keeps it.
+pub(crate) fn levels<A: Allocator + Clone>(link: &Link<A>) -> u8
+    ensures { result ≡ height_of (shape_of link.now) }
+{
     match link {
         None => 0,
-        Some(node) => node.kept.height as u32,
+        Some(node) => node.kept.height,
     }
 }
 

@@ -172,12 +172,14 @@ impl<A: Allocator + Clone> Roster for TreeRoster<A> {
         };
         // The node is made before the tree is touched, so that without memory the tree stays as it was.
         let own = self.own_hour(&reservation);
-        let Ok(node) = Box::new(alloc, Node::apart(Entry { reservation, own })) else {
+        let entry = Entry { reservation, own };
+        let Ok(node) = Box::new(alloc, Node::apart(entry)) else {
             return Err((RosterFault::NoMemory, reservation));
         };
         let mut root = self.root.take();
         raise(&mut root, &reservation);
-        self.root = Some(change::insert(root, node));
+        let airtime = Sums::around(&Sums::NONE, &reservation, &Sums::NONE);
+        self.root = Some(change::insert(root, node, &airtime, &Sums::own(&entry)));
         Ok(())
     }
 
