@@ -9,11 +9,11 @@ use Rattle.resv_list.specs.Reservations.{is_in, airtime_us, airtime_in}
 use Rattle.resv_tree.specs.declared.entry.Entry.{Entry}
 use Rattle.resv_tree.specs.declared.node.Node.{Node}
 use Rattle.resv_tree.specs.declared.sums.Sums.{Sums}
-use Rattle.resv_tree.specs.Entries.{key_of, moved, moved_in, own_in, most_own}
-use Rattle.resv_tree.specs.Sums.{quarters_in, sum_in, place_of, is_same}
+use Rattle.resv_tree.specs.Entries.{key_of, amount, moved, moved_in, own_in, most_own}
+use Rattle.resv_tree.specs.Sums.{quarters_in, sum_in, place_of, is_same, IsOnly}
 use Rattle.resv_tree.specs.Shape.{Shape, shape, entries, entry_of, kept_of, left_of, right_of, greatest_of, top_of, IsWhole}
 use Rattle.resv_tree.specs.Parts.{IsMadeOf}
-use Rattle.resv_tree.proofs.EntryLemmas.{own_moved, in_band, held}
+use Rattle.resv_tree.proofs.EntryLemmas.{own_moved, in_band, held, banded, amount_at}
 use Rattle.resv_tree.proofs.QuarterLemmas.{airtime_of-quarters}
 use Rattle.resv_tree.proofs.OwedLemmas.{greatest_is_most}
 use Rattle.resv_tree.proofs.ShapeLemmas.{shape-out}
@@ -86,6 +86,19 @@ airtime_put old new r band amount is here put other = by (is_same other band) re
         let there = ap (quarters_in old) (one_band other band e) in
         omega (arith, p, here, there, air, airtime_of-quarters r.rate r.len)
     by false e p = omega (arith, p, none_beside r band other is e)
+
+-- a member of another sub-band has nothing of what is in one alone
+pub nothing_beside : (more less : Band → ℕ) (r : Reservation) (band : Band) → IsOnly band more less → is_in band r ≡ false
+    → amount more r + amount less r ≡ 0
+nothing_beside more less r band only h =
+    let b = banded r in
+    omega (arith, amount_at more r b, amount_at less r b, only b.band (by (is_same b.band band) refl))
+  where
+    by : (t : Bool) → is_same (banded r).band band ≡ t → t ≡ false
+    by true e =
+        let here = subst (λ (c : Band). is_in c r ≡ true) (one_band (banded r).band band e) (banded r).holds in
+        absurd (cc)
+    by false e = refl
 
 -- what is put in one sub-band, where the others stay
 pub put_top : (old new : Sums) (band : Band) (amount : ℕ) (f : Band → ℕ)

@@ -1,9 +1,10 @@
 ghost use Rattle.std.specs.Prelude.{◌≡◌, ◌+◌, ◌-◌, ◌≤◌, ◌^◌, max};
-ghost use Rattle.resv_tree.specs.Sums.{quarters_in};
+ghost use Rattle.resv_tree.specs.Sums.{quarters_in, IsOnly};
 ghost use Rattle.resv_tree.specs.Entries.{amount, moved};
 
 use crate::sums;
 use crate::sums::Sums;
+use radio_bands::Band;
 use resv_list::Reservation;
 
 /// What a node keeps of one member; its key is its start.
@@ -24,6 +25,23 @@ impl Entry {
         ensures { result ≡ moved (quarters_in more.now) (quarters_in less.now) self.now }
     {
         let band = self.reservation.band();
+        Entry {
+            reservation: self.reservation,
+            own: sums::moved(self.own, more.quarters(band), less.quarters(band)),
+        }
+    }
+
+    /// The same where there is more and less in one sub-band alone.
+    pub(crate) fn moved_only(&self, band: Band, more: &Sums, less: &Sums) -> Entry
+        requires fits { self.now.own - amount (quarters_in less.now) self.now.reservation
+            + amount (quarters_in more.now) self.now.reservation
+            ≤ max (amount (quarters_in more.now) self.now.reservation) (2 ^ 32 - 1) }
+        requires only { IsOnly band (quarters_in more.now) (quarters_in less.now) }
+        ensures { result ≡ moved (quarters_in more.now) (quarters_in less.now) self.now }
+    {
+        if !band.holds(self.reservation.freq_hz, self.reservation.rate) {
+            return *self;
+        }
         Entry {
             reservation: self.reservation,
             own: sums::moved(self.own, more.quarters(band), less.quarters(band)),

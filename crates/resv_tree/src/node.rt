@@ -1,6 +1,6 @@
 ghost use Rattle.std.specs.Prelude.{◌≡◌, ◌+◌, ◌-◌, ◌<◌, ◌≤◌, ◌^◌, max, false};
 ghost use Rattle.radio_bands.specs.declared.band.Band.{Band as SubBand};
-ghost use Rattle.resv_tree.specs.Sums.{quarters_in, sum_in, is_same};
+ghost use Rattle.resv_tree.specs.Sums.{quarters_in, sum_in, is_same, IsOnly};
 ghost use Rattle.resv_tree.specs.Shape.{shape, shape_of, entry_of, kept_of, height_of, count_of};
 ghost use Rattle.resv_tree.specs.Shape.{IsWhole, IsLevel, IsKept, IsBeside, HasSides};
 ghost use Rattle.resv_tree.specs.Shape.{Fork, top_of, left_of, right_of, entries, greatest_of};
@@ -76,8 +76,9 @@ impl<A: Allocator + Clone> Node<A> {
         self.kept.owes = true;
     }
 
-    /// Has an entry whose own hour has so much more, and then so much less.
-    pub(crate) fn move_entry(&mut self, more: &Sums, less: &Sums)
+    /// Has an entry whose own hour has so much more, and then so much less, both in one sub-band alone.
+    pub(crate) fn move_entry(&mut self, band: Band, more: &Sums, less: &Sums)
+        requires only { IsOnly band (quarters_in more.now) (quarters_in less.now) }
         requires fits { (entry_of self.old).own - amount (quarters_in less.now) (entry_of self.old).reservation
             + amount (quarters_in more.now) (entry_of self.old).reservation
             ≤ max (amount (quarters_in more.now) (entry_of self.old).reservation) (2 ^ 32 - 1) }
@@ -86,7 +87,7 @@ impl<A: Allocator + Clone> Node<A> {
         ensures right { right_of self.new ≡ right_of self.old }
         ensures kept { kept_of self.new ≡ kept_of self.old }
     {
-        self.entry = self.entry.moved(more, less);
+        self.entry = self.entry.moved_only(band, more, less);
     }
 }
 

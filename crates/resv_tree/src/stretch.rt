@@ -55,7 +55,7 @@ pub(crate) fn shift<A: Allocator + Clone>(
     }
     shift(&mut node.left, from, NO_END, band, more, less);
     shift(&mut node.right, 0, to, band, more, less);
-    node.move_entry(more, less);
+    node.move_entry(band, more, less);
     renew(node, band);
 }
 

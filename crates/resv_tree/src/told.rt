@@ -75,7 +75,10 @@ pub(crate) fn sums<A: Allocator + Clone>(link: &Link<A>) -> Sums
 pub(crate) fn sum_in<A: Allocator + Clone>(link: &Link<A>, band: Band) -> u64
     ensures { result ≡ kept_sum (shape_of link.now) band }
 {
-    sums(link).in_band(band)
+    match link {
+        None => 0,
+        Some(node) => node.kept.sums.in_band(band),
+    }
 }
 
 /// The airtime of the tree's members, in microseconds.

@@ -127,7 +127,7 @@ move_entry-requires g t c =
     let more = quarters_in c.args.more.now in
     let less = quarters_in c.args.less.now in
     let same = right_set-entry (left_set m c.shift-2.new.link) c.shift-3.new.link ∙ left_set-entry m c.shift-2.new.link in
-    record { fits = moves_fit more less _ _ same (own_fits more less made c.requires.fits) }
+    record { fits = moves_fit more less _ _ same (own_fits more less made c.requires.fits); only = c.requires.only }
 
 pub renew-requires-clause-sides : goal.renew-requires-clause-sides
 renew-requires-clause-sides g t c =

@@ -1,0 +1,42 @@
+use Rattle.std.proofs.Common.{arith, sym, ◌∙◌}
+use Rattle.resv_tree.specs.Sums.{quarters_in}
+use Rattle.resv_tree.proofs.EntryLemmas.{in_band, amount_of, own_same}
+use Rattle.resv_tree.proofs.StillLemmas.{nothing_beside}
+use Rattle.resv_tree.proofs.entry.Entry.moved_only.Goals as goal
+
+pub returns-then-not-holds : goal.returns-then-not-holds
+returns-then-not-holds c =
+    let e = c.args.self.now in
+    let more = quarters_in c.args.more.now in
+    let less = quarters_in c.args.less.now in
+    let none = nothing_beside more less e.reservation c.args.band c.requires.only (sym c.holds.ensures.value ∙ c.if-not-holds.true)
+    in
+    own_same e _ _ (omega (arith, none))
+
+pub moved-requires : goal.moved-requires
+moved-requires c =
+    let r = c.args.self.now.reservation in
+    let here = in_band r c.args.band (sym c.holds.ensures.value ∙ c.if-not-holds.false) in
+    record {
+      fits = omega (
+        arith,
+        c.requires.fits,
+        c.quarters.ensures,
+        c.quarters-2.ensures,
+        amount_of (quarters_in c.args.more.now) r c.args.band here,
+        amount_of (quarters_in c.args.less.now) r c.args.band here,
+      );
+    }
+
+pub returns : goal.returns
+returns c =
+    let e = c.args.self.now in
+    let here = in_band e.reservation c.args.band (sym c.holds.ensures.value ∙ c.if-not-holds.false) in
+    own_same e _ _ (omega (
+      arith,
+      c.moved.ensures,
+      c.quarters.ensures,
+      c.quarters-2.ensures,
+      amount_of (quarters_in c.args.more.now) e.reservation c.args.band here,
+      amount_of (quarters_in c.args.less.now) e.reservation c.args.band here,
+    ))
