@@ -42,9 +42,10 @@ impl Entry {
         if !band.holds(self.reservation.freq_hz, self.reservation.rate) {
             return *self;
         }
+        let own = sums::moved(self.own, more.quarters(band), less.quarters(band));
         Entry {
             reservation: self.reservation,
-            own: sums::moved(self.own, more.quarters(band), less.quarters(band)),
+            own,
         }
     }
 }

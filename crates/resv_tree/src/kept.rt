@@ -33,7 +33,13 @@ impl Kept {
     };
 
     /// What is kept of the tree once one entry more stands in it, whose airtime and own hour are these, and its sides are so high.
-    pub(crate) fn grown(&self, left_height: u8, right_height: u8, airtime: &Sums, own: &Sums) -> Kept
+    pub(crate) fn grown(
+        &self,
+        left_height: u8,
+        right_height: u8,
+        airtime: &Sums,
+        own: &Sums,
+    ) -> Kept
         requires left { left_height < 255 }
         requires right { right_height < 255 }
         requires count { self.now.count < 2 ^ 32 - 1 }

@@ -13,8 +13,8 @@ returns-then-not-holds c =
     in
     own_same e _ _ (omega (arith, none))
 
-pub moved-requires : goal.moved-requires
-moved-requires c =
+pub moved-own-requires : goal.moved-own-requires
+moved-own-requires c =
     let r = c.args.self.now.reservation in
     let here = in_band r c.args.band (sym c.holds.ensures.value ∙ c.if-not-holds.false) in
     record {
@@ -34,7 +34,7 @@ returns c =
     let here = in_band e.reservation c.args.band (sym c.holds.ensures.value ∙ c.if-not-holds.false) in
     own_same e _ _ (omega (
       arith,
-      c.moved.ensures,
+      c.moved-own.ensures,
       c.quarters.ensures,
       c.quarters-2.ensures,
       amount_of (quarters_in c.args.more.now) e.reservation c.args.band here,

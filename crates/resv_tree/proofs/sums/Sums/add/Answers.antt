@@ -1,5 +1,4 @@
-use Rattle.std.proofs.Common.{arith, ap, ◌+◌, ◌/◌, ◌∙◌}
-use Rattle.resv_list.specs.Reservations.{airtime_us}
+use Rattle.std.proofs.Common.{arith, ◌+◌, ◌/◌}
 use Rattle.resv_tree.proofs.QuarterLemmas.{airtime_of-below}
 use Rattle.resv_tree.proofs.StillLemmas.{airtime_put}
 use Rattle.resv_tree.proofs.SumLemmas.{airtime_in-short}
