@@ -8,7 +8,7 @@ use Rattle.resv_tree.specs.declared.entry.Entry.{Entry}
 use Rattle.resv_tree.specs.declared.kept.Kept.{Kept}
 use Rattle.resv_tree.specs.Entries.{key_of, members, own_in, most_own}
 use Rattle.resv_tree.specs.Sums.{total_in, sum_in, quarters_in}
-use Rattle.resv_tree.specs.Shape.{Shape, entries, members_of, height_of, count_of, greatest_of, kept_sum}
+use Rattle.resv_tree.specs.Shape.{Shape, Leaf, entries, members_of, height_of, count_of, greatest_of, kept_sum}
 use Rattle.resv_tree.specs.Shape.{IsWhole, IsKept, IsLevel, HasSides}
 use Rattle.resv_tree.specs.Parts.{IsMadeOf, LacksOne}
 use Rattle.resv_tree.proofs.TotalLemmas.{total_in-cons}
@@ -130,4 +130,18 @@ grown_sides {k} {j} {l} {r} {e} v w level lacks same height left right count sum
     count_bounds_sum l band v,
     count_bounds_sum r band w,
   );
+}
+
+-- what is kept of one entry alone
+pub lone_sides : {j : Kept} {e h : Entry} {airtime : Band → ℕ} → h ≡ e → j.height ≡ 1 → j.left_height ≡ 0 → j.right_height ≡ 0
+    → j.count ≡ 1 → ((band : Band) → sum_in j.sums band ≡ airtime band)
+    → ((band : Band) → airtime band ≡ airtime_in band e.reservation) → HasSides j Leaf h Leaf
+lone_sides {j} {e} same height left right count sums own = record {
+  level = (omega arith, omega arith);
+  height = height;
+  left_height = left;
+  right_height = right;
+  count = count;
+  sums = λ band. omega (arith, sums band, own band, ap (λ x. airtime_in band x.reservation) same);
+  short = λ band. omega (arith, sums band, own band, count, airtime_in-short band e.reservation);
 }

@@ -8,7 +8,7 @@ ghost use Rattle.resv_tree.specs.Shape.{shape, shape_of, entry_of, entries, IsWh
 
 use crate::entry::Entry;
 use crate::join::{grow, join, join_left, join_right};
-use crate::node::{Link, Node, fork, open};
+use crate::node::{Link, Node, lone, open};
 use crate::sums::Sums;
 use crate::told::kept;
 use resv_list::MAX_MEMBERS;
@@ -32,7 +32,7 @@ pub(crate) fn insert<A: Allocator + Clone>(
     ensures whole { IsWhole (shape result.value) }
 {
     let Some(top) = link else {
-        return fork(None, node, None);
+        return lone(node, airtime, own);
     };
     let (left, top, right) = open(top);
     if top.entry().reservation.start < node.entry().reservation.start {

@@ -1,10 +1,11 @@
 ghost use Rattle.std.specs.Prelude.{◌≡◌, ◌+◌, ◌-◌, ◌<◌, ◌≤◌, ◌^◌, max, false};
 ghost use Rattle.radio_bands.specs.declared.band.Band.{Band as SubBand};
+ghost use Rattle.resv_list.specs.Reservations.{airtime_in};
 ghost use Rattle.resv_tree.specs.Sums.{quarters_in, sum_in, is_same, IsOnly};
 ghost use Rattle.resv_tree.specs.Shape.{shape, shape_of, entry_of, kept_of, height_of, count_of};
 ghost use Rattle.resv_tree.specs.Shape.{IsWhole, IsLevel, IsKept, IsBeside, HasSides};
-ghost use Rattle.resv_tree.specs.Shape.{Fork, top_of, left_of, right_of, entries, greatest_of};
-ghost use Rattle.resv_tree.specs.Entries.{moved, amount, CanMove, Each};
+ghost use Rattle.resv_tree.specs.Shape.{Fork, Leaf, top_of, left_of, right_of, entries, greatest_of};
+ghost use Rattle.resv_tree.specs.Entries.{moved, amount, own_in, CanMove, Each};
 ghost use Rattle.resv_tree.specs.Parts.{IsMadeOf, IsSeenAs, IsOwing, IsMoved, LacksOne};
 
 use crate::entry::Entry;
@@ -20,7 +21,7 @@ use std::alloc::Allocator;
 pub(crate) type Link<A> = Option<Box<Node<A>, A>>;
 
 /// A member with what stands before it and behind it, and what it keeps of the tree of which it is the top. Only `fork`,
-/// `with_left`, `with_right` and `with_one_more` compute all of that; `renew` and `owe` write in its place what it keeps of own hours.
+/// `with_left`, `with_right`, `lone` and `with_one_more` compute all of that; `renew` and `owe` write in its place what it keeps of own hours.
 #[derive(Drop)]
 pub(crate) struct Node<A: Allocator + Clone> {
     pub(crate) left: Link<A>,
@@ -281,6 +282,28 @@ pub(crate) fn with_right<A: Allocator + Clone>(
         kept,
     };
     top
+}
+
+/// The tree of one node alone, of whose entry this is the airtime and the own hour; takes no memory.
+pub(crate) fn lone<A: Allocator + Clone>(
+    mut node: Box<Node<A>, A>,
+    airtime: &Sums,
+    own: &Sums,
+) -> Box<Node<A>, A>
+    requires airtime { (band : SubBand) → sum_in airtime.now band ≡ airtime_in band (entry_of node.value).reservation }
+    requires own { (band : SubBand) → quarters_in own.now band ≡ own_in band (entry_of node.value) }
+    ensures made { IsMadeOf (shape result.value) Leaf (entry_of node.value) Leaf }
+    ensures whole { IsWhole (shape result.value) }
+{
+    let entry = node.entry;
+    let kept = Kept::NONE.grown(0, 0, airtime, own);
+    *node = Node {
+        left: None,
+        entry,
+        right: None,
+        kept,
+    };
+    node
 }
 
 /// The tree of a node whose sides were taken out of it, once one entry more stands in one of them, of which this is the airtime

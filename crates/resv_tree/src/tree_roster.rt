@@ -2,7 +2,8 @@ ghost use Rattle.std.specs.Prelude.{◌≡◌, ◌≤◌, ◌<◌, ◌+◌, ◌*
 ghost use Rattle.radio_bands.specs.declared.band.Band.{Band as SubBand};
 ghost use Rattle.resv_list.specs.declared.roster.TheConstants.{MAX_MEMBERS};
 ghost use Rattle.resv_list.specs.Sorted.{RisesFrom-prop};
-ghost use Rattle.resv_list.specs.Reservations.{start_of, place, IsByStart, IsFree};
+ghost use Rattle.resv_list.specs.Reservations.{start_of, airtime_in, place, IsByStart, IsFree};
+ghost use Rattle.resv_tree.specs.Sums.{sum_in};
 ghost use Rattle.resv_tree.specs.Entries.{IsByKey, Each};
 ghost use Rattle.resv_tree.specs.OwnHours.{own_hour, HasHours, HasHours-prop, raised, lowered, CountsIn};
 ghost use Rattle.resv_tree.specs.Shape.{shape_of, entries, members_of, IsWhole, IsWhole-prop, count_of, greatest_of};
@@ -19,19 +20,19 @@ use radio_bands::Band;
 use resv_list::{Dropped, HOUR, MAX_MEMBERS, Reservation, Roster, RosterFault};
 use std::alloc::{AllocError, Allocator};
 
-/// In the tree the hours before a member that is placed, and that reach it, have its airtime too.
-fn raise<A: Allocator + Clone>(root: &mut Link<A>, member: &Reservation)
+/// In the tree the hours before a member that is placed, and that reach it, have its airtime too, of which these are the sums.
+fn raise<A: Allocator + Clone>(root: &mut Link<A>, member: &Reservation, more: &Sums)
     requires whole { IsWhole (shape_of root.old) }
     requires by_key { IsByKey (entries (shape_of root.old)) }
     requires room { count_of (shape_of root.old) ≤ MAX_MEMBERS }
     requires fits { (band : SubBand) → greatest_of (shape_of root.old) band ≤ 2 ^ 31 }
+    requires more { (band : SubBand) → sum_in more.now band ≡ airtime_in band member.now }
     ensures entries { entries (shape_of root.new) ≡ map (raised member.now) (entries (shape_of root.old)) }
     ensures count { count_of (shape_of root.new) ≡ count_of (shape_of root.old) }
     ensures whole { IsWhole (shape_of root.new) }
 {
-    let more = Sums::around(&Sums::NONE, member, &Sums::NONE);
     let from = (member.start + 1).saturating_sub(HOUR);
-    shift(root, from, member.start, member.band(), &more, &Sums::NONE);
+    shift(root, from, member.start, member.band(), more, &Sums::NONE);
 }
 
 /// In the tree the hours before a member that was taken out have its airtime no more.
@@ -176,9 +177,9 @@ impl<A: Allocator + Clone> Roster for TreeRoster<A> {
         let Ok(node) = Box::new(alloc, Node::apart(entry)) else {
             return Err((RosterFault::NoMemory, reservation));
         };
-        let mut root = self.root.take();
-        raise(&mut root, &reservation);
         let airtime = Sums::around(&Sums::NONE, &reservation, &Sums::NONE);
+        let mut root = self.root.take();
+        raise(&mut root, &reservation, &airtime);
         self.root = Some(change::insert(root, node, &airtime, &Sums::own(&entry)));
         Ok(())
     }
