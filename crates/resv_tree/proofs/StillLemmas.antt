@@ -10,7 +10,7 @@ use Rattle.resv_tree.specs.declared.entry.Entry.{Entry}
 use Rattle.resv_tree.specs.declared.node.Node.{Node}
 use Rattle.resv_tree.specs.declared.sums.Sums.{Sums}
 use Rattle.resv_tree.specs.Entries.{key_of, amount, moved, moved_in, own_in, most_own}
-use Rattle.resv_tree.specs.Sums.{quarters_in, sum_in, place_of, is_same, IsOnly}
+use Rattle.resv_tree.specs.Sums.{quarters_in, sum_in, order_of, is_same, IsOnly}
 use Rattle.resv_tree.specs.Shape.{Shape, shape, entries, entry_of, kept_of, left_of, right_of, greatest_of, top_of, IsWhole}
 use Rattle.resv_tree.specs.Parts.{IsMadeOf}
 use Rattle.resv_tree.proofs.EntryLemmas.{own_moved, in_band, held, banded, amount_at}
@@ -29,7 +29,7 @@ band_at (suc (suc (suc zero))) = N
 band_at (suc (suc (suc (suc zero)))) = P
 band_at (suc (suc (suc (suc (suc n))))) = Q
 
-placed : (b : Band) → band_at (place_of b) ≡ b
+placed : (b : Band) → band_at (order_of b) ≡ b
 unfolding band_at
 placed K = refl
 placed L = refl
@@ -40,7 +40,7 @@ placed Q = refl
 
 pub one_band : (a b : Band) → is_same a b ≡ true → a ≡ b
 one_band a b e =
-    let same : place_of a ≡ place_of b = grind (arith, nat_tests) in
+    let same : order_of a ≡ order_of b = grind (arith, nat_tests) in
     sym (placed a) ∙ ap band_at same ∙ placed b
 
 same-self : (b : Band) → is_same b b ≡ true
@@ -52,7 +52,8 @@ same-self P = refl
 same-self Q = refl
 
 -- a member's channel lies in its own sub-band alone
-pub in_own_alone : (r : Reservation) (band other : Band) → band_of r.freq_hz r.rate ≡ Some band → is_in other r ≡ is_same other band
+pub in_own_alone : (r : Reservation) (band other : Band) → band_of r.freq_hz r.rate ≡ Some band
+    → is_in other r ≡ is_same other band
 in_own_alone r band other is = by (is_in other r) refl (is_same other band) refl
   where
     by : (t : Bool) → is_in other r ≡ t → (u : Bool) → is_same other band ≡ u → is_in other r ≡ is_same other band

@@ -21,16 +21,16 @@ abbrev pub sum_in : Sums → Band → ℕ
 sum_in s band = 128 * quarters_in s band
 
 -- the sub-bands by their order, and whether two of them are one
-abbrev pub place_of : Band → ℕ
-place_of K = 0
-place_of L = 1
-place_of M = 2
-place_of N = 3
-place_of P = 4
-place_of Q = 5
+abbrev pub order_of : Band → ℕ
+order_of K = 0
+order_of L = 1
+order_of M = 2
+order_of N = 3
+order_of P = 4
+order_of Q = 5
 
 abbrev pub is_same : Band → Band → Bool
-is_same a b = nat_eq (place_of a) (place_of b)
+is_same a b = nat_eq (order_of a) (order_of b)
 
 -- in each other sub-band there is neither more nor less
 abbrev pub IsOnly : Band → (Band → ℕ) → (Band → ℕ) → Type 0

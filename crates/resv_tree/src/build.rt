@@ -4,8 +4,9 @@ ghost use Rattle.resv_tree.specs.Filling.{IsBuilt};
 ghost use Rattle.resv_tree.specs.Shape.{shape_of, entry_of};
 
 use crate::entry::Entry;
+use crate::forks::fork;
 use crate::hours::Hours;
-use crate::node::{Link, Node, fork};
+use crate::node::{Link, Node};
 use std::alloc::{AllocError, Allocator};
 
 /// A tree of the next `count` members: half of them stand to the left of its top. Where there is no memory for all of them,

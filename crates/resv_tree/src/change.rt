@@ -7,8 +7,9 @@ ghost use Rattle.resv_tree.specs.Sums.{quarters_in, sum_in};
 ghost use Rattle.resv_tree.specs.Shape.{shape, shape_of, entry_of, entries, IsWhole, count_of};
 
 use crate::entry::Entry;
+use crate::forks::lone;
 use crate::join::{grow, join, join_left, join_right};
-use crate::node::{Link, Node, lone, open};
+use crate::node::{Link, Node, open};
 use crate::sums::Sums;
 use crate::told::kept;
 use resv_list::MAX_MEMBERS;

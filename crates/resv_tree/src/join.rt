@@ -3,8 +3,9 @@ ghost use Rattle.resv_tree.specs.Shape.{shape, shape_of, entry_of, kept_of, IsWh
 ghost use Rattle.resv_tree.specs.Parts.{IsMadeOf, IsJoined, LacksOne};
 ghost use Rattle.resv_tree.specs.Sums.{quarters_in, sum_in};
 
+use crate::forks::{fork, with_left, with_one_more, with_right};
 use crate::kept::Kept;
-use crate::node::{Link, Node, fork, open, with_left, with_one_more, with_right};
+use crate::node::{Link, Node, open};
 use crate::sums::Sums;
 use crate::told::height;
 use resv_list::MAX_MEMBERS;

@@ -32,7 +32,8 @@ impl Kept {
         greatest: Sums::NONE,
     };
 
-    /// What is kept of the tree once one entry more stands in it, whose airtime and own hour are these, and its sides are so high.
+    /// What is kept of the tree once one entry more stands in it, of which these are the airtime and the own hour, and its sides
+    /// are so high.
     pub(crate) fn grown(
         &self,
         left_height: u8,

@@ -6,6 +6,7 @@
 mod build;
 mod change;
 mod entry;
+mod forks;
 mod hours;
 mod join;
 mod kept;

@@ -5,7 +5,7 @@ ghost use Rattle.resv_tree.specs.Entries.{IsByKey, first_reaching};
 ghost use Rattle.resv_tree.specs.Shape.{shape_of, members_of, entries, IsWhole, count_of};
 
 use crate::entry::Entry;
-use crate::node::{Link, Parts, look, look_closer};
+use crate::node::{Link, Parts, look};
 use crate::sums::moved;
 use crate::told::{greatest_in, sum_in, top_in};
 use radio_bands::Band;
@@ -101,7 +101,7 @@ pub(crate) fn first_over<A: Allocator + Clone>(
         return None;
     }
     let Some(node) = link else { return None };
-    let Parts { left, entry, right } = look_closer(node);
+    let Parts { left, entry, right } = look(node);
     let below = moved(least, top_in(left, &entry, right, band), greatest);
     if entry.reservation.start < from {
         return first_over(right, band, from, to, below);

@@ -1,31 +1,29 @@
-ghost use Rattle.std.specs.Prelude.{◌≡◌, ◌+◌, ◌-◌, ◌<◌, ◌≤◌, ◌^◌, max, false};
+ghost use Rattle.std.specs.Prelude.{◌≡◌, ◌+◌, ◌-◌, ◌≤◌, ◌^◌, max, false};
 ghost use Rattle.radio_bands.specs.declared.band.Band.{Band as SubBand};
-ghost use Rattle.resv_list.specs.Reservations.{airtime_in};
-ghost use Rattle.resv_tree.specs.Sums.{quarters_in, sum_in, is_same, IsOnly};
-ghost use Rattle.resv_tree.specs.Shape.{shape, shape_of, entry_of, kept_of, height_of, count_of};
-ghost use Rattle.resv_tree.specs.Shape.{IsWhole, IsLevel, IsKept, IsBeside, HasSides};
-ghost use Rattle.resv_tree.specs.Shape.{Fork, Leaf, top_of, left_of, right_of, entries, greatest_of};
-ghost use Rattle.resv_tree.specs.Entries.{moved, amount, own_in, CanMove, Each};
-ghost use Rattle.resv_tree.specs.Parts.{IsMadeOf, IsSeenAs, IsOwing, IsMoved, LacksOne};
+ghost use Rattle.resv_tree.specs.Sums.{quarters_in, is_same, IsOnly};
+ghost use Rattle.resv_tree.specs.Shape.{shape, shape_of, entry_of, kept_of};
+ghost use Rattle.resv_tree.specs.Shape.{IsWhole, IsKept, HasSides};
+ghost use Rattle.resv_tree.specs.Shape.{Fork, top_of, left_of, right_of, entries, greatest_of};
+ghost use Rattle.resv_tree.specs.Entries.{moved, amount, CanMove, Each};
+ghost use Rattle.resv_tree.specs.Parts.{IsMadeOf, IsSeenAs, IsOwing, IsMoved};
 
 use crate::entry::Entry;
 use crate::kept::Kept;
 use crate::owed::hand;
 use crate::sums::Sums;
-use crate::told::{greatest, kept, levels, top_in};
+use crate::told::{greatest, top_in};
 use radio_bands::Band;
-use resv_list::MAX_MEMBERS;
 use std::alloc::Allocator;
 
 /// A tree, or a side of one: nothing, or its node at the top.
 pub(crate) type Link<A> = Option<Box<Node<A>, A>>;
 
-/// A member with what stands before it and behind it, and what it keeps of the tree of which it is the top. Only `fork`,
-/// `with_left`, `with_right`, `lone` and `with_one_more` compute all of that; `renew` and `owe` write in its place what it keeps of own hours.
+/// A member with what stands before it and behind it, and what it keeps of the tree of which it is the top. Only what makes a
+/// node (`forks`) computes all of that; `renew` and `owe` write in its place what it keeps of own hours.
 #[derive(Drop)]
 pub(crate) struct Node<A: Allocator + Clone> {
     pub(crate) left: Link<A>,
-    entry: Entry,
+    pub(crate) entry: Entry,
     pub(crate) right: Link<A>,
     pub(crate) kept: Kept,
 }
@@ -92,22 +90,11 @@ impl<A: Allocator + Clone> Node<A> {
     }
 }
 
-/// The parts of a tree, left in it.
+/// The parts of a tree, left in it, and what its top owes them.
 pub(crate) fn look<'a, A: Allocator + Clone>(node: &'a Node<A>) -> Parts<'a, A>
     requires { IsWhole (shape node.now) }
-    ensures { IsSeenAs (shape node.now) (shape_of result.left.now) result.entry (shape_of result.right.now) }
-{
-    Parts {
-        left: &node.left,
-        entry: node.entry,
-        right: &node.right,
-    }
-}
-
-/// The same with what its top owes them.
-pub(crate) fn look_closer<'a, A: Allocator + Clone>(node: &'a Node<A>) -> Parts<'a, A>
-    requires { IsWhole (shape node.now) }
-    ensures { IsOwing (shape node.now) (shape_of result.left.now) result.entry (shape_of result.right.now) }
+    ensures seen { IsSeenAs (shape node.now) (shape_of result.left.now) result.entry (shape_of result.right.now) }
+    ensures owing { IsOwing (shape node.now) (shape_of result.left.now) result.entry (shape_of result.right.now) }
 {
     Parts {
         left: &node.left,
@@ -158,44 +145,15 @@ pub(crate) fn settle<A: Allocator + Clone>(node: &mut Node<A>)
 }
 
 /// The greatest of an entry's own hour and of what the tops of its two sides keep, in each sub-band.
-fn greatest_about<A: Allocator + Clone>(left: &Link<A>, entry: &Entry, right: &Link<A>) -> Sums
+pub(crate) fn greatest_about<A: Allocator + Clone>(
+    left: &Link<A>,
+    entry: &Entry,
+    right: &Link<A>,
+) -> Sums
     ensures { (band : SubBand) → quarters_in result band ≡ top_of (shape_of left.now) entry.now (shape_of right.now) band }
 {
     let sides = greatest(left).greater(greatest(right));
     Sums::own(entry).greater(&sides)
-}
-
-/// The tree of these parts; takes no memory.
-pub(crate) fn fork<A: Allocator + Clone>(
-    left: Link<A>,
-    mut top: Box<Node<A>, A>,
-    right: Link<A>,
-) -> Box<Node<A>, A>
-    requires left { IsWhole (shape_of left) }
-    requires right { IsWhole (shape_of right) }
-    requires level { IsLevel (shape_of left) (shape_of right) }
-    requires room { count_of (shape_of left) + count_of (shape_of right) < MAX_MEMBERS }
-    ensures made { IsMadeOf (shape result.value) (shape_of left) (entry_of top.value) (shape_of right) }
-    ensures whole { IsWhole (shape result.value) }
-{
-    let entry = top.entry;
-    let (before, behind) = (kept(&left), kept(&right));
-    let kept = Kept {
-        height: before.height.max(behind.height) + 1,
-        left_height: before.height,
-        right_height: behind.height,
-        count: before.count + behind.count + 1,
-        owes: false,
-        sums: Sums::around(&before.sums, &entry.reservation, &behind.sums),
-        greatest: greatest_about(&left, &entry, &right),
-    };
-    *top = Node {
-        left,
-        entry,
-        right,
-        kept,
-    };
-    top
 }
 
 /// Writes what a node keeps of own hours, once these alone have changed below it, and in this sub-band alone.
@@ -211,126 +169,4 @@ pub(crate) fn renew<A: Allocator + Clone>(node: &mut Node<A>, band: Band)
     let greatest = top_in(&node.left, &node.entry, &node.right, band);
     node.kept.greatest.put(band, greatest);
     node.kept.owes = false;
-}
-
-/// The tree of a node whose sides were taken out of it, with another left side than the one of which `old` tells; of
-/// the right one it looks at the top alone, and takes no memory.
-pub(crate) fn with_left<A: Allocator + Clone>(
-    left: Link<A>,
-    mut top: Box<Node<A>, A>,
-    old: &Kept,
-    right: Link<A>,
-) -> Box<Node<A>, A>
-    requires left { IsWhole (shape_of left) }
-    requires right { IsWhole (shape_of right) }
-    requires level { IsLevel (shape_of left) (shape_of right) }
-    requires height { (kept_of top.value).right_height ≡ height_of (shape_of right) }
-    requires beside { IsBeside (kept_of top.value) (shape_of right) (entry_of top.value) old.now }
-    requires room { count_of (shape_of left) + count_of (shape_of right) < MAX_MEMBERS }
-    ensures made { IsMadeOf (shape result.value) (shape_of left) (entry_of top.value) (shape_of right) }
-    ensures whole { IsWhole (shape result.value) }
-{
-    let (entry, all, new) = (top.entry, top.kept, kept(&left));
-    let kept = Kept {
-        height: new.height.max(all.right_height) + 1,
-        left_height: new.height,
-        right_height: all.right_height,
-        count: all.count - old.count + new.count,
-        owes: false,
-        sums: all.sums.exchanged(&old.sums, &new.sums),
-        greatest: greatest_about(&left, &entry, &right),
-    };
-    *top = Node {
-        left,
-        entry,
-        right,
-        kept,
-    };
-    top
-}
-
-/// The same with another right side; of the left one it looks at the top alone.
-pub(crate) fn with_right<A: Allocator + Clone>(
-    left: Link<A>,
-    mut top: Box<Node<A>, A>,
-    old: &Kept,
-    right: Link<A>,
-) -> Box<Node<A>, A>
-    requires left { IsWhole (shape_of left) }
-    requires right { IsWhole (shape_of right) }
-    requires level { IsLevel (shape_of left) (shape_of right) }
-    requires height { (kept_of top.value).left_height ≡ height_of (shape_of left) }
-    requires beside { IsBeside (kept_of top.value) (shape_of left) (entry_of top.value) old.now }
-    requires room { count_of (shape_of left) + count_of (shape_of right) < MAX_MEMBERS }
-    ensures made { IsMadeOf (shape result.value) (shape_of left) (entry_of top.value) (shape_of right) }
-    ensures whole { IsWhole (shape result.value) }
-{
-    let (entry, all, new) = (top.entry, top.kept, kept(&right));
-    let kept = Kept {
-        height: all.left_height.max(new.height) + 1,
-        left_height: all.left_height,
-        right_height: new.height,
-        count: all.count - old.count + new.count,
-        owes: false,
-        sums: all.sums.exchanged(&old.sums, &new.sums),
-        greatest: greatest_about(&left, &entry, &right),
-    };
-    *top = Node {
-        left,
-        entry,
-        right,
-        kept,
-    };
-    top
-}
-
-/// The tree of one node alone, of whose entry this is the airtime and the own hour; takes no memory.
-pub(crate) fn lone<A: Allocator + Clone>(
-    mut node: Box<Node<A>, A>,
-    airtime: &Sums,
-    own: &Sums,
-) -> Box<Node<A>, A>
-    requires airtime { (band : SubBand) → sum_in airtime.now band ≡ airtime_in band (entry_of node.value).reservation }
-    requires own { (band : SubBand) → quarters_in own.now band ≡ own_in band (entry_of node.value) }
-    ensures made { IsMadeOf (shape result.value) Leaf (entry_of node.value) Leaf }
-    ensures whole { IsWhole (shape result.value) }
-{
-    let entry = node.entry;
-    let kept = Kept::NONE.grown(0, 0, airtime, own);
-    *node = Node {
-        left: None,
-        entry,
-        right: None,
-        kept,
-    };
-    node
-}
-
-/// The tree of a node whose sides were taken out of it, once one entry more stands in one of them, of which this is the airtime
-/// and the own hour; of the sides it looks at the heights alone, and takes no memory.
-pub(crate) fn with_one_more<A: Allocator + Clone>(
-    left: Link<A>,
-    mut top: Box<Node<A>, A>,
-    right: Link<A>,
-    airtime: &Sums,
-    own: &Sums,
-) -> Box<Node<A>, A>
-    requires left { IsWhole (shape_of left) }
-    requires right { IsWhole (shape_of right) }
-    requires level { IsLevel (shape_of left) (shape_of right) }
-    requires lacks { LacksOne (kept_of top.value) (shape_of left) (entry_of top.value) (shape_of right)
-        (sum_in airtime.now) (quarters_in own.now) }
-    requires room { count_of (shape_of left) + count_of (shape_of right) < MAX_MEMBERS }
-    ensures made { IsMadeOf (shape result.value) (shape_of left) (entry_of top.value) (shape_of right) }
-    ensures whole { IsWhole (shape result.value) }
-{
-    let (entry, all) = (top.entry, top.kept);
-    let kept = all.grown(levels(&left), levels(&right), airtime, own);
-    *top = Node {
-        left,
-        entry,
-        right,
-        kept,
-    };
-    top
 }

@@ -10,6 +10,7 @@ use Rattle.server_core.proofs.DeskSteps.{by_option, tick_walk, cancel_walk, try_
 use Rattle.server_core.proofs.Holds.{IsInOrder, Holds, IsGoodStep, unchanged, AllStand, IsGood, IsJobAt, Stands, both_good}
 use Rattle.server_core.proofs.Written.{gateway_written, with_gateway, with_answer, answer_written}
 use Rattle.server_core.proofs.Members.{All-place_by}
+use Rattle.gateway_book.proofs.StandingLaws.{same_without, was_found}
 
 -- Time passes for a gateway.
 
@@ -25,17 +26,6 @@ tick_good {settings} {T} {w} h id now = tick_walk w (IsGoodStep settings T w) id
     })
 
 -- A transmission is cancelled.
-
--- the member that was found is the only one at its start
-module _ (number start : ℕ) (l : List Reservation) (r : Reservation) (o : IsByStart l)
-    (f : find (is_named number start) l ≡ Some r) where
-  same_without : without start l ≡ without_named l number start
-  same_without = by_option (λ p. without start l ≡ without_named l number start) (member_from start l)
-      (λ e. absurd (cc (f, named_none number start l e)))
-      (λ m e. let at = named_found number start l m (is_named number start m) refl o e in grind (arith, at, f))
-
-was_found : (o : Option Reservation) (t : Bool) (r : Reservation) → (if t then Err Begun else found_or o) ≡ Ok r → o ≡ Some r
-was_found o t r e = grind arith
 
 abbrev cancelled : Gateway → Result Reservation CancelFault → ℕ → ℕ → Gateway
 cancelled g r number start = record g { state = after_cancel r g.state number start }

@@ -4,7 +4,8 @@ use Words.{ap, append-nil, append_assoc, sym, ◌∙◌, List, [], Option, Some,
 use Words.{◌<◌, ◌∷◌, ◌≡◌, ◌≤◌, map-map, Book, orderly_nil, kept-nil, remembers_own, desk_of, Gateway, World, opened_gateway}
 use Words.{opening, AreSettings, SettingLists, GatewaySetting, entries, gateway_of, kept_gateway, reached}
 use Words.{noting, schedule, usual_limits, AreBooksOf, Does, IsAt, IsOpened, IsBetweenCalls, Seen, with_lines, Step, Event}
-use Words.{event_steps, entry_at, length-append, subst, schedule_from, entries_from, run_from, some_inj, arith, All, All-head, All-tail, IsGatewayInRange}
+use Words.{event_steps, entry_at, length-append, subst, schedule_from, entries_from, run_from, some_inj, arith, All, All-head}
+use Words.{All-tail, IsGatewayInRange}
 use Rattle.server_core.proofs.{Calls.noting_none, Calls.noting_twice, Calls.reached_append, Members.none_numbered}
 use Rattle.server_core.specs.Entries.{event_lines, gateways_after}
 use Rattle.std.proofs.{Common.take, lemmas.List.length-take-le, lemmas.List.take_more}

@@ -9,8 +9,8 @@ returns-then-not-holds c =
     let e = c.args.self.now in
     let more = quarters_in c.args.more.now in
     let less = quarters_in c.args.less.now in
-    let none = nothing_beside more less e.reservation c.args.band c.requires.only (sym c.holds.ensures.value ∙ c.if-not-holds.true)
-    in
+    let other = sym c.holds.ensures.value ∙ c.if-not-holds.true in
+    let none = nothing_beside more less e.reservation c.args.band c.requires.only other in
     own_same e _ _ (omega (arith, none))
 
 pub moved-own-requires : goal.moved-own-requires

@@ -6,7 +6,7 @@ use Rattle.resv_tree.proofs.SumLemmas.{airtime_in-short}
 use Rattle.resv_tree.proofs.OwingLemmas.{made-node, whole-node}
 use Rattle.resv_tree.proofs.ShapeLemmas.{count_bounds_sum}
 use Rattle.resv_tree.proofs.HeightLemmas.{height_is_low}
-use Rattle.resv_tree.proofs.node.with_right.Goals as goal
+use Rattle.resv_tree.proofs.forks.with_right.Goals as goal
 
 pub exchanged-requires : goal.exchanged-requires
 exchanged-requires g c =

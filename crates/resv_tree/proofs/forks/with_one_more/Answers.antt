@@ -4,7 +4,7 @@ use Rattle.resv_tree.specs.Shape.{shape_of, entry_of, kept_of, top_of}
 use Rattle.resv_tree.proofs.GrowLemmas.{grown_sides, grown_fits}
 use Rattle.resv_tree.proofs.OwingLemmas.{made-node, whole-node}
 use Rattle.resv_tree.proofs.HeightLemmas.{height_is_low}
-use Rattle.resv_tree.proofs.node.with_one_more.Goals as goal
+use Rattle.resv_tree.proofs.forks.with_one_more.Goals as goal
 
 pub grown-kept-requires-clause-left : goal.grown-kept-requires-clause-left
 grown-kept-requires-clause-left g c =

@@ -6,7 +6,7 @@ use Rattle.resv_tree.proofs.GrowLemmas.{lone_sides}
 use Rattle.resv_tree.proofs.OwingLemmas.{made-node, whole-node}
 use Rattle.resv_tree.proofs.QuarterLemmas.{no_quarters}
 use Rattle.resv_tree.proofs.SumLemmas.{airtime_in-short}
-use Rattle.resv_tree.proofs.node.lone.Goals as goal
+use Rattle.resv_tree.proofs.forks.lone.Goals as goal
 
 pub grown-kept-requires-clause-fits : goal.grown-kept-requires-clause-fits
 grown-kept-requires-clause-fits g c = λ band.

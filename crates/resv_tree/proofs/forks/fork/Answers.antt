@@ -3,7 +3,7 @@ use Rattle.resv_tree.specs.Shape.{shape_of, entry_of}
 use Rattle.resv_tree.proofs.ShapeLemmas.{count_bounds_sum}
 use Rattle.resv_tree.proofs.HeightLemmas.{height_is_low}
 use Rattle.resv_tree.proofs.OwingLemmas.{made-node, whole-node}
-use Rattle.resv_tree.proofs.node.fork.Goals as goal
+use Rattle.resv_tree.proofs.forks.fork.Goals as goal
 
 pub around-requires : goal.around-requires
 around-requires g c =
