@@ -1,5 +1,6 @@
 -- Texts that are put behind what is gathered, one after the other.
-use Rattle.std.proofs.Common.{◌≡◌, ℕ, ◌+◌, ◌-◌, ◌≤◌, arith, zero, suc, ◌/◌, ◌%◌, ◌<◌, slice_index, List, [], ◌∷◌, ◌++◌, length, take, drop, get_or, codes}
+use Rattle.std.proofs.Common.{◌≡◌, ℕ, ◌+◌, ◌-◌, ◌≤◌, arith, zero, suc, ◌/◌, ◌%◌, ◌<◌, slice_index, List, [], ◌∷◌, ◌++◌}
+use Rattle.std.proofs.Common.{length, take, drop, get_or, codes}
 use Rattle.std.proofs.Common.{Option, Result, Ok, Err, OnOk, OnErr, refl, sym, ap, ◌∙◌, append_assoc, append-nil}
 use Rattle.std.proofs.lemmas.List.{take_more, take-append-drop}
 use Rattle.hex.specs.Hex.{encode_with, encode_lower, lower_digits}
