@@ -1,8 +1,8 @@
 #!/bin/sh
-# How much of what one sender sends as fast as it can `airbook listen` answers: 100,000 datagrams over loopback, of which each third
-# is a copy of an uplink with a wrong MIC and the others tick. What the socket has no room for is dropped by the system, which
-# counts it; the rest has to be answered. Prints how many were delivered and answered, seconds, and peak memory. Needs Linux,
-# python3 and the program that the gate builds (or PROGRAM=path).
+# How much of what one sender sends as fast as it can `airbook listen` answers: 100,000 datagrams over loopback, of which each
+# third is a copy of an uplink with a wrong MIC and the others tick. What the socket has no room for is dropped by the system,
+# which counts it; the rest has to be answered. Prints how many were delivered and answered, seconds, and peak memory. Needs
+# Linux, python3 and the program that the gate builds (or PROGRAM=path).
 set -eu
 top=$(cd "$(dirname "$0")/.." && pwd)
 exec python3 - "${PROGRAM:-$top/crates/airbook/out/airbook}" "${1:-100000}" <<'P'

@@ -1,6 +1,6 @@
 #!/bin/sh
-# What it costs to save a book of 65,536 transmissions and to read it again, in processor time of this run, least of several. Needs
-# python3 and the program that the gate builds (or PROGRAM=path).
+# What it costs to save a book of 65,536 transmissions and to read it again, in processor time of this run, least of several.
+# Needs python3 and the program that the gate builds (or PROGRAM=path).
 set -eu
 top=$(cd "$(dirname "$0")/.." && pwd)
 PYTHONDONTWRITEBYTECODE=1 PYTHONPATH=$top/bench python3 - "${PROGRAM:-$top/crates/airbook/out/airbook}" <<'P'

@@ -171,8 +171,9 @@ class Expected:
 
     def malformed(self, turn):
         texts = [
-            "tick 1", "ticks 1 5", "tick 1 5 6", "tick 70000 5", "tick 1 5\r", "\r", "tick 1 5\n\n", "\ntick 1 5", "tick 1 5\ntick 2 5",
-            "hear 1 5000000 868100000 5 0 -100 0 @c:26011bda:7", "hear 1 5000000 868100000 5 0 -100 0 ", "cancel @", "---", "plan",
+            "tick 1", "ticks 1 5", "tick 1 5 6", "tick 70000 5", "tick 1 5\r", "\r", "tick 1 5\n\n", "\ntick 1 5",
+            "tick 1 5\ntick 2 5", "hear 1 5000000 868100000 5 0 -100 0 @c:26011bda:7",
+            "hear 1 5000000 868100000 5 0 -100 0 ", "cancel @", "---", "plan",
             "cancel 1" + " " * 1017, "#" * 1025, " " * 1026, "#" * 1027, "tick 1 5" + " " * 1020, "#" * 3000,
         ]
         return self.chance.choice(texts).encode(), [f"bad {turn} Syntax"]
