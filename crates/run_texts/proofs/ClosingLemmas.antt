@@ -1,7 +1,7 @@
 -- Why a station could not be closed.
-use Rattle.std.proofs.Common.{◌≡◌, ◌≢◌, ℕ, List, refl}
+use Rattle.std.proofs.Common.{◌≡◌, ◌≢◌, ◌∙◌, ℕ, List, [], ◌∷◌, refl, ap, arith}
 use Rattle.std.specs.Global.{Global}
-use Rattle.air_ledger.specs.Tills.{Holding, all_parts, parts_of}
+use Rattle.air_ledger.specs.Tills.{Holding, all_parts, parts_of, amount_of}
 use Rattle.answer_ticket.specs.declared.tried.Receipt.{Receipt}
 use Rattle.book_audit.specs.declared.cause.FinishCause.{FinishCause}
 use Rattle.book_audit.specs.declared.cause.FinishCause.TheVariants as causes
@@ -24,3 +24,7 @@ closing_fault tills ids receipts causes.NoMemory Write all why f other = absurd 
 closing_fault tills ids receipts causes.NoMemory TooMuch all why f other = absurd f
 closing_fault tills ids receipts causes.NoMemory (Settings name) all why f other = absurd f
 closing_fault tills ids receipts causes.NoMemory NoMemory all why f other = absurd (other refl)
+
+-- one till alone has its own amount
+pub one_till : (tills : List Holding) (till : Holding) → tills ≡ till ∷ [] → amount_of tills ≡ till.amount
+one_till tills till alone = ap amount_of alone ∙ omega arith

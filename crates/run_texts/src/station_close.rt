@@ -1,5 +1,6 @@
 // The end of a run on a station: the books are compared with what was answered.
 ghost use Rattle.std.specs.Prelude.{◌≡◌, ◌≢◌, IfOk, IfErr};
+ghost use Rattle.book_audit.specs.Audit.{booked_by};
 ghost use Rattle.run_texts.specs.Bookings.{open_receipts};
 ghost use Rattle.run_texts.specs.WorkersRun.{IsClosing, IsClosingFault};
 ghost use Rattle.run_texts.specs.FinishFaults.{IsFinishFault};
@@ -20,6 +21,7 @@ where
         ensures entries { IfOk result (λ played. played.entries ≡ self.entries) }
         ensures books { IfOk result (λ played. IsClosing self.station (open_receipts self.receipts.bookings.items)
             played.totals.items played.books.items) }
+        ensures booked { IfOk result (λ played. booked_by played.books.items ≡ self.till.amount) }
         ensures cause { IfErr result (λ fault. fault ≢ TextFault.NoMemory
             → IsClosingFault self.station (open_receipts self.receipts.bookings.items) fault) }
         ensures fault { IfErr result IsPlayFault }

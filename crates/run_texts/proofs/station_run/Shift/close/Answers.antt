@@ -1,7 +1,7 @@
 use Rattle.std.proofs.Common.{rules, subst, ◌∙◌, All}
 use Rattle.book_audit.specs.Audit.{IsAccountedFor}
 use Rattle.server_station.specs.Closings.{shelved, IsFinishCause}
-use Rattle.run_texts.proofs.ClosingLemmas.{closing_fault}
+use Rattle.run_texts.proofs.ClosingLemmas.{closing_fault, one_till}
 use Rattle.run_texts.proofs.station_run.Shift.close.Goals as goal
 
 pub returns-in-Ok-finish-clause-books : goal.returns-in-Ok-finish-clause-books
@@ -26,3 +26,8 @@ returns-in-Err-clause-cause g c other =
     (subst (λ l. IsFinishCause c.push_reserved.new.self.items c.args.self.station l c.in-Err.fault.cause)
     (c.as_slice.ensures.value ∙ c.in-Ok.ensures) c.in-Err.ensures.cause)
     c.named.ensures.exact other
+
+pub returns-in-Ok-finish-clause-booked : goal.returns-in-Ok-finish-clause-booked
+returns-in-Ok-finish-clause-booked g c =
+    let done = c.in-Ok-finish.ensures in
+    done.sum ∙ done.booked ∙ one_till _ c.args.self.till (search rules)
