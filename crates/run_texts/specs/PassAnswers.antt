@@ -14,7 +14,7 @@ use Rattle.run_texts.specs.declared.pass_answers.Answer.{Answer}
 use Rattle.run_texts.specs.declared.pass_ends.End.{End}
 use Rattle.run_texts.specs.declared.pass_ends.End.TheVariants as ends
 use Rattle.run_texts.specs.declared.pass_ends.Ends.{Ends}
-use Rattle.run_texts.specs.PassEnds.{AreByNumber, IsReordered, HasFiled, end_of, left_by}
+use Rattle.run_texts.specs.PassEnds.{AreNone, AreByNumber, IsReordered, HasFiled, end_of, left_by}
 
 -- What a run with workers answers to the uplinks that one `pass` closed (docs/FORMATS.md, "airbook run").
 
@@ -77,6 +77,10 @@ pub record IsPassToldFrom (workers : Ends) (numbers : List ℕ) (answers : List 
 -- the same, however the workers ended them
 abbrev pub IsPassTold : List ℕ → List Answer → List (Receipt Global) → Type 0
 IsPassTold numbers answers booked = (workers : Ends) × AreByNumber workers × IsPassToldFrom workers numbers answers booked
+
+-- the same where no worker ended any: the calling thread took up each of them
+abbrev pub IsPassToldAlone : List ℕ → List Answer → List (Receipt Global) → Type 0
+IsPassToldAlone numbers answers booked = (none : Ends) × AreNone none × IsPassToldFrom none numbers answers booked
 
 -- the lines of an answer: its own, and that of its frame
 abbrev pub framed : ℕ → Option (List ℕ) → List (Line Global)

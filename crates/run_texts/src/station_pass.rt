@@ -5,7 +5,7 @@ ghost use Rattle.server_workers.specs.Serving.{IsOutside, IsSortedByNumber};
 ghost use Rattle.server_workers.specs.Works.{outcomes_airtime};
 ghost use Rattle.run_texts.specs.Bookings.{HasMore};
 ghost use Rattle.run_texts.specs.PassEnds.{AreNone, AreByNumber, AreServed, HasFiled};
-ghost use Rattle.run_texts.specs.PassAnswers.{IsPassTold, IsPassToldFrom};
+ghost use Rattle.run_texts.specs.PassAnswers.{IsPassTold, IsPassToldFrom, IsPassToldAlone};
 ghost use Rattle.run_texts.specs.WorkersRun.{kept, WereClosed, HasPassed, HasTold};
 
 use crate::pass_answers::Answer;
@@ -169,6 +169,8 @@ where
     ensures ran { IfOk result.ran (λ ran. (1 ≤ ran) × (ran ≤ workers)) }
     ensures outside { IsErrAnd result.ran (λ cause. cause ≡ ServeCause.Workers) ↔ IsOutside workers }
     ensures told { IfOk result.told (λ told. IsPassTold numbers.now told.answers.items told.booked.items) }
+    ensures alone { IfErr result.ran
+        (λ _. IfOk result.told (λ told. IsPassToldAlone numbers.now told.answers.items told.booked.items)) }
 {
     let Shared {
         mut till,
