@@ -37,6 +37,7 @@ where
         now: u64,
     ) -> Result<Self, NoMemory>
         ensures station { IfOk result (λ shift. shift.station ≡ self.station) }
+        ensures workers { IfOk result (λ shift. shift.workers ≡ self.workers) }
         ensures done { IfOk result (λ shift. HasPassed place now (kept self.receipts.bookings.items self.entries.items)
             (kept shift.receipts.bookings.items shift.entries.items)) }
     {
@@ -76,6 +77,7 @@ where
     /// Takes in what is told of the uplinks that one `pass` closed.
     fn take_in(&mut self, alloc: Global, place: usize, told: Told) -> Result<(), NoMemory>
         ensures station { self.new.station ≡ self.old.station }
+        ensures workers { self.new.workers ≡ self.old.workers }
         ensures told { OnOk result (HasTold place told.answers.items self.old.entries.items self.new.entries.items) }
         ensures kept { OnOk result (HasMore told.booked.items self.old.receipts.bookings.items self.new.receipts.bookings.items) }
     {
@@ -104,6 +106,7 @@ where
     /// Tells the answers of a `pass`.
     fn tell_all(&mut self, place: usize, answers: Vec<Answer>) -> Result<(), NoMemory>
         ensures station { self.new.station ≡ self.old.station }
+        ensures workers { self.new.workers ≡ self.old.workers }
         ensures receipts { self.new.receipts ≡ self.old.receipts }
         ensures told { OnOk result (HasTold place answers.items self.old.entries.items self.new.entries.items) }
     {

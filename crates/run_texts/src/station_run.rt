@@ -147,6 +147,7 @@ where
         event: Event<Global>,
     ) -> Result<Option<u64>, NoMemory>
         ensures station { self.new.station ≡ self.old.station }
+        ensures workers { self.new.workers ≡ self.old.workers }
         ensures done { IfOk result (IsDoneButPass place event (kept self.old.receipts.bookings.items self.old.entries.items)
             (kept self.new.receipts.bookings.items self.new.entries.items)) }
     {
@@ -163,6 +164,7 @@ where
         event: &Event<Global>,
     ) -> Result<Self, NoMemory>
         ensures station { IfOk result (λ shift. shift.station ≡ self.station) }
+        ensures workers { IfOk result (λ shift. shift.workers ≡ self.workers) }
         ensures done { IfOk result (λ shift. IsDone place event.now (kept self.receipts.bookings.items self.entries.items)
             (kept shift.receipts.bookings.items shift.entries.items)) }
     {
@@ -182,6 +184,7 @@ where
         event: &Event<Global>,
     ) -> Result<Option<u64>, NoMemory>
         ensures station { self.new.station ≡ self.old.station }
+        ensures workers { self.new.workers ≡ self.old.workers }
         ensures done { IfOk result (IsDoneButPass place event.now
             (kept self.old.receipts.bookings.items self.old.entries.items)
             (kept self.new.receipts.bookings.items self.new.entries.items)) }
@@ -214,6 +217,7 @@ where
     /// Takes the lines out that were told.
     pub fn take_lines(&mut self, alloc: Global) -> Vec<Entry<Global>>
         ensures station { self.new.station ≡ self.old.station }
+        ensures workers { self.new.workers ≡ self.old.workers }
         ensures receipts { self.new.receipts ≡ self.old.receipts }
         ensures taken { result.items ≡ self.old.entries.items }
         ensures none { self.new.entries.items ≡ [] }
@@ -224,6 +228,7 @@ where
     /// Tells a line.
     pub(crate) fn tell(&mut self, place: usize, line: Line<Global>) -> Result<(), NoMemory>
         ensures station { self.new.station ≡ self.old.station }
+        ensures workers { self.new.workers ≡ self.old.workers }
         ensures receipts { self.new.receipts ≡ self.old.receipts }
         ensures told { OnOk result (self.new.entries.items ≡ self.old.entries.items ++ entry_at place line ∷ []) }
     {
@@ -233,6 +238,7 @@ where
     /// Cancels what was booked for the uplink with this number.
     fn cancel<R: Wait>(&mut self, rt: &R, number: u64) -> Line<Global>
         ensures station { self.new.station ≡ self.old.station }
+        ensures workers { self.new.workers ≡ self.old.workers }
         ensures entries { self.new.entries ≡ self.old.entries }
         ensures told { IsCancelTold number (booked_for number self.old.receipts.bookings.items)
             self.old.receipts.bookings.items self.new.receipts.bookings.items result }
