@@ -1,12 +1,16 @@
 -- What is done for events, one after another.
-use Rattle.std.proofs.Common.{◌≡◌, ℕ, ◌+◌, ◌<◌, ◌++◌, List, [], ◌∷◌, length, refl, sym}
-use Rattle.std.proofs.Common.{arith, subst, Result, Ok, Err, IfOk, Vec, Bool, false, ◌==◌}
+use Rattle.std.proofs.Common.{◌≡◌, ◌≢◌, ℕ, ◌+◌, ◌<◌, ◌++◌, List, [], ◌∷◌, length, refl, sym}
+use Rattle.std.proofs.Common.{arith, subst, Result, Ok, Err, IfOk, IfErr, Vec, Bool, false, ◌==◌}
 use Rattle.std.specs.Global.{Global}
 use Rattle.server_core.specs.declared.entry.Entry.{Entry}
 use Rattle.server_core.specs.declared.event.Event.{Event}
 use Rattle.server_core.specs.declared.event.Event.TheVariants as events
+use Rattle.server_desk.specs.declared.setting.GatewaySetting.{GatewaySetting}
+use Rattle.server_station.specs.Stations.{AreInOrder}
+use Rattle.text_words.specs.declared.fault.TextFault.{TextFault}
+use Rattle.text_words.specs.declared.fault.TextFault.TheVariants.{NoMemory}
 use Rattle.run_texts.specs.WorkersRun.{Kept, kept, HasPassed, IsDone, AreDone, AreAnswered, AreDealtWith}
-use Rattle.run_texts.specs.WorkersRun.{IsClosing, IsFinished}
+use Rattle.run_texts.specs.WorkersRun.{IsClosing, IsClosingFault, IsFinished, IsFinishedApart, IsPlayedApart}
 use Rattle.run_texts.specs.Bookings.{open_receipts}
 use Rattle.run_texts.specs.declared.receipts.Booking.{Booking}
 use Rattle.run_texts.specs.declared.station_run.Played.{Played}
@@ -52,6 +56,25 @@ finished_with ids es bookings entries (Ok p) done same closing =
       closing = closing;
     }
 finished_with ids es bookings entries (Err e) done same closing = tt
+
+-- what was done for all events, and why the books didn't go together then
+pub apart_with : {T : Type 0} (ids : List ℕ) (es : List (Event Global)) (bookings : List Booking)
+    (entries : List (Entry Global)) (r : Result T TextFault)
+    → AreDone 0 es (kept [] []) (kept bookings entries)
+    → IfErr r (λ fault. fault ≢ NoMemory → IsClosingFault ids (open_receipts bookings) fault)
+    → IfErr r (λ fault. fault ≢ NoMemory → IsFinishedApart ids es fault)
+apart_with ids es bookings entries (Ok p) done why = tt
+apart_with ids es bookings entries (Err fault) done why = λ other.
+    record { bookings = bookings; entries = entries; done = done; cause = why other }
+
+-- at a station of gateways with these settings
+pub played_apart : {T : Type 0} (gateways : List GatewaySetting) (ids : List ℕ) (es : List (Event Global))
+    (r : Result T TextFault) → AreInOrder gateways ids
+    → IfErr r (λ fault. fault ≢ NoMemory → IsFinishedApart ids es fault)
+    → IfErr r (λ fault. fault ≢ NoMemory → IsPlayedApart gateways es fault)
+played_apart gateways ids es (Ok p) in_order finished = tt
+played_apart gateways ids es (Err fault) in_order finished = λ other.
+    record { ids = ids; in_order = in_order; finished = finished other }
 
 -- a list that isn't empty
 pub some_left : (l m : List ℕ) (t : Bool) → t ≡ (length l == 0) → t ≡ false → l ≡ m → 0 < length m

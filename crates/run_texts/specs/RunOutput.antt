@@ -17,7 +17,7 @@ use Rattle.text_words.specs.Words.{has_refusal}
 use Rattle.run_lines.specs.ReplayText.{replay_lines}
 use Rattle.run_lines.specs.RunInput.{settings_part, event_part}
 use Rattle.run_lines.specs.RunEvents.{events_of}
-use Rattle.run_texts.specs.WorkersRun.{IsPlayed}
+use Rattle.run_texts.specs.WorkersRun.{IsPlayed, IsPlayedApart}
 use Rattle.run_texts.specs.RunSettings.{settings_in, IsNamed, IsRefusedBy}
 
 -- The output of `airbook run`, and what its text promises of a reader and a writer that tell their bytes.
@@ -98,6 +98,17 @@ abbrev pub NamesFaultOfWorkers : {T : Type 0} → Option (List ℕ) → Result T
 NamesFaultOfWorkers (Some bytes) (Ok _) = SaysSettings (settings_in (settings_part bytes))
 NamesFaultOfWorkers (Some bytes) (Err (Settings name)) = IsNamedFor (settings_in (settings_part bytes)) (Settings name)
 NamesFaultOfWorkers left result = ⊤
+
+-- a name that comes for bytes with these settings is that of books that don't go together after their events
+abbrev pub IsApartFor : Result SettingLists ReadFault → List ℕ → TextFault → Type 0
+IsApartFor (Ok settings) bytes fault =
+    IsPlayedApart settings.gateways (events_of settings.devices (lines (event_part bytes))) fault
+IsApartFor (Err refused) bytes fault = ⊤
+
+-- with workers: where the bytes say settings, `Settings` names what became of the books after just their events
+abbrev pub NamesApart : {T : Type 0} → Option (List ℕ) → Result T TextFault → Type 0
+NamesApart (Some bytes) (Err (Settings name)) = IsApartFor (settings_in (settings_part bytes)) bytes (Settings name)
+NamesApart left result = ⊤
 
 -- the writer took the lines of a run with workers for these events, at a server with these settings: those that answer its
 -- events, and the report of just the books that it was closed with; `refused` says whether one of them begins with `no` or `bad`

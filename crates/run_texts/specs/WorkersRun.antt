@@ -136,3 +136,17 @@ pub record IsPlayed (gateways : List GatewaySetting) (es : List (Event Global)) 
   pub ids : List ℕ
   pub in_order : AreInOrder gateways ids
   pub finished : IsFinished ids es entries totals books
+
+-- these events were done for one after another at a station of these gateways, whose books then didn't go with a desk, or with
+-- just the receipts of what was not cancelled
+pub record IsFinishedApart (ids : List ℕ) (es : List (Event Global)) (fault : TextFault) : Type 0 where
+  pub bookings : List Booking
+  pub entries : List (Entry Global)
+  pub done : AreDone 0 es (kept [] []) (kept bookings entries)
+  pub cause : IsClosingFault ids (open_receipts bookings) fault
+
+-- at a station of gateways with these settings
+pub record IsPlayedApart (gateways : List GatewaySetting) (es : List (Event Global)) (fault : TextFault) : Type 0 where
+  pub ids : List ℕ
+  pub in_order : AreInOrder gateways ids
+  pub finished : IsFinishedApart ids es fault

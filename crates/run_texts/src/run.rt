@@ -1,10 +1,13 @@
 // The text of `airbook run`: settings and events in, answers and a report out.
-ghost use Rattle.std.specs.Prelude.{◌≡◌, ◌≢◌, ◌<◌, ◌≤◌, Err, IfOk, IfErr};
+ghost use Rattle.std.specs.Prelude.{◌≡◌, ◌≢◌, ◌<◌, ◌≤◌, Ok, Err, IfOk, IfErr};
+ghost use Rattle.std.specs.Str.Lines.{lines};
 ghost use Rattle.text_words.specs.Fault.{CountsReads, CountsWrites};
-ghost use Rattle.run_lines.specs.RunInput.{KeepsInputLimit};
+ghost use Rattle.run_lines.specs.RunInput.{KeepsInputLimit, settings_part, event_part};
+ghost use Rattle.run_lines.specs.RunEvents.{events_of};
+ghost use Rattle.run_texts.specs.RunSettings.{settings_in, IsRefusedBy};
 ghost use Rattle.run_texts.specs.RunOutput.{Runs, RunsInPart, NamesFault, NamesFaultOfWorkers, NamesWorkers, IsPlayFault};
-ghost use Rattle.run_texts.specs.RunOutput.{IsWorkersRun, RunsByWorkers};
-ghost use Rattle.run_texts.specs.WorkersRun.{IsPlayed};
+ghost use Rattle.run_texts.specs.RunOutput.{IsWorkersRun, RunsByWorkers, NamesApart};
+ghost use Rattle.run_texts.specs.WorkersRun.{IsPlayed, IsPlayedApart};
 ghost use Rattle.run_texts.specs.PassAnswers.{IsStaffed};
 
 use crate::run_alone::tell_alone;
@@ -57,6 +60,7 @@ where
         (W.taken writer.new)) }
     ensures settings { workers ≡ 0 → NamesFault (R.left reader.old) result }
     ensures named { 0 < workers → workers ≤ 16 → NamesFaultOfWorkers (R.left reader.old) result }
+    ensures apart { 0 < workers → workers ≤ 16 → NamesApart (R.left reader.old) result }
     ensures workers { 16 < workers → NamesWorkers result × (reader.new ≡ reader.old) }
     ensures untouched { IfErr result (λ fault. fault ≢ TextFault.Write → writer.new ≡ writer.old) }
     ensures limit { workers ≤ 16 → KeepsInputLimit (R.left reader.old) result }
@@ -67,17 +71,32 @@ where
         return Err(TextFault::Settings("Workers"));
     }
     let input = read_all(alloc, reader)?;
-    let (settings_text, event_text) = parts_of(input.as_slice());
-    let settings = settings_in(alloc, settings_text)?;
-    let Ok(events) = events_by_threads(rt, alloc, settings.devices(), event_text, workers) else {
-        return Err(TextFault::NoMemory);
-    };
+    let (settings, events) = asked_in(rt, alloc, input.as_slice(), workers)?;
     // The events have bytes of their own.
     let _left = given_back(input);
     if workers == 0 {
         return tell_alone(alloc, hasher, &settings, events, writer);
     }
     tell_with_workers(rt, alloc, hasher, &settings, events, workers, writer)
+}
+
+/// The settings that an input says up to the first line that is exactly `---`, and the events that its other lines ask for.
+fn asked_in<T: Threads + Sync>(
+    rt: &T,
+    alloc: Global,
+    input: &[u8],
+    workers: u8,
+) -> Result<(Settings<Global>, Vec<Event<Global>>), TextFault>
+    ensures given { IfOk result (λ asked. settings_in (settings_part input.now) ≡ Ok asked.0) }
+    ensures events { IfOk result (λ asked. asked.1.items ≡ events_of asked.0.devices (lines (event_part input.now))) }
+    ensures fault { IfErr result (λ fault. IsRefusedBy (settings_in (settings_part input.now)) fault) }
+{
+    let (settings_text, event_text) = parts_of(input);
+    let settings = settings_in(alloc, settings_text)?;
+    match events_by_threads(rt, alloc, settings.devices(), event_text, workers) {
+        Ok(events) => Ok((settings, events)),
+        Err(_) => Err(TextFault::NoMemory),
+    }
 }
 
 /// Gives the bytes back, all but a block for one: the C library maps a block as large as an input by itself, and once it has
@@ -111,6 +130,8 @@ where
         (λ refused. IsWorkersRun settings.now events.items (W.taken writer.old) (W.taken writer.new) refused) }
     ensures untouched { IfErr result (λ fault. fault ≢ TextFault.Write → writer.new ≡ writer.old) }
     ensures fault { IfErr result (λ fault. fault ≢ TextFault.Write → IsPlayFault fault) }
+    ensures apart { IfErr result (λ fault. fault ≢ TextFault.Write → fault ≢ TextFault.NoMemory
+        → IsPlayedApart settings.now.gateways events.items fault) }
     ensures write { CountsWrites (W.failed_calls writer.old) (W.failed_calls writer.new) result }
 {
     let played = match play_all(rt, alloc, hasher, settings, events, workers) {
@@ -138,6 +159,8 @@ where
     requires { IsStaffed workers }
     ensures played { IfOk result
         (λ played. IsPlayed settings.now.gateways events.items played.entries.items played.totals.items played.books.items) }
+    ensures apart { IfErr result (λ fault. fault ≢ TextFault.NoMemory
+        → IsPlayedApart settings.now.gateways events.items fault) }
     ensures fault { IfErr result IsPlayFault }
 {
     let blank = Blank::new(PARTS as u64);

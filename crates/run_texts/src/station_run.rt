@@ -1,11 +1,12 @@
 // A run on a station with workers: what the events ask for, one after another.
-ghost use Rattle.std.specs.Prelude.{◌≡◌, ◌++◌, [], ◌∷◌, IfOk, IfErr, OnOk};
+ghost use Rattle.std.specs.Prelude.{◌≡◌, ◌≢◌, ◌++◌, [], ◌∷◌, IfOk, IfErr, OnOk};
 ghost use Rattle.air_ledger.specs.Tills.{all_parts};
 ghost use Rattle.server_core.specs.Entries.{entry_at};
 ghost use Rattle.server_station.specs.Stations.{AreInOrder};
 ghost use Rattle.run_texts.specs.Bookings.{booked_for, IsCancelTold};
 ghost use Rattle.run_texts.specs.PassAnswers.{IsStaffed};
 ghost use Rattle.run_texts.specs.WorkersRun.{kept, floor_line, AreDone, IsDone, IsDoneButPass, IsPlayed, IsFinished, HasOpened};
+ghost use Rattle.run_texts.specs.WorkersRun.{IsPlayedApart, IsFinishedApart};
 ghost use Rattle.run_texts.specs.RunOutput.{IsPlayFault};
 
 use crate::receipts::Receipts;
@@ -66,6 +67,8 @@ where
     requires staffed { IsStaffed workers }
     ensures played { IfOk result (λ played. IsPlayed settings.now.gateways events.items played.entries.items
         played.totals.items played.books.items) }
+    ensures apart { IfErr result (λ fault. fault ≢ TextFault.NoMemory
+        → IsPlayedApart settings.now.gateways events.items fault) }
     ensures fault { IfErr result IsPlayFault }
 {
     match Shift::<B, S>::new(alloc, hasher, settings, workers, blank) {
@@ -117,6 +120,7 @@ where
         requires { HasOpened (kept self.receipts.bookings.items self.entries.items) }
         ensures played { IfOk result (λ played. IsFinished self.station events.items played.entries.items
             played.totals.items played.books.items) }
+        ensures apart { IfErr result (λ fault. fault ≢ TextFault.NoMemory → IsFinishedApart self.station events.items fault) }
         ensures fault { IfErr result IsPlayFault }
     {
         let mut shift = self;

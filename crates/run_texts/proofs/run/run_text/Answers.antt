@@ -1,4 +1,4 @@
-use Rattle.std.proofs.Common.{Global, refl, ◌∙◌, ◌≡◌, ap}
+use Rattle.std.proofs.Common.{Global, refl, ◌≡◌, ap}
 use Rattle.std.specs.Str.Lines.{lines}
 use Rattle.run_lines.specs.RunEvents.{events_of}
 use Rattle.run_lines.specs.RunInput.{settings_part, event_part}
@@ -7,20 +7,20 @@ use Rattle.run_texts.proofs.run.run_text.Goals as goal
 
 pub returns-then-workers-eq0-clause-ok : goal.returns-then-workers-eq0-clause-ok
 returns-then-workers-eq0-clause-ok g c alone =
-    let first = c.parts_of.ensures.settings ∙ ap settings_part c.as_slice.ensures.value in
-    let second = c.parts_of.ensures.events ∙ ap event_part c.as_slice.ensures.value in
-    let made : c.in-Ok.events.items ≡ events_of c.in_ok-settings.settings.devices (lines c.parts_of.result.1.now) =
-    c.in-Ok.ensures ∙ ap (λ d. events_of {A = Global} d (lines c.parts_of.result.1.now)) c.devices.ensures.list in
+    let given = c.as_slice.ensures.value in
+    let made :
+    c.in_ok-settings.events.items ≡ events_of c.in_ok-settings.settings.devices (lines (event_part c.as_slice.result.now)) =
+    c.in_ok-settings.ensures.events in
     runs-told Global _ _ _ _ c.in_ok-input.input.items _ _ _ c.tell_alone.result c.in_ok-input.ensures.ok
-    c.in_ok-input.ensures.consumed first second c.in_ok-settings.ensures.given (rw made at c.tell_alone.ensures.ok)
-    (rw made at c.tell_alone.ensures.told)
+    c.in_ok-input.ensures.consumed (ap settings_part given) (ap event_part given) c.in_ok-settings.ensures.given
+    (rw made at c.tell_alone.ensures.ok) (rw made at c.tell_alone.ensures.told)
 
 pub returns-then-workers-eq0-clause-front : goal.returns-then-workers-eq0-clause-front
 returns-then-workers-eq0-clause-front g c alone failed =
-    let first = c.parts_of.ensures.settings ∙ ap settings_part c.as_slice.ensures.value in
-    let second = c.parts_of.ensures.events ∙ ap event_part c.as_slice.ensures.value in
-    let made : c.in-Ok.events.items ≡ events_of c.in_ok-settings.settings.devices (lines c.parts_of.result.1.now) =
-    c.in-Ok.ensures ∙ ap (λ d. events_of {A = Global} d (lines c.parts_of.result.1.now)) c.devices.ensures.list in
+    let given = c.as_slice.ensures.value in
+    let made :
+    c.in_ok-settings.events.items ≡ events_of c.in_ok-settings.settings.devices (lines (event_part c.as_slice.result.now)) =
+    c.in_ok-settings.ensures.events in
     let answered = answered-by Global _ _ c.in_ok-input.input.items _ _ _ _ c.in_ok-input.ensures.ok
-    c.in_ok-input.ensures.consumed first second c.in_ok-settings.ensures.given refl in
+    c.in_ok-input.ensures.consumed (ap settings_part given) (ap event_part given) c.in_ok-settings.ensures.given refl in
     runs-in_part Global _ _ _ _ _ _ _ answered (rw made at (c.tell_alone.ensures.front failed))

@@ -1,8 +1,9 @@
-use Rattle.std.proofs.Common.{rules, ap, append_assoc, arith, refl, sym, ◌≡◌, ◌++◌, ◌∙◌, subst, [], IfOk}
+use Rattle.std.proofs.Common.{rules, ap, append_assoc, arith, refl, sym, ◌≡◌, ◌++◌, ◌∙◌, subst, [], IfOk, IfErr, ◌≢◌}
 use Rattle.server_core.proofs.Replays.{none_left, one_more}
-use Rattle.run_texts.specs.WorkersRun.{kept, IsDone, IsDoneButPass, AreDone, IsClosing}
+use Rattle.run_texts.specs.WorkersRun.{kept, IsDone, IsDoneButPass, AreDone, IsClosing, IsClosingFault}
 use Rattle.run_texts.specs.Bookings.{open_receipts}
-use Rattle.run_texts.proofs.DoneLemmas.{passed_then, done_behind, finished_with}
+use Rattle.text_words.specs.declared.fault.TextFault.TheVariants.{NoMemory}
+use Rattle.run_texts.proofs.DoneLemmas.{passed_then, done_behind, finished_with, apart_with}
 use Rattle.run_texts.proofs.station_run.Shift.play.Goals as goal
 use Rattle.run_texts.proofs.station_run.Shift.play.Goals.{in-None-left, in-Some-left+in-Ok-pass}
 
@@ -54,3 +55,16 @@ returns-clause-played g c =
     c.close.ensures.entries
     (subst (λ ids. IfOk c.close.result (λ played. IsClosing ids (open_receipts last.shift.receipts.bookings.items)
     played.totals.items played.books.items)) last.invariant.station c.close.ensures.books)
+
+pub returns-clause-apart : goal.returns-clause-apart
+returns-clause-apart g c =
+    let last = c.loop-event in
+    let all = none_left last.yielded last.event-iterator.rest.items c.args.events.items
+    (omega (arith, last.event-iterator.rest.ok.0, c.in-None.ensures.steps.0)) last.invariant.left in
+    apart_with c.args.self.station c.args.events.items last.shift.receipts.bookings.items last.shift.entries.items
+    c.close.result
+    (subst (λ es. AreDone 0 es (kept [] []) (kept last.shift.receipts.bookings.items last.shift.entries.items)) all
+    last.invariant.done)
+    (subst (λ ids. IfErr c.close.result (λ fault. fault ≢ NoMemory
+    → IsClosingFault ids (open_receipts last.shift.receipts.bookings.items) fault)) last.invariant.station
+    c.close.ensures.cause)
