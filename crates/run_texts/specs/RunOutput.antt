@@ -133,3 +133,25 @@ abbrev pub RunsByWorkers : Option (List ℕ) → Option (List ℕ) → Option (L
 RunsByWorkers None left_after before after refused =
     (settings : SettingLists) × (events : List (Event Global)) × IsWorkersRun settings events before after refused
 RunsByWorkers (Some bytes) left_after before after refused = IsRunByWorkers bytes left_after before after refused
+
+-- the writer took a front of the lines of such a run
+pub record IsWorkersRunInPart (settings : SettingLists) (events : List (Event Global)) (before after : Option (List ℕ))
+    : Type 0 where
+  pub entries : List (Entry Global)
+  pub totals : List (ℕ × Totals)
+  pub books : List Book
+  pub played : IsPlayed settings.gateways events entries totals books
+  pub written : WritesFront before after (text_of (replay_lines entries (map gateway_of books)))
+
+-- all these bytes were read, and say settings; the rest of them is event lines
+pub record IsRunByWorkersInPart (bytes : List ℕ) (left_after before after : Option (List ℕ)) : Type 0 where
+  pub settings : SettingLists
+  pub given : settings_in (settings_part bytes) ≡ Ok settings
+  pub consumed : Consumes (Some bytes) left_after bytes
+  pub run : IsWorkersRunInPart settings (events_of settings.devices (lines (event_part bytes))) before after
+
+-- where a write failed, the same where the reader tells what it has left; where it doesn't, of some settings and events
+abbrev pub RunsByWorkersInPart : Option (List ℕ) → Option (List ℕ) → Option (List ℕ) → Option (List ℕ) → Type 0
+RunsByWorkersInPart None left_after before after =
+    (settings : SettingLists) × (events : List (Event Global)) × IsWorkersRunInPart settings events before after
+RunsByWorkersInPart (Some bytes) left_after before after = IsRunByWorkersInPart bytes left_after before after

@@ -6,7 +6,7 @@ ghost use Rattle.run_lines.specs.RunInput.{KeepsInputLimit, settings_part, event
 ghost use Rattle.run_lines.specs.RunEvents.{events_of};
 ghost use Rattle.run_texts.specs.RunSettings.{settings_in, IsRefusedBy};
 ghost use Rattle.run_texts.specs.RunOutput.{Runs, RunsInPart, NamesFault, NamesFaultOfWorkers, NamesWorkers, IsPlayFault};
-ghost use Rattle.run_texts.specs.RunOutput.{IsWorkersRun, RunsByWorkers, NamesApart};
+ghost use Rattle.run_texts.specs.RunOutput.{IsWorkersRun, IsWorkersRunInPart, RunsByWorkers, RunsByWorkersInPart, NamesApart};
 ghost use Rattle.run_texts.specs.WorkersRun.{IsPlayed, IsPlayedApart};
 ghost use Rattle.run_texts.specs.PassAnswers.{IsStaffed};
 
@@ -58,6 +58,8 @@ where
         → RunsInPart Global (R.left reader.old) (R.left reader.new) (W.taken writer.old) (W.taken writer.new) }
     ensures played { 0 < workers → IfOk result (RunsByWorkers (R.left reader.old) (R.left reader.new) (W.taken writer.old)
         (W.taken writer.new)) }
+    ensures part { 0 < workers → result ≡ Err TextFault.Write
+        → RunsByWorkersInPart (R.left reader.old) (R.left reader.new) (W.taken writer.old) (W.taken writer.new) }
     ensures settings { workers ≡ 0 → NamesFault (R.left reader.old) result }
     ensures named { 0 < workers → workers ≤ 16 → NamesFaultOfWorkers (R.left reader.old) result }
     ensures apart { 0 < workers → workers ≤ 16 → NamesApart (R.left reader.old) result }
@@ -129,6 +131,8 @@ where
     ensures played { IfOk result
         (λ refused. IsWorkersRun settings.now events.items (W.taken writer.old) (W.taken writer.new) refused) }
     ensures untouched { IfErr result (λ fault. fault ≢ TextFault.Write → writer.new ≡ writer.old) }
+    ensures part { result ≡ Err TextFault.Write
+        → IsWorkersRunInPart settings.now events.items (W.taken writer.old) (W.taken writer.new) }
     ensures fault { IfErr result (λ fault. fault ≢ TextFault.Write → IsPlayFault fault) }
     ensures apart { IfErr result (λ fault. fault ≢ TextFault.Write → fault ≢ TextFault.NoMemory
         → IsPlayedApart settings.now.gateways events.items fault) }
