@@ -1,15 +1,17 @@
 -- What a server that listens has come to, turn by turn.
-use Rattle.std.proofs.Common.{◌≡◌, ℕ, ◌+◌, ◌*◌, ◌^◌, ◌≤◌, ◌<◌, ◌⊎◌, inl, inr, Bool, false, ◌||◌, Some, None, Result, Ok, Err}
-use Rattle.std.proofs.Common.{IfOk, IfErr, List, [], ◌∷◌, ◌++◌, length, Option}
-use Rattle.std.proofs.Common.{refl, sym, ap, ◌∙◌, arith, subst, append-nil}
+use Rattle.std.proofs.Common.{◌≡◌, ℕ, ◌+◌, ◌*◌, ◌^◌, ◌≤◌, ◌<◌, inl, inr, Bool, ◌||◌, Some, None, Result, Ok, Err}
+use Rattle.std.proofs.Common.{IfOk, IfErr, List, [], ◌∷◌, ◌++◌, Option}
+use Rattle.std.proofs.Common.{refl, sym, ap, ◌∙◌, arith, subst}
 use Rattle.std.specs.Global.{Global}
 use Rattle.std.specs.Io.KnownBytes.{Appends}
 use Rattle.text_lines.specs.Line.{text_of}
-use Rattle.text_lines.specs.Writing.{WritesFront, WritesAllBut-refl, Appends-from_all}
+use Rattle.text_lines.specs.Writing.{WritesAllBut-refl, Appends-from_all}
+use Rattle.text_words.specs.declared.fault.TextFault.{TextFault}
 use Rattle.text_words.specs.Words.{has_refusal}
 use Rattle.server_desk.specs.declared.setting.DeviceSetting.{DeviceSetting}
 use Rattle.server_core.specs.declared.entry.Entry.{Entry}
 use Rattle.server_core.specs.declared.event.Event.{Event}
+use Rattle.run_lines.specs.declared.datagram.TheConstants.{DATAGRAM_ROOM}
 use Rattle.run_lines.specs.Datagram.{datagram_event}
 use Rattle.run_lines.specs.ReplayText.{entry_lines}
 use Rattle.run_texts.specs.WorkersRun.{kept, IsDone}
@@ -19,16 +21,16 @@ use Rattle.std.proofs.Math.Bool.{or-false}
 use Rattle.run_texts.specs.declared.receipts.Booking.{Booking}
 use Rattle.listen_texts.specs.Receives.{Received, Seen, AreMade}
 use Rattle.listen_texts.specs.Turns.{Said, nothing, said_both, IsAnswered, IsTurn, AreTurns}
-use Rattle.listen_texts.specs.Listening.{IsReport, IsHeard, IsHeardInPart, Hears, HearsInPart}
-use Rattle.listen_texts.specs.Steps.{Standing, opened, HasSaid, Says, SaysInPart, Turns, TurnsInPart, Reports, ReportsInPart}
+use Rattle.listen_texts.specs.Listening.{IsReport, Hears, HearsInPart, SaysInPart, ReportsInPart}
+use Rattle.listen_texts.specs.Steps.{Standing, opened, HasSaid, Says, Turns, TurnsInPart, Reports}
 use Rattle.listen_texts.proofs.SourceLemmas.{made_none, made_more}
-use Rattle.listen_texts.proofs.SaidLemmas.{turns_more, appends_both, front_behind, front_alone, refused_both}
+use Rattle.listen_texts.proofs.SaidLemmas.{turns_more, appends_both, refused_both}
 
 -- so many turns have led here
 pub record HasListened (devices : List DeviceSetting) (turns : ℕ) (seen seen_now : Seen) (now : Standing)
     (before after : Option (List ℕ)) : Type 0 where
   pub received : List Received
-  pub made : AreMade turns seen seen_now received
+  pub made : AreMade DATAGRAM_ROOM turns seen seen_now received
   pub said : Said
   pub turned : AreTurns devices 1 received [] now.bookings said
   pub tally : now.tally ≡ tally_of said.entries
@@ -41,7 +43,7 @@ pub listened_none : (devices : List DeviceSetting) (seen : Seen) (a : Option (Li
 listened_none devices seen a =
     record {
       received = [];
-      made = made_none seen;
+      made = made_none DATAGRAM_ROOM seen;
       said = nothing;
       turned = (refl, refl);
       tally = refl;
@@ -87,7 +89,7 @@ module _ (devices : List DeviceSetting) (turns : ℕ) (s0 s1 : Seen) (t : Standi
       let step = turned.2.2 in
       record {
         received = so_far.received ++ turned.0 ∷ [];
-        made = made_more turns s0 s1 s2 so_far.received turned.0 so_far.made turned.1;
+        made = made_more DATAGRAM_ROOM turns s0 s1 s2 so_far.received turned.0 so_far.made turned.1;
         said = said_both so_far.said more;
         turned = next_turns turned.0 u.bookings more turned.2.1;
         tally = step.tally ∙ ap (λ k. tally_sum k (tally_of more.entries)) so_far.tally
@@ -117,84 +119,38 @@ module _ (devices : List DeviceSetting) (turns : ℕ) (s0 s1 : Seen) (t : Standi
       )
 
   -- all turns, and the report in part
-  pub listened_all_in_part : (ids : List ℕ) (c : Option (List ℕ)) → ReportsInPart ids t b c
-      → HearsInPart turns ids devices s0 s1 a c
-  listened_all_in_part ids c (inl same) = (
-    turns,
-    omega arith,
-    so_far.received,
-    so_far.made,
-    record {
-      first = so_far.received;
-      more = [];
-      parts = sym (append-nil so_far.received);
-      one = omega arith;
-      bookings = t.bookings;
-      said = so_far.said;
-      report = [];
-      turns = so_far.turned;
-      reported = inl refl;
-      written = front_alone a b c so_far.said.lines so_far.written same;
-    },
-  )
-  listened_all_in_part ids c (inr reports) = (
-    turns,
-    omega arith,
-    so_far.received,
-    so_far.made,
-    record {
-      first = so_far.received;
-      more = [];
-      parts = sym (append-nil so_far.received);
-      one = omega arith;
-      bookings = t.bookings;
-      said = so_far.said;
-      report = reports.0;
-      turns = so_far.turned;
-      reported = inr (subst (λ k. IsReport ids t.bookings k reports.0) so_far.tally reports.1);
-      written = front_behind a b c so_far.said.lines reports.0 so_far.written reports.2;
-    },
-  )
+  pub listened_all_in_part : (ids : List ℕ) (c : Option (List ℕ)) (fault : TextFault)
+      → ReportsInPart ids t.bookings t.tally b c fault → HearsInPart turns ids devices s0 s1 a c fault
+  listened_all_in_part ids c fault stopped =
+      inr (record {
+        received = so_far.received;
+        made = so_far.made;
+        bookings = t.bookings;
+        said = so_far.said;
+        turned = so_far.turned;
+        between = b;
+        written = so_far.written;
+        stopped = subst (λ k. ReportsInPart ids t.bookings k b c fault) so_far.tally stopped;
+      })
 
   -- one turn more in part, of so many that are left
-  pub listened_more_in_part : (most : ℕ) (ids : List ℕ) (s2 : Seen) (c : Option (List ℕ)) → turns < most
-      → TurnsInPart (λ r. IsTurn devices (turns + 1) r t.bookings) s1 s2 b c → HearsInPart most ids devices s0 s2 a c
-  listened_more_in_part most ids s2 c less stopped = (
-    turns + 1,
-    omega arith,
-    so_far.received ++ stopped.0 ∷ [],
-    made_more turns s0 s1 s2 so_far.received stopped.0 so_far.made stopped.1,
-    part stopped.2,
-  ) where
-    part : SaysInPart (IsTurn devices (turns + 1) stopped.0 t.bookings) b c
-        → IsHeardInPart ids devices (so_far.received ++ stopped.0 ∷ []) a c
-    part (inl same) =
-        record {
-          first = so_far.received;
-          more = stopped.0 ∷ [];
-          parts = refl;
-          one = omega arith;
-          bookings = t.bookings;
-          said = so_far.said;
-          report = [];
-          turns = so_far.turned;
-          reported = inl refl;
-          written = front_alone a b c so_far.said.lines so_far.written same;
-        }
-    part (inr said) =
-        record {
-          first = so_far.received ++ stopped.0 ∷ [];
-          more = [];
-          parts = sym (append-nil (so_far.received ++ stopped.0 ∷ []));
-          one = omega arith;
-          bookings = said.0;
-          said = said_both so_far.said said.1;
-          report = [];
-          turns = next_turns stopped.0 said.0 said.1 said.2;
-          reported = inl refl;
-          written = subst (λ l. WritesFront a c (text_of l)) (sym (append-nil (so_far.said.lines ++ said.1.lines)))
-              (front_behind a b c so_far.said.lines said.1.lines so_far.written said.3);
-        }
+  pub listened_more_in_part : (most : ℕ) (ids : List ℕ) (s2 : Seen) (c : Option (List ℕ)) (fault : TextFault) → turns < most
+      → TurnsInPart (λ r. IsTurn devices (turns + 1) r t.bookings) s1 s2 b c fault → HearsInPart most ids devices s0 s2 a c fault
+  listened_more_in_part most ids s2 c fault less stopped =
+      inl (record {
+        turn = turns + 1;
+        within = omega arith;
+        received = so_far.received;
+        last = stopped.0;
+        made = made_more DATAGRAM_ROOM turns s0 s1 s2 so_far.received stopped.0 so_far.made stopped.1;
+        given = stopped.2;
+        bookings = t.bookings;
+        said = so_far.said;
+        turned = so_far.turned;
+        between = b;
+        written = so_far.written;
+        stopped = stopped.3;
+      })
 
   -- the same of the call that writes the report
   pub listened_closed : {E : Type 0} (ids same_ids : List ℕ) (c : Option (List ℕ)) (r : Result Bool E) → ids ≡ same_ids
@@ -203,11 +159,11 @@ module _ (devices : List DeviceSetting) (turns : ℕ) (s0 s1 : Seen) (t : Standi
       subst (λ l. Hears turns l devices s0 s1 a c refused) e (listened_all ids c refused told reports)
   listened_closed ids same_ids c (Err fault) e told reports = tt
 
-  pub listened_closed_in_part : {E : Type 0} (ids same_ids : List ℕ) (c : Option (List ℕ)) (r : Result Bool E) → ids ≡ same_ids
-      → IfErr r (λ x. ReportsInPart ids t b c) → IfErr r (λ x. HearsInPart turns same_ids devices s0 s1 a c)
+  pub listened_closed_in_part : (ids same_ids : List ℕ) (c : Option (List ℕ)) (r : Result Bool TextFault) → ids ≡ same_ids
+      → IfErr r (ReportsInPart ids t.bookings t.tally b c) → IfErr r (HearsInPart turns same_ids devices s0 s1 a c)
   listened_closed_in_part ids same_ids c (Ok refused) e reports = tt
   listened_closed_in_part ids same_ids c (Err fault) e reports =
-      subst (λ l. HearsInPart turns l devices s0 s1 a c) e (listened_all_in_part ids c reports)
+      subst (λ l. HearsInPart turns l devices s0 s1 a c fault) e (listened_all_in_part ids c fault reports)
 
 abbrev tally_at : ℕ → ℕ → ℕ → Tally
 tally_at sent unanswered silent = record { sent = sent; unanswered = unanswered; silent = silent }
@@ -241,13 +197,13 @@ nothing_asked devices turn datagram event s a asked none = (
 )
 
 -- what is said in part to the event that a datagram asks for
-pub asked_in_part : {X E : Type 0} (devices : List DeviceSetting) (turn : ℕ) (datagram : List ℕ) (asked : Option (Event Global))
-    (event : Event Global) (bookings : List Booking) (a b : Option (List ℕ)) (r : Result X E)
+pub asked_in_part : {X : Type 0} (devices : List DeviceSetting) (turn : ℕ) (datagram : List ℕ) (asked : Option (Event Global))
+    (event : Event Global) (bookings : List Booking) (a b : Option (List ℕ)) (r : Result X TextFault)
     → asked ≡ datagram_event devices turn datagram → asked ≡ Some event
-    → IfErr r (λ x. SaysInPart (IsAnswered turn (Some event) bookings) a b)
-    → IfErr r (λ x. SaysInPart (IsTurn devices turn (Some datagram) bookings) a b)
+    → IfErr r (SaysInPart (IsAnswered turn (Some event) bookings) a b)
+    → IfErr r (SaysInPart (IsTurn devices turn (Some datagram) bookings) a b)
 asked_in_part devices turn datagram asked event bookings a b r is some h =
-    subst (λ e. IfErr r (λ x. SaysInPart (IsAnswered turn e bookings) a b)) (sym some ∙ is) h
+    subst (λ e. IfErr r (SaysInPart (IsAnswered turn e bookings) a b)) (sym some ∙ is) h
 
 -- an event was answered by the lines that were told for it
 pub answered_by : (turn : ℕ) (event : Event Global) (old new : List Booking) (before told taken : List (Entry Global))

@@ -1,13 +1,12 @@
 -- What was said in some turns, and then in others.
-use Rattle.std.proofs.Common.{◌≡◌, ℕ, ◌+◌, ◌≤◌, ◌*◌, ◌^◌, Bool, false, ◌||◌, List, [], ◌∷◌, ◌++◌, length, Option, Some, None}
+use Rattle.std.proofs.Common.{◌≡◌, ℕ, ◌+◌, Bool, ◌||◌, List, [], ◌∷◌, ◌++◌, length, Option}
 use Rattle.std.proofs.Common.{refl, sym}
 use Rattle.std.proofs.Common.{ap, ◌∙◌, arith, subst, append_assoc, append-nil}
 use Rattle.std.specs.Global.{Global}
 use Rattle.std.specs.Io.KnownBytes.{Appends}
 use Rattle.std.proofs.lemmas.List.Folds.{list_any-append}
 use Rattle.text_lines.specs.Line.{text_of, text_of-append}
-use Rattle.text_lines.specs.Writing.{WritesAllBut, WritesFront, WritesAllBut-from_all, WritesAllBut-more, Appends-after}
-use Rattle.text_lines.specs.Writing.{WritesFront-after}
+use Rattle.text_lines.specs.Writing.{WritesAllBut-from_all, WritesAllBut-more, Appends-after}
 use Rattle.text_words.specs.Words.{is_refusal, has_refusal}
 use Rattle.server_desk.specs.declared.setting.DeviceSetting.{DeviceSetting}
 use Rattle.server_core.specs.declared.entry.Entry.{Entry}
@@ -59,22 +58,6 @@ appends_both a b c first second one two =
     subst (Appends a c) (sym (text_of-append first second))
     (Appends-after a b c (text_of first ++ text_of second) (text_of second)
     (WritesAllBut-more a b (text_of first) [] (text_of second) (WritesAllBut-from_all a b (text_of first) one)) two)
-
--- and of the others a front
-pub front_behind : (a b c : Option (List ℕ)) (first second : List (List ℕ)) → Appends a b (text_of first)
-    → WritesFront b c (text_of second) → WritesFront a c (text_of (first ++ second))
-front_behind a b c first second one two =
-    subst (WritesFront a c) (sym (text_of-append first second))
-    (WritesFront-after a b c (text_of first ++ text_of second) (text_of second)
-    (WritesAllBut-more a b (text_of first) [] (text_of second) (WritesAllBut-from_all a b (text_of first) one)) two)
-
--- and nothing of the others
-pub front_alone : (a b c : Option (List ℕ)) (lines : List (List ℕ)) → Appends a b (text_of lines) → c ≡ b
-    → WritesFront a c (text_of (lines ++ []))
-front_alone a b c lines one same =
-    subst (λ d. WritesFront a d (text_of (lines ++ []))) (sym same)
-    (subst (λ l. WritesFront a b (text_of l)) (sym (append-nil lines))
-    ([], WritesAllBut-from_all a b (text_of lines) one))
 
 -- a line of one or of the other begins with `no` or `bad`
 pub refused_both : (first second : List (List ℕ)) (old new : Bool) → old ≡ has_refusal first

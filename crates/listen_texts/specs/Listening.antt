@@ -1,4 +1,4 @@
-use Rattle.std.specs.Prelude.{ℕ, ◌≡◌, ◌≤◌, ◌⊎◌, ⊤, Bool, List, [], ◌++◌, map, length, codes, Option, Result, Ok, Err}
+use Rattle.std.specs.Prelude.{ℕ, ◌≡◌, ◌≤◌, ◌⊎◌, ⊤, Bool, List, [], ◌∷◌, ◌++◌, map, Option, IsSome, Result, Err}
 use Rattle.std.specs.Io.KnownBytes.{Appends}
 use Rattle.text_lines.specs.Line.{text_of}
 use Rattle.text_lines.specs.Writing.{WritesFront}
@@ -14,12 +14,13 @@ use Rattle.text_words.specs.Words.{has_refusal}
 use Rattle.run_lines.specs.declared.tally.Tally.{Tally}
 use Rattle.run_lines.specs.Tally.{tally_of}
 use Rattle.run_lines.specs.ReplayText.{report_of}
+use Rattle.run_lines.specs.declared.datagram.TheConstants.{DATAGRAM_ROOM}
 use Rattle.run_texts.specs.declared.receipts.Booking.{Booking}
 use Rattle.run_texts.specs.Bookings.{open_receipts}
 use Rattle.run_texts.specs.RunOutput.{IsFinishName}
-use Rattle.run_texts.specs.WorkersRun.{IsClosing}
+use Rattle.run_texts.specs.WorkersRun.{IsClosing, IsClosingFault}
 use Rattle.listen_texts.specs.Receives.{Received, Seen, AreMade}
-use Rattle.listen_texts.specs.Turns.{Said, AreTurns}
+use Rattle.listen_texts.specs.Turns.{Said, IsTurn, AreTurns}
 
 -- What a server that listens writes: its answers, turn by turn, and a report (docs/FORMATS.md, "airbook listen").
 
@@ -43,42 +44,73 @@ pub record IsHeard (ids : List ℕ) (devices : List DeviceSetting) (received : L
   pub written : Appends before after (text_of (said.lines ++ report))
   pub told : refused ≡ has_refusal (said.lines ++ report)
 
--- the writer took a front of the answers to what was first received, and of the report, if it came to one; at most one receive
--- more was made, for whose answer there was no memory
-pub record IsHeardInPart (ids : List ℕ) (devices : List DeviceSetting) (received : List Received)
-    (before after : Option (List ℕ)) : Type 0 where
-  pub first : List Received
-  pub more : List Received
-  pub parts : received ≡ first ++ more
-  pub one : length more ≤ 1
-  pub bookings : List Booking
-  pub said : Said
-  pub report : List (List ℕ)
-  pub turns : AreTurns devices 1 first [] bookings said
-  pub reported : (report ≡ []) ⊎ IsReport ids bookings (tally_of said.entries) report
-  pub written : WritesFront before after (text_of (said.lines ++ report))
-
--- just so many receives were made, and answered so
+-- just so many receives were made, each with the room for a datagram, and answered so
 abbrev pub Hears : ℕ → List ℕ → List DeviceSetting → Seen → Seen → Option (List ℕ) → Option (List ℕ) → Bool → Type 0
 Hears turns ids devices old new before after refused =
-    (received : List Received) × AreMade turns old new received × IsHeard ids devices received before after refused
-
--- at most so many were, and answered in part
-abbrev pub HearsInPart : ℕ → List ℕ → List DeviceSetting → Seen → Seen → Option (List ℕ) → Option (List ℕ) → Type 0
-HearsInPart turns ids devices old new before after =
-    (made : ℕ) × (made ≤ turns) × (received : List Received) × AreMade made old new received
-    × IsHeardInPart ids devices received before after
+    (received : List Received) × AreMade DATAGRAM_ROOM turns old new received × IsHeard ids devices received before after refused
 
 -- at a server with these settings
 abbrev pub Listens : ℕ → SettingLists → Seen → Seen → Option (List ℕ) → Option (List ℕ) → Bool → Type 0
 Listens turns settings old new before after refused =
     (ids : List ℕ) × AreInOrder settings.gateways ids × Hears turns ids settings.devices old new before after refused
 
--- the same in part, or there was no memory for the server, and nothing was received and nothing written
-abbrev pub ListensInPart : ℕ → SettingLists → Seen → Seen → Option (List ℕ) → Option (List ℕ) → Type 0
-ListensInPart turns settings old new before after =
-    ((new ≡ old) × (after ≡ before))
-    ⊎ ((ids : List ℕ) × AreInOrder settings.gateways ids × HearsInPart turns ids settings.devices old new before after)
+-- what was written of what is to be said so, by the fault: a front of it where a call of the writer failed, and nothing where a
+-- growth was refused
+abbrev pub SaysInPart : (List Booking → Said → Type 0) → Option (List ℕ) → Option (List ℕ) → TextFault → Type 0
+SaysInPart IsSaid before after Write =
+    (bookings : List Booking) × (said : Said) × IsSaid bookings said × WritesFront before after (text_of said.lines)
+SaysInPart IsSaid before after NoMemory = after ≡ before
+SaysInPart IsSaid before after other = ⊥
+
+-- what was written of the report: a front of it where a call of the writer failed, and nothing where a growth was refused, or
+-- where the books don't go with what was booked, as the fault's name says
+abbrev pub ReportsInPart : List ℕ → List Booking → Tally → Option (List ℕ) → Option (List ℕ) → TextFault → Type 0
+ReportsInPart ids bookings tally before after Write =
+    (report : List (List ℕ)) × IsReport ids bookings tally report × WritesFront before after (text_of report)
+ReportsInPart ids bookings tally before after NoMemory = after ≡ before
+ReportsInPart ids bookings tally before after (Settings name) =
+    (after ≡ before) × IsClosingFault ids (open_receipts bookings) (Settings name)
+ReportsInPart ids bookings tally before after other = ⊥
+
+-- a server with these devices stopped in one of so many turns: all answers of the turns before were written, and its own in part;
+-- a growth was refused only where it received a datagram
+pub record StopsInTurn (turns : ℕ) (devices : List DeviceSetting) (old new : Seen) (before after : Option (List ℕ))
+    (fault : TextFault) : Type 0 where
+  pub turn : ℕ
+  pub within : turn ≤ turns
+  pub received : List Received
+  pub last : Received
+  pub made : AreMade DATAGRAM_ROOM turn old new (received ++ last ∷ [])
+  pub given : fault ≡ NoMemory → IsSome last
+  pub bookings : List Booking
+  pub said : Said
+  pub turned : AreTurns devices 1 received [] bookings said
+  pub between : Option (List ℕ)
+  pub written : Appends before between (text_of said.lines)
+  pub stopped : SaysInPart (IsTurn devices turn last bookings) between after fault
+
+-- it stopped after just so many turns, at a station of these gateways: all answers were written, and the report in part
+pub record StopsAtReport (turns : ℕ) (ids : List ℕ) (devices : List DeviceSetting) (old new : Seen)
+    (before after : Option (List ℕ)) (fault : TextFault) : Type 0 where
+  pub received : List Received
+  pub made : AreMade DATAGRAM_ROOM turns old new received
+  pub bookings : List Booking
+  pub said : Said
+  pub turned : AreTurns devices 1 received [] bookings said
+  pub between : Option (List ℕ)
+  pub written : Appends before between (text_of said.lines)
+  pub stopped : ReportsInPart ids bookings (tally_of said.entries) between after fault
+
+-- it stopped in a turn or after all of them
+abbrev pub HearsInPart : ℕ → List ℕ → List DeviceSetting → Seen → Seen → Option (List ℕ) → Option (List ℕ) → TextFault → Type 0
+HearsInPart turns ids devices old new before after fault =
+    StopsInTurn turns devices old new before after fault ⊎ StopsAtReport turns ids devices old new before after fault
+
+-- at a server with these settings; or a growth was refused to the server itself, and nothing was received and nothing written
+abbrev pub ListensInPart : ℕ → SettingLists → Seen → Seen → Option (List ℕ) → Option (List ℕ) → TextFault → Type 0
+ListensInPart turns settings old new before after fault =
+    ((fault ≡ NoMemory) × (new ≡ old) × (after ≡ before))
+    ⊎ ((ids : List ℕ) × AreInOrder settings.gateways ids × HearsInPart turns ids settings.devices old new before after fault)
 
 -- so many turns as a server may listen for
 abbrev pub IsWithinLimit : ℕ → Type 0

@@ -1,4 +1,4 @@
-use Rattle.std.specs.Prelude.{ℕ, ◌≡◌, ◌+◌, ◌-◌, ◌^◌, min, max, ⊤, List, ◌++◌, take, length, Option, Some, None}
+use Rattle.std.specs.Prelude.{ℕ, ◌≡◌, ◌+◌, ◌-◌, ◌^◌, min, max, ⊤, List, ◌++◌, map, take, length, Option, Some, None}
 use Rattle.std.specs.Option.{option_map}
 
 -- What a source of datagrams gives, receive by receive.
@@ -11,23 +11,28 @@ Received = Option (List ℕ)
 abbrev pub given : Option ℕ → List ℕ → Received
 given count into = option_map (λ n. take n into) count
 
--- what is known of a source: how many receives were made, and what each of them gave, if the source tells it
+-- what is known of a source: how many receives were made, and for each of them how many bytes there was room for and what it
+-- gave, if the source tells it
 pub record Seen : Type 0 where
   pub receives : ℕ
-  pub received : Option (List Received)
+  pub received : Option (List (ℕ × Received))
 
--- what more was received stands behind what was received before, where the source tells it
-abbrev pub AreBehind : List Received → Option (List Received) → Option (List Received) → Type 0
-AreBehind more None new = ⊤
-AreBehind more (Some old) None = ⊥
-AreBehind more (Some old) (Some new) = new ≡ old ++ more
+-- receives that gave this, each of them with so much room
+abbrev pub with_room : ℕ → List Received → List (ℕ × Received)
+with_room room received = map (λ r. (room, r)) received
+
+-- what more was received, with so much room, stands behind what was received before, where the source tells it
+abbrev pub AreBehind : ℕ → List Received → Option (List (ℕ × Received)) → Option (List (ℕ × Received)) → Type 0
+AreBehind room more None new = ⊤
+AreBehind room more (Some old) None = ⊥
+AreBehind room more (Some old) (Some new) = new ≡ old ++ with_room room more
 
 -- a count that has risen by so much, but not above 2^64 - 1, where it stays
 abbrev pub risen : ℕ → ℕ → ℕ
 risen count more = min (count + more) (max count (2 ^ 64 - 1))
 
--- so many receives were made, and gave this
-pub record AreMade (turns : ℕ) (old new : Seen) (received : List Received) : Type 0 where
+-- so many receives were made, each of them with room for so many bytes, and gave this
+pub record AreMade (room turns : ℕ) (old new : Seen) (received : List Received) : Type 0 where
   pub number : length received ≡ turns
   pub counted : new.receives ≡ risen old.receives turns
-  pub told : AreBehind received old.received new.received
+  pub told : AreBehind room received old.received new.received

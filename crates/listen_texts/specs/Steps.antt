@@ -1,14 +1,16 @@
-use Rattle.std.specs.Prelude.{ℕ, ◌≡◌, ◌^◌, ◌⊎◌, Bool, false, ◌||◌, List, [], ◌∷◌, Option}
+use Rattle.std.specs.Prelude.{ℕ, ◌≡◌, ◌^◌, Bool, false, ◌||◌, List, [], ◌∷◌, Option, IsSome}
 use Rattle.std.specs.Io.KnownBytes.{Appends}
 use Rattle.text_lines.specs.Line.{text_of}
-use Rattle.text_lines.specs.Writing.{WritesFront}
+use Rattle.text_words.specs.declared.fault.TextFault.{TextFault}
+use Rattle.text_words.specs.declared.fault.TextFault.TheVariants.{NoMemory}
 use Rattle.text_words.specs.Words.{has_refusal}
+use Rattle.run_lines.specs.declared.datagram.TheConstants.{DATAGRAM_ROOM}
 use Rattle.run_lines.specs.declared.tally.Tally.{Tally}
 use Rattle.run_lines.specs.Tally.{tally_of, tally_sum, IsTallyUpTo}
 use Rattle.run_texts.specs.declared.receipts.Booking.{Booking}
 use Rattle.listen_texts.specs.Receives.{Received, Seen, AreMade}
 use Rattle.listen_texts.specs.Turns.{Said}
-use Rattle.listen_texts.specs.Listening.{IsReport}
+use Rattle.listen_texts.specs.Listening.{IsReport, SaysInPart}
 
 -- What the steps of a server that listens do.
 
@@ -36,31 +38,21 @@ pub record HasSaid (said : Said) (old new : Standing) (before after : Option (Li
 abbrev pub Says : (List Booking → Said → Type 0) → Standing → Standing → Option (List ℕ) → Option (List ℕ) → Type 0
 Says IsSaid old new before after = (said : Said) × IsSaid new.bookings said × HasSaid said old new before after
 
--- of that a front was written, or nothing
-abbrev pub SaysInPart : (List Booking → Said → Type 0) → Option (List ℕ) → Option (List ℕ) → Type 0
-SaysInPart IsSaid before after =
-    (after ≡ before)
-    ⊎ ((bookings : List Booking) × (said : Said) × IsSaid bookings said × WritesFront before after (text_of said.lines))
-
 -- the report was written
 abbrev pub Reports : List ℕ → Standing → Option (List ℕ) → Option (List ℕ) → Type 0
 Reports ids s before after =
     (report : List (List ℕ)) × IsReport ids s.bookings s.tally report × (has_refusal report ≡ false)
     × Appends before after (text_of report)
 
--- a front of it was written, or nothing
-abbrev pub ReportsInPart : List ℕ → Standing → Option (List ℕ) → Option (List ℕ) → Type 0
-ReportsInPart ids s before after =
-    (after ≡ before)
-    ⊎ ((report : List (List ℕ)) × IsReport ids s.bookings s.tally report × WritesFront before after (text_of report))
-
 -- one receive was made, and what is to be said to what it gave was
 abbrev pub Turns : (Received → List Booking → Said → Type 0) → Seen → Seen → Standing → Standing → Option (List ℕ)
     → Option (List ℕ) → Type 0
 Turns IsSaid seen seen_after old new before after =
-    (received : Received) × AreMade 1 seen seen_after (received ∷ []) × Says (IsSaid received) old new before after
+    (received : Received) × AreMade DATAGRAM_ROOM 1 seen seen_after (received ∷ []) × Says (IsSaid received) old new before after
 
--- or a front of that
-abbrev pub TurnsInPart : (Received → List Booking → Said → Type 0) → Seen → Seen → Option (List ℕ) → Option (List ℕ) → Type 0
-TurnsInPart IsSaid seen seen_after before after =
-    (received : Received) × AreMade 1 seen seen_after (received ∷ []) × SaysInPart (IsSaid received) before after
+-- or it was said in part; a growth was refused only where a datagram was received
+abbrev pub TurnsInPart : (Received → List Booking → Said → Type 0) → Seen → Seen → Option (List ℕ) → Option (List ℕ)
+    → TextFault → Type 0
+TurnsInPart IsSaid seen seen_after before after fault =
+    (received : Received) × AreMade DATAGRAM_ROOM 1 seen seen_after (received ∷ []) × (fault ≡ NoMemory → IsSome received)
+    × SaysInPart (IsSaid received) before after fault

@@ -46,7 +46,7 @@ where
     H::Hasher: Send + Sync,
     ensures ok { IfOk result (Listens turns settings.now (S.seen source.old) (S.seen source.new) (W.taken writer.old)
         (W.taken writer.new)) }
-    ensures front { IsStaffed workers → IsWithinLimit turns → IfErr result (λ _. ListensInPart turns settings.now
+    ensures front { IsStaffed workers → IsWithinLimit turns → IfErr result (ListensInPart turns settings.now
         (S.seen source.old) (S.seen source.new) (W.taken writer.old) (W.taken writer.new)) }
     ensures fault { IsStaffed workers → IsWithinLimit turns → IfErr result IsListenFault }
     ensures workers { ¬ (IsStaffed workers)
@@ -94,8 +94,8 @@ where
     requires turns { IsWithinLimit turns }
     ensures ok { IfOk result (Listens turns settings.now (S.seen source.old) (S.seen source.new) (W.taken writer.old)
         (W.taken writer.new)) }
-    ensures front { IfErr result (λ _. ListensInPart turns settings.now (S.seen source.old) (S.seen source.new)
-        (W.taken writer.old) (W.taken writer.new)) }
+    ensures front { IfErr result (ListensInPart turns settings.now (S.seen source.old) (S.seen source.new) (W.taken writer.old)
+        (W.taken writer.new)) }
     ensures fault { IfErr result IsListenFault }
     ensures write { CountsWrites (W.failed_calls writer.old) (W.failed_calls writer.new) result }
 {

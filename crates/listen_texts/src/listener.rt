@@ -5,8 +5,8 @@ ghost use Rattle.server_station.specs.Stations.{AreInOrder};
 ghost use Rattle.run_lines.specs.Tally.{IsTallyUpTo};
 ghost use Rattle.run_texts.specs.PassAnswers.{IsStaffed};
 ghost use Rattle.listen_texts.specs.Turns.{IsAnswered, IsTurn};
-ghost use Rattle.listen_texts.specs.Listening.{Hears, HearsInPart, IsWithinLimit, IsListenFault};
-ghost use Rattle.listen_texts.specs.Steps.{standing, opened, Says, SaysInPart, Turns, TurnsInPart, Reports, ReportsInPart};
+ghost use Rattle.listen_texts.specs.Listening.{Hears, HearsInPart, SaysInPart, ReportsInPart, IsWithinLimit, IsListenFault};
+ghost use Rattle.listen_texts.specs.Steps.{standing, opened, Says, Turns, TurnsInPart, Reports};
 
 use crate::source::Source;
 use crate::unread::write_unread;
@@ -79,8 +79,8 @@ where
         requires turns { IsWithinLimit turns }
         ensures ok { IfOk result (Hears turns self.shift.station devices.now (S.seen source.old) (S.seen source.new)
             (W.taken writer.old) (W.taken writer.new)) }
-        ensures front { IfErr result (λ _. HearsInPart turns self.shift.station devices.now (S.seen source.old)
-            (S.seen source.new) (W.taken writer.old) (W.taken writer.new)) }
+        ensures front { IfErr result (HearsInPart turns self.shift.station devices.now (S.seen source.old) (S.seen source.new)
+            (W.taken writer.old) (W.taken writer.new)) }
         ensures fault { IfErr result IsListenFault }
         ensures write { CountsWrites (W.failed_calls writer.old) (W.failed_calls writer.new) result }
     {
@@ -109,7 +109,7 @@ where
         ensures ok { IfOk result (λ l. Turns (λ r. IsTurn devices.now turn r self.shift.receipts.bookings.items)
             (S.seen source.old) (S.seen source.new) (standing self.shift.receipts.bookings.items self.tally self.refused)
             (standing l.shift.receipts.bookings.items l.tally l.refused) (W.taken writer.old) (W.taken writer.new)) }
-        ensures front { IfErr result (λ _. TurnsInPart (λ r. IsTurn devices.now turn r self.shift.receipts.bookings.items)
+        ensures front { IfErr result (TurnsInPart (λ r. IsTurn devices.now turn r self.shift.receipts.bookings.items)
             (S.seen source.old) (S.seen source.new) (W.taken writer.old) (W.taken writer.new)) }
         ensures fault { IfErr result IsListenFault }
         ensures write { CountsWrites (W.failed_calls writer.old) (W.failed_calls writer.new) result }
@@ -127,7 +127,7 @@ where
         ensures ok { IfOk result (λ l. Says (IsTurn [] turn None self.shift.receipts.bookings.items)
             (standing self.shift.receipts.bookings.items self.tally self.refused)
             (standing l.shift.receipts.bookings.items l.tally l.refused) (W.taken writer.old) (W.taken writer.new)) }
-        ensures front { IfErr result (λ _. SaysInPart (IsTurn [] turn None self.shift.receipts.bookings.items)
+        ensures front { IfErr result (SaysInPart (IsTurn [] turn None self.shift.receipts.bookings.items)
             (W.taken writer.old) (W.taken writer.new)) }
         ensures fault { IfErr result (λ fault. fault ≡ TextFault.Write) }
         ensures write { CountsWrites (W.failed_calls writer.old) (W.failed_calls writer.new) result }
@@ -162,9 +162,8 @@ where
         ensures ok { IfOk result (λ l. Says (IsTurn devices.now turn (Some datagram.now) self.shift.receipts.bookings.items)
             (standing self.shift.receipts.bookings.items self.tally self.refused)
             (standing l.shift.receipts.bookings.items l.tally l.refused) (W.taken writer.old) (W.taken writer.new)) }
-        ensures front { IfErr result (λ _. SaysInPart
-            (IsTurn devices.now turn (Some datagram.now) self.shift.receipts.bookings.items) (W.taken writer.old)
-            (W.taken writer.new)) }
+        ensures front { IfErr result (SaysInPart (IsTurn devices.now turn (Some datagram.now) self.shift.receipts.bookings.items)
+            (W.taken writer.old) (W.taken writer.new)) }
         ensures fault { IfErr result IsListenFault }
         ensures write { CountsWrites (W.failed_calls writer.old) (W.failed_calls writer.new) result }
     {
@@ -189,7 +188,7 @@ where
         ensures ok { IfOk result (λ l. Says (IsAnswered turn (Some event.now) self.shift.receipts.bookings.items)
             (standing self.shift.receipts.bookings.items self.tally self.refused)
             (standing l.shift.receipts.bookings.items l.tally l.refused) (W.taken writer.old) (W.taken writer.new)) }
-        ensures front { IfErr result (λ _. SaysInPart (IsAnswered turn (Some event.now) self.shift.receipts.bookings.items)
+        ensures front { IfErr result (SaysInPart (IsAnswered turn (Some event.now) self.shift.receipts.bookings.items)
             (W.taken writer.old) (W.taken writer.new)) }
         ensures fault { IfErr result IsListenFault }
         ensures write { CountsWrites (W.failed_calls writer.old) (W.failed_calls writer.new) result }
@@ -221,8 +220,8 @@ where
         ensures told { IfOk result (λ refused. refused ≡ self.refused) }
         ensures ok { IfOk result (λ _. Reports self.shift.station
             (standing self.shift.receipts.bookings.items self.tally self.refused) (W.taken writer.old) (W.taken writer.new)) }
-        ensures front { IfErr result (λ _. ReportsInPart self.shift.station
-            (standing self.shift.receipts.bookings.items self.tally self.refused) (W.taken writer.old) (W.taken writer.new)) }
+        ensures front { IfErr result (ReportsInPart self.shift.station self.shift.receipts.bookings.items self.tally
+            (W.taken writer.old) (W.taken writer.new)) }
         ensures fault { IfErr result IsListenFault }
         ensures write { CountsWrites (W.failed_calls writer.old) (W.failed_calls writer.new) result }
     {

@@ -1,4 +1,4 @@
-use Rattle.std.proofs.Common.{◌≡◌, ◌^◌, ◌||◌, List, inr, subst, sym, ◌∙◌, ap, Global}
+use Rattle.std.proofs.Common.{◌≡◌, ◌^◌, ◌||◌, List, subst, sym, ◌∙◌, ap, Global}
 use Rattle.std.specs.Io.KnownBytes.{Appends}
 use Rattle.text_lines.specs.Line.{text_of}
 use Rattle.text_lines.specs.Writing.{WritesFront}
@@ -13,8 +13,7 @@ use Rattle.listen_texts.proofs.listener.Listener.event.Goals as goal
 
 pub returns-in-Err-clause-front : goal.returns-in-Err-clause-front
 returns-in-Err-clause-front g c =
-    let entries : List (Entry Global) = c.take_lines-entries.result.items in
-    inr (
+    let entries : List (Entry Global) = c.take_lines-entries.result.items in (
       c.in-Ok.shift.receipts.bookings.items,
       record { entries = entries; lines = entry_lines entries },
       answered_by c.args.turn c.args.event.now c.args.self.shift.receipts.bookings.items c.in-Ok.shift.receipts.bookings.items

@@ -42,7 +42,8 @@ returns-in-Err-clause-front g c =
     listened_more_in_part c.args.devices.now l.turn (g.S.Source.seen c.args.source.now) (g.S.Source.seen l.source)
     (standing was.shift.receipts.bookings.items was.tally was.refused) (g.W.ByteOut.taken c.args.writer.now)
     (g.W.ByteOut.taken l.writer) l.invariant.so_far c.args.turns c.args.self.shift.station
-    (g.S.Source.seen c.turn.new.source) (g.W.ByteOut.taken c.turn.new.writer) c.loop-turn-test.true c.in-Err.ensures.front
+    (g.S.Source.seen c.turn.new.source) (g.W.ByteOut.taken c.turn.new.writer) c.in-Err.fault c.loop-turn-test.true
+    c.in-Err.ensures.front
 
 pub returns-clause-ok : goal.returns-clause-ok
 returns-clause-ok g c =
