@@ -25,8 +25,9 @@ pub const TURN_LIMIT: u32 = 1_000_000;
 ///
 /// `Settings`: there are no workers or more than 16, by the name Workers; no turns or more than 1,000,000, by the name Turns;
 /// each before anything is received. Or the books don't go with the answers, by the name of `Station::finish`'s fault; then
-/// all answers were written, and no report. `NoMemory`: a growth was refused; the answers of the turns before were written.
-/// `Write`: a call of the writer failed. What was written is always a front of the output.
+/// all answers were written, and no report. `NoMemory`: a growth was refused; the answers of the turns before were written,
+/// and nothing behind them. `Write`: a call of the writer failed; the answers of the turns before were written, and a front of
+/// the last turn's answer or of the report.
 pub fn listen_text<
     T: Threads + Wait + Sync,
     H: BuildHasher + Clone + Drop + Send + Sync,
