@@ -51,6 +51,22 @@ fn a_worker_leaves_once_per_try(rt: HostRuntime) -> Result<(), Fail> {
     tells(&rt, rt.alloc(), 2, &CROWDED)
 }
 
+/// A payload of three bytes goes with the answer.
+static LADEN: [Row; 4] = [
+    (Step::Ask(Ask::Queue(1, &[7, 8, 9])), "Ok(1)"),
+    (Step::Hear(Heard::Of(1, 0)), OPENED_1),
+    (Step::Ask(Ask::Pass(200_001)), "Some(1)"),
+    (
+        Step::Answer(1, Answer::Freely),
+        "(Some(Answered { gateway: 1, window: Rx1, start: 6000000, airtime: 46336, carried: true }), 0)",
+    ),
+];
+
+#[test]
+fn a_worker_tells_that_a_payload_was_carried(rt: HostRuntime) -> Result<(), Fail> {
+    tells(&rt, rt.alloc(), 1, &LADEN)
+}
+
 /// The third of three uplinks finds RX1 taken on both gateways that heard it, of which the second heard it better.
 static THIRD_TRY: [Row; 10] = [
     (Step::Hear(Heard::Of(1, 0)), OPENED_1),
