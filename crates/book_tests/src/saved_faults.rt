@@ -4,7 +4,7 @@ ghost use Rattle.std.specs.Prelude.{◌≡◌, []};
 use crate::asks::book_spaced;
 use crate::saved::{fault_of, loaded, saved};
 use bumpalo::Bump;
-use gateway_book::{GatewayBook, LoadFault};
+use gateway_book::{GatewayBook, LoadFault, MemoryIn};
 use resv_list::{Roster, VecRoster};
 use resv_tree::TreeRoster;
 use std::alloc::Global;
@@ -83,6 +83,40 @@ fn the_first_line_at_fault_is_told(rt: HostRuntime) -> Result<(), Fail> {
     Ok(())
 }
 
+/// The number of the line at which a text is at fault.
+fn line_of(fault: LoadFault) -> u64 {
+    match fault {
+        LoadFault::Version => 1,
+        LoadFault::Syntax { line } | LoadFault::Unlawful { line } => line,
+        _ => 0,
+    }
+}
+
+/// How many bytes so many lines from the first on have, with their ends.
+fn bytes_of(text: &[u8], lines: u64) -> u64 {
+    let (mut left, mut bytes) = (lines, 0u64);
+    for byte in text {
+        if left > 0 {
+            bytes = bytes.saturating_add(1);
+        }
+        if *byte == b'\n' {
+            left = left.saturating_sub(1);
+        }
+    }
+    bytes
+}
+
+#[test]
+fn no_read_follows_a_line_at_fault(rt: HostRuntime) -> Result<(), Fail> {
+    for (place, (text, fault)) in FAULTS.iter().enumerate() {
+        let behind = bytes_of(text, line_of(*fault)).saturating_add(1);
+        let mut reader = MemoryIn::failing(text, 1, behind);
+        let told = GatewayBook::load(&mut reader, VecRoster::new(rt.alloc())).err();
+        equal_at(&place, &told, &Some(*fault))?;
+    }
+    Ok(())
+}
+
 /// A saved book of forty transmissions.
 fn forty<R: Roster + Drop>(alloc: Global, roster: R) -> Result<Vec<u8, Global>, Fail>
     requires { R.list roster ≡ [] }
@@ -139,4 +173,50 @@ fn each_growth_that_is_refused_is_told(rt: HostRuntime) -> Result<(), Fail> {
         loads = (vector, tree);
     }
     equal(&loads, &(true, true))
+}
+
+/// The first lines of a text, so many, and another one behind them.
+fn cut(alloc: Global, text: &[u8], lines: u64, last: &[u8]) -> Result<Vec<u8, Global>, Fail> {
+    let mut cut = Vec::new(alloc);
+    let mut left = lines;
+    for line in text.split_inclusive(|byte| *byte == b'\n') {
+        if left > 0 {
+            cut.extend_from_slice(line)?;
+            left = left.saturating_sub(1);
+        }
+    }
+    cut.extend_from_slice(last)?;
+    Ok(cut)
+}
+
+/// Why a text is no saved book, in a tree in an arena that has no room for forty members.
+fn fault_in_arena(alloc: Global, text: &[u8]) -> Result<Option<LoadFault>, Fail> {
+    let arena = arena_of(alloc, 2_048)?;
+    Ok(loaded(text, TreeRoster::new(&arena)).err())
+}
+
+/// Whether there is room for so many of the forty. A line behind them that is at fault is told then, and needs no room.
+fn tells_what_follows(alloc: Global, text: &[u8], count: u64) -> Result<bool, Fail> {
+    let lines = count.saturating_add(2);
+    let line = lines.saturating_add(1);
+    let ended = cut(alloc, text, lines, b"")?;
+    let spoiled = cut(alloc, text, lines, b"r 99 0 868100000 5 12\n")?;
+    let are_kept = fault_in_arena(alloc, &ended)? == Some(LoadFault::Syntax { line });
+    let wanted = if are_kept {
+        LoadFault::Unlawful { line }
+    } else {
+        LoadFault::NoMemory
+    };
+    equal_at(&count, &fault_in_arena(alloc, &spoiled)?, &Some(wanted))?;
+    Ok(are_kept)
+}
+
+#[test]
+fn a_line_at_fault_needs_no_memory(rt: HostRuntime) -> Result<(), Fail> {
+    let text = forty(rt.alloc(), VecRoster::new(rt.alloc()))?;
+    holds(tells_what_follows(rt.alloc(), text.as_slice(), 1)?)?;
+    for count in 2..40 {
+        tells_what_follows(rt.alloc(), text.as_slice(), count)?;
+    }
+    holds(!tells_what_follows(rt.alloc(), text.as_slice(), 40)?)
 }
