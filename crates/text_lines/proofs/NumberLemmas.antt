@@ -11,7 +11,7 @@ use Rattle.std.proofs.lemmas.Str.Parse.{IsNumeralModel, numerals_by_weight}
 use Rattle.std.specs.List.{list_all}
 use Rattle.text_lines.specs.Number.{is_digit, is_digits, value_of, number_below, NumbersReadBack}
 
--- digits alone, told one by one, and their value, are what `parse` reads
+-- digits alone, told one by one, and their value, are what a numeral is
 own : IsNumeralModel (λ ds. list_all is_digit ds ≡ true) value_of
 own = numerals_by_weight _ (search rules) value_of (search rules)
 
@@ -67,7 +67,8 @@ front_too_large bound word k value inside so_far large =
     let front : ℕ = value * 10 + (get_or word k 0 - 48) in
     let places : ℕ = length (drop (k + 1) word) in
     let whole : front * 10 ^ places + value_of (drop (k + 1) word) ≡ value_of word = digit_more word k value inside so_far in
-    past_bound bound word (λ small. large (omega (arith, small, whole, le-mul_of_pos_right front (one-le-pow places 10 (omega arith)))))
+    past_bound bound word (λ small. large
+        (omega (arith, small, whole, le-mul_of_pos_right front (one-le-pow places 10 (omega arith)))))
 
 -- and with all digits it is the word's
 pub all_digits : (word : List ℕ) (k value : ℕ) → k ≡ length word → IsFront word k value → value ≡ value_of word
