@@ -68,7 +68,7 @@ front_too_large bound word k value inside so_far large =
     let places : ℕ = length (drop (k + 1) word) in
     let whole : front * 10 ^ places + value_of (drop (k + 1) word) ≡ value_of word = digit_more word k value inside so_far in
     past_bound bound word (λ small. large
-        (omega (arith, small, whole, le-mul_of_pos_right front (one-le-pow places 10 (omega arith)))))
+    (omega (arith, small, whole, le-mul_of_pos_right front (one-le-pow places 10 (omega arith)))))
 
 -- and with all digits it is the word's
 pub all_digits : (word : List ℕ) (k value : ℕ) → k ≡ length word → IsFront word k value → value ≡ value_of word

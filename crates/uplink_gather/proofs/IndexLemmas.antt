@@ -42,7 +42,7 @@ module _ {K : Type 0} (text : K → List ℕ) where
           ≡ insert_entry bytes_eq (as_index text es) (text k) n
           → as_index text (if t then (e.0, n) ∷ es else e ∷ insert_entry (λ a b. bytes_eq (text a) (text b)) es k n)
           ≡ (if t then (text e.0, n) ∷ as_index text es
-              else (text e.0, e.1) ∷ insert_entry bytes_eq (as_index text es) (text k) n)
+          else (text e.0, e.1) ∷ insert_entry bytes_eq (as_index text es) (text k) n)
       by true rest = refl
       by false rest = ap (λ r. (text e.0, e.1) ∷ r) rest
 
