@@ -69,10 +69,11 @@ sooner_or_same true true false s n b = omega arith
 sooner_or_same true false u s n b = omega arith
 sooner_or_same false q u s n b = omega arith
 
-weaker : (band : Band) (t n m : ℕ) (l : List Reservation) → m ≤ n → OfStarts band (λ s. t ≤ s → n ≤ s) l
+-- what begins from a moment on begins from an earlier one on
+pub weaker_starts : (band : Band) (t n m : ℕ) (l : List Reservation) → m ≤ n → OfStarts band (λ s. t ≤ s → n ≤ s) l
     → OfStarts band (λ s. t ≤ s → m ≤ s) l
-weaker band t n m [] h o = tt
-weaker band t n m (r ∷ rs) h o = (λ p g. let k = o.0 p g in omega arith, weaker band t n m rs h o.1)
+weaker_starts band t n m [] h o = tt
+weaker_starts band t n m (r ∷ rs) h o = (λ p g. let k = o.0 p g in omega (arith, h, k), weaker_starts band t n m rs h o.1)
 
 pub none_before_next : (band : Band) (t end : ℕ) (l : List Reservation)
     → OfStarts band (λ s. t ≤ s → next_opening band t end l ≤ s) l
@@ -80,7 +81,7 @@ none_before_next band t end [] = tt
 none_before_next band t end (r ∷ rs) =
     let n : ℕ = next_opening band t end rs in (
       λ p g. none_by (is_in band r) (nat_le t r.start) (nat_lt r.start n) t r.start n _ refl refl refl p g,
-      weaker band t n (next_opening band t end (r ∷ rs)) rs
+      weaker_starts band t n (next_opening band t end (r ∷ rs)) rs
           (sooner_or_same (is_in band r) (nat_le t r.start) (nat_lt r.start n) r.start n refl) (none_before_next band t end rs),
     )
 

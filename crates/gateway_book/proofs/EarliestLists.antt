@@ -16,7 +16,7 @@ use Rattle.gateway_book.specs.Duty.{full_hour}
 use Rattle.gateway_book.specs.Laws.{IsFirstFullHour}
 use Rattle.gateway_book.specs.Answer.{overlap}
 use Rattle.gateway_book.proofs.LeastLaws.{least_is_least}
-use Rattle.gateway_book.proofs.DutyLaws.{OfStarts, spent_later}
+use Rattle.gateway_book.proofs.DutyLaws.{OfStarts, weaker_starts, spent_later}
 use Rattle.gateway_book.proofs.DutyRow.{duty_row_is_exact, spent_nothing}
 use Rattle.gateway_book.proofs.OwnHours.{own_hour-holds}
 
@@ -190,11 +190,6 @@ first_of_band l band t m s f =
           (over_nothing (is_in band r) t r.start (spent l band r.start) e h g (own_hour-holds l band r c e))
       | inr g ↦ omega (arith, within.1, g)
     ])
-
-weaker_starts : (band : Band) (t n m : ℕ) (l : List Reservation) → m ≤ n → OfStarts band (λ s. t ≤ s → n ≤ s) l
-    → OfStarts band (λ s. t ≤ s → m ≤ s) l
-weaker_starts band t n m [] h o = tt
-weaker_starts band t n m (r ∷ rs) h o = (λ p g. let k = o.0 p g in omega (arith, h, k), weaker_starts band t n m rs h o.1)
 
 -- where the start's own hour is full, no start is accepted until the end of the hour of the band's first member
 pub after_own_hour : (l : List Reservation) (band : Band) (t s air : ℕ) (m : Reservation) → IsByStart l → t ≤ s

@@ -135,20 +135,22 @@ module _ (a b c : Option (List ℕ)) (n m number : ℕ) (s : Saved) (before : Le
             let room = (followed s ask r e fit.1).room in
             let whole = joined s (reservation_of ask) in
             let list : whole.list ≡ s.list ++ r ∷ [] = ap (λ o. (joined s o).list) fit.1 in
-            let few : length whole.list < 2 ^ 32 = omega (arith, ap length list, length-append s.list (r ∷ [])) in
-            record {
-              front = leads.front;
-              rest = rest;
-              saved = whole;
-              member = r;
-              others = s.list;
-              parts = leads.consumed;
-              last = list;
-              reads =
-                  ap loaded (append_assoc leads.front (spaced (end_words whole.list)) (10 ∷ []))
-                  ∙ leads.says (spaced (end_words whole.list) ++ 10 ∷ [])
-                  ∙ end_is_read (number + 1) whole [] few;
-            }
+            let few : length whole.list < 2 ^ 32 = omega (arith, ap length list, length-append s.list (r ∷ [])) in (
+              record {
+                front = leads.front;
+                rest = rest;
+                saved = whole;
+                member = r;
+                others = s.list;
+                parts = leads.consumed;
+                last = list;
+                reads =
+                    ap loaded (append_assoc leads.front (spaced (end_words whole.list)) (10 ∷ []))
+                    ∙ leads.says (spaced (end_words whole.list) ++ 10 ∷ [])
+                    ∙ end_is_read (number + 1) whole [] few;
+              },
+              refl,
+            )
 
     pub not_joined : (fault : LoadFault) → s.rules.cap ≤ 65536
         → MatchBool (may_follow s ask) (fault ≡ NoMemory) (refused fault ≡ Err (Unlawful number)) → Loads a c (Err fault)

@@ -61,17 +61,6 @@ Leads-line a b line all following taken h = record {
   says = λ more. ap all (append_assoc line (10 ∷ []) more) ∙ h more;
 }
 
--- no line is taken
-pub lacking : (all : List ℕ → Loaded) (number : ℕ) (before : Option (List ℕ)) (fault : LoadFault)
-    → ((bytes : List ℕ) → IsNoLine (lines_between bytes) → all bytes ≡ Err (Syntax number)) → LacksLine number before fault
-    → IsFault all before fault
-lacking all number None fault h lacks = tt
-lacking all number (Some x) Read h lacks = tt
-lacking all number (Some x) (Syntax line) h lacks = h x lacks.1 ∙ ap (λ n. Err (Syntax n)) (sym lacks.0)
-lacking all number (Some x) Version h lacks = absurd lacks
-lacking all number (Some x) (Unlawful line) h lacks = absurd lacks
-lacking all number (Some x) NoMemory h lacks = absurd lacks
-
 pub split_line : (line more : List ℕ) → HasNoLineFeed line → lines_between (line ++ 10 ∷ more) ≡ line ∷ lines_between more
 split_line line more unbroken =
     slice_split_at (λ byte. eqb byte 10) line 10 more (λ k d h. ne_eqb _ _ (unbroken k d h)) refl
@@ -101,22 +90,6 @@ module _ (line more : List ℕ) (unbroken : HasNoLineFeed line) (short : length 
       ap (members_in number s) (split_line line more unbroken)
       ∙ ap (λ t. after_entry number s (lines_between more) (λ u. members_in (number + 1) u (lines_between more))
       (cond t (entry_in (words_between line)) None)) (line_is line more short)
-
-no_line_all : (parts : List (List ℕ)) → IsNoLine parts → all_lines parts ≡ Err (Syntax 1)
-no_line_all [] h = refl
-no_line_all (line ∷ more) h =
-    ap (λ t. after_version (cond t (version_in (words_between line)) None) more) h
-
-no_line_gateway : (version : ℕ) (parts : List (List ℕ)) → IsNoLine parts → gateway_lines version parts ≡ Err (Syntax 2)
-no_line_gateway version [] h = refl
-no_line_gateway version (line ∷ more) h =
-    ap (λ t. after_gateway (cond t (gateway_in version (words_between line)) None) more) h
-
-no_line_members : (number : ℕ) (s : Saved) (parts : List (List ℕ)) → IsNoLine parts → members_in number s parts
-    ≡ Err (Syntax number)
-no_line_members number s [] h = refl
-no_line_members number s (line ∷ more) h =
-    ap (λ t. after_entry number s more (λ u. members_in (number + 1) u more) (cond t (entry_in (words_between line)) None)) h
 
 module _ (a b : Option (List ℕ)) (line : List ℕ) (taken : TakesLine a b line) where
   -- the first line says a version
@@ -177,17 +150,3 @@ module _ (a b : Option (List ℕ)) (line : List ℕ) (taken : TakesLine a b line
       (λ more. members_from-line line more taken.unbroken taken.short number s
       ∙ ap (after_entry number s (lines_between more) (λ t. members_in (number + 1) t (lines_between more))) said))
       (always_fault (λ more. Err (Syntax number)) b (Syntax number) (λ more. refl))
-
--- the input has no line there
-pub lacks_version : (before : Option (List ℕ)) (fault : LoadFault) → LacksLine 1 before fault → IsFault loaded before fault
-lacks_version before fault = lacking loaded 1 before fault (λ bytes h. no_line_all (lines_between bytes) h)
-
-pub lacks_gateway : (version : ℕ) (before : Option (List ℕ)) (fault : LoadFault) → LacksLine 2 before fault
-    → IsFault (gateway_from version) before fault
-lacks_gateway version before fault =
-    lacking (gateway_from version) 2 before fault (λ bytes h. no_line_gateway version (lines_between bytes) h)
-
-pub lacks_entry : (number : ℕ) (s : Saved) (before : Option (List ℕ)) (fault : LoadFault) → LacksLine number before fault
-    → IsFault (members_from number s) before fault
-lacks_entry number s before fault =
-    lacking (members_from number s) number before fault (λ bytes h. no_line_members number s (lines_between bytes) h)

@@ -180,11 +180,12 @@ pub record HasMembers (bytes : List ℕ) : Type 0 where
   pub reads : loaded (front ++ spaced (end_words saved.list) ++ 10 ∷ []) ≡ Ok (saved, [])
 
 -- what a call of `load` answers for bytes, and what it leaves of them: the book that they say, or their first fault; where memory
--- was wanted, there was no fault up to a member; and where a read failed, nothing is said
+-- was wanted, it was for the member of the line that was taken last, up to which there is no fault; and where a read failed,
+-- nothing is said
 abbrev pub LoadsFrom : List ℕ → Option (List ℕ) → Result Book LoadFault → Type 0
 LoadsFrom bytes after (Ok b) = (rest : List ℕ) × (after ≡ Some rest) × (loaded bytes ≡ Ok (saved_of b, rest))
 LoadsFrom bytes after (Err Read) = ⊤
-LoadsFrom bytes after (Err NoMemory) = HasMembers bytes
+LoadsFrom bytes after (Err NoMemory) = (front : HasMembers bytes) × (after ≡ Some front.rest)
 LoadsFrom bytes after (Err (Syntax line)) = loaded bytes ≡ Err (Syntax line)
 LoadsFrom bytes after (Err Version) = loaded bytes ≡ Err Version
 LoadsFrom bytes after (Err (Unlawful line)) = loaded bytes ≡ Err (Unlawful line)

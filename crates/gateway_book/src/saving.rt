@@ -38,7 +38,8 @@ impl<R: Roster> GatewayBook<R> {
         }
     }
 
-    /// Puts the same text behind what a caller has gathered.
+    /// Puts the same text behind what a caller has gathered. After an Err a front of that and the text was taken, and the rest is
+    /// forgotten.
     pub fn put_saved<W: ByteOut>(
         &self,
         output: &mut WriteBehind,
@@ -47,6 +48,7 @@ impl<R: Roster> GatewayBook<R> {
         ensures ok { OnOk result (WritesAllBut (W.taken writer.old) (W.taken writer.new) (output.old ++ saved_text self.now)
             output.new) }
         ensures err { OnErr result (WritesFront (W.taken writer.old) (W.taken writer.new) (output.old ++ saved_text self.now)) }
+        ensures forgotten { OnErr result (output.new ≡ []) }
         ensures failed { CountsFailure (W.failed_calls writer.old) (W.failed_calls writer.new) result }
     {
         let mut text = TextLine::new();
@@ -89,6 +91,7 @@ fn put_members<R: Roster, W: ByteOut>(
         (output.old ++ members_text (R.list roster.now)) output.new) }
     ensures err { OnErr result (WritesFront (W.taken writer.old) (W.taken writer.new)
         (output.old ++ members_text (R.list roster.now))) }
+    ensures forgotten { OnErr result (output.new ≡ []) }
     ensures failed { CountsFailure (W.failed_calls writer.old) (W.failed_calls writer.new) result }
 {
     let mut text = TextLine::new();

@@ -6,7 +6,7 @@ ghost use Rattle.resv_list.specs.Reservations.{start_of, airtime_in, place, IsBy
 ghost use Rattle.resv_tree.specs.Sums.{sum_in};
 ghost use Rattle.resv_tree.specs.Entries.{IsByKey, Each};
 ghost use Rattle.resv_tree.specs.OwnHours.{own_hour, HasHours, HasHours-prop, raised, lowered, CountsIn};
-ghost use Rattle.resv_tree.specs.Shape.{shape_of, entries, members_of, IsWhole, IsWhole-prop, count_of, greatest_of};
+ghost use Rattle.resv_tree.specs.Shape.{shape_of, entries, members_of, IsWhole, IsWhole-prop, height_of, count_of, greatest_of};
 
 use crate::build::build;
 use crate::entry::Entry;
@@ -85,9 +85,10 @@ impl<A: Allocator + Clone> TreeRoster<A> {
         (own / QUARTER_US) as u32
     }
 
-    /// How many levels the tree has, none if it is empty; the clauses bound it by the number of members.
+    /// How many levels the tree has, none if it is empty; it is bounded by the number of members.
     #[tactic(auto, using(crate::proofs::HeightLemmas::counts))]
     pub fn height(&self) -> u32
+        ensures levels { result ≡ height_of (shape_of self.now.root) }
         ensures not_too_high { 2 ^ (result / 2) ≤ length (⟦<TreeRoster<A> as Roster>⟧.list self.now) + 1 }
         ensures high_enough { length (⟦<TreeRoster<A> as Roster>⟧.list self.now) + 1 ≤ 2 ^ result }
     {

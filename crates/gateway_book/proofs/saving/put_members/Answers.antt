@@ -22,8 +22,8 @@ returns-in-Err-clause-err g c =
     let next = rest_from-Some start_of 0 c.loop-member.from c.in-Some.member l (g.met.R.Roster.by_start c.args.roster.now)
     (sym c.first_from.ensures ∙ c.in-Some.is) in
     member_front _ _ (g.W.ByteOut.taken c.put.new.writer) (c.args.output.now ++ members_text l) c.loop-member.output _
-    c.in-Some.member c.as_slice.result.now (c.as_slice.ensures.bytes ∙ c.write_member.ensures) _ next.0 c.loop-member.invariant.written
-    c.in-Err.ensures.err
+    c.in-Some.member c.as_slice.result.now (c.as_slice.ensures.bytes ∙ c.write_member.ensures) _ next.0
+    c.loop-member.invariant.written c.in-Err.ensures.err
 
 pub loop-member-smaller : goal.loop-member-smaller
 loop-member-smaller g c =
