@@ -5,9 +5,9 @@ Usage: tests/unused.py [ROOT]      (ROOT: the repository's top; none: that of th
 
 Prints a line for each item of a .antt file below crates/ whose name stands nowhere else in the sources, specs and proofs than in
 the item itself, and for each item of a crate's specs/ that only that crate's proofs/ name. Names are compared as text, so a name
-that stands for two things counts as used where either is. Answers, invariants and proofs of functions, whose names the checker
-fixes, are left out, and so is proofs/**/*Worked*.antt, whose lemmas are worked examples. The status is 0 where nothing is found,
-1 where something is.
+that stands for two things counts as used where either is. A record's fields are a part of it. Answers, invariants and proofs of
+functions, whose names the checker fixes, are left out, and so is proofs/**/*Worked*.antt, whose lemmas are worked examples. The
+status is 0 where nothing is found, 1 where something is.
 """
 import collections
 import pathlib
@@ -18,7 +18,7 @@ TOP = pathlib.Path(sys.argv[1] if len(sys.argv) > 1 else pathlib.Path(__file__).
 FIXED = {"Answers.antt", "Invariants.antt", "Proof.antt", "Lib.antt"}
 NAME = re.compile(r"[^\s(){},.;:⟦⟧\[\]]+")
 SIGNED = re.compile(r"( *)(?:(?:pub|abbrev|unfoldable|opaque) )*([^\s(){},.;:]+)(?: (?:\{[^}]*\}|\([^()]*\)))* :(?:\s|$)")
-MADE = re.compile(r"( *)(?:(?:pub|abbrev) )*(?:data|record|ruleset) ([^\s(){},.;:]+)")
+MADE = re.compile(r"( *)(?:(?:pub|abbrev) )*(data|record|ruleset) ([^\s(){},.;:]+)")
 
 
 def read(path):
@@ -27,10 +27,15 @@ def read(path):
 
 def items_of(text):
     """Each item at the top of a file or right in one of its modules: its name, and how often it names itself."""
-    lines, starts = text.splitlines(), []
+    lines, starts, fields = text.splitlines(), [], None
     for place, line in enumerate(lines):
-        found = MADE.match(line) or SIGNED.match(line)
-        if found and len(found[1]) <= 2 and found[2] not in ("use", "module", "let", "unfolding"):
+        if fields is not None and line.startswith(fields):
+            continue
+        fields = None
+        if made := MADE.match(line):
+            starts.append((place, made[3]))
+            fields = made[1] + " " if made[2] == "record" else None
+        elif (found := SIGNED.match(line)) and len(found[1]) <= 2 and found[2] not in ("use", "module", "let", "unfolding"):
             starts.append((place, found[2]))
     for (start, name), (end, _) in zip(starts, starts[1:] + [(len(lines), "")]):
         own = collections.Counter(NAME.findall("\n".join(lines[start:end])))
