@@ -28,6 +28,7 @@ def read(path):
 def items_of(text):
     """Each item at the top of a file or right in one of its modules: its name, and how often it names itself."""
     lines, starts, fields = text.splitlines(), [], None
+    depths = {0} | {len(indent) + 2 for indent in re.findall(r"(?m)^( *)module ", text)}
     for place, line in enumerate(lines):
         if fields is not None and line.startswith(fields):
             continue
@@ -35,7 +36,7 @@ def items_of(text):
         if made := MADE.match(line):
             starts.append((place, made[3]))
             fields = made[1] + " " if made[2] == "record" else None
-        elif (found := SIGNED.match(line)) and len(found[1]) <= 2 and found[2] not in ("use", "module", "let", "unfolding"):
+        elif (found := SIGNED.match(line)) and len(found[1]) in depths and found[2] not in ("use", "module", "let", "unfolding"):
             starts.append((place, found[2]))
     for (start, name), (end, _) in zip(starts, starts[1:] + [(len(lines), "")]):
         own = collections.Counter(NAME.findall("\n".join(lines[start:end])))
