@@ -38,10 +38,13 @@ pub fn program<'a>(alloc: Global) -> Result<Command<'a>, AllocError> {
     Command::new(alloc, "airbook")
         .version("0.1.0")
         .about(
-            "Answers LoRaWAN uplinks in EU868: which gateway sends the downlink, in which window, and whether its duty cycle lets it.",
+            "Answers LoRaWAN uplinks in EU868: which gateway sends the downlink, in which window, and whether its \
+             duty cycle lets it.",
         )
         .after_help(
-            "Examples:\n  airbook toa 5 12\n  airbook book < examples/two-bookings.txt\n  airbook plan < examples/plan.txt\n  airbook run < examples/two-gateways.txt\n  airbook listen --port 1700 --turns 1 < examples/settings.toml",
+            "Examples:\n  airbook toa 5 12\n  airbook book < examples/two-bookings.txt\
+             \n  airbook plan < examples/plan.txt\n  airbook run < examples/two-gateways.txt\
+             \n  airbook listen --port 1700 --turns 1 < examples/settings.toml",
         )
         .subcommand_required(true)
         .subcommand(toa(alloc)?)?
@@ -72,10 +75,19 @@ fn toa<'a>(alloc: Global) -> Result<Command<'a>, AllocError> {
 fn book<'a>(alloc: Global) -> Result<Command<'a>, AllocError> {
     Command::new(alloc, "book")
         .about(
-            "Keeps the airtime book of one gateway. Lines of standard input: book NUMBER START FREQ DR LEN, cancel NUMBER START, tick NOW, earliest NUMBER NOT_BEFORE LAST FREQ DR LEN",
+            "Keeps the airtime book of one gateway. Lines of standard input: book NUMBER START FREQ DR LEN, cancel \
+             NUMBER START, tick NOW, earliest NUMBER NOT_BEFORE LAST FREQ DR LEN",
         )
         .after_help(
-            "START, NOW, NOT_BEFORE and LAST are microseconds of the gateway's clock, FREQ is the centre of the channel in Hz, DR the data rate 0 to 6, and LEN the length of the PHYPayload in bytes, 0 to 255.\n\nExamples:\n  $ echo book 1 10000000 868100000 5 12 | airbook book\n  ok 1 10000000 10041216\n  booked 41216\n  cancelled 0\n  retired 0\n  kept 1 41216\n  floor 0\n  busiest M 10000000 41216\n  $ echo book 1 10000000 868100000 5 12 | airbook book --save\n  ok 1 10000000 10041216\n  airbook 2\n  gateway 1 4096 0 0\n  r 1 10000000 868100000 5 12\n  end 1\n  $ airbook book --resume < examples/saved-book.txt\n  no 4 DutyFull K 0 2973696\n  ok 5 3600000000 3600991232\n  booked 3964928\n  cancelled 0\n  retired 0\n  kept 4 3964928\n  floor 0\n  busiest K 0 2973696",
+            "START, NOW, NOT_BEFORE and LAST are microseconds of the gateway's clock, FREQ is the centre of the \
+             channel in Hz, DR the data rate 0 to 6, and LEN the length of the PHYPayload in bytes, 0 to 255.\n\n\
+             Examples:\n  $ echo book 1 10000000 868100000 5 12 | airbook book\n  ok 1 10000000 10041216\
+             \n  booked 41216\n  cancelled 0\n  retired 0\n  kept 1 41216\n  floor 0\n  busiest M 10000000 41216\
+             \n  $ echo book 1 10000000 868100000 5 12 | airbook book --save\n  ok 1 10000000 10041216\n  airbook 2\
+             \n  gateway 1 4096 0 0\n  r 1 10000000 868100000 5 12\n  end 1\
+             \n  $ airbook book --resume < examples/saved-book.txt\n  no 4 DutyFull K 0 2973696\
+             \n  ok 5 3600000000 3600991232\n  booked 3964928\n  cancelled 0\n  retired 0\n  kept 4 3964928\
+             \n  floor 0\n  busiest K 0 2973696",
         )
         .arg(cap(alloc))?
         .arg(gap(alloc))?
@@ -87,10 +99,16 @@ fn book<'a>(alloc: Global) -> Result<Command<'a>, AllocError> {
 fn plan<'a>(alloc: Global) -> Result<Command<'a>, AllocError> {
     Command::new(alloc, "plan")
         .about(
-            "Keeps the airtime book of one gateway, as book does, and tells what it would answer to the lines book and earliest that follow a line plan. Nothing is booked; each booking that would be accepted stays for the next",
+            "Keeps the airtime book of one gateway, as book does, and tells what it would answer to the lines book \
+             and earliest that follow a line plan. Nothing is booked; each booking that would be accepted stays for \
+             the next",
         )
         .after_help(
-            "START, NOW, NOT_BEFORE and LAST are microseconds of the gateway's clock, FREQ is the centre of the channel in Hz, DR the data rate 0 to 6, and LEN the length of the PHYPayload in bytes, 0 to 255.\n\nExample:\n  $ airbook plan < examples/plan.txt\n  ok 1 10000000 10041216\n  if no 8 Taken 10000000\n  if ok 9 10041216 10082432\n  if no 10 Taken 10000000\n  booked 41216\n  cancelled 0\n  retired 0\n  kept 1 41216\n  floor 0\n  busiest M 10000000 41216",
+            "START, NOW, NOT_BEFORE and LAST are microseconds of the gateway's clock, FREQ is the centre of the \
+             channel in Hz, DR the data rate 0 to 6, and LEN the length of the PHYPayload in bytes, 0 to 255.\n\n\
+             Example:\n  $ airbook plan < examples/plan.txt\n  ok 1 10000000 10041216\n  if no 8 Taken 10000000\
+             \n  if ok 9 10041216 10082432\n  if no 10 Taken 10000000\n  booked 41216\n  cancelled 0\n  retired 0\
+             \n  kept 1 41216\n  floor 0\n  busiest M 10000000 41216",
         )
         .arg(cap(alloc))?
         .arg(gap(alloc))
@@ -146,10 +164,21 @@ fn run<'a>(alloc: Global) -> Result<Command<'a>, AllocError> {
         .value_parser(value_parser!(u8).range(0..=16));
     Command::new(alloc, "run")
         .about(
-            "Answers the uplinks that gateways heard. Standard input: the settings in TOML, a line ---, and then lines queue ADDR PORT HEX, hear GATEWAY AT FREQ DR SNR RSSI ARRIVED HEX, pass NOW, tick GATEWAY NOW, cancel N",
+            "Answers the uplinks that gateways heard. Standard input: the settings in TOML, a line ---, and then \
+             lines queue ADDR PORT HEX, hear GATEWAY AT FREQ DR SNR RSSI ARRIVED HEX, pass NOW, tick GATEWAY NOW, \
+             cancel N",
         )
         .after_help(
-            "AT is microseconds of the gateway's clock, and so is NOW of tick; ARRIVED and NOW of pass are microseconds of the server's. FREQ is the centre of the channel in Hz, DR the data rate 0 to 6, SNR tenths of a dB, RSSI dBm. ADDR is a DevAddr and HEX bytes in hexadecimal: an FRMPayload after queue, a PHYPayload after hear. There @KIND:ADDR:COUNTER stands for an uplink of that device and counter which is made here: KIND is c for confirmed, u for unconfirmed, a for one that asks for an answer by ADRACKReq.\n\nExample:\n  $ airbook run < examples/two-gateways.txt\n  opened 1\n  joined 1 2\n  send 1 2 RX1 10000000 868100000 5 12\n  frame 1 60da1b0126200000240347ca\n  gateway 1 booked 0 cancelled 0 retired 0 kept 0\n  gateway 2 booked 41216 cancelled 0 retired 0 kept 1\n  busiest 2 M 10000000 41216\n  answered 1 unanswered 0 silent 0\n  $ airbook run --workers 2 < examples/two-gateways.txt",
+            "AT is microseconds of the gateway's clock, and so is NOW of tick; ARRIVED and NOW of pass are \
+             microseconds of the server's. FREQ is the centre of the channel in Hz, DR the data rate 0 to 6, SNR \
+             tenths of a dB, RSSI dBm. ADDR is a DevAddr and HEX bytes in hexadecimal: an FRMPayload after queue, a \
+             PHYPayload after hear. There @KIND:ADDR:COUNTER stands for an uplink of that device and counter which \
+             is made here: KIND is c for confirmed, u for unconfirmed, a for one that asks for an answer by \
+             ADRACKReq.\n\nExample:\n  $ airbook run < examples/two-gateways.txt\n  opened 1\n  joined 1 2\
+             \n  send 1 2 RX1 10000000 868100000 5 12\n  frame 1 60da1b0126200000240347ca\
+             \n  gateway 1 booked 0 cancelled 0 retired 0 kept 0\
+             \n  gateway 2 booked 41216 cancelled 0 retired 0 kept 1\n  busiest 2 M 10000000 41216\
+             \n  answered 1 unanswered 0 silent 0\n  $ airbook run --workers 2 < examples/two-gateways.txt",
         )
         .arg(workers)
 }

@@ -6,10 +6,16 @@ use std::alloc::{AllocError, Global};
 pub fn listen<'a>(alloc: Global) -> Result<Command<'a>, AllocError> {
     Command::new(alloc, "listen")
         .about(
-            "Answers the uplinks that gateways heard, as they come: each datagram on a UDP port of 127.0.0.1 is one line as run reads them, but for @KIND:ADDR:COUNTER, and is answered at once. Standard input: the settings in TOML",
+            "Answers the uplinks that gateways heard, as they come: each datagram on a UDP port of 127.0.0.1 is one \
+             line as run reads them, but for @KIND:ADDR:COUNTER, and is answered at once. Standard input: the \
+             settings in TOML",
         )
         .after_help(
-            "The words are those of run: see airbook run --help.\n\nExample:\n  $ airbook listen --port 1700 --turns 1 < examples/settings.toml &\n  $ python3 -c \"import socket; socket.socket(type=socket.SOCK_DGRAM).sendto(b'tick 1 5', ('127.0.0.1', 1700))\"\n  floor 1 5\n  gateway 1 booked 0 cancelled 0 retired 0 kept 0\n  gateway 2 booked 0 cancelled 0 retired 0 kept 0\n  answered 0 unanswered 0 silent 0",
+            "The words are those of run: see airbook run --help.\n\nExample:\
+             \n  $ airbook listen --port 1700 --turns 1 < examples/settings.toml &\
+             \n  $ python3 -c \"import socket; socket.socket(type=socket.SOCK_DGRAM).sendto(b'tick 1 5', ('127.0.0.1', \
+             1700))\"\n  floor 1 5\n  gateway 1 booked 0 cancelled 0 retired 0 kept 0\
+             \n  gateway 2 booked 0 cancelled 0 retired 0 kept 0\n  answered 0 unanswered 0 silent 0",
         )
         .arg(port(alloc))?
         .arg(turns(alloc))?

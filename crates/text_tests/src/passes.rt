@@ -20,11 +20,17 @@ use text_lines::MemoryOut;
 type TestStation<B> = Station<B, BuildHasherDefault<FoldHasher>>;
 
 const SETTINGS: &str =
-    "[[gateway]]\nid = 1\n[[device]]\naddr = \"0000000a\"\nnwkskey = \"2b7e151628aed2a6abf7158809cf4f3c\"\nappskey = \"000102030405060708090a0b0c0d0e0f\"\n[[device]]\naddr = \"0000000b\"\nnwkskey = \"2b7e151628aed2a6abf7158809cf4f3c\"\nappskey = \"000102030405060708090a0b0c0d0e0f\"\n[[device]]\naddr = \"0000000c\"\nnwkskey = \"2b7e151628aed2a6abf7158809cf4f3c\"\nappskey = \"000102030405060708090a0b0c0d0e0f\"\n[[device]]\naddr = \"26011bda\"\nnwkskey = \"2b7e151628aed2a6abf7158809cf4f3c\"\nappskey = \"000102030405060708090a0b0c0d0e0f\"\n";
+    "[[gateway]]\nid = 1\n[[device]]\naddr = \"0000000a\"\nnwkskey = \"2b7e151628aed2a6abf7158809cf4f3c\"\n\
+     appskey = \"000102030405060708090a0b0c0d0e0f\"\n[[device]]\naddr = \"0000000b\"\n\
+     nwkskey = \"2b7e151628aed2a6abf7158809cf4f3c\"\nappskey = \"000102030405060708090a0b0c0d0e0f\"\n[[device]]\n\
+     addr = \"0000000c\"\nnwkskey = \"2b7e151628aed2a6abf7158809cf4f3c\"\n\
+     appskey = \"000102030405060708090a0b0c0d0e0f\"\n[[device]]\naddr = \"26011bda\"\n\
+     nwkskey = \"2b7e151628aed2a6abf7158809cf4f3c\"\nappskey = \"000102030405060708090a0b0c0d0e0f\"\n";
 
 /// Three devices are heard until the same moment.
 const AT_ONCE: &[u8] =
-    b"hear 1 5000000 868100000 5 0 -100 0 @c:0000000a:0\nhear 1 5000000 868100000 5 0 -100 10 @c:0000000b:0\nhear 1 5000000 868100000 5 0 -100 20 @c:0000000c:0\n";
+    b"hear 1 5000000 868100000 5 0 -100 0 @c:0000000a:0\nhear 1 5000000 868100000 5 0 -100 10 @c:0000000b:0\n\
+      hear 1 5000000 868100000 5 0 -100 20 @c:0000000c:0\n";
 
 /// One device is heard twice.
 const TWICE: &[u8] =
@@ -39,7 +45,8 @@ const SENT_LATER: &[u8] =
 
 /// The answers to the three devices.
 const ANSWERED_HERE: &[u8] =
-    b"send 1 1 RX1 6000000 868100000 5 12\nframe 1 600a00000020000087c940f9\nsend 2 1 RX2 7000000 869525000 0 12\nframe 2 600b0000002000000b784269\nunanswered 3 Taken\nanswered 2 unanswered 1 silent 0\n";
+    b"send 1 1 RX1 6000000 868100000 5 12\nframe 1 600a00000020000087c940f9\nsend 2 1 RX2 7000000 869525000 0 12\n\
+      frame 2 600b0000002000000b784269\nunanswered 3 Taken\nanswered 2 unanswered 1 silent 0\n";
 
 /// What is told of an answer that was given up, of two that got no ticket, and of a stray.
 const RARE: &[u8] =

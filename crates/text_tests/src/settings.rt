@@ -7,13 +7,18 @@ use test_asserts::{equal_at, holds};
 const GATEWAY: &str = "[[gateway]]\nid = 1\n";
 
 const DEVICE: &str =
-    "[[device]]\naddr = \"26011bda\"\nnwkskey = \"2b7e151628aed2a6abf7158809cf4f3c\"\nappskey = \"000102030405060708090a0b0c0d0e0f\"\n";
+    "[[device]]\naddr = \"26011bda\"\nnwkskey = \"2b7e151628aed2a6abf7158809cf4f3c\"\n\
+     appskey = \"000102030405060708090a0b0c0d0e0f\"\n";
 
 const ALL_KEYS: &str =
-    "site = 3\n[[gateway]]\nid = 65535\ncap = 65536\ngap = 100000\nplace = \"roof\"\n[[device]]\naddr = \"26011bda\"\nnwkskey = \"2b7e151628aed2a6abf7158809cf4f3c\"\nappskey = \"000102030405060708090a0b0c0d0e0f\"\ndelay = 15\noffset = 5\nrx2_freq = 868300000\nrx2_dr = 6\nup = 4294967295\ndown = 4294967296\nname = \"pump\"\n";
+    "site = 3\n[[gateway]]\nid = 65535\ncap = 65536\ngap = 100000\nplace = \"roof\"\n[[device]]\n\
+     addr = \"26011bda\"\nnwkskey = \"2b7e151628aed2a6abf7158809cf4f3c\"\n\
+     appskey = \"000102030405060708090a0b0c0d0e0f\"\ndelay = 15\noffset = 5\nrx2_freq = 868300000\nrx2_dr = 6\n\
+     up = 4294967295\ndown = 4294967296\nname = \"pump\"\n";
 
 const INLINE: &str =
-    "gateway = [{id = 1}]\ndevice = [{addr = \"26011BDA\", nwkskey = \"2B7E151628AED2A6ABF7158809CF4F3C\", appskey = \"000102030405060708090A0b0C0d0E0f\"}]\n";
+    "gateway = [{id = 1}]\ndevice = [{addr = \"26011BDA\", nwkskey = \"2B7E151628AED2A6ABF7158809CF4F3C\", appskey = \
+     \"000102030405060708090A0b0C0d0E0f\"}]\n";
 
 /// The device of `DEVICE`, with the default of every other key.
 const PLAIN: DeviceSetting = DeviceSetting {

@@ -9,8 +9,8 @@ use std::thread::Threads;
 use test_asserts::{equal, equal_at, holds_at};
 use text_lines::MemoryOut;
 
-const SETTINGS: &str =
-    "[[gateway]]\nid = 1\n[[gateway]]\nid = 2\n[[device]]\naddr = \"26011bda\"\nnwkskey = \"2b7e151628aed2a6abf7158809cf4f3c\"\nappskey = \"000102030405060708090a0b0c0d0e0f\"\n";
+const SETTINGS: &str = "[[gateway]]\nid = 1\n[[gateway]]\nid = 2\n[[device]]\naddr = \"26011bda\"\n\
+     nwkskey = \"2b7e151628aed2a6abf7158809cf4f3c\"\nappskey = \"000102030405060708090a0b0c0d0e0f\"\n";
 
 /// A confirmed uplink that two gateways hear, one that is to be made, and a receive that fails.
 static TURNS: [Option<&[u8]>; 6] = [
@@ -23,11 +23,15 @@ static TURNS: [Option<&[u8]>; 6] = [
 ];
 
 const ANSWERED: &[u8] =
-    b"opened 1\njoined 1 2\nsend 1 2 RX1 10000000 868100000 5 12\nframe 1 60da1b0126200000240347ca\nbad 5 Syntax\nbad 6 Read\ngateway 1 booked 0 cancelled 0 retired 0 kept 0\ngateway 2 booked 41216 cancelled 0 retired 0 kept 1\nbusiest 2 M 10000000 41216\nanswered 1 unanswered 0 silent 0\n";
+    b"opened 1\njoined 1 2\nsend 1 2 RX1 10000000 868100000 5 12\nframe 1 60da1b0126200000240347ca\nbad 5 Syntax\n\
+      bad 6 Read\ngateway 1 booked 0 cancelled 0 retired 0 kept 0\n\
+      gateway 2 booked 41216 cancelled 0 retired 0 kept 1\nbusiest 2 M 10000000 41216\n\
+      answered 1 unanswered 0 silent 0\n";
 
 /// The report where nothing was booked.
 const NOTHING_BOOKED: &[u8] =
-    b"gateway 1 booked 0 cancelled 0 retired 0 kept 0\ngateway 2 booked 0 cancelled 0 retired 0 kept 0\nanswered 0 unanswered 0 silent 0\n";
+    b"gateway 1 booked 0 cancelled 0 retired 0 kept 0\ngateway 2 booked 0 cancelled 0 retired 0 kept 0\n\
+      answered 0 unanswered 0 silent 0\n";
 
 /// What was answered, how many receives were made, and what a writer took of whom call number `fails_at` fails.
 #[derive(Drop)]
