@@ -1,4 +1,4 @@
-use Rattle.std.specs.Prelude.{ℕ, ◌≡◌, ◌+◌, Bool, true, false, Option, None}
+use Rattle.std.specs.Prelude.{ℕ, ◌≡◌, ◌+◌, Bool, true, false, Option, Some, None, Ok, Err}
 use Rattle.std.specs.Option.{IsSomeAnd}
 use Rattle.radio_airtime.specs.TimeOnAir.{airtime_of}
 use Rattle.rx_windows.specs.declared.candidate.Window.{Window}
@@ -8,10 +8,12 @@ use Rattle.answer_ticket.specs.declared.outcome.Ending.TheVariants.{Answered, Un
 use Rattle.answer_ticket.specs.declared.outcome.Outcome.{Outcome}
 use Rattle.answer_ticket.specs.declared.tried.Receipt.{Receipt}
 use Rattle.answer_ticket.specs.Ended.{IsOfCandidate}
+use Rattle.answer_ticket.specs.Ticket.{Standing}
 use Rattle.server_core.specs.Airtime.{airtime_of_ending}
 use Rattle.answer_ticket.specs.declared.tried.TriedOut.{TriedOut}
 use Rattle.server_station.specs.declared.handled.Handled.{Handled}
 use Rattle.server_station.specs.declared.handled.Handled.TheVariants.{NotTaken, Settled, Stray}
+use Rattle.server_station.specs.Stations.{WasTaken}
 
 -- What becomes of an uplink that is taken up once, after this project's profile.
 
@@ -67,3 +69,19 @@ abbrev pub receipt_of : {A : Type 0} → Handled A → Option (Receipt A)
 receipt_of (NotTaken fault) = None
 receipt_of (Settled outcome receipt) = receipt
 receipt_of (Stray outcome receipt) = receipt
+
+-- how the answer ended, where a ticket was given
+abbrev pub outcome_of : {A : Type 0} → Handled A → Option Outcome
+outcome_of (NotTaken fault) = None
+outcome_of (Settled outcome receipt) = Some outcome
+outcome_of (Stray outcome receipt) = Some outcome
+
+-- some desk gave a ticket for number n
+abbrev pub WasGiven : ℕ → Type 0
+WasGiven n = (ticket : Standing) × WasTaken n (Ok ticket)
+
+-- number n was taken up once: some desk gave no ticket, for this fault, or it gave one
+abbrev pub WasTakenUp : {A : Type 0} → ℕ → Handled A → Type 0
+WasTakenUp n (NotTaken fault) = WasTaken n (Err fault)
+WasTakenUp n (Settled outcome receipt) = WasGiven n
+WasTakenUp n (Stray outcome receipt) = WasGiven n

@@ -4,7 +4,8 @@ use Rattle.std.specs.List.{list_any}
 use Rattle.std.specs.List.Sorted.{IsPermutation, IsStrictlyIncreasing}
 use Rattle.std.specs.Option.{option_map_or}
 use Rattle.gateway_book.specs.declared.cancel.CancelFault.{CancelFault}
-use Rattle.gateway_book.specs.Book.{Book, airtime_answer}
+use Rattle.gateway_book.specs.declared.totals.Totals.{Totals}
+use Rattle.gateway_book.specs.Book.{Book, airtime_answer, totals_of}
 use Rattle.gateway_book.specs.Step.{cancel_answer}
 use Rattle.answer_ticket.specs.declared.tried.Tried.{Tried}
 use Rattle.rx_windows.specs.declared.candidate.Candidate.{Candidate}
@@ -72,6 +73,10 @@ WasAsked number start answer = (old : Book) × (answer ≡ airtime_answer (cance
 -- the gateway of the candidate at which a ticket stands; every ticket stands at one
 abbrev pub gateway_to_try : Standing → ℕ
 gateway_to_try ticket = option_map_or (λ (c : Candidate). c.gateway) (candidate_of ticket) 0
+
+-- what some book has counted
+abbrev pub WereCounted : Totals → Type 0
+WereCounted totals = (book : Book) × (totals ≡ totals_of book)
 
 -- of a gateway that has booked less than was seen, it is told how much
 abbrev pub IsBehind : ℕ → TotalsFault → Type 0

@@ -1,6 +1,6 @@
 // An uplink is answered, once.
-ghost use Rattle.std.specs.Prelude.{◌≡◌, ◌≤◌, true, false};
-ghost use Rattle.server_station.specs.Handling.{IsHandled, IsEndOf, was_taken, receipt_of};
+ghost use Rattle.std.specs.Prelude.{◌≡◌, ◌≤◌, true, false, Some};
+ghost use Rattle.server_station.specs.Handling.{IsHandled, IsEndOf, WasTakenUp, was_taken, outcome_of, receipt_of};
 
 use crate::{Gate, Ledger, Station, Till};
 use answer_ticket::{Outcome, Receipt, Ticket, Tried, TriedOut};
@@ -33,6 +33,7 @@ impl<B: Ledger, S: BuildHasher, A: Allocator + Copy> Station<B, S, A> {
         overrun: &mut u64,
     ) -> Handled<A>
         ensures turn { IsHandled number till.old till.new result }
+        ensures taken { WasTakenUp number result }
         ensures overrun { overrun.old ≤ overrun.new }
         ensures idle { was_taken result ≡ false → overrun.new ≡ overrun.old }
     {
@@ -87,6 +88,7 @@ impl<B: Ledger, S: BuildHasher, A: Allocator + Copy> Station<B, S, A> {
         requires { IsEndOf ended.stub.number ended }
         ensures turn { IsHandled ended.stub.number till.old till.new result }
         ensures taken { was_taken result ≡ true }
+        ensures outcome { outcome_of result ≡ Some ended.stub }
         ensures receipt { receipt_of result ≡ ended.receipt }
     {
         let TriedOut { stub, receipt } = ended;

@@ -8,7 +8,7 @@ ghost use Rattle.server_core.specs.World.{opening};
 ghost use Rattle.server_core.specs.Register.{is_among};
 ghost use Rattle.server_station.specs.Stations.{AreInOrder, gateway_to_try, WasQueued, WasHeard, WasPassed};
 ghost use Rattle.server_station.specs.Stations.{WasTaken};
-ghost use Rattle.server_station.specs.Stations.{WasTried, WasAsked, IsBehind};
+ghost use Rattle.server_station.specs.Stations.{WasTried, WasAsked, WereCounted, IsBehind};
 
 use crate::gate::{NoGate, is_let_in};
 use crate::place::{Place, place_numbered, places_of};
@@ -196,6 +196,7 @@ impl<B: Ledger, S: BuildHasher, A: Allocator + Copy> Station<B, S, A> {
     pub fn totals<R: Wait>(&self, rt: &R, gateway: u16, seen: u64) -> Result<Totals, TotalsFault>
         ensures unknown { (result ≡ Err TotalsFault.UnknownGateway) ↔ (is_among self.now gateway ≡ false) }
         ensures fresh { IfOk result (λ totals. seen ≤ totals.booked) }
+        ensures told { IfOk result WereCounted }
         ensures balanced { IfOk result (λ totals. totals.booked ≡ totals.cancelled + totals.retired + totals.kept_airtime) }
         ensures behind { IfErr result (λ fault. IsBehind seen fault) }
     {
