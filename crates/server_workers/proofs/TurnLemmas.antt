@@ -1,10 +1,11 @@
 -- What a worker files, number by number.
-use Rattle.std.proofs.Common.{◌≡◌, ℕ, ◌++◌, List, [], ◌∷◌, refl, sym}
+use Rattle.std.proofs.Common.{◌≡◌, ℕ, ◌++◌, List, [], ◌∷◌, Some, false, refl, sym}
 use Rattle.std.proofs.Common.{ap, ◌∙◌, append_assoc, append-nil, subst, arith, Vec}
 use Rattle.std.specs.List.{flat_map}
 use Rattle.std.proofs.lemmas.Grind.{flat_map-append}
+use Rattle.std.proofs.lemmas.List.Elements.{All-pop}
 use Rattle.air_ledger.specs.Tills.{Holding}
-use Rattle.server_station.specs.Handling.{IsHandled}
+use Rattle.server_station.specs.Handling.{IsHandled, was_taken}
 use Rattle.server_station.specs.declared.handled.Handled.{Handled}
 use Rattle.server_workers.specs.declared.worked.Worked.{Worked}
 use Rattle.server_workers.specs.Works.{IsLonger}
@@ -17,6 +18,7 @@ worked_none w = (
   [],
   record {
     told = refl;
+    idle = λ none. refl;
     receipts = sym (append-nil w.receipts.items);
     outcomes = sym (append-nil w.outcomes.items);
     skipped = sym (append-nil w.skipped.items);
@@ -51,6 +53,9 @@ worked_on {B} {A} n old mid new so_far filed =
       turns ++ t ∷ [],
       record {
         told = handed_on turns n turn old.till mid.till new.till all.told one.told;
+        idle = λ none.
+            let cut = All-pop (λ (s : ℕ × Handled A). was_taken s.1 ≡ false) (turns ++ t ∷ []) turns (Some t) refl none in
+            one.idle cut.1 ∙ all.idle cut.0;
         receipts = more (λ (s : ℕ × Handled A). receipts_of s.1) turns t _ _ _ all.receipts one.receipts;
         outcomes = more (λ (s : ℕ × Handled A). outcomes_of s.1) turns t _ _ _ all.outcomes one.outcomes;
         skipped = more (λ (s : ℕ × Handled A). skipped_of s.0 s.1) turns t _ _ _ all.skipped one.skipped;

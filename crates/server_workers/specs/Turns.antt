@@ -1,7 +1,7 @@
-use Rattle.std.specs.Prelude.{ℕ, ◌≡◌, List, [], ◌∷◌, ◌++◌, IsSomeAnd, ⊤}
+use Rattle.std.specs.Prelude.{ℕ, ◌≡◌, false, List, [], ◌∷◌, ◌++◌, All, IsSomeAnd, ⊤}
 use Rattle.std.specs.List.{flat_map}
 use Rattle.air_ledger.specs.Tills.{Holding}
-use Rattle.server_station.specs.Handling.{IsHandled}
+use Rattle.server_station.specs.Handling.{IsHandled, was_taken}
 use Rattle.server_station.specs.declared.handled.Handled.{Handled}
 use Rattle.server_workers.specs.declared.worked.Stopped.{Stopped}
 use Rattle.server_workers.specs.declared.worked.Stopped.TheVariants.{Full, AtEnd}
@@ -19,9 +19,15 @@ abbrev pub AreHandled : {A : Type 0} → Turns A → Holding → Holding → Typ
 AreHandled [] old new = new ≡ old
 AreHandled (t ∷ turns) old new = (mid : Holding) × IsHandled t.0 old mid t.1 × AreHandled turns mid new
 
--- what became of these numbers stands at the ends of the lists, in their order, and nothing else was added
+-- none of these numbers got a ticket
+abbrev pub AreIdle : {A : Type 0} → Turns A → Type 0
+AreIdle {A} turns = All (λ (t : ℕ × Handled A). was_taken t.1 ≡ false) turns
+
+-- what became of these numbers stands at the ends of the lists, in their order, and nothing else was added; where none of them
+-- got a ticket, no try went on at a gate that didn't let it in
 pub record AreFiled {B A : Type 0} (turns : Turns A) (old new : Worked B A) : Type 0 where
   pub told : AreHandled turns old.till new.till
+  pub idle : AreIdle turns → new.overrun ≡ old.overrun
   pub receipts : new.receipts.items ≡ old.receipts.items ++ flat_map (λ (t : ℕ × Handled A). receipts_of t.1) turns
   pub outcomes : new.outcomes.items ≡ old.outcomes.items ++ flat_map (λ (t : ℕ × Handled A). outcomes_of t.1) turns
   pub skipped : new.skipped.items ≡ old.skipped.items ++ flat_map (λ (t : ℕ × Handled A). skipped_of t.0 t.1) turns

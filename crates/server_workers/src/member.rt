@@ -1,6 +1,8 @@
 // A worker among others.
-ghost use Rattle.std.specs.Prelude.{◌≡◌, [], ℕ, length};
+ghost use Rattle.std.specs.Prelude.{◌≡◌, true, [], ℕ, length};
 ghost use Rattle.server_workers.specs.Crew.{IsWithin, HasSettledNone, HasDoneItsPart};
+ghost use Rattle.server_workers.specs.Turns.{HasWorked, HasStopped};
+ghost use Rattle.server_workers.specs.Working.{IsMore};
 
 use crate::working::work_on;
 use crate::{Gate, Ledger, Station, Worked};
@@ -92,14 +94,19 @@ impl<K: Room, B: Ledger, A: Allocator> Member<K, B, A> {
 }
 
 impl<K: Room, B: Ledger, A: Allocator + Copy> Member<K, B, A> {
-    /// Works at the numbers.
+    /// Works at the numbers, until it has a reason to stop.
     pub(crate) fn work<R: Wait, S: BuildHasher, G: Gate>(
         &mut self,
         rt: &R,
         station: &Station<B, S, A>,
         numbers: &Numbers<K, A>,
         gate: &G,
-    ) {
+    )
+        ensures more { IsMore self.old.worked self.new.worked }
+        ensures turns { HasWorked self.old.worked self.new.worked }
+        ensures stopped { HasStopped self.new.worked }
+        ensures begun { self.new.has_begun ≡ true }
+    {
         self.has_begun = true;
         work_on(rt, station, &numbers.channel, gate, &mut self.worked);
     }

@@ -29,6 +29,7 @@ pub(crate) fn summed_up<K: Room, B: Ledger, A: Allocator>(
     ensures ran { IfOk result (λ served. (1 ≤ served.ran) × (served.ran ≤ vec_len crew)) }
     ensures back { IfErr result (λ fault. fault.till ≡ record { parts = till.parts + vec_len crew; amount = till.amount }) }
     ensures nobody { IfErr result (λ fault. fault.cause ≡ ServeCause.NoThread) }
+    ensures none_began { IfErr result (λ _. begun_count (map (λ m. m.has_begun) crew.items) ≡ 0) }
     ensures all { IfOk result (IsSummedUp (map (λ m. m.worked) crew.items)) }
     ensures asked { IfOk result (λ served. WereAsked (vec_len crew) served.counts) }
     ensures begun { IfOk result (λ served. served.ran ≡ begun_count (map (λ m. m.has_begun) crew.items)) }
