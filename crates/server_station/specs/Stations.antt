@@ -1,6 +1,4 @@
-use Rattle.std.specs.Prelude.{ℕ, ◌≡◌, ◌<◌, ◌==◌, Bool, List, map, Result, ⊤, MatchResult}
-use Rattle.std.specs.Prelude.{IsOkUnless, IfOk, Option, Ok, Err}
-use Rattle.std.specs.List.{list_any}
+use Rattle.std.specs.Prelude.{ℕ, ◌≡◌, ◌<◌, List, map, Result, ⊤, MatchResult, IsOkUnless, IfOk, Option, Ok, Err}
 use Rattle.std.specs.List.Sorted.{IsPermutation, IsStrictlyIncreasing}
 use Rattle.std.specs.Option.{option_map_or}
 use Rattle.gateway_book.specs.declared.cancel.CancelFault.{CancelFault}

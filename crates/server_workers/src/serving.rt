@@ -1,11 +1,10 @@
 // Workers share out the numbers of a station.
 ghost use Rattle.std.specs.Prelude.{◌≡◌, ◌≢◌, ◌+◌, ◌-◌, ◌*◌, ◌<◌, ◌≤◌, ◌↔◌, All, IsErrAnd, IfOk, IfErr, OnOk, OnErr, length, ⊤};
 ghost use Rattle.std.specs.Prelude.{vec_len, vec_capacity};
-ghost use Rattle.air_ledger.specs.Tills.{all_parts};
 ghost use Rattle.server_workers.specs.Works.{outcomes_airtime};
 ghost use Rattle.server_workers.specs.Counts.{WereAsked};
 ghost use Rattle.server_workers.specs.EmptyLists.{AreEmptyFor};
-ghost use Rattle.server_workers.specs.Serving.{IsOutside, HasRoomFor, IsGatheredFrom, IsSummedUp, IsSortedByNumber, begun_count};
+ghost use Rattle.server_workers.specs.Serving.{IsOutside, IsSortedByNumber};
 
 use crate::lists::Lists;
 use crate::member::{Member, Numbers, Room};

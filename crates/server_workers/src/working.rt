@@ -1,5 +1,5 @@
 // A worker takes, tries and settles one number after another.
-ghost use Rattle.std.specs.Prelude.{◌≡◌, ◌+◌, ◌↔◌, ◌++◌, List, IsTrue, vec_capacity};
+ghost use Rattle.std.specs.Prelude.{◌≡◌, ◌+◌, ◌↔◌, ◌++◌, List, IsTrue};
 ghost use Rattle.answer_ticket.specs.declared.outcome.Outcome.{Outcome as Ends};
 ghost use Rattle.server_workers.specs.Works.{IsOpen, outcomes_airtime};
 ghost use Rattle.server_workers.specs.Working.{HasFiled, HasRoom, IsMore};
