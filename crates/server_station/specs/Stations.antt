@@ -3,7 +3,7 @@ use Rattle.std.specs.List.Sorted.{IsPermutation, IsStrictlyIncreasing}
 use Rattle.std.specs.Option.{option_map_or}
 use Rattle.gateway_book.specs.declared.cancel.CancelFault.{CancelFault}
 use Rattle.gateway_book.specs.declared.totals.Totals.{Totals}
-use Rattle.gateway_book.specs.Book.{Book, airtime_answer, totals_of}
+use Rattle.gateway_book.specs.Book.{Book, airtime_answer, totals_of, ticked}
 use Rattle.gateway_book.specs.Step.{cancel_answer}
 use Rattle.answer_ticket.specs.declared.tried.Tried.{Tried}
 use Rattle.rx_windows.specs.declared.candidate.Candidate.{Candidate}
@@ -67,6 +67,10 @@ WasTried ticket tried = (old : Book) × (new : Book) × TriedIs ticket old new t
 -- what a book answered to a cancel
 abbrev pub WasAsked : ℕ → ℕ → Result ℕ CancelFault → Type 0
 WasAsked number start answer = (old : Book) × (answer ≡ airtime_answer (cancel_answer old.floor old.list number start))
+
+-- the floor that a book had after a tick at that moment: the later of its floor and the moment
+abbrev pub WasTicked : ℕ → ℕ → Type 0
+WasTicked now floor = (old : Book) × (floor ≡ (ticked old now).floor)
 
 -- the gateway of the candidate at which a ticket stands; every ticket stands at one
 abbrev pub gateway_to_try : Standing → ℕ

@@ -8,7 +8,7 @@ ghost use Rattle.server_core.specs.World.{opening};
 ghost use Rattle.server_core.specs.Register.{is_among};
 ghost use Rattle.server_station.specs.Stations.{AreInOrder, gateway_to_try, WasQueued, WasHeard, WasPassed};
 ghost use Rattle.server_station.specs.Stations.{WasTaken};
-ghost use Rattle.server_station.specs.Stations.{WasTried, WasAsked, WereCounted, IsBehind};
+ghost use Rattle.server_station.specs.Stations.{WasTried, WasAsked, WasTicked, WereCounted, IsBehind};
 
 use crate::gate::{NoGate, is_let_in};
 use crate::place::{Place, place_numbered, places_of};
@@ -184,6 +184,7 @@ impl<B: Ledger, S: BuildHasher, A: Allocator + Copy> Station<B, S, A> {
     pub fn tick<R: Wait>(&self, rt: &R, gateway: u16, now: u64) -> Option<u64>
         ensures unknown { IsNone result ↔ (is_among self.now gateway ≡ false) }
         ensures floor { IfSome result (λ floor. now ≤ floor) }
+        ensures ticked { IfSome result (WasTicked now) }
     {
         let place = self.place_of(gateway)?;
         let mut book = place.book.lock(rt);
