@@ -27,20 +27,20 @@ use Rattle.listen_texts.proofs.SourceLemmas.{made_none, made_more}
 use Rattle.listen_texts.proofs.SaidLemmas.{turns_more, appends_both, refused_both}
 
 -- so many turns have led here
-pub record HasListened (devices : List DeviceSetting) (turns : ℕ) (seen seen_now : Seen) (now : Standing)
+pub record HasListened (ids : List ℕ) (devices : List DeviceSetting) (turns : ℕ) (seen seen_now : Seen) (now : Standing)
     (before after : Option (List ℕ)) : Type 0 where
   pub received : List Received
   pub made : AreMade DATAGRAM_ROOM turns seen seen_now received
   pub said : Said
-  pub turned : AreTurns devices 1 received [] now.bookings said
+  pub turned : AreTurns ids devices 1 received [] now.bookings said
   pub tally : now.tally ≡ tally_of said.entries
   pub small : IsTallyUpTo (turns * 2 ^ 64) now.tally
   pub refused : now.refused ≡ has_refusal said.lines
   pub written : Appends before after (text_of said.lines)
 
-pub listened_none : (devices : List DeviceSetting) (seen : Seen) (a : Option (List ℕ))
-    → HasListened devices 0 seen seen opened a a
-listened_none devices seen a =
+pub listened_none : (ids : List ℕ) (devices : List DeviceSetting) (seen : Seen) (a : Option (List ℕ))
+    → HasListened ids devices 0 seen seen opened a a
+listened_none ids devices seen a =
     record {
       received = [];
       made = made_none DATAGRAM_ROOM seen;
@@ -72,18 +72,18 @@ small_more turns t u v a b e =
       silent = omega (arith, a.silent, b.silent);
     })
 
-module _ (devices : List DeviceSetting) (turns : ℕ) (s0 s1 : Seen) (t : Standing) (a b : Option (List ℕ))
-    (so_far : HasListened devices turns s0 s1 t a b) where
+module _ (ids : List ℕ) (devices : List DeviceSetting) (turns : ℕ) (s0 s1 : Seen) (t : Standing) (a b : Option (List ℕ))
+    (so_far : HasListened ids devices turns s0 s1 t a b) where
   -- what is said in one turn more
-  next_turns : (r : Received) (bookings : List Booking) (more : Said) → IsTurn devices (turns + 1) r t.bookings bookings more
-      → AreTurns devices 1 (so_far.received ++ r ∷ []) [] bookings (said_both so_far.said more)
+  next_turns : (r : Received) (bookings : List Booking) (more : Said) → IsTurn ids devices (turns + 1) r t.bookings bookings more
+      → AreTurns ids devices 1 (so_far.received ++ r ∷ []) [] bookings (said_both so_far.said more)
   next_turns r bookings more turn =
-      turns_more devices 1 so_far.received r [] t.bookings bookings so_far.said more so_far.turned
-      (subst (λ n. IsTurn devices n r t.bookings bookings more) (omega (arith, so_far.made.number)) turn)
+      turns_more ids devices 1 so_far.received r [] t.bookings bookings so_far.said more so_far.turned
+      (subst (λ n. IsTurn ids devices n r t.bookings bookings more) (omega (arith, so_far.made.number)) turn)
 
   -- one turn more
   pub listened_more : (s2 : Seen) (u : Standing) (c : Option (List ℕ))
-      → Turns (λ r. IsTurn devices (turns + 1) r t.bookings) s1 s2 t u b c → HasListened devices (turns + 1) s0 s2 u a c
+      → Turns (λ r. IsTurn ids devices (turns + 1) r t.bookings) s1 s2 t u b c → HasListened ids devices (turns + 1) s0 s2 u a c
   listened_more s2 u c turned =
       let more : Said = turned.2.0 in
       let step = turned.2.2 in
@@ -100,9 +100,9 @@ module _ (devices : List DeviceSetting) (turns : ℕ) (s0 s1 : Seen) (t : Standi
       }
 
   -- all turns, and the report
-  pub listened_all : (ids : List ℕ) (c : Option (List ℕ)) (refused : Bool) → refused ≡ t.refused → Reports ids t b c
+  pub listened_all : (c : Option (List ℕ)) (refused : Bool) → refused ≡ t.refused → Reports ids t b c
       → Hears turns ids devices s0 s1 a c refused
-  listened_all ids c refused same reports =
+  listened_all c refused same reports =
       let report : List (List ℕ) = reports.0 in (
         so_far.received,
         so_far.made,
@@ -119,9 +119,9 @@ module _ (devices : List DeviceSetting) (turns : ℕ) (s0 s1 : Seen) (t : Standi
       )
 
   -- all turns, and the report in part
-  pub listened_all_in_part : (ids : List ℕ) (c : Option (List ℕ)) (fault : TextFault)
+  pub listened_all_in_part : (c : Option (List ℕ)) (fault : TextFault)
       → ReportsInPart ids t.bookings t.tally b c fault → HearsInPart turns ids devices s0 s1 a c fault
-  listened_all_in_part ids c fault stopped =
+  listened_all_in_part c fault stopped =
       inr (record {
         received = so_far.received;
         made = so_far.made;
@@ -134,9 +134,10 @@ module _ (devices : List DeviceSetting) (turns : ℕ) (s0 s1 : Seen) (t : Standi
       })
 
   -- one turn more in part, of so many that are left
-  pub listened_more_in_part : (most : ℕ) (ids : List ℕ) (s2 : Seen) (c : Option (List ℕ)) (fault : TextFault) → turns < most
-      → TurnsInPart (λ r. IsTurn devices (turns + 1) r t.bookings) s1 s2 b c fault → HearsInPart most ids devices s0 s2 a c fault
-  listened_more_in_part most ids s2 c fault less stopped =
+  pub listened_more_in_part : (most : ℕ) (s2 : Seen) (c : Option (List ℕ)) (fault : TextFault) → turns < most
+      → TurnsInPart (λ r. IsTurn ids devices (turns + 1) r t.bookings) s1 s2 b c fault
+      → HearsInPart most ids devices s0 s2 a c fault
+  listened_more_in_part most s2 c fault less stopped =
       inl (record {
         turn = turns + 1;
         within = omega arith;
@@ -153,17 +154,16 @@ module _ (devices : List DeviceSetting) (turns : ℕ) (s0 s1 : Seen) (t : Standi
       })
 
   -- the same of the call that writes the report
-  pub listened_closed : {E : Type 0} (ids same_ids : List ℕ) (c : Option (List ℕ)) (r : Result Bool E) → ids ≡ same_ids
-      → IfOk r (λ x. x ≡ t.refused) → IfOk r (λ x. Reports ids t b c) → IfOk r (Hears turns same_ids devices s0 s1 a c)
-  listened_closed ids same_ids c (Ok refused) e told reports =
-      subst (λ l. Hears turns l devices s0 s1 a c refused) e (listened_all ids c refused told reports)
-  listened_closed ids same_ids c (Err fault) e told reports = tt
+  pub listened_closed : {E : Type 0} (same : List ℕ) (c : Option (List ℕ)) (r : Result Bool E) → same ≡ ids
+      → IfOk r (λ x. x ≡ t.refused) → IfOk r (λ x. Reports same t b c) → IfOk r (Hears turns ids devices s0 s1 a c)
+  listened_closed same c (Ok refused) e told reports = listened_all c refused told (subst (λ l. Reports l t b c) e reports)
+  listened_closed same c (Err fault) e told reports = tt
 
-  pub listened_closed_in_part : (ids same_ids : List ℕ) (c : Option (List ℕ)) (r : Result Bool TextFault) → ids ≡ same_ids
-      → IfErr r (ReportsInPart ids t.bookings t.tally b c) → IfErr r (HearsInPart turns same_ids devices s0 s1 a c)
-  listened_closed_in_part ids same_ids c (Ok refused) e reports = tt
-  listened_closed_in_part ids same_ids c (Err fault) e reports =
-      subst (λ l. HearsInPart turns l devices s0 s1 a c fault) e (listened_all_in_part ids c fault reports)
+  pub listened_closed_in_part : (same : List ℕ) (c : Option (List ℕ)) (r : Result Bool TextFault) → same ≡ ids
+      → IfErr r (ReportsInPart same t.bookings t.tally b c) → IfErr r (HearsInPart turns ids devices s0 s1 a c)
+  listened_closed_in_part same c (Ok refused) e reports = tt
+  listened_closed_in_part same c (Err fault) e reports =
+      listened_all_in_part c fault (subst (λ l. ReportsInPart l t.bookings t.tally b c fault) e reports)
 
 abbrev tally_at : ℕ → ℕ → ℕ → Tally
 tally_at sent unanswered silent = record { sent = sent; unanswered = unanswered; silent = silent }
@@ -187,31 +187,31 @@ said_nothing s a =
     }
 
 -- where nothing is asked for
-pub nothing_asked : (devices : List DeviceSetting) (turn : ℕ) (datagram : List ℕ) (event : Option (Event Global)) (s : Standing)
-    (a : Option (List ℕ)) → event ≡ datagram_event devices turn datagram → event ≡ None
-    → Says (IsTurn devices turn (Some datagram) s.bookings) s s a a
-nothing_asked devices turn datagram event s a asked none = (
+pub nothing_asked : (ids : List ℕ) (devices : List DeviceSetting) (turn : ℕ) (datagram : List ℕ)
+    (event : Option (Event Global)) (s : Standing) (a : Option (List ℕ)) → event ≡ datagram_event devices turn datagram → event ≡ None
+    → Says (IsTurn ids devices turn (Some datagram) s.bookings) s s a a
+nothing_asked ids devices turn datagram event s a asked none = (
   nothing,
-  subst (λ e. IsAnswered turn e s.bookings s.bookings nothing) (sym none ∙ asked) (refl, refl),
+  subst (λ e. IsAnswered ids turn e s.bookings s.bookings nothing) (sym none ∙ asked) (refl, refl),
   said_nothing s a,
 )
 
 -- what is said in part to the event that a datagram asks for
-pub asked_in_part : {X : Type 0} (devices : List DeviceSetting) (turn : ℕ) (datagram : List ℕ) (asked : Option (Event Global))
-    (event : Event Global) (bookings : List Booking) (a b : Option (List ℕ)) (r : Result X TextFault)
+pub asked_in_part : {X : Type 0} (ids : List ℕ) (devices : List DeviceSetting) (turn : ℕ) (datagram : List ℕ)
+    (asked : Option (Event Global)) (event : Event Global) (bookings : List Booking) (a b : Option (List ℕ)) (r : Result X TextFault)
     → asked ≡ datagram_event devices turn datagram → asked ≡ Some event
-    → IfErr r (SaysInPart (IsAnswered turn (Some event) bookings) a b)
-    → IfErr r (SaysInPart (IsTurn devices turn (Some datagram) bookings) a b)
-asked_in_part devices turn datagram asked event bookings a b r is some h =
-    subst (λ e. IfErr r (SaysInPart (IsAnswered turn e bookings) a b)) (sym some ∙ is) h
+    → IfErr r (SaysInPart (IsAnswered ids turn (Some event) bookings) a b)
+    → IfErr r (SaysInPart (IsTurn ids devices turn (Some datagram) bookings) a b)
+asked_in_part ids devices turn datagram asked event bookings a b r is some h =
+    subst (λ e. IfErr r (SaysInPart (IsAnswered ids turn e bookings) a b)) (sym some ∙ is) h
 
 -- an event was answered by the lines that were told for it
-pub answered_by : (turn : ℕ) (event : Event Global) (old new : List Booking) (before told taken : List (Entry Global))
+pub answered_by : (ids : List ℕ) (turn : ℕ) (event : Event Global) (old new : List Booking) (before told taken : List (Entry Global))
     → before ≡ []
-    → IsDone turn event (kept old before) (kept new told) → taken ≡ told
-    → IsAnswered turn (Some event) old new (record { entries = taken; lines = entry_lines taken })
-answered_by turn event old new before told taken none done same = (
-  subst (λ l. IsDone turn event (kept old []) (kept new l)) (sym same)
-      (subst (λ l. IsDone turn event (kept old l) (kept new told)) none done),
+    → IsDone ids turn event (kept old before) (kept new told) → taken ≡ told
+    → IsAnswered ids turn (Some event) old new (record { entries = taken; lines = entry_lines taken })
+answered_by ids turn event old new before told taken none done same = (
+  subst (λ l. IsDone ids turn event (kept old []) (kept new l)) (sym same)
+      (subst (λ l. IsDone ids turn event (kept old l) (kept new told)) none done),
   refl,
 )

@@ -29,25 +29,25 @@ said_three a b c =
     (append_assoc a.lines b.lines c.lines)
 
 -- some turns, and one more
-pub turns_more : (devices : List DeviceSetting) (turn : ℕ) (rs : List Received) (r : Received) (old mid new : List Booking)
-    (said more : Said) → AreTurns devices turn rs old mid said → IsTurn devices (turn + length rs) r mid new more
-    → AreTurns devices turn (rs ++ r ∷ []) old new (said_both said more)
-turns_more devices turn [] r old mid new said more none last = (
+pub turns_more : (ids : List ℕ) (devices : List DeviceSetting) (turn : ℕ) (rs : List Received) (r : Received) (old mid new : List Booking)
+    (said more : Said) → AreTurns ids devices turn rs old mid said → IsTurn ids devices (turn + length rs) r mid new more
+    → AreTurns ids devices turn (rs ++ r ∷ []) old new (said_both said more)
+turns_more ids devices turn [] r old mid new said more none last = (
   new,
   more,
   nothing,
-  subst (λ n. IsTurn devices n r old new more) (omega arith)
-      (subst (λ b. IsTurn devices (turn + 0) r b new more) none.0 last),
+  subst (λ n. IsTurn ids devices n r old new more) (omega arith)
+      (subst (λ b. IsTurn ids devices (turn + 0) r b new more) none.0 last),
   (refl, refl),
   ap (λ s. said_both s more) none.1 ∙ said_then_nothing more,
 )
-turns_more devices turn (q ∷ rs) r old mid new said more some last = (
+turns_more ids devices turn (q ∷ rs) r old mid new said more some last = (
   some.0,
   some.1,
   said_both some.2 more,
   some.3,
-  turns_more devices (turn + 1) rs r some.0 mid new some.2 more some.4
-      (subst (λ n. IsTurn devices n r mid new more) (omega arith) last),
+  turns_more ids devices (turn + 1) rs r some.0 mid new some.2 more some.4
+      (subst (λ n. IsTurn ids devices n r mid new more) (omega arith) last),
   ap (λ s. said_both s more) some.5 ∙ said_three some.1 some.2 more,
 )
 

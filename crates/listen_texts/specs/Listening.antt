@@ -39,7 +39,7 @@ pub record IsHeard (ids : List ℕ) (devices : List DeviceSetting) (received : L
   pub bookings : List Booking
   pub said : Said
   pub report : List (List ℕ)
-  pub turns : AreTurns devices 1 received [] bookings said
+  pub turns : AreTurns ids devices 1 received [] bookings said
   pub reported : IsReport ids bookings (tally_of said.entries) report
   pub written : Appends before after (text_of (said.lines ++ report))
   pub told : refused ≡ has_refusal (said.lines ++ report)
@@ -72,10 +72,10 @@ ReportsInPart ids bookings tally before after (Settings name) =
     (after ≡ before) × IsClosingFault ids (open_receipts bookings) (Settings name)
 ReportsInPart ids bookings tally before after other = ⊥
 
--- a server with these devices stopped in one of so many turns: all answers of the turns before were written, and its own in part;
--- a growth was refused only where it received a datagram
-pub record StopsInTurn (turns : ℕ) (devices : List DeviceSetting) (old new : Seen) (before after : Option (List ℕ))
-    (fault : TextFault) : Type 0 where
+-- a server with these gateways and devices stopped in one of so many turns: all answers of the turns before were written, and its
+-- own in part; a growth was refused only where it received a datagram
+pub record StopsInTurn (turns : ℕ) (ids : List ℕ) (devices : List DeviceSetting) (old new : Seen)
+    (before after : Option (List ℕ)) (fault : TextFault) : Type 0 where
   pub turn : ℕ
   pub within : turn ≤ turns
   pub received : List Received
@@ -84,10 +84,10 @@ pub record StopsInTurn (turns : ℕ) (devices : List DeviceSetting) (old new : S
   pub given : fault ≡ NoMemory → IsSome last
   pub bookings : List Booking
   pub said : Said
-  pub turned : AreTurns devices 1 received [] bookings said
+  pub turned : AreTurns ids devices 1 received [] bookings said
   pub between : Option (List ℕ)
   pub written : Appends before between (text_of said.lines)
-  pub stopped : SaysInPart (IsTurn devices turn last bookings) between after fault
+  pub stopped : SaysInPart (IsTurn ids devices turn last bookings) between after fault
 
 -- it stopped after just so many turns, at a station of these gateways: all answers were written, and the report in part
 pub record StopsAtReport (turns : ℕ) (ids : List ℕ) (devices : List DeviceSetting) (old new : Seen)
@@ -96,7 +96,7 @@ pub record StopsAtReport (turns : ℕ) (ids : List ℕ) (devices : List DeviceSe
   pub made : AreMade DATAGRAM_ROOM turns old new received
   pub bookings : List Booking
   pub said : Said
-  pub turned : AreTurns devices 1 received [] bookings said
+  pub turned : AreTurns ids devices 1 received [] bookings said
   pub between : Option (List ℕ)
   pub written : Appends before between (text_of said.lines)
   pub stopped : ReportsInPart ids bookings (tally_of said.entries) between after fault
@@ -104,7 +104,7 @@ pub record StopsAtReport (turns : ℕ) (ids : List ℕ) (devices : List DeviceSe
 -- it stopped in a turn or after all of them
 abbrev pub HearsInPart : ℕ → List ℕ → List DeviceSetting → Seen → Seen → Option (List ℕ) → Option (List ℕ) → TextFault → Type 0
 HearsInPart turns ids devices old new before after fault =
-    StopsInTurn turns devices old new before after fault ⊎ StopsAtReport turns ids devices old new before after fault
+    StopsInTurn turns ids devices old new before after fault ⊎ StopsAtReport turns ids devices old new before after fault
 
 -- at a server with these settings; or a growth was refused to the server itself, and nothing was received and nothing written
 abbrev pub ListensInPart : ℕ → SettingLists → Seen → Seen → Option (List ℕ) → Option (List ℕ) → TextFault → Type 0

@@ -28,20 +28,21 @@ nothing = record { entries = []; lines = [] }
 abbrev pub said_both : Said → Said → Said
 said_both first rest = record { entries = first.entries ++ rest.entries; lines = first.lines ++ rest.lines }
 
--- what is said to an event, and what is booked then, is what a run with workers tells and books for it
-abbrev pub IsAnswered : ℕ → Option (Event Global) → List Booking → List Booking → Said → Type 0
-IsAnswered turn None old new said = (new ≡ old) × (said ≡ nothing)
-IsAnswered turn (Some event) old new said =
-    IsDone turn event (kept old []) (kept new said.entries) × (said.lines ≡ entry_lines said.entries)
+-- what is said to an event at a station of these gateways, and what is booked then, is what a run with workers tells and books
+-- for it
+abbrev pub IsAnswered : List ℕ → ℕ → Option (Event Global) → List Booking → List Booking → Said → Type 0
+IsAnswered ids turn None old new said = (new ≡ old) × (said ≡ nothing)
+IsAnswered ids turn (Some event) old new said =
+    IsDone ids turn event (kept old []) (kept new said.entries) × (said.lines ≡ entry_lines said.entries)
 
 -- what is said in one turn, by what was received
-abbrev pub IsTurn : List DeviceSetting → ℕ → Received → List Booking → List Booking → Said → Type 0
-IsTurn devices turn None old new said = (new ≡ old) × (said ≡ record { entries = []; lines = unread_line turn ∷ [] })
-IsTurn devices turn (Some datagram) old new said = IsAnswered turn (datagram_event devices turn datagram) old new said
+abbrev pub IsTurn : List ℕ → List DeviceSetting → ℕ → Received → List Booking → List Booking → Said → Type 0
+IsTurn ids devices turn None old new said = (new ≡ old) × (said ≡ record { entries = []; lines = unread_line turn ∷ [] })
+IsTurn ids devices turn (Some datagram) old new said = IsAnswered ids turn (datagram_event devices turn datagram) old new said
 
 -- the same of several turns, the first of them with this number, one after another
-abbrev pub AreTurns : List DeviceSetting → ℕ → List Received → List Booking → List Booking → Said → Type 0
-AreTurns devices turn [] old new said = (new ≡ old) × (said ≡ nothing)
-AreTurns devices turn (r ∷ rs) old new said =
-    (mid : List Booking) × (first : Said) × (rest : Said) × IsTurn devices turn r old mid first
-    × AreTurns devices (turn + 1) rs mid new rest × (said ≡ said_both first rest)
+abbrev pub AreTurns : List ℕ → List DeviceSetting → ℕ → List Received → List Booking → List Booking → Said → Type 0
+AreTurns ids devices turn [] old new said = (new ≡ old) × (said ≡ nothing)
+AreTurns ids devices turn (r ∷ rs) old new said =
+    (mid : List Booking) × (first : Said) × (rest : Said) × IsTurn ids devices turn r old mid first
+    × AreTurns ids devices (turn + 1) rs mid new rest × (said ≡ said_both first rest)

@@ -106,10 +106,10 @@ where
     ) -> Result<Self, TextFault>
         requires room { IsTallyUpTo (2 ^ 126) self.tally }
         ensures station { IfOk result (λ l. l.shift.station ≡ self.shift.station) }
-        ensures ok { IfOk result (λ l. Turns (λ r. IsTurn devices.now turn r self.shift.receipts.bookings.items)
+        ensures ok { IfOk result (λ l. Turns (λ r. IsTurn self.shift.station devices.now turn r self.shift.receipts.bookings.items)
             (S.seen source.old) (S.seen source.new) (standing self.shift.receipts.bookings.items self.tally self.refused)
             (standing l.shift.receipts.bookings.items l.tally l.refused) (W.taken writer.old) (W.taken writer.new)) }
-        ensures front { IfErr result (TurnsInPart (λ r. IsTurn devices.now turn r self.shift.receipts.bookings.items)
+        ensures front { IfErr result (TurnsInPart (λ r. IsTurn self.shift.station devices.now turn r self.shift.receipts.bookings.items)
             (S.seen source.old) (S.seen source.new) (W.taken writer.old) (W.taken writer.new)) }
         ensures fault { IfErr result IsListenFault }
         ensures write { CountsWrites (W.failed_calls writer.old) (W.failed_calls writer.new) result }
@@ -124,10 +124,10 @@ where
     /// Tells that the receive of a turn failed.
     fn unread<W: ByteOut>(self, turn: u32, writer: &mut W) -> Result<Self, TextFault>
         ensures station { IfOk result (λ l. l.shift.station ≡ self.shift.station) }
-        ensures ok { IfOk result (λ l. Says (IsTurn [] turn None self.shift.receipts.bookings.items)
+        ensures ok { IfOk result (λ l. Says (IsTurn [] [] turn None self.shift.receipts.bookings.items)
             (standing self.shift.receipts.bookings.items self.tally self.refused)
             (standing l.shift.receipts.bookings.items l.tally l.refused) (W.taken writer.old) (W.taken writer.new)) }
-        ensures front { IfErr result (SaysInPart (IsTurn [] turn None self.shift.receipts.bookings.items)
+        ensures front { IfErr result (SaysInPart (IsTurn [] [] turn None self.shift.receipts.bookings.items)
             (W.taken writer.old) (W.taken writer.new)) }
         ensures fault { IfErr result (λ fault. fault ≡ TextFault.Write) }
         ensures write { CountsWrites (W.failed_calls writer.old) (W.failed_calls writer.new) result }
@@ -159,10 +159,10 @@ where
     ) -> Result<Self, TextFault>
         requires room { IsTallyUpTo (2 ^ 126) self.tally }
         ensures station { IfOk result (λ l. l.shift.station ≡ self.shift.station) }
-        ensures ok { IfOk result (λ l. Says (IsTurn devices.now turn (Some datagram.now) self.shift.receipts.bookings.items)
+        ensures ok { IfOk result (λ l. Says (IsTurn self.shift.station devices.now turn (Some datagram.now) self.shift.receipts.bookings.items)
             (standing self.shift.receipts.bookings.items self.tally self.refused)
             (standing l.shift.receipts.bookings.items l.tally l.refused) (W.taken writer.old) (W.taken writer.new)) }
-        ensures front { IfErr result (SaysInPart (IsTurn devices.now turn (Some datagram.now) self.shift.receipts.bookings.items)
+        ensures front { IfErr result (SaysInPart (IsTurn self.shift.station devices.now turn (Some datagram.now) self.shift.receipts.bookings.items)
             (W.taken writer.old) (W.taken writer.new)) }
         ensures fault { IfErr result IsListenFault }
         ensures write { CountsWrites (W.failed_calls writer.old) (W.failed_calls writer.new) result }
@@ -185,10 +185,10 @@ where
     ) -> Result<Self, TextFault>
         requires room { IsTallyUpTo (2 ^ 126) self.tally }
         ensures station { IfOk result (λ l. l.shift.station ≡ self.shift.station) }
-        ensures ok { IfOk result (λ l. Says (IsAnswered turn (Some event.now) self.shift.receipts.bookings.items)
+        ensures ok { IfOk result (λ l. Says (IsAnswered self.shift.station turn (Some event.now) self.shift.receipts.bookings.items)
             (standing self.shift.receipts.bookings.items self.tally self.refused)
             (standing l.shift.receipts.bookings.items l.tally l.refused) (W.taken writer.old) (W.taken writer.new)) }
-        ensures front { IfErr result (SaysInPart (IsAnswered turn (Some event.now) self.shift.receipts.bookings.items)
+        ensures front { IfErr result (SaysInPart (IsAnswered self.shift.station turn (Some event.now) self.shift.receipts.bookings.items)
             (W.taken writer.old) (W.taken writer.new)) }
         ensures fault { IfErr result IsListenFault }
         ensures write { CountsWrites (W.failed_calls writer.old) (W.failed_calls writer.new) result }

@@ -16,22 +16,25 @@ use Rattle.run_texts.specs.declared.receipts.Booking.{Booking}
 use Rattle.run_texts.specs.declared.station_run.Played.{Played}
 
 -- one more event was done for
-pub done_more : (place : ℕ) (es : List (Event Global)) (e : Event Global) (old mid new : Kept) → AreDone place es old mid
-    → IsDone (place + length es) e mid new → AreDone place (es ++ e ∷ []) old new
-done_more place [] e old mid new same done =
-    (new, subst (λ p. IsDone p e old new) (omega arith) (subst (λ k. IsDone (place + 0) e k new) same done), refl)
-done_more place (f ∷ es) e old mid new so_far done = (
+pub done_more : (ids : List ℕ) (place : ℕ) (es : List (Event Global)) (e : Event Global) (old mid new : Kept)
+    → AreDone ids place es old mid → IsDone ids (place + length es) e mid new → AreDone ids place (es ++ e ∷ []) old new
+done_more ids place [] e old mid new same done = (
+  new,
+  subst (λ p. IsDone ids p e old new) (omega arith) (subst (λ k. IsDone ids (place + 0) e k new) same done),
+  refl,
+)
+done_more ids place (f ∷ es) e old mid new so_far done = (
   so_far.0,
   so_far.1,
-  done_more (place + 1) es e so_far.0 mid new so_far.2
-      (subst (λ p. IsDone p e mid new) (omega arith) done),
+  done_more ids (place + 1) es e so_far.0 mid new so_far.2
+      (subst (λ p. IsDone ids p e mid new) (omega arith) done),
 )
 
 -- the same at the place behind all events from the first on
-pub done_behind : (es : List (Event Global)) (e : Event Global) (place : ℕ) (old mid new : Kept) → place ≡ length es
-    → AreDone 0 es old mid → IsDone place e mid new → AreDone 0 (es ++ e ∷ []) old new
-done_behind es e place old mid new behind so_far done =
-    done_more 0 es e old mid new so_far (subst (λ p. IsDone p e mid new) (omega (arith, behind)) done)
+pub done_behind : (ids : List ℕ) (es : List (Event Global)) (e : Event Global) (place : ℕ) (old mid new : Kept)
+    → place ≡ length es → AreDone ids 0 es old mid → IsDone ids place e mid new → AreDone ids 0 (es ++ e ∷ []) old new
+done_behind ids es e place old mid new behind so_far done =
+    done_more ids 0 es e old mid new so_far (subst (λ p. IsDone ids p e mid new) (omega (arith, behind)) done)
 
 -- some numbers were answered
 pub dealt_with : (place : ℕ) (numbers : List ℕ) (old new : Kept) → 0 < length numbers → AreAnswered place numbers old new
@@ -45,14 +48,14 @@ of_ok P r x e h = subst (λ s. IfOk s P) e h
 -- what was done for all events, and the books then
 pub finished_with : {E : Type 0} (ids : List ℕ) (es : List (Event Global)) (bookings : List Booking)
     (entries : Vec (Entry Global) Global) (r : Result Played E)
-    → AreDone 0 es (kept [] []) (kept bookings entries.items)
+    → AreDone ids 0 es (kept [] []) (kept bookings entries.items)
     → IfOk r (λ (p : Played). p.entries ≡ entries)
     → IfOk r (λ (p : Played). IsClosing ids (open_receipts bookings) p.totals.items p.books.items)
     → IfOk r (λ (p : Played). IsFinished ids es p.entries.items p.totals.items p.books.items)
 finished_with ids es bookings entries (Ok p) done same closing =
     record {
       bookings = bookings;
-      done = subst (λ (v : Vec (Entry Global) Global). AreDone 0 es (kept [] []) (kept bookings v.items)) (sym same) done;
+      done = subst (λ (v : Vec (Entry Global) Global). AreDone ids 0 es (kept [] []) (kept bookings v.items)) (sym same) done;
       closing = closing;
     }
 finished_with ids es bookings entries (Err e) done same closing = tt
@@ -60,7 +63,7 @@ finished_with ids es bookings entries (Err e) done same closing = tt
 -- what was done for all events, and why the books didn't go together then
 pub apart_with : {T : Type 0} (ids : List ℕ) (es : List (Event Global)) (bookings : List Booking)
     (entries : List (Entry Global)) (r : Result T TextFault)
-    → AreDone 0 es (kept [] []) (kept bookings entries)
+    → AreDone ids 0 es (kept [] []) (kept bookings entries)
     → IfErr r (λ fault. fault ≢ NoMemory → IsClosingFault ids (open_receipts bookings) fault)
     → IfErr r (λ fault. fault ≢ NoMemory → IsFinishedApart ids es fault)
 apart_with ids es bookings entries (Ok p) done why = tt
@@ -82,7 +85,7 @@ some_left [] m t e f same = absurd (cc (e, f))
 some_left (n ∷ l) m t e f same = subst (λ k. 0 < length k) same (omega arith)
 
 -- what was left of a `Pass` was done
-pub passed_then : (place now : ℕ) (e : Event Global) (old mid new : Kept) → (e ≡ events.Pass now) × (mid ≡ old)
-    → HasPassed place now mid new → IsDone place e old new
-passed_then place now e old mid new left passed =
-    subst (λ f. IsDone place f old new) (sym left.0) (subst (λ k. HasPassed place now k new) left.1 passed)
+pub passed_then : (ids : List ℕ) (place now : ℕ) (e : Event Global) (old mid new : Kept)
+    → (e ≡ events.Pass now) × (mid ≡ old) → HasPassed place now mid new → IsDone ids place e old new
+passed_then ids place now e old mid new left passed =
+    subst (λ f. IsDone ids place f old new) (sym left.0) (subst (λ k. HasPassed place now k new) left.1 passed)

@@ -1,4 +1,4 @@
-use Rattle.std.specs.Prelude.{ℕ, ◌≡◌, ◌==◌, ◌⊎◌, true, false, not, List}
+use Rattle.std.specs.Prelude.{ℕ, ◌≡◌, ◌==◌, true, false, not, List, MatchBool}
 use Rattle.std.specs.Prelude.{[], ◌++◌, map, filter, find, insert, slice_get, slice_set}
 use Rattle.std.specs.Prelude.{Option, Some, None, Result, Ok, Err}
 use Rattle.std.specs.Global.{Global}
@@ -9,6 +9,7 @@ use Rattle.answer_ticket.specs.declared.tried.Receipt.{Receipt}
 use Rattle.server_core.specs.declared.entry.Line.{Line}
 use Rattle.server_core.specs.declared.entry.Line.TheVariants as lines
 use Rattle.server_core.specs.Server.{cancelled_line}
+use Rattle.server_desk.specs.Register.{is_among}
 use Rattle.server_station.specs.Stations.{WasAsked}
 use Rattle.run_texts.specs.declared.receipts.Booking.{Booking}
 
@@ -40,9 +41,11 @@ abbrev pub open_receipts : List Booking → List (Receipt Global)
 open_receipts bookings =
     map (λ (b : Booking). b.receipt) (filter (λ (b : Booking). not b.is_cancelled) bookings)
 
--- what is answered to one who cancels what a receipt names: what some book of its gateway says, or that there is no such gateway
-abbrev pub IsCancelAnswer : Receipt Global → Result ℕ CancelFault → Type 0
-IsCancelAnswer r answer = WasAsked r.number r.reservation.start answer ⊎ (answer ≡ Err NotHere)
+-- what a station of these gateways answers to one who cancels what a receipt names: what some book says, if its gateway is one of
+-- them, and else that it is not here
+abbrev pub IsCancelAnswer : List ℕ → Receipt Global → Result ℕ CancelFault → Type 0
+IsCancelAnswer ids r answer =
+    MatchBool (is_among ids r.gateway) (WasAsked r.number r.reservation.start answer) (answer ≡ Err NotHere)
 
 -- a booking is cancelled exactly where the answer is no fault
 abbrev pub IsMarked : Booking → Result ℕ CancelFault → List Booking → List Booking → Type 0
@@ -50,10 +53,10 @@ IsMarked b (Ok airtime) old new =
     (at : ℕ) × (slice_get old at ≡ Some b) × (new ≡ slice_set old at (record b { is_cancelled = true }))
 IsMarked b (Err fault) old new = new ≡ old
 
--- the line for one who cancels what was booked for number n, and the bookings then; where nothing was booked for it, it is
--- not here
-abbrev pub IsCancelTold : ℕ → Option Booking → List Booking → List Booking → Line Global → Type 0
-IsCancelTold n None old new line = (line ≡ lines.NotCancelled n NotHere) × (new ≡ old)
-IsCancelTold n (Some b) old new line =
-    (answer : Result ℕ CancelFault) × IsCancelAnswer b.receipt answer × (line ≡ cancelled_line n answer)
+-- the line for one who cancels what was booked for number n at a station of these gateways, and the bookings then; where nothing
+-- was booked for it, it is not here
+abbrev pub IsCancelTold : List ℕ → ℕ → Option Booking → List Booking → List Booking → Line Global → Type 0
+IsCancelTold ids n None old new line = (line ≡ lines.NotCancelled n NotHere) × (new ≡ old)
+IsCancelTold ids n (Some b) old new line =
+    (answer : Result ℕ CancelFault) × IsCancelAnswer ids b.receipt answer × (line ≡ cancelled_line n answer)
     × IsMarked b answer old new

@@ -1,4 +1,5 @@
-use Rattle.std.specs.Prelude.{ℕ, ◌≡◌, ◌+◌, ◌≤◌, List, [], ◌∷◌, ◌++◌, map, All, Option, None, Some, Result, IfSome}
+use Rattle.std.specs.Prelude.{ℕ, ◌≡◌, ◌↔◌, ◌+◌, false, List, [], ◌∷◌, ◌++◌, map, All}
+use Rattle.std.specs.Prelude.{Option, None, Some, IsNone, IfSome, Result}
 use Rattle.std.specs.Global.{Global}
 use Rattle.std.specs.List.Sorted.{IsNonDecreasing}
 use Rattle.gateway_book.specs.declared.totals.Totals.{Totals}
@@ -14,11 +15,12 @@ use Rattle.server_core.specs.Server.{queued_line, heard_line}
 use Rattle.server_desk.specs.declared.faults.DeskFault.{DeskFault}
 use Rattle.server_desk.specs.declared.faults.QueueFault.{QueueFault}
 use Rattle.server_desk.specs.declared.heard.DeskHeard.{DeskHeard}
+use Rattle.server_desk.specs.Register.{is_among}
 use Rattle.server_core.specs.Desk.{DeskView, total_of}
 use Rattle.server_desk.specs.declared.setting.GatewaySetting.{GatewaySetting}
 use Rattle.book_audit.specs.Audit.{airtime_at, booked_by, kept_numbers, EachStandsOnce, IsAccountedFor}
 use Rattle.book_audit.specs.declared.cause.FinishCause.{FinishCause}
-use Rattle.server_station.specs.Stations.{AreInOrder, WasQueued, WasHeard, WasPassed}
+use Rattle.server_station.specs.Stations.{AreInOrder, WasQueued, WasHeard, WasPassed, WasTicked}
 use Rattle.server_station.specs.Closings.{shelved, IsCauseAt}
 use Rattle.text_words.specs.declared.fault.TextFault.{TextFault}
 use Rattle.run_texts.specs.declared.pass_answers.Answer.{Answer}
@@ -70,38 +72,43 @@ pub record HasPassed (place now : ℕ) (old new : Kept) : Type 0 where
 abbrev pub HasOneLine : ℕ → Line Global → Kept → Kept → Type 0
 HasOneLine place line old new = (new.bookings ≡ old.bookings) × (new.entries ≡ old.entries ++ entry_at place line ∷ [])
 
--- the line of a gateway's floor, which is not below the tick's moment
+-- what a station of these gateways answers to a tick: the floor that some book had then, and none just where the gateway is not
+-- one of them
+abbrev pub IsTickAnswer : List ℕ → ℕ → ℕ → Option ℕ → Type 0
+IsTickAnswer ids gateway now floor = (IsNone floor ↔ (is_among ids gateway ≡ false)) × IfSome floor (WasTicked now)
+
+-- the line of a gateway's floor
 abbrev pub floor_line : ℕ → Option ℕ → Line Global
 floor_line gateway None = lines.NotTicked
 floor_line gateway (Some floor) = lines.Floor gateway floor
 
 -- a cancel of number n was answered
-abbrev pub HasCancelled : ℕ → ℕ → Kept → Kept → Type 0
-HasCancelled place n old new =
-    (line : Line Global) × IsCancelTold n (booked_for n old.bookings) old.bookings new.bookings line
+abbrev pub HasCancelled : List ℕ → ℕ → ℕ → Kept → Kept → Type 0
+HasCancelled ids place n old new =
+    (line : Line Global) × IsCancelTold ids n (booked_for n old.bookings) old.bookings new.bookings line
     × (new.entries ≡ old.entries ++ entry_at place line ∷ [])
 
--- what was done for the event at this place
-abbrev pub IsDone : ℕ → Event Global → Kept → Kept → Type 0
-IsDone place (events.Queue addr port payload) old new =
+-- what was done for the event at this place, at a station of these gateways
+abbrev pub IsDone : List ℕ → ℕ → Event Global → Kept → Kept → Type 0
+IsDone ids place (events.Queue addr port payload) old new =
     (answer : Result ℕ QueueFault) × WasQueued addr (port, payload) answer × HasOneLine place (queued_line addr answer) old new
-IsDone place (events.Hear bytes heard arrived) old new =
+IsDone ids place (events.Hear bytes heard arrived) old new =
     (answer : Result DeskHeard DeskFault) × WasHeard bytes heard arrived answer × HasOneLine place (heard_line answer) old new
-IsDone place (events.Pass now) old new = HasPassed place now old new
-IsDone place (events.Tick gateway now) old new =
-    (floor : Option ℕ) × IfSome floor (λ f. now ≤ f) × HasOneLine place (floor_line gateway floor) old new
-IsDone place (events.Cancel n) old new = HasCancelled place n old new
-IsDone place (events.Bad line) old new = HasOneLine place (lines.Bad line) old new
+IsDone ids place (events.Pass now) old new = HasPassed place now old new
+IsDone ids place (events.Tick gateway now) old new =
+    (floor : Option ℕ) × IsTickAnswer ids gateway now floor × HasOneLine place (floor_line gateway floor) old new
+IsDone ids place (events.Cancel n) old new = HasCancelled ids place n old new
+IsDone ids place (events.Bad line) old new = HasOneLine place (lines.Bad line) old new
 
 -- the same for all but a `Pass`: of that nothing was done, and the moment until which time passes is left
-abbrev pub IsDoneButPass : ℕ → Event Global → Kept → Kept → Option ℕ → Type 0
-IsDoneButPass place e old new None = IsDone place e old new
-IsDoneButPass place e old new (Some now) = (e ≡ events.Pass now) × (new ≡ old)
+abbrev pub IsDoneButPass : List ℕ → ℕ → Event Global → Kept → Kept → Option ℕ → Type 0
+IsDoneButPass ids place e old new None = IsDone ids place e old new
+IsDoneButPass ids place e old new (Some now) = (e ≡ events.Pass now) × (new ≡ old)
 
 -- what was done for some events, the first of them at this place, one after another
-abbrev pub AreDone : ℕ → List (Event Global) → Kept → Kept → Type 0
-AreDone place [] old new = new ≡ old
-AreDone place (e ∷ es) old new = (mid : Kept) × IsDone place e old mid × AreDone (place + 1) es mid new
+abbrev pub AreDone : List ℕ → ℕ → List (Event Global) → Kept → Kept → Type 0
+AreDone ids place [] old new = new ≡ old
+AreDone ids place (e ∷ es) old new = (mid : Kept) × IsDone ids place e old mid × AreDone ids (place + 1) es mid new
 
 -- nothing was booked, and nothing told
 abbrev pub HasOpened : Kept → Type 0
@@ -127,7 +134,7 @@ IsClosingFault ids receipts fault = (cause : FinishCause) × IsCauseAt ids recei
 pub record IsFinished (ids : List ℕ) (es : List (Event Global)) (entries : List (Entry Global)) (totals : List (ℕ × Totals))
     (books : List Book) : Type 0 where
   pub bookings : List Booking
-  pub done : AreDone 0 es (kept [] []) (kept bookings entries)
+  pub done : AreDone ids 0 es (kept [] []) (kept bookings entries)
   pub closing : IsClosing ids (open_receipts bookings) totals books
 
 -- at a station of gateways with these settings
@@ -142,7 +149,7 @@ pub record IsPlayed (gateways : List GatewaySetting) (es : List (Event Global)) 
 pub record IsFinishedApart (ids : List ℕ) (es : List (Event Global)) (fault : TextFault) : Type 0 where
   pub bookings : List Booking
   pub entries : List (Entry Global)
-  pub done : AreDone 0 es (kept [] []) (kept bookings entries)
+  pub done : AreDone ids 0 es (kept [] []) (kept bookings entries)
   pub cause : IsClosingFault ids (open_receipts bookings) fault
 
 -- at a station of gateways with these settings

@@ -152,7 +152,8 @@ where
     ) -> Result<Option<u64>, NoMemory>
         ensures station { self.new.station ≡ self.old.station }
         ensures workers { self.new.workers ≡ self.old.workers }
-        ensures done { IfOk result (IsDoneButPass place event (kept self.old.receipts.bookings.items self.old.entries.items)
+        ensures done { IfOk result (IsDoneButPass self.old.station place event
+            (kept self.old.receipts.bookings.items self.old.entries.items)
             (kept self.new.receipts.bookings.items self.new.entries.items)) }
     {
         self.answer_all_but_pass(rt, place, &event)
@@ -169,7 +170,7 @@ where
     ) -> Result<Self, NoMemory>
         ensures station { IfOk result (λ shift. shift.station ≡ self.station) }
         ensures workers { IfOk result (λ shift. shift.workers ≡ self.workers) }
-        ensures done { IfOk result (λ shift. IsDone place event.now (kept self.receipts.bookings.items self.entries.items)
+        ensures done { IfOk result (λ shift. IsDone self.station place event.now (kept self.receipts.bookings.items self.entries.items)
             (kept shift.receipts.bookings.items shift.entries.items)) }
     {
         let mut shift = self;
@@ -189,7 +190,7 @@ where
     ) -> Result<Option<u64>, NoMemory>
         ensures station { self.new.station ≡ self.old.station }
         ensures workers { self.new.workers ≡ self.old.workers }
-        ensures done { IfOk result (IsDoneButPass place event.now
+        ensures done { IfOk result (IsDoneButPass self.old.station place event.now
             (kept self.old.receipts.bookings.items self.old.entries.items)
             (kept self.new.receipts.bookings.items self.new.entries.items)) }
     {
@@ -244,7 +245,7 @@ where
         ensures station { self.new.station ≡ self.old.station }
         ensures workers { self.new.workers ≡ self.old.workers }
         ensures entries { self.new.entries ≡ self.old.entries }
-        ensures told { IsCancelTold number (booked_for number self.old.receipts.bookings.items)
+        ensures told { IsCancelTold self.old.station number (booked_for number self.old.receipts.bookings.items)
             self.old.receipts.bookings.items self.new.receipts.bookings.items result }
     {
         let Some(at) = self.receipts.place_of(number) else {

@@ -16,7 +16,7 @@ returns-in-Err-clause-front g c =
     let entries : List (Entry Global) = c.take_lines-entries.result.items in (
       c.in-Ok.shift.receipts.bookings.items,
       record { entries = entries; lines = entry_lines entries },
-      answered_by c.args.turn c.args.event.now c.args.self.shift.receipts.bookings.items c.in-Ok.shift.receipts.bookings.items
+      answered_by c.args.self.shift.station c.args.turn c.args.event.now c.args.self.shift.receipts.bookings.items c.in-Ok.shift.receipts.bookings.items
           c.args.self.shift.entries.items c.in-Ok.shift.entries.items entries c.args.self.written c.in-Ok.ensures.done
           c.take_lines-entries.ensures.taken,
       subst (λ l. WritesFront (g.W.ByteOut.taken c.args.writer.now) (g.W.ByteOut.taken c.write_entries.new.writer)
@@ -30,10 +30,10 @@ returns-in-Ok-write_entries-clause-ok g c =
     let counted : c.of.result ≡ tally_of entries =
     c.of.ensures.tally ∙ ap (λ l. tally_of {A = Global} l) c.as_slice-in-Ok-write_entries.ensures.value in (
       record { entries = entries; lines = entry_lines entries },
-      answered_by c.args.turn c.args.event.now c.args.self.shift.receipts.bookings.items
+      answered_by c.args.self.shift.station c.args.turn c.args.event.now c.args.self.shift.receipts.bookings.items
           c.take_lines-entries.new.self.receipts.bookings.items c.args.self.shift.entries.items c.in-Ok.shift.entries.items
           entries c.args.self.written
-          (subst (λ (r : Receipts). IsDone c.args.turn c.args.event.now
+          (subst (λ (r : Receipts). IsDone c.args.self.shift.station c.args.turn c.args.event.now
           (kept c.args.self.shift.receipts.bookings.items c.args.self.shift.entries.items)
           (kept r.bookings.items c.in-Ok.shift.entries.items)) (sym c.take_lines-entries.ensures.receipts) c.in-Ok.ensures.done)
           c.take_lines-entries.ensures.taken,

@@ -18,18 +18,19 @@ loop-event-preserved g c =
     let old = kept here.receipts.bookings.items here.entries.items in
     let new = kept after.receipts.bookings.items after.entries.items in
     let mid = kept c.use_up.new.self.receipts.bookings.items c.use_up.new.self.entries.items in
-    let step : (after.station ≡ here.station) × IsDone before.place c.in-Some.event old new =
+    let ids = here.station in
+    let step : (after.station ≡ ids) × IsDone ids before.place c.in-Some.event old new =
     elim c.match-left.branch [
       | in-None-left w ↦
           rw w.shift-is (
             c.use_up.ensures.station,
-            subst (IsDoneButPass before.place c.in-Some.event old mid) w.in-None-left.is c.in-Ok.ensures.done,
+            subst (IsDoneButPass ids before.place c.in-Some.event old mid) w.in-None-left.is c.in-Ok.ensures.done,
           )
       | in-Some-left+in-Ok-pass w ↦
           rw w.shift-is (
             w.in-Ok-pass.ensures.station ∙ c.use_up.ensures.station,
-            passed_then before.place w.in-Some-left.now c.in-Some.event old mid _
-                (subst (IsDoneButPass before.place c.in-Some.event old mid) w.in-Some-left.is c.in-Ok.ensures.done)
+            passed_then ids before.place w.in-Some-left.now c.in-Some.event old mid _
+                (subst (IsDoneButPass ids before.place c.in-Some.event old mid) w.in-Some-left.is c.in-Ok.ensures.done)
                 w.in-Ok-pass.ensures.done,
           )
     ] in
@@ -39,8 +40,9 @@ loop-event-preserved g c =
       place = one_more before.yielded c.in-Some.event before.place before.invariant.place;
       station = step.0 ∙ before.invariant.station;
       done =
-          done_behind before.yielded c.in-Some.event before.place (kept [] []) old new before.invariant.place
-          before.invariant.done step.1;
+          done_behind c.args.self.station before.yielded c.in-Some.event before.place (kept [] []) old new
+          before.invariant.place before.invariant.done
+          (subst (λ l. IsDone l before.place c.in-Some.event old new) before.invariant.station step.1);
     }
 
 pub returns-clause-played : goal.returns-clause-played
@@ -50,7 +52,7 @@ returns-clause-played g c =
     (omega (arith, last.event-iterator.rest.ok.0, c.in-None.ensures.steps.0)) last.invariant.left in
     finished_with c.args.self.station c.args.events.items last.shift.receipts.bookings.items last.shift.entries
     c.close.result
-    (subst (λ es. AreDone 0 es (kept [] []) (kept last.shift.receipts.bookings.items last.shift.entries.items)) all
+    (subst (λ es. AreDone c.args.self.station 0 es (kept [] []) (kept last.shift.receipts.bookings.items last.shift.entries.items)) all
     last.invariant.done)
     c.close.ensures.entries
     (subst (λ ids. IfOk c.close.result (λ played. IsClosing ids (open_receipts last.shift.receipts.bookings.items)
@@ -63,7 +65,7 @@ returns-clause-apart g c =
     (omega (arith, last.event-iterator.rest.ok.0, c.in-None.ensures.steps.0)) last.invariant.left in
     apart_with c.args.self.station c.args.events.items last.shift.receipts.bookings.items last.shift.entries.items
     c.close.result
-    (subst (λ es. AreDone 0 es (kept [] []) (kept last.shift.receipts.bookings.items last.shift.entries.items)) all
+    (subst (λ es. AreDone c.args.self.station 0 es (kept [] []) (kept last.shift.receipts.bookings.items last.shift.entries.items)) all
     last.invariant.done)
     (subst (λ ids. IfErr c.close.result (λ fault. fault ≢ NoMemory
     → IsClosingFault ids (open_receipts last.shift.receipts.bookings.items) fault)) last.invariant.station

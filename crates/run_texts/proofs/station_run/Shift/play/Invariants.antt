@@ -7,5 +7,5 @@ invariant-loop-event g l = record {
   left : l.yielded ++ l.event-iterator.rest.items ≡ l.fn.events.items;
   place : l.place ≡ length l.yielded;
   station : l.shift.station ≡ l.fn.self.station;
-  done : AreDone 0 l.yielded (kept [] []) (kept l.shift.receipts.bookings.items l.shift.entries.items);
+  done : AreDone l.fn.self.station 0 l.yielded (kept [] []) (kept l.shift.receipts.bookings.items l.shift.entries.items);
 }
