@@ -20,7 +20,7 @@ use Rattle.run_lines.specs.Tally.{tally_of, tally_sum, tally_of-append, IsTallyU
 use Rattle.std.proofs.Math.Bool.{or-false}
 use Rattle.run_texts.specs.declared.receipts.Booking.{Booking}
 use Rattle.listen_texts.specs.Receives.{Received, Seen, AreMade}
-use Rattle.listen_texts.specs.Turns.{Said, nothing, said_both, IsAnswered, IsTurn, AreTurns}
+use Rattle.listen_texts.specs.Turns.{Said, nothing, said_both, HasAnswer, IsAnswered, IsTurn, AreTurns}
 use Rattle.listen_texts.specs.Listening.{IsReport, Hears, HearsInPart, SaysInPart, ReportsInPart}
 use Rattle.listen_texts.specs.Steps.{Standing, opened, HasSaid, Says, Turns, TurnsInPart, Reports}
 use Rattle.listen_texts.proofs.SourceLemmas.{made_none, made_more}
@@ -135,7 +135,7 @@ module _ (ids : List ℕ) (devices : List DeviceSetting) (turns : ℕ) (s0 s1 : 
 
   -- one turn more in part, of so many that are left
   pub listened_more_in_part : (most : ℕ) (s2 : Seen) (c : Option (List ℕ)) (fault : TextFault) → turns < most
-      → TurnsInPart (λ r. IsTurn ids devices (turns + 1) r t.bookings) s1 s2 b c fault
+      → TurnsInPart (HasAnswer devices (turns + 1)) (λ r. IsTurn ids devices (turns + 1) r t.bookings) s1 s2 b c fault
       → HearsInPart most ids devices s0 s2 a c fault
   listened_more_in_part most s2 c fault less stopped =
       inl (record {
@@ -145,12 +145,13 @@ module _ (ids : List ℕ) (devices : List DeviceSetting) (turns : ℕ) (s0 s1 : 
         last = stopped.0;
         made = made_more DATAGRAM_ROOM turns s0 s1 s2 so_far.received stopped.0 so_far.made stopped.1;
         given = stopped.2;
+        answered = stopped.3;
         bookings = t.bookings;
         said = so_far.said;
         turned = so_far.turned;
         between = b;
         written = so_far.written;
-        stopped = stopped.3;
+        stopped = stopped.4;
       })
 
   -- the same of the call that writes the report

@@ -20,7 +20,7 @@ use Rattle.run_texts.specs.Bookings.{open_receipts}
 use Rattle.run_texts.specs.RunOutput.{IsFinishName}
 use Rattle.run_texts.specs.WorkersRun.{IsClosing, IsClosingFault}
 use Rattle.listen_texts.specs.Receives.{Received, Seen, AreMade}
-use Rattle.listen_texts.specs.Turns.{Said, IsTurn, AreTurns}
+use Rattle.listen_texts.specs.Turns.{Said, HasAnswer, IsTurn, AreTurns}
 
 -- What a server that listens writes: its answers, turn by turn, and a report (docs/FORMATS.md, "airbook listen").
 
@@ -73,7 +73,7 @@ ReportsInPart ids bookings tally before after (Settings name) =
 ReportsInPart ids bookings tally before after other = ⊥
 
 -- a server with these gateways and devices stopped in one of so many turns: all answers of the turns before were written, and its
--- own in part; a growth was refused only where it received a datagram
+-- own in part; what it received then has an answer, and a growth was refused only where it is a datagram
 pub record StopsInTurn (turns : ℕ) (ids : List ℕ) (devices : List DeviceSetting) (old new : Seen)
     (before after : Option (List ℕ)) (fault : TextFault) : Type 0 where
   pub turn : ℕ
@@ -82,6 +82,7 @@ pub record StopsInTurn (turns : ℕ) (ids : List ℕ) (devices : List DeviceSett
   pub last : Received
   pub made : AreMade DATAGRAM_ROOM turn old new (received ++ last ∷ [])
   pub given : fault ≡ NoMemory → IsSome last
+  pub answered : HasAnswer devices turn last
   pub bookings : List Booking
   pub said : Said
   pub turned : AreTurns ids devices 1 received [] bookings said

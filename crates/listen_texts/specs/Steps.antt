@@ -50,9 +50,9 @@ abbrev pub Turns : (Received → List Booking → Said → Type 0) → Seen → 
 Turns IsSaid seen seen_after old new before after =
     (received : Received) × AreMade DATAGRAM_ROOM 1 seen seen_after (received ∷ []) × Says (IsSaid received) old new before after
 
--- or it was said in part; a growth was refused only where a datagram was received
-abbrev pub TurnsInPart : (Received → List Booking → Said → Type 0) → Seen → Seen → Option (List ℕ) → Option (List ℕ)
-    → TextFault → Type 0
-TurnsInPart IsSaid seen seen_after before after fault =
+-- or it was said in part, of what has an answer; a growth was refused only where a datagram was received
+abbrev pub TurnsInPart : (Received → Type 0) → (Received → List Booking → Said → Type 0) → Seen → Seen → Option (List ℕ)
+    → Option (List ℕ) → TextFault → Type 0
+TurnsInPart IsToBeSaid IsSaid seen seen_after before after fault =
     (received : Received) × AreMade DATAGRAM_ROOM 1 seen seen_after (received ∷ []) × (fault ≡ NoMemory → IsSome received)
-    × SaysInPart (IsSaid received) before after fault
+    × IsToBeSaid received × SaysInPart (IsSaid received) before after fault

@@ -1,4 +1,4 @@
-use Rattle.std.specs.Prelude.{ℕ, ◌≡◌, ◌+◌, List, [], ◌∷◌, ◌++◌, codes, decimal, Option, Some, None}
+use Rattle.std.specs.Prelude.{ℕ, ◌≡◌, ◌+◌, List, [], ◌∷◌, ◌++◌, codes, decimal, Option, Some, None, IsSome, ⊤}
 use Rattle.std.specs.Global.{Global}
 use Rattle.server_desk.specs.declared.setting.DeviceSetting.{DeviceSetting}
 use Rattle.server_core.specs.declared.entry.Entry.{Entry}
@@ -34,6 +34,11 @@ abbrev pub IsAnswered : List ℕ → ℕ → Option (Event Global) → List Book
 IsAnswered ids turn None old new said = (new ≡ old) × (said ≡ nothing)
 IsAnswered ids turn (Some event) old new said =
     IsDone ids turn event (kept old []) (kept new said.entries) × (said.lines ≡ entry_lines said.entries)
+
+-- what was received has an answer: a receive that failed has its line, and a datagram has one where it asks for something
+abbrev pub HasAnswer : List DeviceSetting → ℕ → Received → Type 0
+HasAnswer devices turn None = ⊤
+HasAnswer devices turn (Some datagram) = IsSome (datagram_event {A = Global} devices turn datagram)
 
 -- what is said in one turn, by what was received
 abbrev pub IsTurn : List ℕ → List DeviceSetting → ℕ → Received → List Booking → List Booking → Said → Type 0

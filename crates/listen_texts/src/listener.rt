@@ -4,7 +4,7 @@ ghost use Rattle.text_words.specs.Fault.{CountsWrites};
 ghost use Rattle.server_station.specs.Stations.{AreInOrder};
 ghost use Rattle.run_lines.specs.Tally.{IsTallyUpTo};
 ghost use Rattle.run_texts.specs.PassAnswers.{IsStaffed};
-ghost use Rattle.listen_texts.specs.Turns.{IsAnswered, IsTurn};
+ghost use Rattle.listen_texts.specs.Turns.{HasAnswer, IsAnswered, IsTurn};
 ghost use Rattle.listen_texts.specs.Listening.{Hears, HearsInPart, SaysInPart, ReportsInPart, IsWithinLimit, IsListenFault};
 ghost use Rattle.listen_texts.specs.Steps.{standing, opened, Says, Turns, TurnsInPart, Reports};
 
@@ -109,7 +109,8 @@ where
         ensures ok { IfOk result (λ l. Turns (λ r. IsTurn self.shift.station devices.now turn r self.shift.receipts.bookings.items)
             (S.seen source.old) (S.seen source.new) (standing self.shift.receipts.bookings.items self.tally self.refused)
             (standing l.shift.receipts.bookings.items l.tally l.refused) (W.taken writer.old) (W.taken writer.new)) }
-        ensures front { IfErr result (TurnsInPart (λ r. IsTurn self.shift.station devices.now turn r self.shift.receipts.bookings.items)
+        ensures front { IfErr result (TurnsInPart (HasAnswer devices.now turn)
+            (λ r. IsTurn self.shift.station devices.now turn r self.shift.receipts.bookings.items)
             (S.seen source.old) (S.seen source.new) (W.taken writer.old) (W.taken writer.new)) }
         ensures fault { IfErr result IsListenFault }
         ensures write { CountsWrites (W.failed_calls writer.old) (W.failed_calls writer.new) result }
@@ -164,6 +165,7 @@ where
             (standing l.shift.receipts.bookings.items l.tally l.refused) (W.taken writer.old) (W.taken writer.new)) }
         ensures front { IfErr result (SaysInPart (IsTurn self.shift.station devices.now turn (Some datagram.now) self.shift.receipts.bookings.items)
             (W.taken writer.old) (W.taken writer.new)) }
+        ensures asked { IfErr result (λ _. HasAnswer devices.now turn (Some datagram.now)) }
         ensures fault { IfErr result IsListenFault }
         ensures write { CountsWrites (W.failed_calls writer.old) (W.failed_calls writer.new) result }
     {

@@ -1,5 +1,6 @@
 // What a datagram asks for.
-ghost use Rattle.std.specs.Prelude.{◌≡◌, IfOk};
+ghost use Rattle.std.specs.Prelude.{◌≡◌, IfOk, IfErr, IsSome};
+ghost use Rattle.std.specs.Global.{Global};
 ghost use Rattle.std.specs.List.{list_any};
 ghost use Rattle.text_lines.specs.Words.{words_of};
 ghost use Rattle.run_lines.specs.Datagram.{asks_for_uplink, sent_event, datagram_event};
@@ -16,14 +17,16 @@ use text_lines::{first_word, is_passed_over};
 pub const DATAGRAM_ROOM: usize = 1027;
 
 /// What the datagram of turn `number` asks for, by the devices of the settings; None where it is passed over. One that
-/// fills the room may have been cut off, and is malformed. Err(NoMemory) where a growth was refused.
+/// fills the room may have been cut off, and is malformed. Err(NoMemory) where a growth was refused, which comes only for
+/// one that asks for something.
 pub fn datagram_event(
     alloc: Global,
     devices: &[DeviceSetting],
     number: u64,
     datagram: &[u8],
 ) -> Result<Option<Event<Global>>, NoMemory>
-    ensures { IfOk result (λ event. event ≡ datagram_event devices.now number datagram.now) }
+    ensures event { IfOk result (λ event. event ≡ datagram_event devices.now number datagram.now) }
+    ensures asked { IfErr result (λ _. IsSome (datagram_event {A = Global} devices.now number datagram.now)) }
 {
     if datagram.len() >= DATAGRAM_ROOM {
         return Ok(Some(Event::Bad { line: number }));
@@ -44,7 +47,8 @@ fn sent_event(
     number: u64,
     line: &[u8],
 ) -> Result<Option<Event<Global>>, NoMemory>
-    ensures { IfOk result (λ event. event ≡ sent_event devices.now number line.now) }
+    ensures event { IfOk result (λ event. event ≡ sent_event devices.now number line.now) }
+    ensures asked { IfErr result (λ _. IsSome (sent_event {A = Global} devices.now number line.now)) }
 {
     if is_passed_over(line) {
         return Ok(None);

@@ -6,10 +6,10 @@ pub returns-in-Ok-None-clause-ok : goal.returns-in-Ok-None-clause-ok
 returns-in-Ok-None-clause-ok g c =
     nothing_asked c.args.self.shift.station c.args.devices.now c.args.turn c.args.datagram.now _
     (standing c.args.self.shift.receipts.bookings.items c.args.self.tally c.args.self.refused)
-    (g.W.ByteOut.taken c.args.writer.now) c.in-Ok-None.ensures c.in-Ok-None.field-0-is
+    (g.W.ByteOut.taken c.args.writer.now) c.in-Ok-None.ensures.event c.in-Ok-None.field-0-is
 
 pub returns-in-Ok-Some-clause-front : goal.returns-in-Ok-Some-clause-front
 returns-in-Ok-Some-clause-front g c =
     asked_in_part c.args.self.shift.station c.args.devices.now c.args.turn c.args.datagram.now _ c.in-Ok-Some.event
     c.args.self.shift.receipts.bookings.items (g.W.ByteOut.taken c.args.writer.now) (g.W.ByteOut.taken c.event.new.writer)
-    c.event.result c.in-Ok-Some.ensures c.in-Ok-Some.field-0-is c.event.ensures.front
+    c.event.result c.in-Ok-Some.ensures.event c.in-Ok-Some.field-0-is c.event.ensures.front

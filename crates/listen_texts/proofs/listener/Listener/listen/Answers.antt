@@ -1,5 +1,5 @@
 use Rattle.std.proofs.Common.{rules, arith, sym, subst, ◌∙◌, ◌≡◌, ◌+◌}
-use Rattle.listen_texts.specs.Turns.{IsTurn}
+use Rattle.listen_texts.specs.Turns.{HasAnswer, IsTurn}
 use Rattle.listen_texts.specs.Steps.{standing, Turns, TurnsInPart}
 use Rattle.listen_texts.proofs.ListenLemmas.{HasListened, listened_none, listened_more, listened_more_in_part, tally_has_room}
 use Rattle.listen_texts.proofs.ListenLemmas.{listened_closed, listened_closed_in_part}
@@ -48,7 +48,8 @@ returns-in-Err-clause-front g c =
     (g.S.Source.seen l.source) (standing was.shift.receipts.bookings.items was.tally was.refused)
     (g.W.ByteOut.taken c.args.writer.now) (g.W.ByteOut.taken l.writer) l.invariant.so_far c.args.turns
     (g.S.Source.seen c.turn.new.source) (g.W.ByteOut.taken c.turn.new.writer) c.in-Err.fault c.loop-turn-test.true
-    (subst (λ ids. TurnsInPart (λ r. IsTurn ids c.args.devices.now (l.turn + 1) r was.shift.receipts.bookings.items)
+    (subst (λ ids. TurnsInPart (HasAnswer c.args.devices.now (l.turn + 1))
+    (λ r. IsTurn ids c.args.devices.now (l.turn + 1) r was.shift.receipts.bookings.items)
     (g.S.Source.seen l.source) (g.S.Source.seen c.turn.new.source) (g.W.ByteOut.taken l.writer)
     (g.W.ByteOut.taken c.turn.new.writer) c.in-Err.fault) l.invariant.station c.in-Err.ensures.front)
 
