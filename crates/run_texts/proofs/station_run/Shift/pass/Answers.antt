@@ -9,8 +9,7 @@ returns-clause-done g c =
     let told = c.in_ok-told.told in
     record {
       numbers = c.in_ok-numbers.numbers.items;
-      closed = c.in_ok-numbers.ensures.closed;
-      rising = c.in_ok-numbers.ensures.rising;
+      closed = c.in_ok-numbers.ensures;
       answered =
           dealt_with c.args.place c.in_ok-numbers.numbers.items _ _
           (some_left c.as_slice.result.now c.in_ok-numbers.numbers.items c.is_empty.result c.is_empty.ensures c.if-is_empty.false
