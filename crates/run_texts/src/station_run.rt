@@ -5,7 +5,7 @@ ghost use Rattle.server_core.specs.Entries.{entry_at};
 ghost use Rattle.server_station.specs.Stations.{AreInOrder};
 ghost use Rattle.run_texts.specs.Bookings.{booked_for, IsCancelTold};
 ghost use Rattle.run_texts.specs.PassAnswers.{IsStaffed};
-ghost use Rattle.run_texts.specs.WorkersRun.{kept, floor_line, AreDone, IsDone, IsDoneButPass, IsPlayed, IsFinished, HasOpened};
+ghost use Rattle.run_texts.specs.WorkersRun.{kept, floor_line, IsDone, IsDoneButPass, IsPlayed, IsFinished, HasOpened};
 ghost use Rattle.run_texts.specs.WorkersRun.{IsPlayedApart, IsFinishedApart};
 ghost use Rattle.run_texts.specs.RunOutput.{IsPlayFault};
 
