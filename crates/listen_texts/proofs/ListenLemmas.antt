@@ -189,8 +189,8 @@ said_nothing s a =
 
 -- where nothing is asked for
 pub nothing_asked : (ids : List ℕ) (devices : List DeviceSetting) (turn : ℕ) (datagram : List ℕ)
-    (event : Option (Event Global)) (s : Standing) (a : Option (List ℕ)) → event ≡ datagram_event devices turn datagram → event ≡ None
-    → Says (IsTurn ids devices turn (Some datagram) s.bookings) s s a a
+    (event : Option (Event Global)) (s : Standing) (a : Option (List ℕ)) → event ≡ datagram_event devices turn datagram
+    → event ≡ None → Says (IsTurn ids devices turn (Some datagram) s.bookings) s s a a
 nothing_asked ids devices turn datagram event s a asked none = (
   nothing,
   subst (λ e. IsAnswered ids turn e s.bookings s.bookings nothing) (sym none ∙ asked) (refl, refl),
@@ -199,16 +199,16 @@ nothing_asked ids devices turn datagram event s a asked none = (
 
 -- what is said in part to the event that a datagram asks for
 pub asked_in_part : {X : Type 0} (ids : List ℕ) (devices : List DeviceSetting) (turn : ℕ) (datagram : List ℕ)
-    (asked : Option (Event Global)) (event : Event Global) (bookings : List Booking) (a b : Option (List ℕ)) (r : Result X TextFault)
-    → asked ≡ datagram_event devices turn datagram → asked ≡ Some event
+    (asked : Option (Event Global)) (event : Event Global) (bookings : List Booking) (a b : Option (List ℕ))
+    (r : Result X TextFault) → asked ≡ datagram_event devices turn datagram → asked ≡ Some event
     → IfErr r (SaysInPart (IsAnswered ids turn (Some event) bookings) a b)
     → IfErr r (SaysInPart (IsTurn ids devices turn (Some datagram) bookings) a b)
 asked_in_part ids devices turn datagram asked event bookings a b r is some h =
     subst (λ e. IfErr r (SaysInPart (IsAnswered ids turn e bookings) a b)) (sym some ∙ is) h
 
 -- an event was answered by the lines that were told for it
-pub answered_by : (ids : List ℕ) (turn : ℕ) (event : Event Global) (old new : List Booking) (before told taken : List (Entry Global))
-    → before ≡ []
+pub answered_by : (ids : List ℕ) (turn : ℕ) (event : Event Global) (old new : List Booking)
+    (before told taken : List (Entry Global)) → before ≡ []
     → IsDone ids turn event (kept old before) (kept new told) → taken ≡ told
     → IsAnswered ids turn (Some event) old new (record { entries = taken; lines = entry_lines taken })
 answered_by ids turn event old new before told taken none done same = (

@@ -29,8 +29,9 @@ said_three a b c =
     (append_assoc a.lines b.lines c.lines)
 
 -- some turns, and one more
-pub turns_more : (ids : List ℕ) (devices : List DeviceSetting) (turn : ℕ) (rs : List Received) (r : Received) (old mid new : List Booking)
-    (said more : Said) → AreTurns ids devices turn rs old mid said → IsTurn ids devices (turn + length rs) r mid new more
+pub turns_more : (ids : List ℕ) (devices : List DeviceSetting) (turn : ℕ) (rs : List Received) (r : Received)
+    (old mid new : List Booking) (said more : Said) → AreTurns ids devices turn rs old mid said
+    → IsTurn ids devices (turn + length rs) r mid new more
     → AreTurns ids devices turn (rs ++ r ∷ []) old new (said_both said more)
 turns_more ids devices turn [] r old mid new said more none last = (
   new,

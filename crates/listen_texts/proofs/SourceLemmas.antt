@@ -8,7 +8,8 @@ use Rattle.listen_texts.specs.Receives.{Received, Seen, AreBehind, AreMade, with
 room_both : (room : ℕ) (l : List (ℕ × Received)) (xs ys : List Received)
     → (l ++ with_room room xs) ++ with_room room ys ≡ l ++ with_room room (xs ++ ys)
 room_both room l xs ys =
-    append_assoc l (with_room room xs) (with_room room ys) ∙ ap (λ k. l ++ k) (sym (map-append (λ (r : Received). (room, r)) xs ys))
+    append_assoc l (with_room room xs) (with_room room ys)
+    ∙ ap (λ k. l ++ k) (sym (map-append (λ (r : Received). (room, r)) xs ys))
 
 behind_both : (room : ℕ) (xs ys : List Received) (a b c : Option (List (ℕ × Received))) → AreBehind room xs a b
     → AreBehind room ys b c → AreBehind room (xs ++ ys) a c

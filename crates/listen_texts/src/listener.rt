@@ -106,7 +106,8 @@ where
     ) -> Result<Self, TextFault>
         requires room { IsTallyUpTo (2 ^ 126) self.tally }
         ensures station { IfOk result (λ l. l.shift.station ≡ self.shift.station) }
-        ensures ok { IfOk result (λ l. Turns (λ r. IsTurn self.shift.station devices.now turn r self.shift.receipts.bookings.items)
+        ensures ok { IfOk result (λ l. Turns
+            (λ r. IsTurn self.shift.station devices.now turn r self.shift.receipts.bookings.items)
             (S.seen source.old) (S.seen source.new) (standing self.shift.receipts.bookings.items self.tally self.refused)
             (standing l.shift.receipts.bookings.items l.tally l.refused) (W.taken writer.old) (W.taken writer.new)) }
         ensures front { IfErr result (TurnsInPart (HasAnswer devices.now turn)
@@ -160,10 +161,12 @@ where
     ) -> Result<Self, TextFault>
         requires room { IsTallyUpTo (2 ^ 126) self.tally }
         ensures station { IfOk result (λ l. l.shift.station ≡ self.shift.station) }
-        ensures ok { IfOk result (λ l. Says (IsTurn self.shift.station devices.now turn (Some datagram.now) self.shift.receipts.bookings.items)
+        ensures ok { IfOk result (λ l. Says
+            (IsTurn self.shift.station devices.now turn (Some datagram.now) self.shift.receipts.bookings.items)
             (standing self.shift.receipts.bookings.items self.tally self.refused)
             (standing l.shift.receipts.bookings.items l.tally l.refused) (W.taken writer.old) (W.taken writer.new)) }
-        ensures front { IfErr result (SaysInPart (IsTurn self.shift.station devices.now turn (Some datagram.now) self.shift.receipts.bookings.items)
+        ensures front { IfErr result (SaysInPart
+            (IsTurn self.shift.station devices.now turn (Some datagram.now) self.shift.receipts.bookings.items)
             (W.taken writer.old) (W.taken writer.new)) }
         ensures asked { IfErr result (λ _. HasAnswer devices.now turn (Some datagram.now)) }
         ensures fault { IfErr result IsListenFault }
@@ -187,10 +190,12 @@ where
     ) -> Result<Self, TextFault>
         requires room { IsTallyUpTo (2 ^ 126) self.tally }
         ensures station { IfOk result (λ l. l.shift.station ≡ self.shift.station) }
-        ensures ok { IfOk result (λ l. Says (IsAnswered self.shift.station turn (Some event.now) self.shift.receipts.bookings.items)
+        ensures ok { IfOk result (λ l. Says
+            (IsAnswered self.shift.station turn (Some event.now) self.shift.receipts.bookings.items)
             (standing self.shift.receipts.bookings.items self.tally self.refused)
             (standing l.shift.receipts.bookings.items l.tally l.refused) (W.taken writer.old) (W.taken writer.new)) }
-        ensures front { IfErr result (SaysInPart (IsAnswered self.shift.station turn (Some event.now) self.shift.receipts.bookings.items)
+        ensures front { IfErr result (SaysInPart
+            (IsAnswered self.shift.station turn (Some event.now) self.shift.receipts.bookings.items)
             (W.taken writer.old) (W.taken writer.new)) }
         ensures fault { IfErr result IsListenFault }
         ensures write { CountsWrites (W.failed_calls writer.old) (W.failed_calls writer.new) result }

@@ -170,7 +170,8 @@ where
     ) -> Result<Self, NoMemory>
         ensures station { IfOk result (λ shift. shift.station ≡ self.station) }
         ensures workers { IfOk result (λ shift. shift.workers ≡ self.workers) }
-        ensures done { IfOk result (λ shift. IsDone self.station place event.now (kept self.receipts.bookings.items self.entries.items)
+        ensures done { IfOk result (λ shift. IsDone self.station place event.now
+            (kept self.receipts.bookings.items self.entries.items)
             (kept shift.receipts.bookings.items shift.entries.items)) }
     {
         let mut shift = self;

@@ -16,8 +16,9 @@ returns-in-Err-clause-front g c =
     let entries : List (Entry Global) = c.take_lines-entries.result.items in (
       c.in-Ok.shift.receipts.bookings.items,
       record { entries = entries; lines = entry_lines entries },
-      answered_by c.args.self.shift.station c.args.turn c.args.event.now c.args.self.shift.receipts.bookings.items c.in-Ok.shift.receipts.bookings.items
-          c.args.self.shift.entries.items c.in-Ok.shift.entries.items entries c.args.self.written c.in-Ok.ensures.done
+      answered_by c.args.self.shift.station c.args.turn c.args.event.now c.args.self.shift.receipts.bookings.items
+          c.in-Ok.shift.receipts.bookings.items c.args.self.shift.entries.items c.in-Ok.shift.entries.items entries
+          c.args.self.written c.in-Ok.ensures.done
           c.take_lines-entries.ensures.taken,
       subst (λ l. WritesFront (g.W.ByteOut.taken c.args.writer.now) (g.W.ByteOut.taken c.write_entries.new.writer)
           (text_of (entry_lines l))) c.as_slice.ensures.value c.in-Err.ensures.err,

@@ -52,8 +52,8 @@ returns-clause-played g c =
     (omega (arith, last.event-iterator.rest.ok.0, c.in-None.ensures.steps.0)) last.invariant.left in
     finished_with c.args.self.station c.args.events.items last.shift.receipts.bookings.items last.shift.entries
     c.close.result
-    (subst (λ es. AreDone c.args.self.station 0 es (kept [] []) (kept last.shift.receipts.bookings.items last.shift.entries.items)) all
-    last.invariant.done)
+    (subst (λ es. AreDone c.args.self.station 0 es (kept [] [])
+    (kept last.shift.receipts.bookings.items last.shift.entries.items)) all last.invariant.done)
     c.close.ensures.entries
     (subst (λ ids. IfOk c.close.result (λ played. IsClosing ids (open_receipts last.shift.receipts.bookings.items)
     played.totals.items played.books.items)) last.invariant.station c.close.ensures.books)
@@ -65,8 +65,8 @@ returns-clause-apart g c =
     (omega (arith, last.event-iterator.rest.ok.0, c.in-None.ensures.steps.0)) last.invariant.left in
     apart_with c.args.self.station c.args.events.items last.shift.receipts.bookings.items last.shift.entries.items
     c.close.result
-    (subst (λ es. AreDone c.args.self.station 0 es (kept [] []) (kept last.shift.receipts.bookings.items last.shift.entries.items)) all
-    last.invariant.done)
+    (subst (λ es. AreDone c.args.self.station 0 es (kept [] [])
+    (kept last.shift.receipts.bookings.items last.shift.entries.items)) all last.invariant.done)
     (subst (λ ids. IfErr c.close.result (λ fault. fault ≢ NoMemory
     → IsClosingFault ids (open_receipts last.shift.receipts.bookings.items) fault)) last.invariant.station
     c.close.ensures.cause)
