@@ -1,16 +1,19 @@
-// A station and a till.
+// The calls of a station.
 
-use crate::calls::{ADDR, Answer, Call, Server, given, heard, not_given, queued, told};
+use crate::calls::{
+    ADDR, Answer, Call, OTHER, Server, given, heard, not_given, queued, sent, told,
+};
 use crate::cases::{Case, is_refused};
+use crate::desk_cases::CASES;
+use crate::stations::{AtWork, takes};
 use crate::turns::Refuser;
-use answer_ticket::{Stub, Ticket};
-use server_desk::TakeFault;
 use server_workers::{Ledger, Station, Till};
 use std::alloc::{Allocator, Global};
 use std::hash::BuildHasher;
 use std::sync::Wait;
 use std::test::Fail;
-use worked_inputs::{WorkedHasher, booked, copy_at};
+use std::thread::Threads;
+use worked_inputs::{WorkedHasher, copy_at};
 
 /// A station, and the till by which its answers are counted.
 #[derive(Drop)]
@@ -20,31 +23,24 @@ struct AtStation<B: Ledger, S: BuildHasher, A: Allocator + Copy> {
 }
 
 impl<B: Ledger, S: BuildHasher, A: Allocator + Copy> AtStation<B, S, A> {
-    /// Settles a stub; one that is handed back is spent.
-    fn settle<R: Wait>(&mut self, rt: &R, stub: Stub) {
+    /// Takes a ticket, and books it at once or gives it up. A stub that is handed back is spent.
+    fn take<R: Wait>(&mut self, rt: &R, number: u64, is_tried: bool) -> Answer {
+        let ticket = match self.station.take(rt, number) {
+            Ok(ticket) => ticket,
+            Err(fault) => return not_given(fault),
+        };
+        let taken = if is_tried {
+            sent(self.station.try_once(rt, ticket))
+        } else {
+            Some(given(ticket))
+        };
+        let Some((answer, stub)) = taken else {
+            return OTHER;
+        };
         if let Err(stub) = self.station.settle(rt, stub, &mut self.till) {
             let _ = stub.end();
         }
-    }
-
-    /// Gives a ticket up that was taken.
-    fn give_up<R: Wait>(&mut self, rt: &R, ticket: Result<Ticket<A>, TakeFault>) -> Answer {
-        match ticket {
-            Ok(ticket) => {
-                let (shown, stub) = given(ticket);
-                self.settle(rt, stub);
-                shown
-            }
-            Err(fault) => not_given(fault),
-        }
-    }
-
-    /// Takes a ticket, and books it: the length of the frame.
-    fn answer<R: Wait>(&mut self, rt: &R, number: u64) -> Option<u64> {
-        let ticket = self.station.take(rt, number).ok()?;
-        let (stub, receipt) = booked(self.station.try_once(rt, ticket))?;
-        self.settle(rt, stub);
-        Some(receipt.frame.as_slice().len() as u64)
+        answer
     }
 
     /// For how long a gateway was on air.
@@ -59,32 +55,39 @@ impl<B: Ledger, S: BuildHasher, A: Allocator + Copy> Server for AtStation<B, S, 
             Call::Queue => queued(self.station.queue(rt, ADDR, 9, &[1, 2, 3])),
             Call::Hear(gateway, ..) => heard(self.station.hear(rt, bytes, copy_at(gateway), 0)),
             Call::Pass(now) => told("closed", self.station.pass(rt, now)),
-            Call::Take(number) => {
-                let ticket = self.station.take(rt, number);
-                self.give_up(rt, ticket)
-            }
-            Call::Answer(number) => told("sent", self.answer(rt, number)),
+            Call::Take(number, is_tried) => self.take(rt, number, is_tried),
             Call::Airtime(gateway) => told("on air", self.airtime(rt, gateway)),
         }
     }
 }
 
-/// Refuses the growth of this number of a call of a station, whose answers are counted by this till: whether there was one.
-pub(crate) fn is_refused_at<B: Ledger, A: Allocator + Copy, R: Wait>(
-    rt: &R,
-    memory: Global,
-    alloc: &Refuser,
-    station: Station<B, WorkedHasher, A>,
-    till: Till<B>,
-    case: &Case,
-    number: u64,
-) -> Result<bool, Fail> {
-    is_refused(
-        rt,
-        memory,
-        alloc,
-        &mut AtStation { station, till },
-        case,
-        number,
-    )
+/// A case, whose frames stand where no growth is refused.
+#[derive(Drop)]
+struct Calling<'c>(Global, &'c Case);
+
+impl<'c> AtWork for Calling<'c> {
+    fn is_refused<B: Ledger + Send + Sync, A: Allocator + Copy + Send + Sync, R>(
+        &self,
+        rt: &R,
+        alloc: &Refuser,
+        _own: A,
+        station: Station<B, WorkedHasher, A>,
+        till: Till<B>,
+        number: u64,
+    ) -> Result<bool, Fail>
+    where
+        R: Threads + Wait + Sync,
+    {
+        let mut server = AtStation { station, till };
+        is_refused(rt, self.0, alloc, &mut server, self.1, number)
+    }
+}
+
+/// Payloads are queued, copies are heard and tickets are taken, each with each of its growths refused.
+#[test]
+fn calls_of_a_station(rt: HostRuntime) -> Result<(), Fail> {
+    for case in &CASES {
+        takes(&rt, rt.alloc(), 0, &Calling(rt.alloc(), case), case.growths)?;
+    }
+    Ok(())
 }

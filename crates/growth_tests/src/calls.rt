@@ -1,12 +1,11 @@
 // Calls of a desk, or of a station with one, as values, so that a run of them is a table.
 
-use answer_ticket::{Stub, Ticket};
+use answer_ticket::{Stub, Ticket, Tried};
 use server_desk::{DeskFault, DeskHeard, QueueFault, TakeFault};
 use std::alloc::{Allocator, Global};
 use std::sync::Wait;
 use std::test::Fail;
-use test_asserts::equal_at;
-use worked_inputs::uplink;
+use worked_inputs::{booked, uplink};
 
 /// The addresses of the devices are 1 and 2; payloads are queued for the first.
 pub(crate) const ADDR: u32 = 1;
@@ -21,10 +20,8 @@ pub(crate) enum Call {
     Hear(u16, u32, u32),
     /// Time passes, until this moment: a gathering that is due is closed.
     Pass(u64),
-    /// A ticket is taken for this number, given up, and its stub settled.
-    Take(u64),
-    /// A ticket is taken for this number, booked at once, and its stub settled.
-    Answer(u64),
+    /// A ticket is taken for this number, booked at once if this says so and given up if not, and its stub settled.
+    Take(u64, bool),
     /// For how long this gateway was on air.
     Airtime(u16),
 }
@@ -59,19 +56,6 @@ pub(crate) fn answer_to<S: Server, R: Wait>(
         _ => Vec::new(global),
     };
     Ok(server.answer_to(rt, call, &bytes))
-}
-
-/// Makes these calls, one after another, and compares each answer.
-pub(crate) fn answers<S: Server, R: Wait>(
-    rt: &R,
-    global: Global,
-    server: &mut S,
-    table: &[Row],
-) -> Result<(), Fail> {
-    for (place, (call, answer)) in table.iter().enumerate() {
-        equal_at(&place, &answer_to(rt, global, server, *call)?, answer)?;
-    }
-    Ok(())
 }
 
 /// What is said of a number, or of none.
@@ -112,6 +96,13 @@ pub(crate) fn given<A: Allocator>(ticket: Ticket<A>) -> (Answer, Stub) {
         ticket.counter() as u64,
     ];
     (("given", shown), ticket.give_up())
+}
+
+/// The length of the frame that was booked, and what is left of the ticket; any other try is spent.
+pub(crate) fn sent<A: Allocator>(tried: Tried<A>) -> Option<(Answer, Stub)> {
+    let (stub, receipt) = booked(tried)?;
+    let len = receipt.frame.as_slice().len() as u64;
+    Some((("sent", [len, 0, 0]), stub))
 }
 
 /// Why no ticket was given.

@@ -1,41 +1,54 @@
 // A call whose growths are refused, with what comes before it and after it.
 
-use crate::calls::{Row, STARVED, Server, answer_to, answers};
-use crate::turns::{Refuser, same, was_refused};
+use crate::calls::{Row, STARVED, Server, answer_to};
+use crate::turns::{Refuser, was_refused};
 use std::alloc::Global;
 use std::sync::Wait;
 use std::test::Fail;
+use test_asserts::equal_at;
 
-/// A call whose growths are refused.
-pub(crate) struct Case {
-    /// The calls before it.
-    pub(crate) before: &'static [Row],
-    pub(crate) call: Row,
-    /// How many growths it takes.
-    pub(crate) growths: u64,
-    /// Calls that change nothing: what they answer before it, and once it was refused.
-    pub(crate) still: &'static [Row],
-    /// The calls after it.
-    pub(crate) after: &'static [Row],
+/// When a call of a case is made.
+pub(crate) enum Turn {
+    /// At its place, with memory.
+    Plain,
+    /// At its place, with a growth refused. A case has one such call.
+    Refused,
+    /// At its place with memory, where that growth was asked for.
+    Again,
 }
 
-/// Refuses the growth of this number of a call: whether there was one. Else it answers as ever.
+/// A call whose growths are refused, amid others.
+pub(crate) struct Case {
+    pub(crate) name: &'static str,
+    /// How many growths it takes.
+    pub(crate) growths: u64,
+    pub(crate) rows: &'static [(Turn, Row)],
+}
+
+/// No call makes so many growths.
+const NONE: u64 = u64::MAX;
+
+/// Makes a call of the case with this name, with the growth of this number refused: whether there was one. Else it answers as
+/// ever.
 fn is_refused_once<S: Server, R: Wait>(
     rt: &R,
     memory: Global,
     alloc: &Refuser,
     server: &mut S,
-    row: Row,
+    name: &'static str,
+    row: &Row,
     number: u64,
 ) -> Result<bool, Fail> {
     alloc.refuse(number);
     let found = answer_to(rt, memory, server, row.0)?;
-    let is_starved = was_refused(alloc, number, found == STARVED)?;
-    same(found, if is_starved { STARVED } else { row.1 })?;
-    Ok(is_starved)
+    let is_starved = found == STARVED;
+    let wanted = if is_starved { STARVED } else { row.1 };
+    equal_at(&(name, row.1), &found, &wanted)?;
+    was_refused(alloc, number, is_starved, false)
 }
 
-/// The same amid the other calls of a case. Once it was refused, the call answers as ever, and so do those after it.
+/// Makes the calls of a case with the growth of this number refused: whether there was one. Once it was refused, the call
+/// answers as ever, and so do those that change nothing, and those after it.
 pub(crate) fn is_refused<S: Server, R: Wait>(
     rt: &R,
     memory: Global,
@@ -44,13 +57,15 @@ pub(crate) fn is_refused<S: Server, R: Wait>(
     case: &Case,
     number: u64,
 ) -> Result<bool, Fail> {
-    answers(rt, memory, server, case.before)?;
-    answers(rt, memory, server, case.still)?;
-    let is_starved = is_refused_once(rt, memory, alloc, server, case.call, number)?;
-    if is_starved {
-        answers(rt, memory, server, case.still)?;
-        answers(rt, memory, server, &[case.call])?;
+    let mut is_starved = false;
+    for (turn, row) in case.rows {
+        let refused = match turn {
+            Turn::Plain => NONE,
+            Turn::Refused => number,
+            Turn::Again if is_starved => NONE,
+            Turn::Again => continue,
+        };
+        is_starved |= is_refused_once(rt, memory, alloc, server, case.name, row, refused)?;
     }
-    answers(rt, memory, server, case.after)?;
     Ok(is_starved)
 }

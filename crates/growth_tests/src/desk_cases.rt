@@ -2,6 +2,7 @@
 
 use crate::calls::{ADDR, Answer, Call, Row};
 use crate::cases::Case;
+use crate::cases::Turn::{Again, Plain, Refused};
 
 const SAME_GATEWAY: Answer = ("same gateway", [0; 3]);
 
@@ -50,20 +51,20 @@ const CLOSES_6: Row = (Call::Pass(200_001), ("closed", [6, 0, 0]));
 
 const CLOSES_NONE: Row = (Call::Pass(200_001), ("none", [0; 3]));
 
-const NOT_READY_1: Row = (Call::Take(1), NOT_READY);
+const NOT_READY_1: Row = (Call::Take(1, false), NOT_READY);
 
 /// The first ticket, with downlink counter 0.
-const GIVES_1: Row = (Call::Take(1), ("given", [1, 1, 0]));
+const GIVES_1: Row = (Call::Take(1, false), ("given", [1, 1, 0]));
 
 /// The second ticket, with downlink counter 1.
-const GIVES_2: Row = (Call::Take(2), ("given", [2, 1, 1]));
+const GIVES_2: Row = (Call::Take(2, false), ("given", [2, 1, 1]));
 
 /// The second device's first ticket, with downlink counter 0.
-const GIVES_OTHER_2: Row = (Call::Take(2), ("given", [2, 1, 0]));
+const GIVES_OTHER_2: Row = (Call::Take(2, false), ("given", [2, 1, 0]));
 
-const GIVES_OTHER_3: Row = (Call::Take(3), ("given", [3, 1, 0]));
+const GIVES_OTHER_3: Row = (Call::Take(3, false), ("given", [3, 1, 0]));
 
-const GIVES_OTHER_6: Row = (Call::Take(6), ("given", [6, 1, 0]));
+const GIVES_OTHER_6: Row = (Call::Take(6, false), ("given", [6, 1, 0]));
 
 const SILENT_1: Row = (Call::Airtime(1), ("on air", [0, 0, 0]));
 
@@ -82,127 +83,171 @@ const QUEUES_5: Row = (Call::Queue, ("queued", [5, 0, 0]));
 
 const QUEUES_6: Row = (Call::Queue, ("queued", [6, 0, 0]));
 
-/// A payload is queued: the first, and one behind others.
-pub(crate) static QUEUED: [Case; 2] = [
+/// Each call that may take memory, amid others: to queue, to hear and to take.
+pub(crate) static CASES: [Case; 8] = [
+    // A payload is queued: the first, and one behind others.
     Case {
-        before: &[],
-        call: QUEUES_1,
+        name: "the first payload",
         growths: 2,
-        still: &[CLOSES_NONE, NOT_READY_1],
-        after: &[
-            QUEUES_2,
-            OPENS_1,
-            CLOSES_1,
-            (Call::Answer(1), ("sent", [16, 0, 0])),
-            QUEUES_2,
+        rows: &[
+            (Plain, CLOSES_NONE),
+            (Plain, NOT_READY_1),
+            (Refused, QUEUES_1),
+            (Again, CLOSES_NONE),
+            (Again, NOT_READY_1),
+            (Again, QUEUES_1),
+            (Plain, QUEUES_2),
+            (Plain, OPENS_1),
+            (Plain, CLOSES_1),
+            (Plain, (Call::Take(1, true), ("sent", [16, 0, 0]))),
+            (Plain, QUEUES_2),
         ],
     },
     Case {
-        before: &[QUEUES_1, QUEUES_2, QUEUES_3, QUEUES_4],
-        call: QUEUES_5,
+        name: "the fifth payload",
         growths: 2,
-        still: &[CLOSES_NONE, NOT_READY_1],
-        after: &[QUEUES_6],
+        rows: &[
+            (Plain, QUEUES_1),
+            (Plain, QUEUES_2),
+            (Plain, QUEUES_3),
+            (Plain, QUEUES_4),
+            (Plain, CLOSES_NONE),
+            (Plain, NOT_READY_1),
+            (Refused, QUEUES_5),
+            (Again, CLOSES_NONE),
+            (Again, NOT_READY_1),
+            (Again, QUEUES_5),
+            (Plain, QUEUES_6),
+        ],
     },
-];
-
-/// A copy of an uplink opens a gathering: the first, the second, and the fifth.
-pub(crate) static OPENED: [Case; 3] = [
+    // A copy of an uplink opens a gathering: the first, the second, and the fifth.
     Case {
-        before: &[],
-        call: OPENS_1,
+        name: "the first uplink",
         growths: 10,
-        still: &[CLOSES_NONE, NOT_READY_1],
-        after: &[
-            HEARD_1,
-            JOINS_1,
-            OPENS_OTHER_2,
-            CLOSES_1,
-            CLOSES_2,
-            CLOSES_NONE,
-            GIVES_1,
-            GIVES_OTHER_2,
+        rows: &[
+            (Plain, CLOSES_NONE),
+            (Plain, NOT_READY_1),
+            (Refused, OPENS_1),
+            (Again, CLOSES_NONE),
+            (Again, NOT_READY_1),
+            (Again, OPENS_1),
+            (Plain, HEARD_1),
+            (Plain, JOINS_1),
+            (Plain, OPENS_OTHER_2),
+            (Plain, CLOSES_1),
+            (Plain, CLOSES_2),
+            (Plain, CLOSES_NONE),
+            (Plain, GIVES_1),
+            (Plain, GIVES_OTHER_2),
         ],
     },
     Case {
-        before: &[OPENS_1],
-        call: OPENS_2,
+        name: "the second uplink",
         growths: 2,
-        still: &[NOT_READY_1, HEARD_1],
-        after: &[
-            HEARD_2,
-            OPENS_OTHER_3,
-            CLOSES_1,
-            CLOSES_2,
-            CLOSES_3,
-            CLOSES_NONE,
-            GIVES_1,
-            GIVES_2,
-            GIVES_OTHER_3,
+        rows: &[
+            (Plain, OPENS_1),
+            (Plain, NOT_READY_1),
+            (Plain, HEARD_1),
+            (Refused, OPENS_2),
+            (Again, NOT_READY_1),
+            (Again, HEARD_1),
+            (Again, OPENS_2),
+            (Plain, HEARD_2),
+            (Plain, OPENS_OTHER_3),
+            (Plain, CLOSES_1),
+            (Plain, CLOSES_2),
+            (Plain, CLOSES_3),
+            (Plain, CLOSES_NONE),
+            (Plain, GIVES_1),
+            (Plain, GIVES_2),
+            (Plain, GIVES_OTHER_3),
         ],
     },
     Case {
-        before: &[OPENS_1, OPENS_2, OPENS_3, OPENS_4, CLOSES_1],
-        call: OPENS_5,
+        name: "the fifth uplink",
         growths: 5,
-        still: &[HEARD_2],
-        after: &[
-            OPENS_OTHER_6,
-            CLOSES_2,
-            CLOSES_3,
-            CLOSES_4,
-            CLOSES_5,
-            CLOSES_6,
-            CLOSES_NONE,
-            GIVES_1,
-            GIVES_2,
-            GIVES_OTHER_6,
+        rows: &[
+            (Plain, OPENS_1),
+            (Plain, OPENS_2),
+            (Plain, OPENS_3),
+            (Plain, OPENS_4),
+            (Plain, CLOSES_1),
+            (Plain, HEARD_2),
+            (Refused, OPENS_5),
+            (Again, HEARD_2),
+            (Again, OPENS_5),
+            (Plain, OPENS_OTHER_6),
+            (Plain, CLOSES_2),
+            (Plain, CLOSES_3),
+            (Plain, CLOSES_4),
+            (Plain, CLOSES_5),
+            (Plain, CLOSES_6),
+            (Plain, CLOSES_NONE),
+            (Plain, GIVES_1),
+            (Plain, GIVES_2),
+            (Plain, GIVES_OTHER_6),
         ],
     },
-];
-
-/// A copy of an uplink joins a gathering.
-pub(crate) static JOINED: [Case; 1] = [Case {
-    before: &[OPENS_1],
-    call: JOINS_1,
-    growths: 1,
-    still: &[NOT_READY_1, HEARD_1],
-    after: &[
-        (Call::Hear(2, ADDR, 0), SAME_GATEWAY),
-        CLOSES_1,
-        CLOSES_NONE,
-        GIVES_1,
-    ],
-}];
-
-/// A ticket is taken: the first, and one with a payload after an answer.
-pub(crate) static GIVEN: [Case; 2] = [
+    // A copy of an uplink joins a gathering.
     Case {
-        before: &[OPENS_1, CLOSES_1],
-        call: GIVES_1,
+        name: "a copy that joins",
+        growths: 1,
+        rows: &[
+            (Plain, OPENS_1),
+            (Plain, NOT_READY_1),
+            (Plain, HEARD_1),
+            (Refused, JOINS_1),
+            (Again, NOT_READY_1),
+            (Again, HEARD_1),
+            (Again, JOINS_1),
+            (Plain, (Call::Hear(2, ADDR, 0), SAME_GATEWAY)),
+            (Plain, CLOSES_1),
+            (Plain, CLOSES_NONE),
+            (Plain, GIVES_1),
+        ],
+    },
+    // A ticket is taken: the first, and one with a payload after an answer.
+    Case {
+        name: "the first ticket",
         growths: 2,
-        still: &[SILENT_1, CLOSES_NONE],
-        after: &[
-            (Call::Take(1), IS_TAKEN),
-            OPENS_2,
-            CLOSES_2,
-            GIVES_2,
-            QUEUES_1,
-            SILENT_1,
+        rows: &[
+            (Plain, OPENS_1),
+            (Plain, CLOSES_1),
+            (Plain, SILENT_1),
+            (Plain, CLOSES_NONE),
+            (Refused, GIVES_1),
+            (Again, SILENT_1),
+            (Again, CLOSES_NONE),
+            (Again, GIVES_1),
+            (Plain, (Call::Take(1, false), IS_TAKEN)),
+            (Plain, OPENS_2),
+            (Plain, CLOSES_2),
+            (Plain, GIVES_2),
+            (Plain, QUEUES_1),
+            (Plain, SILENT_1),
         ],
     },
     Case {
-        before: &[
-            OPENS_1,
-            CLOSES_1,
-            (Call::Answer(1), ("sent", [12, 0, 0])),
-            OPENS_2,
-            CLOSES_2,
-            QUEUES_1,
-        ],
-        call: GIVES_2,
+        name: "a ticket with a payload",
         growths: 3,
-        still: &[ON_AIR_1, CLOSES_NONE, (Call::Take(1), IS_TAKEN)],
-        after: &[ON_AIR_1, QUEUES_2, (Call::Take(2), IS_TAKEN)],
+        rows: &[
+            (Plain, OPENS_1),
+            (Plain, CLOSES_1),
+            (Plain, (Call::Take(1, true), ("sent", [12, 0, 0]))),
+            (Plain, OPENS_2),
+            (Plain, CLOSES_2),
+            (Plain, QUEUES_1),
+            (Plain, ON_AIR_1),
+            (Plain, CLOSES_NONE),
+            (Plain, (Call::Take(1, false), IS_TAKEN)),
+            (Refused, GIVES_2),
+            (Again, ON_AIR_1),
+            (Again, CLOSES_NONE),
+            (Again, (Call::Take(1, false), IS_TAKEN)),
+            (Again, GIVES_2),
+            (Plain, ON_AIR_1),
+            (Plain, QUEUES_2),
+            (Plain, (Call::Take(2, false), IS_TAKEN)),
+        ],
     },
 ];

@@ -1,79 +1,16 @@
 // Frames, and the candidates of an uplink.
 
-use crate::turns::{Refuser, refusing, same, starves};
+use crate::turns::Refuser;
 use lora_frame::{Body, Down, DownFault, Key, Keys, Up, UpFault, downlink, uplink_bytes};
 use radio_airtime::DataRate;
+use refusing_alloc::Refusing;
 use rx_windows::{Plan, candidates};
 use std::test::Fail;
+use test_asserts::equal_at;
 use uplink_gather::HeardCopy;
 
-fn keys() -> Keys {
-    Keys {
-        nwk: Key::new([1; 16]),
-        app: Key::new([2; 16]),
-    }
-}
-
-/// A downlink with this body takes one growth, which is refused once.
-fn takes_one_growth(alloc: &Refuser, body: Option<Body<'_>>) -> Result<(), Fail> {
-    let down = Down {
-        addr: 7,
-        counter: 1,
-        ack: true,
-        pending: false,
-        body,
-    };
-    let starved = Some(DownFault::NoMemory);
-    let growths = starves(
-        alloc,
-        starved,
-        None,
-        || downlink(alloc, &down, &keys()).err(),
-    )?;
-    same(growths, 1)
-}
-
-#[test]
-fn a_downlink(rt: HostRuntime) -> Result<(), Fail> {
-    refusing(rt.alloc(), |alloc| {
-        takes_one_growth(alloc, None)?;
-        let payload = &[3; 100];
-        takes_one_growth(alloc, Some(Body { port: 9, payload }))
-    })
-}
-
-/// An uplink with these options takes one growth, which is refused once.
-fn takes_one_growth_up(alloc: &Refuser, options: &[u8]) -> Result<(), Fail> {
-    let up = Up {
-        confirmed: true,
-        addr: 7,
-        counter: 7,
-        adr: false,
-        adr_ack_req: false,
-        ack: false,
-        options,
-        body: None,
-    };
-    let starved = Some(UpFault::NoMemory);
-    let growths = starves(
-        alloc,
-        starved,
-        None,
-        || uplink_bytes(alloc, &up, &keys()).err(),
-    )?;
-    same(growths, 1)
-}
-
-#[test]
-fn an_uplink(rt: HostRuntime) -> Result<(), Fail> {
-    refusing(rt.alloc(), |alloc| {
-        takes_one_growth_up(alloc, &[])?;
-        takes_one_growth_up(alloc, &[1, 2, 3])
-    })
-}
-
 /// A copy that ended at five seconds.
-const COPY: HeardCopy = HeardCopy {
+pub(crate) const COPY: HeardCopy = HeardCopy {
     gateway: 1,
     at: 5_000_000,
     freq_hz: 868_100_000,
@@ -83,7 +20,7 @@ const COPY: HeardCopy = HeardCopy {
 };
 
 /// A device that listens as LoRaWAN's EU868 has it, with no payload queued for it.
-const PLAN: Plan = Plan {
+pub(crate) const PLAN: Plan = Plan {
     delay: 1,
     offset: 0,
     rx2_freq: 869_525_000,
@@ -91,15 +28,65 @@ const PLAN: Plan = Plan {
     payload: None,
 };
 
-/// How many candidates one copy has; nothing where there is no memory.
-fn count_of(alloc: &Refuser) -> Option<usize> {
-    Some(candidates(alloc, &[COPY], &PLAN).ok()?.len())
+const DOWN: Down<'static> = Down {
+    addr: 7,
+    counter: 1,
+    ack: true,
+    pending: false,
+    body: None,
+};
+
+const UP: Up<'static> = Up {
+    confirmed: true,
+    addr: 7,
+    counter: 7,
+    adr: false,
+    adr_ack_req: false,
+    ack: false,
+    options: &[],
+    body: None,
+};
+
+/// What a downlink, an uplink and the candidates of a copy are refused with, and how many candidates there are, which are none
+/// where there is no memory.
+type Told = (Option<DownFault>, Option<UpFault>, usize);
+
+fn told(alloc: &Refuser, options: &[u8], body: Option<Body<'_>>) -> Told {
+    let keys = Keys {
+        nwk: Key::new([1; 16]),
+        app: Key::new([2; 16]),
+    };
+    let count = match candidates(alloc, &[COPY], &PLAN) {
+        Ok(candidates) => candidates.len(),
+        Err(_) => 0,
+    };
+    let down = downlink(alloc, &Down { body, ..DOWN }, &keys).err();
+    let up = uplink_bytes(alloc, &Up { options, ..UP }, &keys).err();
+    (down, up, count)
+}
+
+/// What is told where the candidates find no memory, the downlink, the uplink, and where all do.
+const TOLD: [Told; 4] = [
+    (None, None, 0),
+    (Some(DownFault::NoMemory), None, 2),
+    (None, Some(UpFault::NoMemory), 2),
+    (None, None, 2),
+];
+
+/// Each of the three takes one growth, which is refused once.
+fn each_takes_one(alloc: &Refuser, options: &[u8], body: Option<Body<'_>>) -> Result<(), Fail> {
+    for (number, wanted) in (1..=4).zip(&TOLD) {
+        alloc.refuse(number);
+        let told = told(alloc, options, body);
+        equal_at(&number, &(told, alloc.asked()), &(*wanted, 3))?;
+    }
+    Ok(())
 }
 
 #[test]
-fn the_candidates_of_an_uplink(rt: HostRuntime) -> Result<(), Fail> {
-    refusing(
-        rt.alloc(),
-        |alloc| same(starves(alloc, None, Some(2), || count_of(alloc))?, 1),
-    )
+fn a_downlink_an_uplink_and_its_candidates(rt: HostRuntime) -> Result<(), Fail> {
+    let alloc = &Refusing::new(rt.alloc());
+    each_takes_one(alloc, &[], None)?;
+    let payload = &[3; 100];
+    each_takes_one(alloc, &[1, 2, 3], Some(Body { port: 9, payload }))
 }

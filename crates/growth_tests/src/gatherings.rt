@@ -1,11 +1,12 @@
 // Gatherings of copies.
 
-use crate::turns::{Refuser, refusing, same, starves};
-use radio_airtime::DataRate;
+use crate::frames::COPY;
+use crate::turns::{Call, Refuser, growths_of, same, was_refused};
+use refusing_alloc::Refusing;
 use std::alloc::Allocator;
 use std::hash::{BuildHasher, BuildHasherDefault, FoldHasher};
 use std::test::Fail;
-use test_asserts::holds;
+use test_asserts::{equal_at, holds_at};
 use uplink_gather::{Gather, HearFault, Heard, HeardCopy, Limits, Place};
 
 const AMPLE: Limits = Limits {
@@ -13,17 +14,6 @@ const AMPLE: Limits = Limits {
     max_ever: 64,
     max_copies: 16,
 };
-
-fn copy(gateway: u16) -> HeardCopy {
-    HeardCopy {
-        gateway,
-        at: 5_000_000,
-        freq_hz: 868_100_000,
-        rate: DataRate::Dr5,
-        snr: 0,
-        rssi: -100,
-    }
-}
 
 /// What is seen of the first gathering, and of what opens next: how many copies it has, whether it is due, whether no
 /// other may open, and where this gateway's copy of these bytes goes.
@@ -38,50 +28,68 @@ fn seen<S: BuildHasher, A: Allocator>(gather: &Gather<S, A>, bytes: &[u8], gatew
     )
 }
 
-/// How many growths it takes to hear a copy of these bytes; each is refused once, and leaves what was gathered as it was.
-fn growths_to_hear<S: BuildHasher, A: Allocator + Copy>(
-    alloc: &Refuser,
-    gather: &mut Gather<S, A>,
-    bytes: &[u8],
-    gateway: u16,
-    wanted: Heard,
-) -> Result<u64, Fail> {
-    let before = seen(gather, bytes, gateway);
-    let starved = (Err(HearFault::NoMemory), true);
-    starves(alloc, starved, (Ok(wanted), false), || {
-        let heard = gather.hear(bytes, copy(gateway), 0);
-        (heard, seen(gather, bytes, gateway) == before)
-    })
-}
+/// A gateway's copy of one byte, and what it is heard as.
+type Row = (u8, u16, Heard);
 
-/// Gateways 2 to 9 hear copies of the bytes that the first gathering has.
-fn eight_join<S: BuildHasher, A: Allocator + Copy>(
-    alloc: &Refuser,
-    gather: &mut Gather<S, A>,
-) -> Result<(), Fail> {
-    for gateway in 2..=9 {
-        let copies = gateway as usize;
-        growths_to_hear(alloc, gather, &[1], gateway, Heard::Joined { n: 1, copies })?;
+/// A copy opens the first gathering, eight join it, and one of another byte opens the second.
+static ROWS: [Row; 10] = [
+    (1, 1, Heard::Opened { n: 1 }),
+    (1, 2, Heard::Joined { n: 1, copies: 2 }),
+    (1, 3, Heard::Joined { n: 1, copies: 3 }),
+    (1, 4, Heard::Joined { n: 1, copies: 4 }),
+    (1, 5, Heard::Joined { n: 1, copies: 5 }),
+    (1, 6, Heard::Joined { n: 1, copies: 6 }),
+    (1, 7, Heard::Joined { n: 1, copies: 7 }),
+    (1, 8, Heard::Joined { n: 1, copies: 8 }),
+    (1, 9, Heard::Joined { n: 1, copies: 9 }),
+    (2, 1, Heard::Opened { n: 2 }),
+];
+
+/// A copy that is heard, which leaves what was gathered as it was where it is refused.
+#[derive(Drop)]
+struct Hearing<S: BuildHasher, A: Allocator>(Gather<S, A>, Row);
+
+impl<S: BuildHasher, A: Allocator + Copy> Call for Hearing<S, A> {
+    fn is_refused(&mut self, alloc: &Refuser, number: u64) -> Result<bool, Fail> {
+        let (byte, gateway, wanted) = self.1;
+        let bytes = &[byte];
+        let before = seen(&self.0, bytes, gateway);
+        alloc.refuse(number);
+        let heard = self.0.hear(bytes, HeardCopy { gateway, ..COPY }, 0);
+        let is_starved = heard == Err(HearFault::NoMemory);
+        let is_as_before = seen(&self.0, bytes, gateway) == before;
+        let told = (heard == Ok(wanted), is_as_before);
+        equal_at(&(number, heard), &told, &(!is_starved, is_starved))?;
+        was_refused(alloc, number, is_starved, false)
     }
-    Ok(())
 }
 
-/// A copy opens the first gathering, eight join it, and one of other bytes opens the second.
+/// Each growth of these copies is refused once; those that open take one at least.
 fn gathers<S: BuildHasher, A: Allocator + Copy>(
     alloc: &Refuser,
-    gather: &mut Gather<S, A>,
+    hearing: &mut Hearing<S, A>,
 ) -> Result<(), Fail> {
+    for row in &ROWS {
+        hearing.1 = *row;
+        let growths = growths_of(alloc, hearing)?;
+        holds_at(row, growths > 0 || row.1 > 1)?;
+    }
+    same(hearing.0.copies(1).len(), 9)
+}
+
+/// Nothing is taken for a new list of gatherings.
+fn gathers_anew<S: BuildHasher + Drop, A: Allocator + Copy>(
+    alloc: &Refuser,
+    own: A,
+    hasher: S,
+) -> Result<(), Fail> {
+    let mut hearing = Hearing(Gather::new(own, hasher, AMPLE)?, ROWS[0]);
     same(alloc.asked(), 0)?;
-    holds(growths_to_hear(alloc, gather, &[1], 1, Heard::Opened { n: 1 })? > 0)?;
-    eight_join(alloc, gather)?;
-    holds(growths_to_hear(alloc, gather, &[2], 1, Heard::Opened { n: 2 })? > 0)?;
-    same(gather.copies(1).len(), 9)
+    gathers(alloc, &mut hearing)
 }
 
 #[test]
 fn a_copy_that_opens_and_copies_that_join(rt: HostRuntime) -> Result<(), Fail> {
-    refusing(rt.alloc(), |alloc| {
-        let hasher = BuildHasherDefault::<FoldHasher>::new();
-        gathers(alloc, &mut Gather::new(alloc, hasher, AMPLE)?)
-    })
+    let alloc = &Refusing::new(rt.alloc());
+    gathers_anew(alloc, alloc, BuildHasherDefault::<FoldHasher>::new())
 }

@@ -15,10 +15,6 @@ mod cases;
 #[cfg(test)]
 mod desk_cases;
 #[cfg(test)]
-mod desk_tests;
-#[cfg(test)]
-mod finish_tests;
-#[cfg(test)]
 mod frames;
 #[cfg(test)]
 mod gatherings;
@@ -31,8 +27,6 @@ mod run_tests;
 #[cfg(test)]
 mod serve_tests;
 #[cfg(test)]
-mod station_tests;
-#[cfg(test)]
 mod stations;
 #[cfg(test)]
 mod texts;
@@ -41,8 +35,6 @@ mod tickets;
 #[cfg(test)]
 mod trials;
 #[cfg(test)]
-mod try_tests;
-#[cfg(test)]
 mod turns;
 #[cfg(test)]
-mod worked_tests;
+mod works;

@@ -1,10 +1,11 @@
 // Texts with a plan: what is planned on a copy of the book, and each growth of the book and of the copy is refused in turn.
 
-use crate::turns::{MOST_GROWTHS, Refused, Refuser, refuse, refusing, same};
+use crate::turns::{MOST_GROWTHS, Refused, Refuser, refuse};
 use book_texts::plan_text;
+use refusing_alloc::Refusing;
 use std::alloc::Global;
 use std::test::Fail;
-use test_asserts::{equal_at, holds_at};
+use test_asserts::equal_at;
 use text_lines::{MemoryIn, MemoryOut};
 use text_words::TextFault;
 
@@ -24,14 +25,21 @@ const BOOKING: u64 = 1;
 
 const LIST: u64 = 2;
 
+/// What is written where the book can't be copied, and where all find memory.
+const WITHOUT_COPY: &[u8] =
+    b"ok 1 10000000 10041216\nif no 2 NoMemory\nif no 3 NoMemory\nif no 4 NoMemory\nif no 5 NoMemory\nif no 6 NoMemory\nbooked 41216\ncancelled 0\nretired 0\nkept 1 41216\nfloor 0\nbusiest M 10000000 41216\n";
+
+const WITH_ALL: &[u8] =
+    b"ok 1 10000000 10041216\nif ok 2 20000000 20041216\nif ok 3 30000000 30041216\nif ok 4 40000000 40041216\nif ok 5 50000000 50041216\nif at 6 10041216\nbooked 41216\ncancelled 0\nretired 0\nkept 1 41216\nfloor 0\nbusiest M 10000000 41216\n";
+
 /// What is written where the book can't be copied, and where of the plan's bookings none, one, .. and all find memory.
 static WRITTEN: [&[u8]; 6] = [
-    b"ok 1 10000000 10041216\nif no 2 NoMemory\nif no 3 NoMemory\nif no 4 NoMemory\nif no 5 NoMemory\nif no 6 NoMemory\nbooked 41216\ncancelled 0\nretired 0\nkept 1 41216\nfloor 0\nbusiest M 10000000 41216\n",
+    WITHOUT_COPY,
     b"ok 1 10000000 10041216\nif no 2 NoMemory\nif no 3 NoMemory\nif no 4 NoMemory\nif no 5 NoMemory\nif at 6 10041216\nbooked 41216\ncancelled 0\nretired 0\nkept 1 41216\nfloor 0\nbusiest M 10000000 41216\n",
     b"ok 1 10000000 10041216\nif ok 2 20000000 20041216\nif no 3 NoMemory\nif no 4 NoMemory\nif no 5 NoMemory\nif at 6 10041216\nbooked 41216\ncancelled 0\nretired 0\nkept 1 41216\nfloor 0\nbusiest M 10000000 41216\n",
     b"ok 1 10000000 10041216\nif ok 2 20000000 20041216\nif ok 3 30000000 30041216\nif no 4 NoMemory\nif no 5 NoMemory\nif at 6 10041216\nbooked 41216\ncancelled 0\nretired 0\nkept 1 41216\nfloor 0\nbusiest M 10000000 41216\n",
     b"ok 1 10000000 10041216\nif ok 2 20000000 20041216\nif ok 3 30000000 30041216\nif ok 4 40000000 40041216\nif no 5 NoMemory\nif at 6 10041216\nbooked 41216\ncancelled 0\nretired 0\nkept 1 41216\nfloor 0\nbusiest M 10000000 41216\n",
-    b"ok 1 10000000 10041216\nif ok 2 20000000 20041216\nif ok 3 30000000 30041216\nif ok 4 40000000 40041216\nif ok 5 50000000 50041216\nif at 6 10041216\nbooked 41216\ncancelled 0\nretired 0\nkept 1 41216\nfloor 0\nbusiest M 10000000 41216\n",
+    WITH_ALL,
 ];
 
 /// What is answered and written where growths are refused; the memory of the writer is not.
@@ -47,23 +55,27 @@ fn planned(
     (answer, writer.bytes)
 }
 
-/// Which of the texts is written where a growth is refused, and all that follow it: none before `least`, and the last just where
+/// Which of the texts is written where all growths from this one on are refused: none before `least`, and the last just where
 /// no such growth was asked for.
 fn written(alloc: &Refuser, memory: Global, number: u64, least: usize) -> Result<usize, Fail> {
     let (answer, output) = planned(alloc, memory, (number, true));
-    equal_at(&number, &answer, &Ok(false))?;
-    let place = WRITTEN.iter().position(|text| *text == output.as_slice());
-    let place = place.ok_or("a text of this plan")?;
-    holds_at(&number, place >= least)?;
-    equal_at(&number, &(place == 5), &(alloc.asked() < number))?;
-    Ok(place)
+    for (place, text) in WRITTEN.iter().enumerate() {
+        if *text == output.as_slice() {
+            let told = (answer, place >= least, place == 5);
+            equal_at(&number, &told, &(Ok(false), true, alloc.asked() < number))?;
+            return Ok(place);
+        }
+    }
+    Err(Fail::from("a text of this plan"))
 }
 
 /// With each growth from the list's on refused, one after another, as many bookings of the plan find memory or more.
-fn each_is_refused(alloc: &Refuser, memory: Global) -> Result<(), Fail> {
+#[test]
+fn each_growth_of_a_plan_is_refused(rt: HostRuntime) -> Result<(), Fail> {
+    let alloc = &Refusing::new(rt.alloc());
     let mut place = 0;
     for number in LIST..MOST_GROWTHS {
-        place = written(alloc, memory, number, place)?;
+        place = written(alloc, rt.alloc(), number, place)?;
         if place == 5 {
             return Ok(());
         }
@@ -71,31 +83,24 @@ fn each_is_refused(alloc: &Refuser, memory: Global) -> Result<(), Fail> {
     Err(Fail::from("no end of growths"))
 }
 
-/// Compares what is answered and written where growths are refused.
-fn compare(
-    alloc: &Refuser,
-    memory: Global,
-    refused: Refused,
-    is_failed: bool,
-    text: &[u8],
-) -> Result<(), Fail> {
-    let (answer, output) = planned(alloc, memory, refused);
-    same((answer, output.as_slice()), (Ok(is_failed), text))
-}
-
-#[test]
-fn each_growth_of_a_plan_is_refused(rt: HostRuntime) -> Result<(), Fail> {
-    refusing(rt.alloc(), |alloc| {
-        compare(alloc, rt.alloc(), (BOOKING, true), true, WITHOUT_ALL)?;
-        each_is_refused(alloc, rt.alloc())
-    })
-}
+/// What is answered and written where growths are refused from the first on, or one of them alone, or none.
+static ROWS: [(Refused, bool, &[u8]); 4] = [
+    ((BOOKING, true), true, WITHOUT_ALL),
+    ((BOOKING, false), true, WITHOUT_BOOKING),
+    ((LIST, false), false, WITHOUT_COPY),
+    ((0, false), false, WITH_ALL),
+];
 
 #[test]
 fn one_growth_of_a_plan_is_refused(rt: HostRuntime) -> Result<(), Fail> {
-    refusing(rt.alloc(), |alloc| {
-        compare(alloc, rt.alloc(), (BOOKING, false), true, WITHOUT_BOOKING)?;
-        compare(alloc, rt.alloc(), (LIST, false), false, WRITTEN[0])?;
-        compare(alloc, rt.alloc(), (0, false), false, WRITTEN[5])
-    })
+    let alloc = &Refusing::new(rt.alloc());
+    for (refused, is_failed, text) in &ROWS {
+        let (answer, output) = planned(alloc, rt.alloc(), *refused);
+        equal_at(
+            refused,
+            &(answer, output.as_slice()),
+            &(Ok(*is_failed), *text),
+        )?;
+    }
+    Ok(())
 }

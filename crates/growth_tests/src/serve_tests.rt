@@ -1,10 +1,11 @@
 // A worker who serves at a station.
 ghost use Rattle.std.specs.Prelude.{◌≡◌, ◌<◌};
 
-use crate::stations::{devices_of, frames_of, heard_by};
-use crate::turns::{MOST_GROWTHS, Refused, Refuser, refuse, refusing, same, was_refused};
+use crate::stations::{hears, settled};
+use crate::turns::{MOST_GROWTHS, Refused, Refuser, refuse, same, was_refused};
 use answer_ticket::{Ending, Outcome, Receipt};
 use gateway_book::Totals;
+use refusing_alloc::Refusing;
 use server_desk::Settings;
 use server_workers::{
     Blank, Closing, Ledger, NoGate, PARTS, ServeCause, ServeFault, Served, Station, Till, serve,
@@ -14,8 +15,8 @@ use std::marker::Brand;
 use std::sync::Wait;
 use std::test::Fail;
 use std::thread::Threads;
-use test_asserts::{equal, holds_at};
-use worked_inputs::{WorkedHasher, settings_of};
+use test_asserts::equal;
+use worked_inputs::{WorkedHasher, hasher};
 
 /// The numbers of the uplinks, each of a device of its own.
 const NUMBERS: [u64; 20] = [
@@ -30,8 +31,8 @@ fn bit_of(number: u64) -> u64 {
     if number < 64 { 1 << number } else { 0 }
 }
 
-/// How many answers were booked. Each number has an outcome or was skipped.
-fn answered_in(outcomes: &[Outcome], skipped: &[u64]) -> Result<usize, Fail> {
+/// How many answers were booked, which are so many at least. Each number has an outcome or was skipped.
+fn answered_in(outcomes: &[Outcome], skipped: &[u64], least: usize) -> Result<usize, Fail> {
     let mut answered = 0usize;
     let mut told = 0u64;
     for outcome in outcomes {
@@ -43,29 +44,22 @@ fn answered_in(outcomes: &[Outcome], skipped: &[u64]) -> Result<usize, Fail> {
     for number in skipped {
         told |= bit_of(*number);
     }
-    same(
-        (told, outcomes.len().saturating_add(skipped.len())),
-        (ALL, 20),
-    )?;
+    let count = outcomes.len().saturating_add(skipped.len());
+    same((told, count, answered.max(least)), (ALL, 20, answered))?;
     Ok(answered)
 }
 
-/// What some receipts are on air for.
-fn airtime_of<A: Allocator>(receipts: &[Receipt<A>]) -> u64 {
+/// What some receipts are on air for, and what some gateways have booked.
+fn airtimes<A: Allocator>(receipts: &[Receipt<A>], totals: &[(u16, Totals)]) -> (u64, u64) {
     let mut airtime = 0u64;
     for receipt in receipts {
         airtime = airtime.saturating_add(receipt.reservation.airtime());
     }
-    airtime
-}
-
-/// What some gateways have booked.
-fn booked_by(totals: &[(u16, Totals)]) -> u64 {
     let mut booked = 0u64;
     for (_, totals) in totals {
         booked = booked.saturating_add(totals.booked);
     }
-    booked
+    (airtime, booked)
 }
 
 /// Finishes a station with this till, and with these receipts.
@@ -89,157 +83,105 @@ fn finishes<B: Ledger, A: Allocator + Copy>(
 ) -> Result<(), Fail> {
     let Served { till, receipts, .. } = served;
     let closing = closing_of(memory, station, till, &receipts)?;
-    let airtime = airtime_of(&receipts);
-    same(
-        (closing.booked, booked_by(&closing.totals)),
-        (airtime, airtime),
-    )
+    let booked = closing.booked;
+    same(airtimes(&receipts, &closing.totals), (booked, booked))
 }
 
-/// Whether the first growth that was refused was asked for: nobody could serve then, or some uplinks weren't answered.
-fn was_starved<B: Ledger, A: Allocator>(
-    alloc: &Refuser,
-    refused: Refused,
-    served: &Result<Served<B, A>, ServeFault<B>>,
-) -> Result<bool, Fail> {
-    let (number, and_after) = refused;
-    let answered = match served {
-        Ok(served) => answered_in(&served.outcomes, &served.skipped)?,
-        Err(_) => return was_refused(alloc, number, true),
-    };
-    // One growth is wanted for one uplink alone.
-    holds_at(&answered, and_after || answered >= 19)?;
-    was_refused(alloc, number, answered < 20)
-}
-
-/// One worker serves.
-fn served_by<'a, B: Ledger + Send + Sync, R: Threads + Wait + Sync>(
+/// What one worker does with memory, who answers all, after nobody could serve, with the till that was handed back.
+fn served_again<B, A: Allocator + Copy + Send + Sync, R: Threads + Wait + Sync>(
     rt: &R,
-    alloc: &'a Refuser,
-    station: &Station<B, WorkedHasher, &'a Refuser>,
-    till: Till<B>,
-) -> Result<Served<B, &'a Refuser>, ServeFault<B>>
-    requires { 16 < till.parts }
-{
-    serve(rt, alloc, station, &NUMBERS, till, 1, &NoGate)
-}
-
-/// What one worker does with memory, after nobody could serve, with the till that was handed back.
-fn served_again<'a, B: Ledger + Send + Sync, R: Threads + Wait + Sync>(
-    rt: &R,
-    alloc: &'a Refuser,
-    station: &Station<B, WorkedHasher, &'a Refuser>,
+    memory: A,
+    station: &Station<B, WorkedHasher, A>,
     fault: ServeFault<B>,
-) -> Result<Served<B, &'a Refuser>, Fail> {
+) -> Result<Served<B, A>, Fail>
+where
+    B: Ledger + Send + Sync,
+{
     let ServeFault { cause, till } = fault;
     let parts = till.parts();
     equal(&parts, &PARTS)?;
     same(cause, ServeCause::NoMemory)?;
-    let served = served_by(rt, alloc, station, till).ok();
-    Ok(served.ok_or("there is memory")?)
+    let served = serve(rt, memory, station, &NUMBERS, till, 1, &NoGate).ok();
+    let served = served.ok_or("there is memory")?;
+    answered_in(&served.outcomes, &served.skipped, 20)?;
+    Ok(served)
 }
 
-/// What one worker did; where nobody could, what one does with memory, who answers all.
-fn served_at_last<'a, B: Ledger + Send + Sync, R: Threads + Wait + Sync>(
+/// One worker serves with growths refused: whether the first of them was asked for. Nobody could serve then, or some uplinks
+/// weren't answered; one growth is wanted for one uplink alone.
+fn is_served<B, A: Allocator + Copy + Send + Sync, R: Threads + Wait + Sync>(
     rt: &R,
-    alloc: &'a Refuser,
-    station: &Station<B, WorkedHasher, &'a Refuser>,
-    served: Result<Served<B, &'a Refuser>, ServeFault<B>>,
-) -> Result<Served<B, &'a Refuser>, Fail> {
-    match served {
-        Ok(served) => Ok(served),
+    alloc: &Refuser,
+    own: A,
+    station: Station<B, WorkedHasher, A>,
+    till: Till<B>,
+    refused: Refused,
+) -> Result<bool, Fail>
+where
+    B: Ledger + Send + Sync,
+    requires { 16 < till.parts }
+{
+    refuse(alloc, refused);
+    match serve(rt, own, &station, &NUMBERS, till, 1, &NoGate) {
+        Ok(served) => {
+            let least = if refused.1 { 0 } else { 19 };
+            let answered = answered_in(&served.outcomes, &served.skipped, least)?;
+            let is_starved = was_refused(alloc, refused.0, answered < 20, true)?;
+            finishes(own, station, served)?;
+            Ok(is_starved)
+        }
         Err(fault) => {
-            let served = served_again(rt, alloc, station, fault)?;
-            same(answered_in(&served.outcomes, &served.skipped)?, 20)?;
-            Ok(served)
+            was_refused(alloc, refused.0, true, true)?;
+            let served = served_again(rt, own, &station, fault)?;
+            finishes(own, station, served)?;
+            Ok(true)
         }
     }
 }
 
-/// What one worker did where growths are refused, and whether the first of them was asked for.
-fn served_without<'a, B: Ledger + Send + Sync, R: Threads + Wait + Sync>(
+/// The same at a new station of these settings, which heard the uplinks.
+fn is_refused<B, A: Allocator + Copy + Send + Sync, R: Threads + Wait + Sync>(
     rt: &R,
-    alloc: &'a Refuser,
-    station: &Station<B, WorkedHasher, &'a Refuser>,
-    till: Till<B>,
-    refused: Refused,
-) -> Result<(Served<B, &'a Refuser>, bool), Fail>
-    requires { 16 < till.parts }
-{
-    refuse(alloc, refused);
-    let served = served_by(rt, alloc, station, till);
-    let is_starved = was_starved(alloc, refused, &served)?;
-    Ok((served_at_last(rt, alloc, station, served)?, is_starved))
-}
-
-/// The same at a station that is finished then: whether that growth was asked for.
-fn is_served<'a, B: Ledger + Send + Sync, R: Threads + Wait + Sync>(
-    rt: &R,
-    alloc: &'a Refuser,
-    station: Station<B, WorkedHasher, &'a Refuser>,
-    till: Till<B>,
-    refused: Refused,
-) -> Result<bool, Fail>
-    requires { 16 < till.parts }
-{
-    let (served, is_starved) = served_without(rt, alloc, &station, till, refused)?;
-    finishes(alloc, station, served)?;
-    Ok(is_starved)
-}
-
-/// The same at a new station.
-fn is_refused<B: Ledger + Send + Sync, R: Threads + Wait + Sync>(
-    rt: &R,
+    memory: Global,
     alloc: &Refuser,
+    own: A,
     settings: &Settings<Global>,
     blank: Blank,
-    frames: &[Vec<u8>],
     refused: Refused,
 ) -> Result<bool, Fail>
+where
+    B: Ledger + Send + Sync,
     requires name { blank.name ≡ B.name }
     requires parts { blank.parts ≡ B.parts }
     requires all { blank.parts ≡ PARTS }
 {
-    let (station, till) = heard_by::<B, _, _>(rt, alloc, settings, blank, frames)?;
-    is_served(rt, alloc, station, till, refused)
+    let (station, till) = Station::<B, _, _>::new(own, hasher(), settings, blank)?;
+    hears(rt, memory, &station, 20)?;
+    is_served(rt, alloc, own, station, till, refused)
 }
 
-/// How many growths the run of one worker takes; each is refused once, alone or with all after it.
-fn growths_to_serve<R: Threads + Wait + Sync>(
+/// The run of one worker takes 94 growths; each is refused once, alone or with all after it.
+fn takes_94<R: Threads + Wait + Sync>(
     rt: &R,
+    memory: Global,
     alloc: &Refuser,
     settings: &Settings<Global>,
-    frames: &[Vec<u8>],
     and_after: bool,
-) -> Result<u64, Fail> {
-    for growths in 0..MOST_GROWTHS {
+) -> Result<(), Fail> {
+    for number in 1..MOST_GROWTHS {
         let blank = Blank::new(PARTS as u64);
-        let refused = (growths + 1, and_after);
-        if !is_refused::<Brand, _>(rt, alloc, settings, blank, frames, refused)? {
-            return Ok(growths);
+        let refused = (number, and_after);
+        if !is_refused::<Brand, _, _>(rt, memory, alloc, alloc, settings, blank, refused)? {
+            return same(number, 95);
         }
     }
     Err(Fail::from("no end of growths"))
 }
 
-/// They are 94 for the uplinks of 20 devices.
-fn takes_94<R: Threads + Wait + Sync>(rt: &R, memory: Global, and_after: bool) -> Result<(), Fail> {
-    let frames = frames_of(memory, 20)?;
-    let settings = settings_of(memory, &devices_of(memory, 20)?)?;
-    refusing(memory, |alloc| {
-        same(
-            growths_to_serve(rt, alloc, &settings, &frames, and_after)?,
-            94,
-        )
-    })
-}
-
 #[test]
 fn a_worker_serves(rt: HostRuntime) -> Result<(), Fail> {
-    takes_94(&rt, rt.alloc(), false)
-}
-
-#[test]
-fn a_worker_serves_until_there_is_no_memory(rt: HostRuntime) -> Result<(), Fail> {
-    takes_94(&rt, rt.alloc(), true)
+    let settings = settled(rt.alloc(), 20)?;
+    let alloc = &Refusing::new(rt.alloc());
+    takes_94(&rt, rt.alloc(), alloc, &settings, false)?;
+    takes_94(&rt, rt.alloc(), alloc, &settings, true)
 }

@@ -1,160 +1,125 @@
 // Work at stations whose growths are refused.
-ghost use Rattle.std.specs.Prelude.{◌≡◌, ◌<◌, IfOk};
+ghost use Rattle.std.specs.Prelude.{◌≡◌, ◌<◌};
 
-use crate::turns::{MOST_GROWTHS, Refuser, refusing, same};
+use crate::turns::{MOST_GROWTHS, Refuser, same, was_refused};
 use gateway_book::Totals;
-use server_desk::{DeviceSetting, Heard1, NoMemory, Settings};
+use refusing_alloc::Refusing;
+use server_desk::{DeviceSetting, Heard1, Settings};
 use server_workers::{Blank, Ledger, PARTS, Station, Till};
 use std::alloc::{Allocator, Global};
 use std::marker::Brand;
 use std::sync::Wait;
 use std::test::Fail;
+use std::thread::Threads;
 use worked_inputs::{COPY, WorkedHasher, device, hasher, settings_of, uplink};
 
 /// What is done at a station.
 pub(crate) trait AtWork {
     /// Does it with the growth of this number refused: whether there was one. The station takes its memory from that allocator,
-    /// and the till has all parts of its ledger.
-    fn is_refused<'a, B: Ledger, R: Wait>(
+    /// which stands behind a type parameter too, and the till has all parts of its ledger.
+    fn is_refused<B: Ledger + Send + Sync, A: Allocator + Copy + Send + Sync, R>(
         &self,
         rt: &R,
-        alloc: &'a Refuser,
-        station: Station<B, WorkedHasher, &'a Refuser>,
+        alloc: &Refuser,
+        own: A,
+        station: Station<B, WorkedHasher, A>,
         till: Till<B>,
         number: u64,
     ) -> Result<bool, Fail>
+    where
+        R: Threads + Wait + Sync,
         requires { 16 < till.parts };
 }
 
 /// Some work takes so many growths at a new station of gateways 1 and 2, which heard an uplink of each of so many devices; each
 /// is refused once.
-pub(crate) fn takes<R: Wait, W: AtWork>(
+pub(crate) fn takes<R: Threads + Wait + Sync, W: AtWork>(
     rt: &R,
     memory: Global,
     heard: u32,
     work: &W,
     growths: u64,
 ) -> Result<(), Fail> {
-    let frames = frames_of(memory, heard)?;
-    let settings = settings_of(memory, &devices_of(memory, heard.max(2))?)?;
-    refusing(memory, |alloc| {
-        same(growths_at(rt, alloc, &settings, &frames, work)?, growths)
-    })
+    let settings = settled(memory, heard.max(2))?;
+    each_is_refused(
+        rt,
+        memory,
+        &Refusing::new(memory),
+        &settings,
+        heard,
+        work,
+        growths,
+    )
 }
 
-fn growths_at<R: Wait, W: AtWork>(
+fn each_is_refused<R: Threads + Wait + Sync, W: AtWork>(
     rt: &R,
+    memory: Global,
     alloc: &Refuser,
     settings: &Settings<Global>,
-    frames: &[Vec<u8>],
+    heard: u32,
     work: &W,
-) -> Result<u64, Fail> {
-    for growths in 0..MOST_GROWTHS {
+    growths: u64,
+) -> Result<(), Fail> {
+    for number in 1..MOST_GROWTHS {
         let blank = Blank::new(PARTS as u64);
-        if !is_refused::<Brand, _, _>(rt, alloc, settings, blank, frames, work, growths + 1)? {
-            return Ok(growths);
+        if !is_refused::<Brand, _, _, _>(
+            rt, memory, alloc, alloc, settings, blank, heard, work, number,
+        )? {
+            return same(number - 1, growths);
         }
     }
     Err(Fail::from("no end of growths"))
 }
 
-fn is_refused<B: Ledger, R: Wait, W: AtWork>(
-    rt: &R,
-    alloc: &Refuser,
-    settings: &Settings<Global>,
-    blank: Blank,
-    frames: &[Vec<u8>],
-    work: &W,
-    number: u64,
-) -> Result<bool, Fail>
-    requires name { blank.name ≡ B.name }
-    requires parts { blank.parts ≡ B.parts }
-    requires all { blank.parts ≡ PARTS }
-{
-    let (station, till) = heard_by::<B, _, _>(rt, alloc, settings, blank, frames)?;
-    work.is_refused(rt, alloc, station, till, number)
-}
-
-/// A station of these settings that heard these uplinks, and the till with all parts of its ledger.
-pub(crate) fn heard_by<B: Ledger, A: Allocator + Copy, R: Wait>(
-    rt: &R,
-    alloc: A,
-    settings: &Settings<Global>,
-    blank: Blank,
-    frames: &[Vec<u8>],
-) -> Result<(Station<B, WorkedHasher, A>, Till<B>), Fail>
-    requires name { blank.name ≡ B.name }
-    requires parts { blank.parts ≡ B.parts }
-    requires all { blank.parts ≡ PARTS }
-    ensures { IfOk result (λ made. made.1 ≡ record { parts = PARTS; amount = 0 }) }
-{
-    let (station, till) = station_of::<B, _>(alloc, settings, blank)?;
-    hears(rt, &station, frames)?;
-    closes(rt, &station, frames.len())?;
-    Ok((station, till))
-}
-
-/// A station of these settings, and the till with all parts of its ledger.
-pub(crate) fn station_of<B: Ledger, A: Allocator + Copy>(
-    alloc: A,
-    settings: &Settings<Global>,
-    blank: Blank,
-) -> Result<(Station<B, WorkedHasher, A>, Till<B>), NoMemory>
-    requires name { blank.name ≡ B.name }
-    requires parts { blank.parts ≡ B.parts }
-    requires all { blank.parts ≡ PARTS }
-    ensures { IfOk result (λ made. made.1 ≡ record { parts = PARTS; amount = 0 }) }
-{
-    Station::new(alloc, hasher(), settings, blank)
-}
-
-/// So many devices, from address 1 on.
-pub(crate) fn devices_of(memory: Global, count: u32) -> Result<Vec<DeviceSetting>, Fail> {
-    let mut devices = Vec::new(memory);
+/// The settings of both gateways, and of so many devices, from address 1 on.
+pub(crate) fn settled(memory: Global, count: u32) -> Result<Settings<Global>, Fail> {
+    let mut devices: Vec<DeviceSetting> = Vec::new(memory);
     for before in 0..count {
         devices.push(device(before + 1))?;
     }
-    Ok(devices)
+    settings_of(memory, &devices)
 }
 
-/// A confirmed uplink of each of them.
-pub(crate) fn frames_of(memory: Global, count: u32) -> Result<Vec<Vec<u8>>, Fail> {
-    let mut frames = Vec::new(memory);
-    for before in 0..count {
-        frames.push(uplink(memory, true, before + 1, 0)?)?;
-    }
-    Ok(frames)
-}
-
-/// The copy of a device's uplink that the gateway `1 + addr mod 2` heard, until a million microseconds for each address.
-fn copy_of(addr: u32) -> Heard1 {
-    Heard1 {
-        gateway: 1 + (addr % 2) as u16,
-        at: 1_000_000 * addr as u64,
-        ..COPY
-    }
-}
-
-/// A station hears these uplinks of its devices.
-fn hears<B: Ledger, A: Allocator + Copy, R: Wait>(
+fn is_refused<B: Ledger + Send + Sync, A: Allocator + Copy + Send + Sync, R, W: AtWork>(
     rt: &R,
-    station: &Station<B, WorkedHasher, A>,
-    frames: &[Vec<u8>],
-) -> Result<(), Fail> {
-    for (addr, frame) in (1..=20u32).zip(frames) {
-        station.hear(rt, frame, copy_of(addr), 0)?;
-    }
-    Ok(())
+    memory: Global,
+    alloc: &Refuser,
+    own: A,
+    settings: &Settings<Global>,
+    blank: Blank,
+    heard: u32,
+    work: &W,
+    number: u64,
+) -> Result<bool, Fail>
+where
+    R: Threads + Wait + Sync,
+    requires name { blank.name ≡ B.name }
+    requires parts { blank.parts ≡ B.parts }
+    requires all { blank.parts ≡ PARTS }
+{
+    let (station, till) = Station::<B, _, _>::new(own, hasher(), settings, blank)?;
+    hears(rt, memory, &station, heard)?;
+    work.is_refused(rt, alloc, own, station, till, number)
 }
 
-/// It closes so many: those with the numbers from 1 on.
-fn closes<B: Ledger, A: Allocator + Copy, R: Wait>(
+/// A station hears a confirmed uplink of each of so many devices, by gateway `1 + addr mod 2`, until a million microseconds for
+/// each address, and closes it: those with the numbers from 1 on.
+pub(crate) fn hears<B: Ledger, A: Allocator + Copy, R: Wait>(
     rt: &R,
+    memory: Global,
     station: &Station<B, WorkedHasher, A>,
-    count: usize,
+    heard: u32,
 ) -> Result<(), Fail> {
-    for before in 0..count as u64 {
-        same(station.pass(rt, 200_001), Some(before + 1))?;
+    for before in 0..heard {
+        let addr = before + 1;
+        let copy = Heard1 {
+            gateway: 1 + (addr % 2) as u16,
+            at: 1_000_000 * addr as u64,
+            ..COPY
+        };
+        station.hear(rt, &uplink(memory, true, addr, 0)?, copy, 0)?;
+        same(station.pass(rt, 200_001), Some(addr as u64))?;
     }
     Ok(())
 }
@@ -165,4 +130,36 @@ pub(crate) fn totals_at<B: Ledger, A: Allocator + Copy, R: Wait>(
     station: &Station<B, WorkedHasher, A>,
 ) -> [Option<Totals>; 2] {
     [station.totals(rt, 1, 0).ok(), station.totals(rt, 2, 0).ok()]
+}
+
+/// Refuses the growth of this number, and all after it, where a station of these settings is made: whether there was one.
+fn is_made_without<B: Ledger>(
+    alloc: &Refuser,
+    settings: &Settings<Global>,
+    blank: Blank,
+    number: u64,
+) -> Result<bool, Fail>
+    requires name { blank.name ≡ B.name }
+    requires parts { blank.parts ≡ B.parts }
+    requires all { blank.parts ≡ PARTS }
+{
+    alloc.refuse_from(number);
+    let is_starved = Station::<B, _, _>::new(alloc, hasher(), settings, blank).is_err();
+    was_refused(alloc, number, is_starved, true)
+}
+
+/// It takes eight growths.
+fn takes_eight(alloc: &Refuser, settings: &Settings<Global>) -> Result<(), Fail> {
+    for number in 1..=9 {
+        let blank = Blank::new(PARTS as u64);
+        let is_refused = is_made_without::<Brand>(alloc, settings, blank, number)?;
+        same((number, is_refused), (number, number <= 8))?;
+    }
+    Ok(())
+}
+
+#[test]
+fn a_station_is_made(rt: HostRuntime) -> Result<(), Fail> {
+    let settings = settled(rt.alloc(), 1)?;
+    takes_eight(&Refusing::new(rt.alloc()), &settings)
 }

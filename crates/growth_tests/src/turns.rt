@@ -4,7 +4,7 @@ use refusing_alloc::Refusing;
 use std::alloc::Global;
 use std::fmt::Debug;
 use std::test::Fail;
-use test_asserts::{equal, equal_at, holds_at};
+use test_asserts::{equal, equal_at};
 
 /// An allocator that refuses growths, which are told by their number.
 pub(crate) type Refuser = Refusing<Global>;
@@ -29,63 +29,35 @@ pub(crate) fn same<T: PartialEq + Debug + Drop>(got: T, wanted: T) -> Result<(),
     equal(&got, &wanted)
 }
 
-/// Does a test with an allocator that refuses nothing yet.
-pub(crate) fn refusing<F: FnOnce(&Refuser) -> Result<(), Fail>>(
-    memory: Global,
-    test: F,
-) -> Result<(), Fail>
-    requires { F.IsAlwaysCallable test }
-{
-    let alloc = Refusing::new(memory);
-    test(&alloc)
+/// A call that may take memory.
+pub(crate) trait Call {
+    /// Makes it with the growth of this number refused: whether there was one. It fails where the call answers anything else
+    /// than its row says, and where what it found no memory for isn't as before.
+    fn is_refused(&mut self, alloc: &Refuser, number: u64) -> Result<bool, Fail>;
 }
 
-/// How many growths something takes that tells whether the growth of a number was asked for, and has it refused. It is done
-/// with the first one refused, the second, .. until one isn't asked for.
-pub(crate) fn growths_of<F: FnMut(u64) -> Result<bool, Fail>>(
-    mut is_refused: F,
-) -> Result<u64, Fail>
-    requires { F.IsAlwaysCallable is_refused }
-{
+/// How many growths a call takes. It is made with the first one refused, the second, .. until one isn't asked for.
+pub(crate) fn growths_of<C: Call>(alloc: &Refuser, call: &mut C) -> Result<u64, Fail> {
     for growths in 0..MOST_GROWTHS {
-        if !is_refused(growths + 1)? {
+        if !call.is_refused(alloc, growths + 1)? {
             return Ok(growths);
         }
     }
     Err(Fail::from("no end of growths"))
 }
 
-/// Whether a call that answered want of memory, or something else, is to be tried again, where the growth of this number was
+/// Whether a call that answered want of memory, or something else, is to be made again, where the growth of this number was
 /// refused: it has to answer want of memory just where that growth was asked for. It may have asked for less then, before it
-/// gave up.
-pub(crate) fn was_refused(alloc: &Refuser, number: u64, is_starved: bool) -> Result<bool, Fail> {
+/// gave up, and for more only where it goes on.
+pub(crate) fn was_refused(
+    alloc: &Refuser,
+    number: u64,
+    is_starved: bool,
+    goes_on: bool,
+) -> Result<bool, Fail> {
     let asked = alloc.asked();
     alloc.grant();
-    equal_at(&(number, asked), &is_starved, &(asked >= number))?;
+    let told = (is_starved, !goes_on && asked > number);
+    equal_at(&(number, asked), &told, &(asked >= number, false))?;
     Ok(is_starved)
-}
-
-/// How many growths a call takes: with its first one refused, its second, .. it tells `starved`, and asks for no more then.
-/// It tells `wanted` once it finds them all.
-pub(crate) fn starves<T: PartialEq + Debug + Drop, F: FnMut() -> T>(
-    alloc: &Refuser,
-    starved: T,
-    wanted: T,
-    mut call: F,
-) -> Result<u64, Fail>
-    requires { F.IsAlwaysCallable call }
-{
-    for growths in 0..MOST_GROWTHS {
-        alloc.refuse(growths + 1);
-        let told = call();
-        let asked = alloc.asked();
-        if asked <= growths {
-            alloc.grant();
-            equal_at(&growths, &told, &wanted)?;
-            return Ok(growths);
-        }
-        holds_at(&asked, asked == growths + 1)?;
-        equal_at(&asked, &told, &starved)?;
-    }
-    Err(Fail::from("no end of growths"))
 }
