@@ -10,15 +10,18 @@ use text_lines::{MemoryIn, MemoryOut};
 use text_words::TextFault;
 
 const PLAN: &[u8] =
-    b"book 1 10000000 868100000 5 12\nplan\nbook 2 20000000 868100000 5 12\nbook 3 30000000 868100000 5 12\nbook 4 40000000 868100000 5 12\nbook 5 50000000 868100000 5 12\nearliest 6 10000000 60000000 868100000 5 12\n";
+    b"book 1 10000000 868100000 5 12\nplan\nbook 2 20000000 868100000 5 12\nbook 3 30000000 868100000 5 12\n\
+      book 4 40000000 868100000 5 12\nbook 5 50000000 868100000 5 12\nearliest 6 10000000 60000000 868100000 5 12\n";
 
 /// What is written where the booking before the plan finds no memory, and nothing else.
 const WITHOUT_BOOKING: &[u8] =
-    b"no 1 NoMemory\nif ok 2 20000000 20041216\nif ok 3 30000000 30041216\nif ok 4 40000000 40041216\nif ok 5 50000000 50041216\nif at 6 10000000\nbooked 0\ncancelled 0\nretired 0\nkept 0 0\nfloor 0\n";
+    b"no 1 NoMemory\nif ok 2 20000000 20041216\nif ok 3 30000000 30041216\nif ok 4 40000000 40041216\n\
+      if ok 5 50000000 50041216\nif at 6 10000000\nbooked 0\ncancelled 0\nretired 0\nkept 0 0\nfloor 0\n";
 
 /// What is written where there is no memory at all. The copy of an empty book takes none.
 const WITHOUT_ALL: &[u8] =
-    b"no 1 NoMemory\nif no 2 NoMemory\nif no 3 NoMemory\nif no 4 NoMemory\nif no 5 NoMemory\nif at 6 10000000\nbooked 0\ncancelled 0\nretired 0\nkept 0 0\nfloor 0\n";
+    b"no 1 NoMemory\nif no 2 NoMemory\nif no 3 NoMemory\nif no 4 NoMemory\nif no 5 NoMemory\nif at 6 10000000\n\
+      booked 0\ncancelled 0\nretired 0\nkept 0 0\nfloor 0\n";
 
 /// The growth of the booking before the plan, and that of the list from which the book is copied.
 const BOOKING: u64 = 1;
@@ -27,18 +30,27 @@ const LIST: u64 = 2;
 
 /// What is written where the book can't be copied, and where all find memory.
 const WITHOUT_COPY: &[u8] =
-    b"ok 1 10000000 10041216\nif no 2 NoMemory\nif no 3 NoMemory\nif no 4 NoMemory\nif no 5 NoMemory\nif no 6 NoMemory\nbooked 41216\ncancelled 0\nretired 0\nkept 1 41216\nfloor 0\nbusiest M 10000000 41216\n";
+    b"ok 1 10000000 10041216\nif no 2 NoMemory\nif no 3 NoMemory\nif no 4 NoMemory\nif no 5 NoMemory\n\
+      if no 6 NoMemory\nbooked 41216\ncancelled 0\nretired 0\nkept 1 41216\nfloor 0\nbusiest M 10000000 41216\n";
 
 const WITH_ALL: &[u8] =
-    b"ok 1 10000000 10041216\nif ok 2 20000000 20041216\nif ok 3 30000000 30041216\nif ok 4 40000000 40041216\nif ok 5 50000000 50041216\nif at 6 10041216\nbooked 41216\ncancelled 0\nretired 0\nkept 1 41216\nfloor 0\nbusiest M 10000000 41216\n";
+    b"ok 1 10000000 10041216\nif ok 2 20000000 20041216\nif ok 3 30000000 30041216\nif ok 4 40000000 40041216\n\
+      if ok 5 50000000 50041216\nif at 6 10041216\nbooked 41216\ncancelled 0\nretired 0\nkept 1 41216\nfloor 0\n\
+      busiest M 10000000 41216\n";
 
 /// What is written where the book can't be copied, and where of the plan's bookings none, one, .. and all find memory.
 static WRITTEN: [&[u8]; 6] = [
     WITHOUT_COPY,
-    b"ok 1 10000000 10041216\nif no 2 NoMemory\nif no 3 NoMemory\nif no 4 NoMemory\nif no 5 NoMemory\nif at 6 10041216\nbooked 41216\ncancelled 0\nretired 0\nkept 1 41216\nfloor 0\nbusiest M 10000000 41216\n",
-    b"ok 1 10000000 10041216\nif ok 2 20000000 20041216\nif no 3 NoMemory\nif no 4 NoMemory\nif no 5 NoMemory\nif at 6 10041216\nbooked 41216\ncancelled 0\nretired 0\nkept 1 41216\nfloor 0\nbusiest M 10000000 41216\n",
-    b"ok 1 10000000 10041216\nif ok 2 20000000 20041216\nif ok 3 30000000 30041216\nif no 4 NoMemory\nif no 5 NoMemory\nif at 6 10041216\nbooked 41216\ncancelled 0\nretired 0\nkept 1 41216\nfloor 0\nbusiest M 10000000 41216\n",
-    b"ok 1 10000000 10041216\nif ok 2 20000000 20041216\nif ok 3 30000000 30041216\nif ok 4 40000000 40041216\nif no 5 NoMemory\nif at 6 10041216\nbooked 41216\ncancelled 0\nretired 0\nkept 1 41216\nfloor 0\nbusiest M 10000000 41216\n",
+    b"ok 1 10000000 10041216\nif no 2 NoMemory\nif no 3 NoMemory\nif no 4 NoMemory\nif no 5 NoMemory\n\
+      if at 6 10041216\nbooked 41216\ncancelled 0\nretired 0\nkept 1 41216\nfloor 0\nbusiest M 10000000 41216\n",
+    b"ok 1 10000000 10041216\nif ok 2 20000000 20041216\nif no 3 NoMemory\nif no 4 NoMemory\nif no 5 NoMemory\n\
+      if at 6 10041216\nbooked 41216\ncancelled 0\nretired 0\nkept 1 41216\nfloor 0\nbusiest M 10000000 41216\n",
+    b"ok 1 10000000 10041216\nif ok 2 20000000 20041216\nif ok 3 30000000 30041216\nif no 4 NoMemory\n\
+      if no 5 NoMemory\nif at 6 10041216\nbooked 41216\ncancelled 0\nretired 0\nkept 1 41216\nfloor 0\n\
+      busiest M 10000000 41216\n",
+    b"ok 1 10000000 10041216\nif ok 2 20000000 20041216\nif ok 3 30000000 30041216\nif ok 4 40000000 40041216\n\
+      if no 5 NoMemory\nif at 6 10041216\nbooked 41216\ncancelled 0\nretired 0\nkept 1 41216\nfloor 0\n\
+      busiest M 10000000 41216\n",
     WITH_ALL,
 ];
 

@@ -13,24 +13,6 @@ use std::test::Fail;
 use std::thread::Threads;
 use worked_inputs::{COPY, WorkedHasher, device, hasher, settings_of, uplink};
 
-/// What is done at a station.
-pub(crate) trait AtWork {
-    /// Does it with the growth of this number refused: whether there was one. The station takes its memory from that allocator,
-    /// which stands behind a type parameter too, and the till has all parts of its ledger.
-    fn is_refused<B: Ledger + Send + Sync, A: Allocator + Copy + Send + Sync, R>(
-        &self,
-        rt: &R,
-        alloc: &Refuser,
-        own: A,
-        station: Station<B, WorkedHasher, A>,
-        till: Till<B>,
-        number: u64,
-    ) -> Result<bool, Fail>
-    where
-        R: Threads + Wait + Sync,
-        requires { 16 < till.parts };
-}
-
 /// Some work takes so many growths at a new station of gateways 1 and 2, which heard an uplink of each of so many devices; each
 /// is refused once.
 pub(crate) fn takes<R: Threads + Wait + Sync, W: AtWork>(
@@ -162,4 +144,22 @@ fn takes_eight(alloc: &Refuser, settings: &Settings<Global>) -> Result<(), Fail>
 fn a_station_is_made(rt: HostRuntime) -> Result<(), Fail> {
     let settings = settled(rt.alloc(), 1)?;
     takes_eight(&Refusing::new(rt.alloc()), &settings)
+}
+
+/// What is done at a station.
+pub(crate) trait AtWork {
+    /// Does it with the growth of this number refused: whether there was one. The station takes its memory from that allocator,
+    /// which stands behind a type parameter too, and the till has all parts of its ledger.
+    fn is_refused<B: Ledger + Send + Sync, A: Allocator + Copy + Send + Sync, R>(
+        &self,
+        rt: &R,
+        alloc: &Refuser,
+        own: A,
+        station: Station<B, WorkedHasher, A>,
+        till: Till<B>,
+        number: u64,
+    ) -> Result<bool, Fail>
+    where
+        R: Threads + Wait + Sync,
+        requires { 16 < till.parts };
 }

@@ -47,13 +47,15 @@ static ROWS: [Row; 15] = [
         REPORT,
         FIRST,
         Ok(true),
-        b"no 1 NoMemory\nok 2 10041216 10082432\nbooked 41216\ncancelled 0\nretired 0\nkept 1 41216\nfloor 0\nbusiest M 10041216 41216\n",
+        b"no 1 NoMemory\nok 2 10041216 10082432\nbooked 41216\ncancelled 0\nretired 0\nkept 1 41216\nfloor 0\n\
+          busiest M 10041216 41216\n",
     ),
     (
         REPORT,
         SECOND,
         Ok(true),
-        b"ok 1 10000000 10041216\nno 2 NoMemory\nbooked 41216\ncancelled 0\nretired 0\nkept 1 41216\nfloor 0\nbusiest M 10000000 41216\n",
+        b"ok 1 10000000 10041216\nno 2 NoMemory\nbooked 41216\ncancelled 0\nretired 0\nkept 1 41216\nfloor 0\n\
+          busiest M 10000000 41216\n",
     ),
     (
         REPORT,
@@ -65,7 +67,8 @@ static ROWS: [Row; 15] = [
         REPORT,
         NONE,
         Ok(false),
-        b"ok 1 10000000 10041216\nok 2 10041216 10082432\nbooked 82432\ncancelled 0\nretired 0\nkept 2 82432\nfloor 0\nbusiest M 10000000 82432\n",
+        b"ok 1 10000000 10041216\nok 2 10041216 10082432\nbooked 82432\ncancelled 0\nretired 0\nkept 2 82432\n\
+          floor 0\nbusiest M 10000000 82432\n",
     ),
     (
         SAVE,
@@ -89,7 +92,8 @@ static ROWS: [Row; 15] = [
         SAVE,
         NONE,
         Ok(false),
-        b"ok 1 10000000 10041216\nok 2 10041216 10082432\nairbook 2\ngateway 1 4096 0 0\nr 1 10000000 868100000 5 12\nr 2 10041216 868100000 5 12\nend 2\n",
+        b"ok 1 10000000 10041216\nok 2 10041216 10082432\nairbook 2\ngateway 1 4096 0 0\n\
+          r 1 10000000 868100000 5 12\nr 2 10041216 868100000 5 12\nend 2\n",
     ),
     (RESUMED, FIRST, Err(TextFault::NoMemory), b""),
     (
@@ -116,7 +120,8 @@ static ROWS: [Row; 15] = [
         RESUMED_TO_SAVE,
         NONE,
         Ok(false),
-        b"ok 2 10041216 10082432\nairbook 2\ngateway 1 4096 0 0\nr 1 10000000 868100000 5 12\nr 2 10041216 868100000 5 12\nend 2\n",
+        b"ok 2 10041216 10082432\nairbook 2\ngateway 1 4096 0 0\nr 1 10000000 868100000 5 12\n\
+          r 2 10041216 868100000 5 12\nend 2\n",
     ),
 ];
 
