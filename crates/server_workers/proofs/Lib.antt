@@ -1,4 +1,5 @@
 pub mod CrewLemmas
 pub mod WorkLemmas
 pub mod TurnLemmas
+pub mod ServedLemmas
 pub mod Crossing

@@ -2,6 +2,7 @@ pub mod Works
 pub mod EmptyLists
 pub mod Working
 pub mod Turns
+pub mod Served
 pub mod Crew
 pub mod Serving
 pub mod Counts

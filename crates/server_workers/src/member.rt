@@ -1,6 +1,7 @@
 // A worker among others.
 ghost use Rattle.std.specs.Prelude.{◌≡◌, true, [], ℕ, length};
 ghost use Rattle.server_workers.specs.Crew.{IsWithin, HasSettledNone, HasDoneItsPart};
+ghost use Rattle.server_workers.specs.Served.{IsIdle, IsDone};
 ghost use Rattle.server_workers.specs.Turns.{HasWorked, HasStopped};
 ghost use Rattle.server_workers.specs.Working.{IsMore};
 
@@ -22,7 +23,8 @@ impl Room for Brand {
 }
 
 /// A worker of a crew. Its type keeps that its lists have no more room than the numbers need, that it has settled nothing
-/// where it hasn't begun, and that one that has begun went on until it had a reason to stop.
+/// where it hasn't begun, that one that has begun went on until it had a reason to stop, and that its lists have what became of
+/// the numbers that it took up, and nothing else.
 #[derive(Drop)]
 pub(crate) struct Member<K: Room, B: Ledger, A: Allocator> {
     has_begun: bool,
@@ -31,6 +33,7 @@ pub(crate) struct Member<K: Room, B: Ledger, A: Allocator> {
     ghost within: { IsWithin K.room worked },
     ghost before: { HasSettledNone has_begun worked },
     ghost after: { HasDoneItsPart has_begun worked },
+    ghost done: { IsDone worked },
 }
 
 /// The numbers that a crew works at, in a channel that is closed. Its type keeps that as many were sent as there are.
@@ -67,7 +70,7 @@ impl<K: Room, B: Ledger, A: Allocator> Member<K, B, A> {
     /// A worker that hasn't begun.
     pub(crate) fn new(worked: Worked<B, A>) -> Self
         requires within { IsWithin K.room worked }
-        requires none { worked.outcomes.items ≡ [] }
+        requires none { IsIdle worked }
         ensures { result.worked ≡ worked }
     {
         Member {

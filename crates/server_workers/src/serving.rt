@@ -4,6 +4,7 @@ ghost use Rattle.std.specs.Prelude.{vec_len, vec_capacity};
 ghost use Rattle.server_workers.specs.Works.{outcomes_airtime};
 ghost use Rattle.server_workers.specs.Counts.{WereAsked};
 ghost use Rattle.server_workers.specs.EmptyLists.{AreEmptyFor};
+ghost use Rattle.server_workers.specs.Served.{IsServed};
 ghost use Rattle.server_workers.specs.Serving.{IsOutside, IsSortedByNumber};
 
 use crate::lists::Lists;
@@ -58,6 +59,7 @@ where
     requires { 16 < till.parts }
     ensures till { IfOk result (λ served. served.till
         ≡ record till { amount = till.amount + outcomes_airtime served.outcomes.items }) }
+    ensures turns { IfOk result (λ served. IsServed served) }
     ensures sorted { IfOk result (λ served. IsSortedByNumber served) }
     ensures ran { IfOk result (λ served. (1 ≤ served.ran) × (served.ran ≤ workers)) }
     ensures asked { IfOk result (λ served. WereAsked workers served.counts) }
@@ -103,6 +105,7 @@ where
     requires parts { 16 < till.parts }
     ensures till { IfOk result (λ served. served.till
         ≡ record till { amount = till.amount + outcomes_airtime served.outcomes.items }) }
+    ensures turns { IfOk result (λ served. IsServed served) }
     ensures sorted { IfOk result (λ served. IsSortedByNumber served) }
     ensures ran { IfOk result (λ served. (1 ≤ served.ran) × (served.ran ≤ workers)) }
     ensures asked { IfOk result (λ served. WereAsked workers served.counts) }
@@ -138,6 +141,7 @@ where
     requires parts { 16 < till.parts }
     ensures till { IfOk result (λ served. served.till
         ≡ record till { amount = till.amount + outcomes_airtime served.outcomes.items }) }
+    ensures turns { IfOk result (λ served. IsServed served) }
     ensures sorted { IfOk result (λ served. IsSortedByNumber served) }
     ensures ran { IfOk outfit (λ o. IfOk result (λ served. (1 ≤ served.ran) × (served.ran ≤ vec_len o.lists))) }
     ensures asked { IfOk outfit (λ o. IfOk result (λ served. WereAsked (vec_len o.lists) served.counts)) }

@@ -4,6 +4,7 @@ ghost use Rattle.air_ledger.specs.Tills.{all_parts};
 ghost use Rattle.server_workers.specs.Works.{outcomes_airtime};
 ghost use Rattle.server_workers.specs.Counts.{WereAsked};
 ghost use Rattle.server_workers.specs.EmptyLists.{AreEmptyFor};
+ghost use Rattle.server_workers.specs.Served.{IsServed};
 ghost use Rattle.server_workers.specs.Serving.{HasRoomFor, IsGatheredFrom, IsSummedUp, IsSortedByNumber, begun_count};
 
 use crate::counts::Counts;
@@ -31,6 +32,7 @@ pub(crate) fn summed_up<K: Room, B: Ledger, A: Allocator>(
     ensures nobody { IfErr result (λ fault. fault.cause ≡ ServeCause.NoThread) }
     ensures none_began { IfErr result (λ _. begun_count (map (λ m. m.has_begun) crew.items) ≡ 0) }
     ensures all { IfOk result (IsSummedUp (map (λ m. m.worked) crew.items)) }
+    ensures turns { IfOk result (λ served. IsServed served) }
     ensures asked { IfOk result (λ served. WereAsked (vec_len crew) served.counts) }
     ensures begun { IfOk result (λ served. served.ran ≡ begun_count (map (λ m. m.has_begun) crew.items)) }
 {

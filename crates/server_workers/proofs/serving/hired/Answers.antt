@@ -29,7 +29,15 @@ new-requires-clause-none g c =
     let own : AreEmptyFor g.K.Room.room c.in-Some.own = (All-pop
     (λ own. AreEmptyFor g.K.Room.room own) c.loop-own.lists.items c.pop.new.self.items
     (Some c.in-Some.own) c.in-Some.ensures.items c.loop-own.invariant.empty).1 in
-    ap (λ v. v.items) c.idle.ensures.outcomes ∙ own.outcomes.none
+    let made = c.idle.ensures in
+    record {
+      receipts = ap (λ v. v.items) made.receipts ∙ own.receipts.none;
+      outcomes = ap (λ v. v.items) made.outcomes ∙ own.outcomes.none;
+      skipped = ap (λ v. v.items) made.skipped ∙ own.skipped.none;
+      refused = ap (λ v. v.items) made.refused ∙ own.refused.none;
+      strays = ap (λ v. v.items) made.strays ∙ own.strays.none;
+      overrun = made.overrun;
+    }
 
 pub loop-own-preserved : goal.loop-own-preserved
 loop-own-preserved g c =

@@ -1,4 +1,5 @@
 use Rattle.server_workers.proofs.CrewLemmas.{all_summed_up}
+use Rattle.server_workers.proofs.ServedLemmas.{served_by}
 use Rattle.server_workers.proofs.summing.summed_up.Goals as goal
 
 pub returns-clause-all : goal.returns-clause-all
@@ -17,3 +18,7 @@ returns-clause-all g c =
       overrun = same.overrun;
       ran = same.ran;
     })
+
+pub returns-clause-turns : goal.returns-clause-turns
+returns-clause-turns g c =
+    served_by (λ m. m.worked) (λ m. m.done) c.args.crew.items _ (returns-clause-all g c)

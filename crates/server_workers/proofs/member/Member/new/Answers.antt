@@ -1,0 +1,8 @@
+use Rattle.server_workers.proofs.ServedLemmas.{done_none}
+use Rattle.server_workers.proofs.member.Member.new.Goals as goal
+
+pub invariant_of-result-clause-before : goal.invariant_of-result-clause-before
+invariant_of-result-clause-before g c = λ begun. c.requires.none.outcomes
+
+pub invariant_of-result-clause-done : goal.invariant_of-result-clause-done
+invariant_of-result-clause-done g c = done_none c.args.worked c.requires.none

@@ -1,0 +1,54 @@
+use Rattle.std.specs.Prelude.{ℕ, ◌≡◌, List, [], All}
+use Rattle.std.specs.List.{flat_map}
+use Rattle.std.specs.List.Sorted.{IsPermutation}
+use Rattle.air_ledger.specs.Tills.{Holding}
+use Rattle.server_station.specs.Handling.{IsHandled}
+use Rattle.server_station.specs.declared.handled.Handled.{Handled}
+use Rattle.server_workers.specs.declared.served.Served.{Served}
+use Rattle.server_workers.specs.declared.worked.Worked.{Worked}
+use Rattle.server_workers.specs.Turns.{Turns, AreIdle}
+use Rattle.server_workers.specs.Working.{receipts_of, outcomes_of, skipped_of, refused_of, strays_of}
+
+-- What becomes of the numbers that several workers take up.
+
+-- a worker that hasn't begun has done nothing
+pub record IsIdle {B A : Type 0} (worked : Worked B A) : Type 0 where
+  pub receipts : worked.receipts.items ≡ []
+  pub outcomes : worked.outcomes.items ≡ []
+  pub skipped : worked.skipped.items ≡ []
+  pub refused : worked.refused.items ≡ []
+  pub strays : worked.strays.items ≡ []
+  pub overrun : worked.overrun ≡ 0
+
+-- each of these numbers got what is told of it, counted with some till
+abbrev pub AreTold : {A : Type 0} → Turns A → Type 0
+AreTold {A} turns = All (λ (t : ℕ × Handled A). (old : Holding) × (new : Holding) × IsHandled t.0 old new t.1) turns
+
+-- what became of these numbers is all that a worker keeps, in their order; where none of them got a ticket, no try went on at a
+-- gate that didn't let it in
+pub record HasDone {B A : Type 0} (turns : Turns A) (worked : Worked B A) : Type 0 where
+  pub told : AreTold turns
+  pub idle : AreIdle turns → worked.overrun ≡ 0
+  pub receipts : worked.receipts.items ≡ flat_map (λ (t : ℕ × Handled A). receipts_of t.1) turns
+  pub outcomes : worked.outcomes.items ≡ flat_map (λ (t : ℕ × Handled A). outcomes_of t.1) turns
+  pub skipped : worked.skipped.items ≡ flat_map (λ (t : ℕ × Handled A). skipped_of t.0 t.1) turns
+  pub refused : worked.refused.items ≡ flat_map (λ (t : ℕ × Handled A). refused_of t.0 t.1) turns
+  pub strays : worked.strays.items ≡ flat_map (λ (t : ℕ × Handled A). strays_of t.0 t.1) turns
+
+-- a worker keeps what became of some numbers, and nothing else
+abbrev pub IsDone : {B A : Type 0} → Worked B A → Type 0
+IsDone {B} {A} worked = ∥ ((turns : Turns A) × HasDone turns worked) ∥₁
+
+-- the same of all workers together, each list in some order
+pub record HaveServed {B A : Type 0} (turns : Turns A) (served : Served B A) : Type 0 where
+  pub told : AreTold turns
+  pub idle : AreIdle turns → served.overrun ≡ 0
+  pub receipts : IsPermutation (flat_map (λ (t : ℕ × Handled A). receipts_of t.1) turns) served.receipts.items
+  pub outcomes : IsPermutation (flat_map (λ (t : ℕ × Handled A). outcomes_of t.1) turns) served.outcomes.items
+  pub skipped : IsPermutation (flat_map (λ (t : ℕ × Handled A). skipped_of t.0 t.1) turns) served.skipped.items
+  pub refused : IsPermutation (flat_map (λ (t : ℕ × Handled A). refused_of t.0 t.1) turns) served.refused.items
+  pub strays : IsPermutation (flat_map (λ (t : ℕ × Handled A). strays_of t.0 t.1) turns) served.strays.items
+
+-- numbers were taken up, each once, and the lists have what became of each, and nothing else
+abbrev pub IsServed : {B A : Type 0} → Served B A → Type 0
+IsServed {B} {A} served = ∥ ((turns : Turns A) × HaveServed turns served) ∥₁
