@@ -1,5 +1,5 @@
 // What a line of input says.
-ghost use Rattle.std.specs.Prelude.{◌≡◌, map, ◌≤◌};
+ghost use Rattle.std.specs.Prelude.{◌≡◌, map};
 ghost use Rattle.book_texts.specs.Planning.{are_plan, opens_plan};
 ghost use Rattle.book_texts.specs.Said.{ask_words, book_command, cancel_command, tick_command, earliest_command};
 ghost use Rattle.book_texts.specs.Said.{command_of, said};

@@ -1,5 +1,5 @@
 // The text of `airbook book` on a book that its input begins with.
-ghost use Rattle.std.specs.Prelude.{◌≡◌, true, [], IfOk, IfErr, OnErr};
+ghost use Rattle.std.specs.Prelude.{◌≡◌, true, IfOk, IfErr, OnErr};
 ghost use Rattle.std.specs.Option.{ForSome};
 ghost use Rattle.gateway_book.specs.Loading.{Loads, is_read};
 ghost use Rattle.gateway_book.specs.Saved.{saved_of, opened_again};

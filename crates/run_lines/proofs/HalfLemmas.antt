@@ -1,6 +1,6 @@
 -- The events of lines that are cut in two.
 use Rattle.std.proofs.Common.{ℕ, ◌≡◌, ◌+◌, ◌<◌, ◌≤◌, List, [], ◌∷◌, ◌++◌, length, map, take, drop, get_or, sym, ap, ◌∙◌, arith}
-use Rattle.std.proofs.Common.{Result, Ok, Err, IfOk, subst, append_assoc, append-nil}
+use Rattle.std.proofs.Common.{append_assoc, append-nil}
 use Rattle.std.specs.Option.{option_to_list}
 use Rattle.std.proofs.lemmas.List.{length-map, length-take-le, map-append, map_more, take-append-drop}
 use Rattle.server_core.specs.declared.event.Event.{Event}
@@ -54,12 +54,3 @@ module _ {A X : Type 0} (devices : List DeviceSetting) (number : ℕ) (f : X →
       ∙ sym (events-append devices number front back)
       ∙ ap (events_from devices number)
       (sym (map-append f (take mid lines) (drop mid lines)) ∙ ap (map f) (take-append-drop mid lines))
-
--- what holds of an Ok
-pub ok_weaker : {X E : Type 0} (P Q : X → Type 0) → ((x : X) → P x → Q x) → (r : Result X E) → IfOk r P → IfOk r Q
-ok_weaker P Q f (Ok x) p = f x p
-ok_weaker P Q f (Err e) p = p
-
--- what is known of a result holds of what it has
-pub ok_has : {X E : Type 0} (P : X → Type 0) (r : Result X E) (x : X) → r ≡ Ok x → IfOk r P → P x
-ok_has P r x e p = subst (λ s. IfOk s P) e p

@@ -1,6 +1,6 @@
 -- What the calling thread files, number by number.
 use Rattle.std.proofs.Common.{◌≡◌, ℕ, ◌++◌, List, [], ◌∷◌, sym}
-use Rattle.std.proofs.Common.{ap, ◌∙◌, append_assoc, append-nil, Result, Ok, Err, IfOk, IfErr}
+use Rattle.std.proofs.Common.{ap, ◌∙◌, append_assoc, append-nil}
 use Rattle.std.specs.Global.{Global}
 use Rattle.std.specs.List.{flat_map}
 use Rattle.std.proofs.lemmas.Grind.{flat_map-append}
@@ -49,13 +49,3 @@ pub handled_parts : (n : ℕ) (old new : Holding) (turn : Handled Global) → Is
 handled_parts n old new (NotTaken fault) h = ap (λ (t : Holding). t.parts) h
 handled_parts n old new (Settled outcome receipt) h = ap (λ (t : Holding). t.parts) h.till
 handled_parts n old new (Stray outcome receipt) h = ap (λ (t : Holding). t.parts) h.till
-
--- what an answer has is weaker
-pub weaker : {X E : Type 0} (P Q : X → Type 0) → ((x : X) → P x → Q x) → (r : Result X E) → IfOk r P → IfOk r Q
-weaker P Q f (Ok x) h = f x h
-weaker P Q f (Err e) h = tt
-
--- the same of what a fault has
-pub weaker_where : {X E : Type 0} (P Q : E → Type 0) → ((e : E) → P e → Q e) → (r : Result X E) → IfErr r P → IfErr r Q
-weaker_where P Q f (Ok x) h = tt
-weaker_where P Q f (Err e) h = f e h

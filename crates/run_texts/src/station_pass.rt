@@ -98,6 +98,7 @@ where
             numbers.push(number)?;
         }
         numbers.sort_unstable();
+        // A station gives no number twice; that these rise is then told by the list alone.
         numbers.dedup();
         Ok(numbers)
     }

@@ -1,6 +1,6 @@
 use Rattle.std.proofs.Common.{◌≡◌, ◌/◌, ◌++◌, length, sym, ap, ◌∙◌}
 use Rattle.std.proofs.lemmas.List.{take-append-drop}
-use Rattle.run_lines.proofs.HalfLemmas.{ok_weaker, ok_has}
+use Rattle.std.proofs.lemmas.Result.{IfOk-weaker, IfOk-at_ok}
 use Rattle.run_lines.proofs.ReplayLemmas.{entries_text, entries-append}
 use Rattle.run_lines.proofs.all_lines.+halves_of_text.Goals as goal
 
@@ -11,11 +11,9 @@ returns g t c =
     let back = c.split_at.result.1.now in
     let halves = c.split_at.ensures in
     let whole : front ++ back ≡ entries = rw (halves.front, halves.back) (take-append-drop (length entries / 2) entries) in
-    let one = ok_has (λ v. v.items ≡ entries_text front) c.join-first.result.0 c.in_ok-first.field-0 c.in_ok-first.was
-    c.join-first.ensures.first in
-    let other = ok_has (λ v. v.items ≡ entries_text back) c.join-first.result.1 c.in_ok-second.field-0 c.in_ok-second.was
-    c.join-first.ensures.second in
-    ok_weaker (λ text. text.items ≡ c.in_ok-first.field-0.items ++ c.in_ok-second.field-0.items) _
+    let one = IfOk-at_ok (λ v. v.items ≡ entries_text front) c.in_ok-first.was c.join-first.ensures.first in
+    let other = IfOk-at_ok (λ v. v.items ≡ entries_text back) c.in_ok-second.was c.join-first.ensures.second in
+    IfOk-weaker c.joined.result (λ text. text.items ≡ c.in_ok-first.field-0.items ++ c.in_ok-second.field-0.items) _
     (λ text e. e ∙ ap (λ l. l ++ c.in_ok-second.field-0.items) one ∙ ap (λ l. entries_text front ++ l) other
     ∙ sym (entries-append front back) ∙ ap entries_text whole)
-    c.joined.result c.joined.ensures
+    c.joined.ensures
