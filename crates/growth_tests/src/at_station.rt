@@ -12,7 +12,6 @@ use std::alloc::{Allocator, Global};
 use std::hash::BuildHasher;
 use std::sync::Wait;
 use std::test::Fail;
-use std::thread::Threads;
 use worked_inputs::{WorkedHasher, copy_at};
 
 /// A station, and the till by which its answers are counted.
@@ -66,7 +65,7 @@ impl<B: Ledger, S: BuildHasher, A: Allocator + Copy> Server for AtStation<B, S, 
 struct Calling<'c>(Global, &'c Case);
 
 impl<'c> AtWork for Calling<'c> {
-    fn is_refused<B: Ledger + Send + Sync, A: Allocator + Copy + Send + Sync, R>(
+    fn is_refused<B: Ledger, A: Allocator + Copy, R: Wait>(
         &self,
         rt: &R,
         alloc: &Refuser,
@@ -74,10 +73,7 @@ impl<'c> AtWork for Calling<'c> {
         station: Station<B, WorkedHasher, A>,
         till: Till<B>,
         number: u64,
-    ) -> Result<bool, Fail>
-    where
-        R: Threads + Wait + Sync,
-    {
+    ) -> Result<bool, Fail> {
         let mut server = AtStation { station, till };
         is_refused(rt, self.0, alloc, &mut server, self.1, number)
     }

@@ -13,37 +13,28 @@ use std::test::Fail;
 /// Twelve bytes on 868.1 MHz at DR5, 41,216 us.
 const ASK: Ask = Ask {
     number: 9,
-    start: 9_000_000,
+    start: 0,
     freq_hz: 868_100_000,
     rate: DataRate::Dr5,
     len: 12,
 };
 
-/// A book over an empty roster, with so many members, a second apart from 0 on.
-fn booked_by<R: Roster + Drop>(roster: R, members: u64) -> Result<GatewayBook<R>, Fail>
+/// An empty book.
+fn opened<R: Roster + Drop>(roster: R) -> Result<GatewayBook<R>, Fail>
     requires { R.list roster ≡ [] }
 {
-    let mut book = GatewayBook::new(roster, 1, 4_096, 0)?;
-    for number in 0..members {
-        let start = number.saturating_mul(1_000_000);
-        book.book(Ask {
-            number,
-            start,
-            ..ASK
-        })?;
-    }
-    Ok(book)
+    Ok(GatewayBook::new(roster, 1, 4_096, 0)?)
 }
 
-/// A booking, which leaves the book as it was where it is refused.
+/// A booking at this moment, which leaves the book as it was where it is refused.
 #[derive(Drop)]
-struct Booking<R: Roster>(GatewayBook<R>);
+struct Booking<R: Roster>(GatewayBook<R>, u64);
 
 impl<R: Roster> Call for Booking<R> {
     fn is_refused(&mut self, alloc: &Refuser, number: u64) -> Result<bool, Fail> {
         let before = self.0.totals();
         alloc.refuse(number);
-        let fault = self.0.book(ASK).err();
+        let fault = self.0.book(ask_at(self.1)).err();
         let is_starved = fault == Some(Refusal::NoMemory);
         let more = if is_starved { 0 } else { 1 };
         let wanted = Totals {
@@ -57,34 +48,35 @@ impl<R: Roster> Call for Booking<R> {
     }
 }
 
-/// How many growths a booking takes over a roster with so many members; each is refused once.
-fn growths_over<R: Roster + Drop>(alloc: &Refuser, roster: R, members: u64) -> Result<u64, Fail>
-    requires { R.list roster ≡ [] }
-{
-    growths_of(alloc, &mut Booking(booked_by(roster, members)?))
+/// The ask for that moment.
+fn ask_at(start: u64) -> Ask {
+    Ask { start, ..ASK }
 }
 
-/// How many growths it takes over a tree, and over a vector.
-fn growths_over_both<A: Allocator + Copy>(
+/// Books one member after another, a second apart: each takes one growth, of so many at least, which is refused once.
+fn each_takes_one<R: Roster>(
     alloc: &Refuser,
-    own: A,
-    members: u64,
-) -> Result<(u64, u64), Fail> {
-    let over_tree = growths_over(alloc, TreeRoster::new(own), members)?;
-    Ok((
-        over_tree,
-        growths_over(alloc, VecRoster::new(own), members)?,
-    ))
+    booking: &mut Booking<R>,
+    least: u64,
+) -> Result<(), Fail> {
+    for members in 0..9 {
+        booking.1 = members * 1_000_000;
+        let growths = growths_of(alloc, booking)?;
+        same((members, growths.max(least)), (members, 1))?;
+    }
+    Ok(())
+}
+
+/// Over a tree each booking takes a growth, and over a vector one at most.
+fn bookings_take<A: Allocator + Copy>(alloc: &Refuser, own: A) -> Result<(), Fail> {
+    each_takes_one(alloc, &mut Booking(opened(TreeRoster::new(own))?, 0), 0)?;
+    each_takes_one(alloc, &mut Booking(opened(VecRoster::new(own))?, 0), 1)
 }
 
 #[test]
 fn a_booking(rt: HostRuntime) -> Result<(), Fail> {
     let alloc = &Refusing::new(rt.alloc());
-    for members in [0, 1, 2, 8] {
-        let (over_tree, over_vec) = growths_over_both(alloc, alloc, members)?;
-        same((over_tree, over_vec.max(1)), (1, 1))?;
-    }
-    Ok(())
+    bookings_take(alloc, alloc)
 }
 
 /// The list of a book and a copy that is made of it, which both leave the book as it was.
@@ -125,20 +117,19 @@ impl<R: Roster> Call for Copying<R> {
     }
 }
 
-/// How many growths the list and a copy of a book over a roster take, which has so many members; each is refused once.
-fn growths_to_copy<R: Roster + Drop>(alloc: &Refuser, roster: R, members: u64) -> Result<u64, Fail>
-    requires { R.list roster ≡ [] }
-{
-    growths_of(alloc, &mut Copying(booked_by(roster, members)?))
+/// Books one member after another, a second apart. With each the list takes one growth, and the copy one for each member; each is
+/// refused once.
+fn copies_take<R: Roster>(alloc: &Refuser, copying: &mut Copying<R>) -> Result<(), Fail> {
+    for members in 1..6 {
+        copying.0.book(ask_at(members * 1_000_000))?;
+        let growths = growths_of(alloc, copying)?;
+        same((members, growths), (members, 1 + members))?;
+    }
+    Ok(())
 }
 
-/// The list takes one growth, and the copy one for each member.
 #[test]
 fn the_list_and_a_copy_of_a_book(rt: HostRuntime) -> Result<(), Fail> {
     let alloc = &Refusing::new(rt.alloc());
-    for members in [1, 2, 5] {
-        let growths = growths_to_copy(alloc, TreeRoster::new(alloc), members)?;
-        same(growths, 1 + members)?;
-    }
-    Ok(())
+    copies_take(alloc, &mut Copying(opened(TreeRoster::new(alloc))?))
 }

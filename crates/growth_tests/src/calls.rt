@@ -1,4 +1,4 @@
-// Calls of a desk, or of a station with one, as values, so that a run of them is a table.
+// Calls of a station, as values, so that a run of them is a table.
 
 use answer_ticket::{Stub, Ticket, Tried};
 use server_desk::{DeskFault, DeskHeard, QueueFault, TakeFault};

@@ -1,4 +1,4 @@
-// The calls of a desk whose growths are refused.
+// The calls of a station whose growths are refused.
 
 use crate::calls::{ADDR, Answer, Call, Row};
 use crate::cases::Case;
@@ -83,7 +83,7 @@ const QUEUES_5: Row = (Call::Queue, ("queued", [5, 0, 0]));
 
 const QUEUES_6: Row = (Call::Queue, ("queued", [6, 0, 0]));
 
-/// Each call that may take memory, amid others: to queue, to hear and to take.
+/// Each call of its desk that may take memory, amid others: to queue, to hear and to take.
 pub(crate) static CASES: [Case; 8] = [
     // A payload is queued: the first, and one behind others.
     Case {

@@ -51,18 +51,35 @@ const UP: Up<'static> = Up {
 /// where there is no memory.
 type Told = (Option<DownFault>, Option<UpFault>, usize);
 
-fn told(alloc: &Refuser, options: &[u8], body: Option<Body<'_>>) -> Told {
-    let keys = Keys {
+/// The keys of the device.
+fn keys() -> Keys {
+    Keys {
         nwk: Key::new([1; 16]),
         app: Key::new([2; 16]),
-    };
-    let count = match candidates(alloc, &[COPY], &PLAN) {
+    }
+}
+
+/// What a downlink with this payload is refused with.
+fn fault_down(alloc: &Refuser, body: Option<Body<'_>>) -> Option<DownFault> {
+    downlink(alloc, &Down { body, ..DOWN }, &keys()).err()
+}
+
+/// What an uplink with these options is refused with.
+fn fault_up(alloc: &Refuser, options: &[u8]) -> Option<UpFault> {
+    uplink_bytes(alloc, &Up { options, ..UP }, &keys()).err()
+}
+
+/// How many candidates there are.
+fn count_of_candidates(alloc: &Refuser) -> usize {
+    match candidates(alloc, &[COPY], &PLAN) {
         Ok(candidates) => candidates.len(),
         Err(_) => 0,
-    };
-    let down = downlink(alloc, &Down { body, ..DOWN }, &keys).err();
-    let up = uplink_bytes(alloc, &Up { options, ..UP }, &keys).err();
-    (down, up, count)
+    }
+}
+
+fn told(alloc: &Refuser, options: &[u8], body: Option<Body<'_>>) -> Told {
+    let count = count_of_candidates(alloc);
+    (fault_down(alloc, body), fault_up(alloc, options), count)
 }
 
 /// What is told where the candidates find no memory, the downlink, the uplink, and where all do.

@@ -49,6 +49,18 @@ static ROWS: [Row; 10] = [
 #[derive(Drop)]
 struct Hearing<S: BuildHasher, A: Allocator>(Gather<S, A>, Row);
 
+impl<S: BuildHasher, A: Allocator> Hearing<S, A> {
+    /// Another copy is the next.
+    fn turn_to(&mut self, row: Row) {
+        self.1 = row;
+    }
+
+    /// How many copies of the first uplink were heard.
+    fn count(&self) -> usize {
+        self.0.copies(1).len()
+    }
+}
+
 impl<S: BuildHasher, A: Allocator + Copy> Call for Hearing<S, A> {
     fn is_refused(&mut self, alloc: &Refuser, number: u64) -> Result<bool, Fail> {
         let (byte, gateway, wanted) = self.1;
@@ -70,11 +82,11 @@ fn gathers<S: BuildHasher, A: Allocator + Copy>(
     hearing: &mut Hearing<S, A>,
 ) -> Result<(), Fail> {
     for row in &ROWS {
-        hearing.1 = *row;
+        hearing.turn_to(*row);
         let growths = growths_of(alloc, hearing)?;
         holds_at(row, growths > 0 || row.1 > 1)?;
     }
-    same(hearing.0.copies(1).len(), 9)
+    same(hearing.count(), 9)
 }
 
 /// Nothing is taken for a new list of gatherings.

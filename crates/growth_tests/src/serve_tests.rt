@@ -1,22 +1,24 @@
-// A worker who serves at a station.
+// Workers who serve at a station.
 ghost use Rattle.std.specs.Prelude.{◌≡◌, ◌<◌};
 
 use crate::stations::{hears, settled};
-use crate::turns::{MOST_GROWTHS, Refused, Refuser, refuse, same, was_refused};
+use crate::turns::{MOST_GROWTHS, Refused, Refuser, asked_of, is_as_asked, refuse, same};
 use answer_ticket::{Ending, Outcome, Receipt};
 use gateway_book::Totals;
 use refusing_alloc::Refusing;
 use server_desk::Settings;
 use server_workers::{
-    Blank, Closing, Ledger, NoGate, PARTS, ServeCause, ServeFault, Served, Station, Till, serve,
+    Blank, Ledger, NoGate, PARTS, ServeCause, ServeFault, Served, Station, Till, serve,
 };
 use std::alloc::{Allocator, Global};
 use std::marker::Brand;
 use std::sync::Wait;
 use std::test::Fail;
 use std::thread::Threads;
-use test_asserts::equal;
 use worked_inputs::{WorkedHasher, hasher};
+
+/// How many workers serve, and which growths are refused.
+type Trial = (u8, Refused);
 
 /// The numbers of the uplinks, each of a device of its own.
 const NUMBERS: [u64; 20] = [
@@ -31,8 +33,10 @@ fn bit_of(number: u64) -> u64 {
     if number < 64 { 1 << number } else { 0 }
 }
 
-/// How many answers were booked, which are so many at least. Each number has an outcome or was skipped.
-fn answered_in(outcomes: &[Outcome], skipped: &[u64], least: usize) -> Result<usize, Fail> {
+/// What became of the numbers: a bit for each one told of, how many were told of, and how many answers were booked.
+type Counted = (u64, usize, usize);
+
+fn counted(outcomes: &[Outcome], skipped: &[u64]) -> Counted {
     let mut answered = 0usize;
     let mut told = 0u64;
     for outcome in outcomes {
@@ -44,9 +48,7 @@ fn answered_in(outcomes: &[Outcome], skipped: &[u64], least: usize) -> Result<us
     for number in skipped {
         told |= bit_of(*number);
     }
-    let count = outcomes.len().saturating_add(skipped.len());
-    same((told, count, answered.max(least)), (ALL, 20, answered))?;
-    Ok(answered)
+    (told, outcomes.len().saturating_add(skipped.len()), answered)
 }
 
 /// What some receipts are on air for, and what some gateways have booked.
@@ -62,52 +64,52 @@ fn airtimes<A: Allocator>(receipts: &[Receipt<A>], totals: &[(u16, Totals)]) -> 
     (airtime, booked)
 }
 
-/// Finishes a station with this till, and with these receipts.
-fn closing_of<B: Ledger, A: Allocator + Copy>(
-    memory: A,
-    station: Station<B, WorkedHasher, A>,
-    till: Till<B>,
-    receipts: &[Receipt<A>],
-) -> Result<Closing<WorkedHasher, A>, Fail> {
-    let mut tills = Vec::with_capacity(memory, 1)?;
-    tills.push_reserved(till);
-    let closing = station.finish(memory, tills, receipts).ok();
-    Ok(closing.ok_or("all is accounted for")?)
-}
+/// What those who served came to: what became of the numbers, what their receipts and the gateways' totals are on air for, and
+/// what was booked.
+type Ended = (Counted, (u64, u64), u64);
 
-/// The same with the till of those who served and with their receipts, which account for all that was booked.
-fn finishes<B: Ledger, A: Allocator + Copy>(
+/// Finishes a station with the till of those who served and with their receipts, which account for all that was booked.
+fn ended<B: Ledger, A: Allocator + Copy>(
     memory: A,
     station: Station<B, WorkedHasher, A>,
     served: Served<B, A>,
-) -> Result<(), Fail> {
+) -> Option<Ended> {
+    let counted = counted(&served.outcomes, &served.skipped);
     let Served { till, receipts, .. } = served;
-    let closing = closing_of(memory, station, till, &receipts)?;
-    let booked = closing.booked;
-    same(airtimes(&receipts, &closing.totals), (booked, booked))
+    let Ok(mut tills) = Vec::with_capacity(memory, 1) else {
+        return None;
+    };
+    tills.push_reserved(till);
+    match station.finish(memory, tills, &receipts) {
+        Ok(closing) => {
+            let airtimes = airtimes(&receipts, &closing.totals);
+            Some((counted, airtimes, closing.booked))
+        }
+        Err(_) => None,
+    }
 }
 
-/// What one worker does with memory, who answers all, after nobody could serve, with the till that was handed back.
-fn served_again<B, A: Allocator + Copy + Send + Sync, R: Threads + Wait + Sync>(
+/// Whether those who could not serve were told so, with all parts of the till that was handed back, and what one worker then
+/// comes to with memory.
+fn ended_again<B, A: Allocator + Copy + Send + Sync, R: Threads + Wait + Sync>(
     rt: &R,
     memory: A,
-    station: &Station<B, WorkedHasher, A>,
+    station: Station<B, WorkedHasher, A>,
     fault: ServeFault<B>,
-) -> Result<Served<B, A>, Fail>
+) -> (bool, Option<Ended>)
 where
     B: Ledger + Send + Sync,
+    requires { 16 < fault.till.parts }
 {
     let ServeFault { cause, till } = fault;
-    let parts = till.parts();
-    equal(&parts, &PARTS)?;
-    same(cause, ServeCause::NoMemory)?;
-    let served = serve(rt, memory, station, &NUMBERS, till, 1, &NoGate).ok();
-    let served = served.ok_or("there is memory")?;
-    answered_in(&served.outcomes, &served.skipped, 20)?;
-    Ok(served)
+    let is_told = (till.parts(), cause) == (PARTS, ServeCause::NoMemory);
+    match serve(rt, memory, &station, &NUMBERS, till, 1, &NoGate) {
+        Ok(served) => (is_told, ended(memory, station, served)),
+        Err(_) => (false, None),
+    }
 }
 
-/// One worker serves with growths refused: whether the first of them was asked for. Nobody could serve then, or some uplinks
+/// So many workers serve with growths refused: whether the first of them was asked for. Nobody could serve then, or some uplinks
 /// weren't answered; one growth is wanted for one uplink alone.
 fn is_served<B, A: Allocator + Copy + Send + Sync, R: Threads + Wait + Sync>(
     rt: &R,
@@ -115,28 +117,46 @@ fn is_served<B, A: Allocator + Copy + Send + Sync, R: Threads + Wait + Sync>(
     own: A,
     station: Station<B, WorkedHasher, A>,
     till: Till<B>,
-    refused: Refused,
+    trial: Trial,
 ) -> Result<bool, Fail>
 where
     B: Ledger + Send + Sync,
     requires { 16 < till.parts }
 {
-    refuse(alloc, refused);
-    match serve(rt, own, &station, &NUMBERS, till, 1, &NoGate) {
+    refuse(alloc, trial.1);
+    match serve(rt, own, &station, &NUMBERS, till, trial.0, &NoGate) {
         Ok(served) => {
-            let least = if refused.1 { 0 } else { 19 };
-            let answered = answered_in(&served.outcomes, &served.skipped, least)?;
-            let is_starved = was_refused(alloc, refused.0, answered < 20, true)?;
-            finishes(own, station, served)?;
-            Ok(is_starved)
+            let asked = asked_of(alloc);
+            is_accounted_for(trial, asked, true, (true, ended(own, station, served)))
         }
         Err(fault) => {
-            was_refused(alloc, refused.0, true, true)?;
-            let served = served_again(rt, own, &station, fault)?;
-            finishes(own, station, served)?;
-            Ok(true)
+            let asked = asked_of(alloc);
+            is_accounted_for(trial, asked, false, ended_again(rt, own, station, fault))
         }
     }
+}
+
+/// Whether an uplink wasn't answered at once, where so many growths were asked for: only where the first refused one was, or
+/// with it all that follow. Each number has an outcome or was skipped.
+fn is_accounted_for(
+    trial: Trial,
+    asked: u64,
+    could_serve: bool,
+    (is_told, ended): (bool, Option<Ended>),
+) -> Result<bool, Fail> {
+    let (_, (number, and_after)) = trial;
+    let ((told, count, answered), airtimes, booked) = ended.ok_or("all is accounted for")?;
+    same(
+        (is_told, told, count, airtimes),
+        (true, ALL, 20, (booked, booked)),
+    )?;
+    let least = match (could_serve, and_after) {
+        (false, _) => 20,
+        (true, false) => 19,
+        (true, true) => 0,
+    };
+    same(answered.max(least), answered)?;
+    is_as_asked(asked, number, !could_serve || answered < 20, true)
 }
 
 /// The same at a new station of these settings, which heard the uplinks.
@@ -147,7 +167,7 @@ fn is_refused<B, A: Allocator + Copy + Send + Sync, R: Threads + Wait + Sync>(
     own: A,
     settings: &Settings<Global>,
     blank: Blank,
-    refused: Refused,
+    trial: Trial,
 ) -> Result<bool, Fail>
 where
     B: Ledger + Send + Sync,
@@ -157,31 +177,43 @@ where
 {
     let (station, till) = Station::<B, _, _>::new(own, hasher(), settings, blank)?;
     hears(rt, memory, &station, 20)?;
-    is_served(rt, alloc, own, station, till, refused)
+    is_served(rt, alloc, own, station, till, trial)
 }
 
-/// The run of one worker takes 94 growths; each is refused once, alone or with all after it.
-fn takes_94<R: Threads + Wait + Sync>(
+/// The run of so many workers takes so many growths; each is refused once, alone or with all after it.
+fn takes<R: Threads + Wait + Sync>(
     rt: &R,
     memory: Global,
     alloc: &Refuser,
     settings: &Settings<Global>,
-    and_after: bool,
+    trials: (u8, bool),
+    growths: u64,
 ) -> Result<(), Fail> {
+    let (workers, and_after) = trials;
     for number in 1..MOST_GROWTHS {
         let blank = Blank::new(PARTS as u64);
-        let refused = (number, and_after);
-        if !is_refused::<Brand, _, _>(rt, memory, alloc, alloc, settings, blank, refused)? {
-            return same(number, 95);
+        let trial = (workers, (number, and_after));
+        if !is_refused::<Brand, _, _>(rt, memory, alloc, alloc, settings, blank, trial)? {
+            return same(number - 1, growths);
         }
     }
     Err(Fail::from("no end of growths"))
 }
 
+/// How many workers serve, whether all growths after the first refused one are refused too, and how many growths it takes.
+const TRIALS: [((u8, bool), u64); 4] = [
+    ((1, false), 94),
+    ((1, true), 94),
+    ((2, false), 99),
+    ((2, true), 99),
+];
+
 #[test]
-fn a_worker_serves(rt: HostRuntime) -> Result<(), Fail> {
+fn workers_serve(rt: HostRuntime) -> Result<(), Fail> {
     let settings = settled(rt.alloc(), 20)?;
     let alloc = &Refusing::new(rt.alloc());
-    takes_94(&rt, rt.alloc(), alloc, &settings, false)?;
-    takes_94(&rt, rt.alloc(), alloc, &settings, true)
+    for (trials, growths) in TRIALS {
+        takes(&rt, rt.alloc(), alloc, &settings, trials, growths)?;
+    }
+    Ok(())
 }

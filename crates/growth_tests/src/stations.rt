@@ -10,12 +10,11 @@ use std::alloc::{Allocator, Global};
 use std::marker::Brand;
 use std::sync::Wait;
 use std::test::Fail;
-use std::thread::Threads;
 use worked_inputs::{COPY, WorkedHasher, device, hasher, settings_of, uplink};
 
 /// Some work takes so many growths at a new station of gateways 1 and 2, which heard an uplink of each of so many devices; each
 /// is refused once.
-pub(crate) fn takes<R: Threads + Wait + Sync, W: AtWork>(
+pub(crate) fn takes<R: Wait, W: AtWork>(
     rt: &R,
     memory: Global,
     heard: u32,
@@ -34,7 +33,7 @@ pub(crate) fn takes<R: Threads + Wait + Sync, W: AtWork>(
     )
 }
 
-fn each_is_refused<R: Threads + Wait + Sync, W: AtWork>(
+fn each_is_refused<R: Wait, W: AtWork>(
     rt: &R,
     memory: Global,
     alloc: &Refuser,
@@ -63,7 +62,7 @@ pub(crate) fn settled(memory: Global, count: u32) -> Result<Settings<Global>, Fa
     settings_of(memory, &devices)
 }
 
-fn is_refused<B: Ledger + Send + Sync, A: Allocator + Copy + Send + Sync, R, W: AtWork>(
+fn is_refused<B: Ledger, A: Allocator + Copy, R: Wait, W: AtWork>(
     rt: &R,
     memory: Global,
     alloc: &Refuser,
@@ -74,8 +73,6 @@ fn is_refused<B: Ledger + Send + Sync, A: Allocator + Copy + Send + Sync, R, W: 
     work: &W,
     number: u64,
 ) -> Result<bool, Fail>
-where
-    R: Threads + Wait + Sync,
     requires name { blank.name ≡ B.name }
     requires parts { blank.parts ≡ B.parts }
     requires all { blank.parts ≡ PARTS }
@@ -150,7 +147,7 @@ fn a_station_is_made(rt: HostRuntime) -> Result<(), Fail> {
 pub(crate) trait AtWork {
     /// Does it with the growth of this number refused: whether there was one. The station takes its memory from that allocator,
     /// which stands behind a type parameter too, and the till has all parts of its ledger.
-    fn is_refused<B: Ledger + Send + Sync, A: Allocator + Copy + Send + Sync, R>(
+    fn is_refused<B: Ledger, A: Allocator + Copy, R: Wait>(
         &self,
         rt: &R,
         alloc: &Refuser,
@@ -159,7 +156,5 @@ pub(crate) trait AtWork {
         till: Till<B>,
         number: u64,
     ) -> Result<bool, Fail>
-    where
-        R: Threads + Wait + Sync,
         requires { 16 < till.parts };
 }

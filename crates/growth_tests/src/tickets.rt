@@ -3,7 +3,7 @@ ghost use Rattle.std.specs.Prelude.{IfOk};
 ghost use Rattle.answer_ticket.specs.Job.{IsJob};
 
 use crate::frames::{COPY, PLAN};
-use crate::turns::{Call, Refuser, growths_of, same, was_refused};
+use crate::turns::{Call, Refuser, asked_of, growths_of, same, was_refused};
 use answer_ticket::{Bytes, Copies, Job, NoMemory, Ticket, Tried};
 use gateway_book::GatewayBook;
 use lora_frame::{Key, Keys};
@@ -75,8 +75,7 @@ fn tried_on<A: Allocator + Copy, R: Roster>(
 ) -> Gone {
     let before = book.totals();
     let tried = ticket.try_on(book);
-    let asked = alloc.asked();
-    alloc.grant();
+    let asked = asked_of(alloc);
     match tried {
         Tried::NoMemory(back) => {
             let seen = (shown_by(&back), book.totals() == before);

@@ -55,8 +55,23 @@ pub(crate) fn was_refused(
     is_starved: bool,
     goes_on: bool,
 ) -> Result<bool, Fail> {
+    is_as_asked(asked_of(alloc), number, is_starved, goes_on)
+}
+
+/// How many growths were asked for. None is refused any more.
+pub(crate) fn asked_of(alloc: &Refuser) -> u64 {
     let asked = alloc.asked();
     alloc.grant();
+    asked
+}
+
+/// The same of a call that asked for so many growths.
+pub(crate) fn is_as_asked(
+    asked: u64,
+    number: u64,
+    is_starved: bool,
+    goes_on: bool,
+) -> Result<bool, Fail> {
     let told = (is_starved, !goes_on && asked > number);
     equal_at(&(number, asked), &told, &(asked >= number, false))?;
     Ok(is_starved)

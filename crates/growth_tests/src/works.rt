@@ -3,7 +3,7 @@ ghost use Rattle.std.specs.Prelude.{◌≡◌, ◌<◌};
 
 use crate::stations::{AtWork, takes, totals_at};
 use crate::tickets::{Gone, booked_in, is_wanted, shown_by};
-use crate::turns::{Refuser, same, was_refused};
+use crate::turns::{Refuser, asked_of, is_as_asked, same};
 use answer_ticket::{Receipt, Ticket, Tried};
 use gateway_book::Totals;
 use server_workers::{
@@ -12,7 +12,6 @@ use server_workers::{
 use std::alloc::Allocator;
 use std::sync::Wait;
 use std::test::Fail;
-use std::thread::Threads;
 use worked_inputs::WorkedHasher;
 
 /// Tries a ticket with the growth of this number refused, and once more if it comes back.
@@ -26,8 +25,7 @@ fn tried_at<B: Ledger, A: Allocator + Copy, R: Wait>(
     let before = totals_at(rt, station);
     alloc.refuse(number);
     let tried = station.try_once(rt, ticket);
-    let asked = alloc.asked();
-    alloc.grant();
+    let asked = asked_of(alloc);
     match tried {
         Tried::NoMemory(back) => {
             let seen = (shown_by(&back), totals_at(rt, station) == before);
@@ -58,7 +56,7 @@ fn is_tried_without<B: Ledger, A: Allocator + Copy, R: Wait>(
 struct Tries;
 
 impl AtWork for Tries {
-    fn is_refused<B: Ledger + Send + Sync, A: Allocator + Copy + Send + Sync, R>(
+    fn is_refused<B: Ledger, A: Allocator + Copy, R: Wait>(
         &self,
         rt: &R,
         alloc: &Refuser,
@@ -66,10 +64,7 @@ impl AtWork for Tries {
         station: Station<B, WorkedHasher, A>,
         _till: Till<B>,
         number: u64,
-    ) -> Result<bool, Fail>
-    where
-        R: Threads + Wait + Sync,
-    {
+    ) -> Result<bool, Fail> {
         is_tried_without(rt, alloc, &station, number)
     }
 }
@@ -79,22 +74,56 @@ fn a_ticket_is_tried(rt: HostRuntime) -> Result<(), Fail> {
     takes(&rt, rt.alloc(), 2, &Tries, 2)
 }
 
-/// A worker starts with a share that was handed back.
-fn is_started_again<B: Ledger, A: Allocator + Copy>(memory: A, back: Till<B>) -> Result<bool, Fail>
+/// How many parts a share has that was handed back, and a worker's that starts with it, if it finds memory.
+fn started_again<B: Ledger, A: Allocator + Copy>(memory: A, back: Till<B>) -> (u32, Option<u32>)
     requires { back ≡ record { parts = 1; amount = 0 } }
 {
-    same(back.parts(), 1)?;
-    let worked = Worked::new(memory, back, 4).ok();
-    same(worked.ok_or("it starts")?.till.parts(), 1)?;
-    Ok(true)
+    let parts = back.parts();
+    match Worked::new(memory, back, 4) {
+        Ok(worked) => (parts, Some(worked.till.parts())),
+        Err(_) => (parts, None),
+    }
 }
 
-/// A worker starts with a share of a till, or with the one that was handed back.
+/// A worker starts with this share, or with the one that was handed back.
+fn is_started_without<B: Ledger, A: Allocator + Copy>(
+    alloc: &Refuser,
+    own: A,
+    share: Till<B>,
+    number: u64,
+) -> Result<bool, Fail>
+    requires { share ≡ record { parts = 1; amount = 0 } }
+{
+    alloc.refuse(number);
+    match Worked::new(own, share, 4) {
+        Ok(worked) => {
+            let asked = asked_of(alloc);
+            is_started((asked, number), false, (1, Some(worked.till.parts())))
+        }
+        Err(back) => {
+            let asked = asked_of(alloc);
+            is_started((asked, number), true, started_again(own, back))
+        }
+    }
+}
+
+/// Whether a worker didn't start at once, where so many growths were asked for, by the number of the one that was refused; what
+/// was handed back and what it starts with is one part.
+fn is_started(
+    (asked, number): (u64, u64),
+    is_starved: bool,
+    parts: (u32, Option<u32>),
+) -> Result<bool, Fail> {
+    same(parts, (1, Some(1)))?;
+    is_as_asked(asked, number, is_starved, false)
+}
+
+/// A worker starts with a share of a till.
 #[derive(Drop)]
 struct Starts;
 
 impl AtWork for Starts {
-    fn is_refused<B: Ledger + Send + Sync, A: Allocator + Copy + Send + Sync, R>(
+    fn is_refused<B: Ledger, A: Allocator + Copy, R: Wait>(
         &self,
         _rt: &R,
         alloc: &Refuser,
@@ -102,22 +131,9 @@ impl AtWork for Starts {
         _station: Station<B, WorkedHasher, A>,
         till: Till<B>,
         number: u64,
-    ) -> Result<bool, Fail>
-    where
-        R: Threads + Wait + Sync,
-    {
+    ) -> Result<bool, Fail> {
         let mut till = till;
-        alloc.refuse(number);
-        match Worked::new(own, till.split(), 4) {
-            Ok(worked) => {
-                same(worked.till.parts(), 1)?;
-                was_refused(alloc, number, false, false)
-            }
-            Err(back) => {
-                was_refused(alloc, number, true, false)?;
-                is_started_again(own, back)
-            }
-        }
+        is_started_without(alloc, own, till.split(), number)
     }
 }
 
@@ -126,16 +142,16 @@ fn a_worker_starts(rt: HostRuntime) -> Result<(), Fail> {
     takes(&rt, rt.alloc(), 0, &Starts, 5)
 }
 
-/// Answers an uplink: the receipt.
+/// Answers an uplink: the receipt, if it is booked.
 fn receipt_by<B: Ledger, A: Allocator + Copy, R: Wait>(
     rt: &R,
     station: &Station<B, WorkedHasher, A>,
     till: &mut Till<B>,
     number: u64,
-) -> Result<Receipt<A>, Fail> {
+) -> Option<Receipt<A>> {
     match station.answer(rt, &NoGate, number, till, &mut 0) {
-        Handled::Settled(_, Some(receipt)) => Ok(receipt),
-        _ => Err(Fail::from("it is booked")),
+        Handled::Settled(_, receipt) => receipt,
+        _ => None,
     }
 }
 
@@ -151,26 +167,41 @@ fn answered<B: Ledger, A: Allocator + Copy, R: Wait>(
 ) -> Result<Counted<B, A>, Fail>
     requires { 16 < till.parts }
 {
-    let mut till = till;
-    let mut own = till.split();
-    let mut receipts = Vec::with_capacity(memory, 2)?;
-    receipts.push_reserved(receipt_by(rt, station, &mut till, 1)?);
-    receipts.push_reserved(receipt_by(rt, station, &mut own, 2)?);
     let mut tills = Vec::with_capacity(memory, 2)?;
-    tills.push_reserved(till);
-    tills.push_reserved(own);
-    Ok((tills, receipts))
+    let mut receipts = Vec::with_capacity(memory, 2)?;
+    let mut till = till;
+    let mut other = till.split();
+    let first = receipt_by(rt, station, &mut till, 1);
+    match (first, receipt_by(rt, station, &mut other, 2)) {
+        (Some(first), Some(second)) => {
+            receipts.push_reserved(first);
+            receipts.push_reserved(second);
+            tills.push_reserved(till);
+            tills.push_reserved(other);
+            Ok((tills, receipts))
+        }
+        _ => Err(Fail::from("both are booked")),
+    }
 }
 
-/// What a station came to: the airtime that was booked, and what the books and the desk say of it.
-fn closes<A: Allocator + Copy>(closing: &Closing<WorkedHasher, A>) -> Result<(), Fail> {
+/// What a station came to: the airtime that was booked, how many totals and books there are, and what the desk says of both
+/// gateways.
+type Came = (u64, [usize; 2], [Option<u64>; 2]);
+
+const CAME: Came = (82_432, [2, 2], [Some(41_216), Some(41_216)]);
+
+fn came_to<A: Allocator + Copy>(closing: &Closing<WorkedHasher, A>) -> Came {
     let desk = &closing.desk;
-    let counts = [closing.totals.len(), closing.books.len()];
-    same(
-        (closing.booked, counts, [desk.answered(1), desk.answered(2)]),
-        (82_432, [2, 2], [Some(41_216), Some(41_216)]),
+    (
+        closing.booked,
+        [closing.totals.len(), closing.books.len()],
+        [desk.answered(1), desk.answered(2)],
     )
 }
+
+/// What is handed back of a station that isn't finished for want of memory: whether that is told, what its books have counted,
+/// and how many parts each of its two tills has.
+type Back = (bool, [Option<Totals>; 2], Option<[u32; 2]>);
 
 /// How many parts each of two tills has.
 fn parts_of<B: Ledger>(tills: &[Till<B>]) -> Option<[u32; 2]> {
@@ -180,25 +211,21 @@ fn parts_of<B: Ledger>(tills: &[Till<B>]) -> Option<[u32; 2]> {
     }
 }
 
-/// A station that isn't finished for want of memory comes back as it was, with its tills. It is finished then.
-fn closes_after<B: Ledger, A: Allocator + Copy, R: Wait>(
+/// What was handed back, and what the station came to once it was finished, if it found memory.
+fn finished_again<B: Ledger, A: Allocator + Copy, R: Wait>(
     rt: &R,
     memory: A,
-    before: [Option<Totals>; 2],
     receipts: &[Receipt<A>],
     fault: FinishFault<B, WorkedHasher, A>,
-) -> Result<bool, Fail> {
+) -> (Back, Option<Came>) {
     let is_told = fault.cause == FinishCause::NoMemory;
-    let back = (
-        is_told,
-        totals_at(rt, &fault.station),
-        parts_of(&fault.tills),
-    );
-    same(back, (true, before, Some([65_535, 1])))?;
+    let totals = totals_at(rt, &fault.station);
+    let back = (is_told, totals, parts_of(&fault.tills));
     let FinishFault { station, tills, .. } = fault;
-    let closing = station.finish(memory, tills, receipts).ok();
-    closes(&closing.ok_or("it is finished")?)?;
-    Ok(true)
+    match station.finish(memory, tills, receipts) {
+        Ok(closing) => (back, Some(came_to(&closing))),
+        Err(_) => (back, None),
+    }
 }
 
 /// Finishes a station with the growth of this number refused, and once more if there was one, which is told.
@@ -211,17 +238,32 @@ fn is_finished_without<B: Ledger, A: Allocator + Copy, R: Wait>(
     receipts: &[Receipt<A>],
     number: u64,
 ) -> Result<bool, Fail> {
-    let before = totals_at(rt, &station);
+    let before = (true, totals_at(rt, &station), Some([65_535, 1]));
     alloc.refuse(number);
-    let finished = station.finish(memory, tills, receipts);
-    was_refused(alloc, number, finished.is_err(), false)?;
-    match finished {
+    match station.finish(memory, tills, receipts) {
         Ok(closing) => {
-            closes(&closing)?;
-            Ok(false)
+            let asked = asked_of(alloc);
+            let told = (before, Some(came_to(&closing)));
+            is_closed((asked, number), false, told, before)
         }
-        Err(fault) => closes_after(rt, memory, before, receipts, fault),
+        Err(fault) => {
+            let asked = asked_of(alloc);
+            let told = finished_again(rt, memory, receipts, fault);
+            is_closed((asked, number), true, told, before)
+        }
     }
+}
+
+/// Whether a station wasn't finished at once, where so many growths were asked for, by the number of the one that was refused;
+/// what was handed back then is as it was before, and in the end all was booked.
+fn is_closed(
+    (asked, number): (u64, u64),
+    is_starved: bool,
+    told: (Back, Option<Came>),
+    before: Back,
+) -> Result<bool, Fail> {
+    same(told, (before, Some(CAME)))?;
+    is_as_asked(asked, number, is_starved, false)
 }
 
 /// A station that answered an uplink on each gateway, each with another till, is finished.
@@ -229,7 +271,7 @@ fn is_finished_without<B: Ledger, A: Allocator + Copy, R: Wait>(
 struct Finishes;
 
 impl AtWork for Finishes {
-    fn is_refused<B: Ledger + Send + Sync, A: Allocator + Copy + Send + Sync, R>(
+    fn is_refused<B: Ledger, A: Allocator + Copy, R: Wait>(
         &self,
         rt: &R,
         alloc: &Refuser,
@@ -237,10 +279,7 @@ impl AtWork for Finishes {
         station: Station<B, WorkedHasher, A>,
         till: Till<B>,
         number: u64,
-    ) -> Result<bool, Fail>
-    where
-        R: Threads + Wait + Sync,
-    {
+    ) -> Result<bool, Fail> {
         let (tills, receipts) = answered(rt, own, &station, till)?;
         is_finished_without(rt, alloc, station, own, tills, &receipts, number)
     }
