@@ -2,8 +2,7 @@ use Rattle.std.specs.Prelude.{ℕ, ◌≡◌, ◌<◌, ◌≤◌, max, ◌==◌,
 use Rattle.std.specs.Prelude.{None, map, filter, Contains, All, MatchOption, refl}
 use Rattle.std.specs.Option.{option_map}
 use Rattle.std.proofs.Common.{sym, ap, ◌∙◌, arith, subst, zero, suc, inl, inr}
-use Rattle.std.proofs.lemmas.Bool.Decides.{nat_tests}
-use Rattle.std.proofs.lemmas.Bool.{cases_lt}
+use Rattle.std.proofs.lemmas.Bool.{cases_lt, eqb-true, eq-eqb}
 use Rattle.radio_bands.specs.declared.band.Band.{Band}
 use Rattle.resv_list.specs.declared.reservation.Reservation.{Reservation}
 use Rattle.resv_list.specs.Reservations.{spent}
@@ -34,12 +33,6 @@ pub greatest_is : (f : ℕ → ℕ) (ns : List ℕ) → (ns ≡ []) ⊎ ((t : �
 greatest_is f [] = inl refl
 greatest_is f (n ∷ ns) = inr (one_is f n ns (order_of (f n) (greatest (map f ns))) (greatest_is f ns))
 
-same_number : (a b : ℕ) → a ≡ b → (a == b) ≡ true
-same_number a b e = grind (arith, nat_tests)
-
-number_same : (a b : ℕ) → (a == b) ≡ true → a ≡ b
-number_same a b e = grind (arith, nat_tests)
-
 answer_by : (l : List Reservation) (band : Band) (o : Option ℕ)
     → MatchOption o (filter (λ t. spent l band t == most_spent l band) (starts_in l band) ≡ [])
     (λ m. Contains (filter (λ t. spent l band t == most_spent l band) (starts_in l band)) m
@@ -54,12 +47,12 @@ answer_by l band None none = empty (greatest_is (spent l band) (starts_in l band
         let test : ℕ → Bool = λ s. spent l band s == most_spent l band in
         let P : List ℕ → Type 0 = λ ns. Contains ns t in
         let no : Contains [] t = subst P none (filter-Contains test t (starts_in l band)
-        (same_number (spent l band t) (most_spent l band) e) c) in
+        (eq-eqb (spent l band t) (most_spent l band) e) c) in
         absurd (omega (arith, no.1))
 answer_by l band (Some m) found =
     let test : ℕ → Bool = λ s. spent l band s == most_spent l band in
     let is = Contains-filter test m (starts_in l band) found.0 in
-    let top : spent l band m ≡ most_spent l band = number_same (spent l band m) (most_spent l band) is.0 in
+    let top : spent l band m ≡ most_spent l band = eqb-true (spent l band m) (most_spent l band) is.0 in
     record {
       opens = is.1;
       airtime = refl;
@@ -67,7 +60,7 @@ answer_by l band (Some m) found =
           (OfStarts-from (λ s. spent l band s ≤ most_spent l band) band l
           (λ s c. greatest_above (spent l band) (starts_in l band) s c)) t in omega arith;
       first = λ t c e. all_at (λ n. m ≤ n) (filter test (starts_in l band)) t found.1
-          (filter-Contains test t (starts_in l band) (same_number (spent l band t) (most_spent l band) (e ∙ top)) c);
+          (filter-Contains test t (starts_in l band) (eq-eqb (spent l band t) (most_spent l band) (e ∙ top)) c);
     }
 
 pub busiest_answers : (l : List Reservation) (band : Band) → IsBusiestAnswer l band (busiest_of l band)

@@ -7,7 +7,8 @@ use Words.{Sent, gateway_of, lines_for, AreBooksOf, IsAt, IsBookOf, IsCancelled,
 use Words.{ids_of, is_among, with_lines, with_step, Cancel, Tick, sent_for, Line, step, Reply, Step, option_and_then, is_placed}
 use Words.{place_within}
 use Rattle.server_core.proofs.BookSteps.{book_calls_are_steps, same_book}
-use Rattle.server_core.proofs.{Members.equal_where_tested, DeskSteps.desk_calls_are_steps, Calls.IsDone, Calls.done}
+use Rattle.std.proofs.lemmas.Bool.{eqb-true}
+use Rattle.server_core.proofs.{DeskSteps.desk_calls_are_steps, Calls.IsDone, Calls.done}
 use Rattle.server_core.specs.BookCalls.{IsBookAt, IsStepAt, IsCancel, sent_at}
 use Rattle.server_core.specs.Steps as replies
 use Rattle.server_core.specs.declared.entry.Line.TheVariants as says
@@ -52,7 +53,7 @@ module _ (id : ℕ) (books : List Book) where
   pub book_found : (at : ℕ) (book : Book) → Some at ≡ place_of id books → book ≡ get_or books at book → IsFound id at books book
   book_found at book f was =
       let p = is_placed gateway_of test books at book f was in
-      record { there = p.there; own = equal_where_tested book.id id p.passes }
+      record { there = p.there; own = eqb-true book.id id p.passes }
 
 same_place : (id : ℕ) (books : List Book) (gateways : List Gateway) → AreBooksOf books gateways
     → option_map (λ p. p.0) (gateway_with id gateways) ≡ place_of id books

@@ -9,7 +9,8 @@ use Words.{Waiting, numbered-here, is_here, Gateway, World, TakeFault, gateway_w
 use Words.{Cancel, Reply, Step, Tick, Try, cancel_sent, ending_of, refused, sent_by, settle_as, settle_of, take_by, terms}
 use Words.{tried_by, take_answer, step, try_of, subst, Rules, IsOrderly}
 use Rattle.server_core.proofs.DeskSteps.{desk_calls_are_steps, may}
-use Rattle.server_core.proofs.{Members.equal_where_tested, TakeStep.ticket, TakeStep.still_waits}
+use Rattle.std.proofs.lemmas.Bool.{eqb-true}
+use Rattle.server_core.proofs.{TakeStep.ticket, TakeStep.still_waits}
 use Rattle.server_core.specs.BookCalls.{next_candidate, IsBookAt, IsStepAt, IsTicketIn, IsTryStep, LeavesStub}
 use Rattle.server_core.specs.BookCalls.{LeavesTicket, IsTry, IsCancel, BookCallsAreSteps, sent_at}
 use Rattle.server_desk.specs.Register.{first_at}
@@ -43,7 +44,7 @@ module _ (w : World) (id at : ℕ) (old : Book) (b : IsBookAt id at w.gateways o
   there = found_there (λ (g : Gateway). g.id == id) w.gateways (at, b.gateway) b.found
 
   pub own : b.gateway.id ≡ id
-  own = equal_where_tested b.gateway.id id there.1
+  own = eqb-true b.gateway.id id there.1
 
   stepped : (s : Step) (answers : List Answer) (new : Book) (reply : Reply) (v : Gateway) → v.id ≡ b.gateway.id → IsBookOf new v
       → step w s ≡ (record w { answers = answers; gateways = slice_set w.gateways at v }, reply)

@@ -8,7 +8,7 @@ use Words.{numbered-map, same_rewritten, map_set, some_inj, after_settling, is_h
 use Words.{gateway_with, ids, known, found_there, Known, Done, Sent, TakeFault, After, answers_after, cancel, cancel_at}
 use Words.{cancel_of, cancel_sent, ending_of, refused, sent_by, sent_for, settle, settle_as, settle_of, take_by, terms, tick}
 use Words.{tick_at, tried_by, try, try_candidate, try_of, try_on, DeskCallsAreSteps, told, decide, take_answer, step}
-use Rattle.server_core.proofs.Members.{equal_where_tested}
+use Rattle.std.proofs.lemmas.Bool.{eqb-true}
 use Rattle.server_desk.specs.declared.answers.Known.TheVariants.{Pending}
 use Rattle.server_core.specs.Steps as replies
 
@@ -23,7 +23,7 @@ module _ (w : World) (P : After → Type 0) where
       → ((i : ℕ) (g : Gateway) → slice_get w.gateways i ≡ Some g → g.id ≡ id → Q (Some (i, g))) → Q (gateway_with id w.gateways)
   gateway_walk id Q none there = by_option Q (gateway_with id w.gateways) (λ e. none) (λ found e.
       let f = found_there (λ (g : Gateway). g.id == id) w.gateways found e in
-      there found.0 found.1 f.0 (equal_where_tested found.1.id id f.1))
+      there found.0 found.1 f.0 (eqb-true found.1.id id f.1))
 
   pub tick_walk : (id now : ℕ) → P (w, replies.Ticked None)
       → ((i : ℕ) (g : Gateway) → slice_get w.gateways i ≡ Some g → P (tick_at w now (Some (i, g)))) → P (tick w id now)

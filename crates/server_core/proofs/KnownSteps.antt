@@ -9,7 +9,8 @@ use Words.{ending_of, hear, hear_by, pass, queue, sent_for, settle}
 use Rattle.server_core.proofs.Holds.{IsGrown, Holds, IsGood, IsGoodStep, unchanged, IsOfDevice, both_good, device_setting}
 use Rattle.server_core.proofs.Written.{device_written, with_device, answer_written, Grow-rewritten, gathered_grown}
 use Rattle.server_core.proofs.Written.{uplink_gathered}
-use Rattle.server_core.proofs.{DeskSteps.settle_walk, Members.equal_where_tested}
+use Rattle.server_core.proofs.DeskSteps.{settle_walk}
+use Rattle.std.proofs.lemmas.Bool.{eqb-true}
 use Rattle.uplink_gather.specs.Hearing as gathers
 use Rattle.server_desk.specs.Hearing as hearing
 
@@ -74,7 +75,7 @@ module _ {settings : SettingLists} {T : Job → Type 0} {w : World} (h : Holds s
       record {
         setting = o.device.setting;
         served = device_setting h o.place o.device there.0;
-        its_own = equal_where_tested o.device.setting.addr (addr_of bytes) there.1;
+        its_own = eqb-true o.device.setting.addr (addr_of bytes) there.1;
       } in
       rw (d.place, d.room) (both_good first (uplink_gathered first.holds g (asked_by o bytes) own))
 

@@ -1,6 +1,6 @@
 -- Members of lists that are sorted by a key, or of which no two share a key.
-use Rattle.server_core.proofs.Words.{arith, All-cons, All-head, All-tail, nat_tests, All, AllPairs, List, Some, [], cond, false}
-use Rattle.server_core.proofs.Words.{nat_lt, slice_get, true, ℕ, ◌+◌, ◌==◌, ◌∷◌, ◌≡◌, ◌≢◌, ◌≤◌, RisesFrom, place_by, numbered}
+use Rattle.server_core.proofs.Words.{arith, All-cons, All-head, All-tail, All, AllPairs, List, Some, [], cond, false}
+use Rattle.server_core.proofs.Words.{nat_lt, slice_get, true, ℕ, ◌+◌, ◌∷◌, ◌≡◌, ◌≢◌, ◌≤◌, RisesFrom, place_by, numbered}
 use Rattle.server_core.proofs.Words.{map, map_there, get_or_from_slice_get, slice_get_within}
 
 module _ {X : Type 0} (key : X → ℕ) where
@@ -40,9 +40,6 @@ apart_once show key xs ys e r i j a b f g q =
       slice_get_within ys i (show a) x,
       slice_get_within ys j (show b) y,
     )
-
-pub equal_where_tested : (m n : ℕ) → (m == n) ≡ true → m ≡ n
-equal_where_tested m n e = grind (arith, nat_tests)
 
 -- no list at all has a member
 pub none_numbered : {X : Type 0} (n : ℕ) (x : X) → numbered n [] ≡ Some x → ⊥

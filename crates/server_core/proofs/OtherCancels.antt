@@ -4,7 +4,8 @@ use Rattle.server_core.proofs.Words.{nat_le, refl, true, ℕ, ◌==◌, ◌≡�
 use Rattle.server_core.proofs.Words.{CancelFault, Begun, Limits, opening, World, AreSettings, SettingLists, Sent, IsMember, Step}
 use Rattle.server_core.proofs.Words.{run, found_or, start_of, arith}
 use Rattle.server_core.proofs.Holds.{Holds, member_stands}
-use Rattle.server_core.proofs.{Members.equal_where_tested, BookSteps.there, BookSteps.own, Runs.opened, Runs.run_good}
+use Rattle.std.proofs.lemmas.Bool.{eqb-true}
+use Rattle.server_core.proofs.{BookSteps.there, BookSteps.own, Runs.opened, Runs.run_good}
 use Rattle.std.proofs.lemmas.Bool.{and_parts}
 use Rattle.std.proofs.lemmas.List.Folds.{find_at}
 use Rattle.std.specs.List.{position_or_len}
@@ -31,8 +32,8 @@ module _ {settings : SettingLists} {w : World} {T : _} (h : Holds settings T w) 
       let l = b.gateway.state.list in
       let place = position_or_len (is_named n start) l in
       let named = and_parts (r.number == n) (r.start == start) (found_passes start_of (is_named n start) r l f) in
-      let number : r.number ≡ n = equal_where_tested r.number n named.0 in
-      let begins : r.start ≡ start = equal_where_tested r.start start named.1 in
+      let number : r.number ≡ n = eqb-true r.number n named.0 in
+      let begins : r.start ≡ start = eqb-true r.start start named.1 in
       let member : IsMember w at place b.gateway r =
       record { gateway = (there w id at old b).0; member = sym (find_at (is_named n start) l) ∙ f } in
       let s = member_stands h at place b.gateway r member in

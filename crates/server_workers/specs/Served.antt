@@ -49,6 +49,6 @@ pub record HaveServed {B A : Type 0} (turns : Turns A) (served : Served B A) : T
   pub refused : IsPermutation (flat_map (λ (t : ℕ × Handled A). refused_of t.0 t.1) turns) served.refused.items
   pub strays : IsPermutation (flat_map (λ (t : ℕ × Handled A). strays_of t.0 t.1) turns) served.strays.items
 
--- numbers were taken up, each once, and the lists have what became of each, and nothing else
+-- numbers were taken up, and the lists have what became of them, and nothing else
 abbrev pub IsServed : {B A : Type 0} → Served B A → Type 0
 IsServed {B} {A} served = ∥ ((turns : Turns A) × HaveServed turns served) ∥₁

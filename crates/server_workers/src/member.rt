@@ -1,5 +1,5 @@
 // A worker among others.
-ghost use Rattle.std.specs.Prelude.{◌≡◌, true, [], ℕ, length};
+ghost use Rattle.std.specs.Prelude.{◌≡◌, true, ℕ, length};
 ghost use Rattle.server_workers.specs.Crew.{IsWithin, HasSettledNone, HasDoneItsPart};
 ghost use Rattle.server_workers.specs.Served.{IsIdle, IsDone};
 ghost use Rattle.server_workers.specs.Turns.{HasWorked, HasStopped};

@@ -23,10 +23,6 @@ parted bytes front rest taken e counted =
       counted = counted ∙ ap (λ k. min k (INPUT_LIMIT + 1)) (sym n);
     }
 
--- at first all is left
-pub IsRest-first : (bytes : List ℕ) → IsRest bytes (Some bytes) 0
-IsRest-first bytes = parted bytes [] bytes 0 refl refl
-
 -- some bytes were given; how many is counted, unless more than 2^28 were before
 pub IsRest-given : (bytes : List ℕ) (left left_after : Option (List ℕ)) (taken taken_after : ℕ) (given : List ℕ)
     → IsRest bytes left taken → Consumes left left_after given
