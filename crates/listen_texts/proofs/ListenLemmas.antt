@@ -14,7 +14,7 @@ use Rattle.server_core.specs.declared.event.Event.{Event}
 use Rattle.run_lines.specs.declared.datagram.TheConstants.{DATAGRAM_ROOM}
 use Rattle.run_lines.specs.Datagram.{datagram_event}
 use Rattle.run_lines.specs.ReplayText.{entry_lines}
-use Rattle.run_texts.specs.WorkersRun.{kept, IsDone}
+use Rattle.run_texts.specs.WorkersRun.{run_state, IsDone}
 use Rattle.run_lines.specs.declared.tally.Tally.{Tally}
 use Rattle.run_lines.specs.Tally.{tally_of, tally_sum, tally_of-append, IsTallyUpTo}
 use Rattle.std.proofs.Math.Bool.{or-false}
@@ -22,12 +22,12 @@ use Rattle.run_texts.specs.declared.receipts.Booking.{Booking}
 use Rattle.listen_texts.specs.Receives.{Received, Seen, AreMade}
 use Rattle.listen_texts.specs.Turns.{Said, nothing, said_both, HasAnswer, IsAnswered, IsTurn, AreTurns}
 use Rattle.listen_texts.specs.Listening.{IsReport, Hears, HearsInPart, SaysInPart, ReportsInPart}
-use Rattle.listen_texts.specs.Steps.{Standing, opened, HasSaid, Says, Turns, TurnsInPart, Reports}
+use Rattle.listen_texts.specs.Steps.{Progress, opened, HasSaid, Says, Turns, TurnsInPart, Reports}
 use Rattle.listen_texts.proofs.SourceLemmas.{made_none, made_more}
 use Rattle.listen_texts.proofs.SaidLemmas.{turns_more, appends_both, refused_both}
 
 -- so many turns have led here
-pub record HasListened (ids : List ℕ) (devices : List DeviceSetting) (turns : ℕ) (seen seen_now : Seen) (now : Standing)
+pub record HasListened (ids : List ℕ) (devices : List DeviceSetting) (turns : ℕ) (seen seen_now : Seen) (now : Progress)
     (before after : Option (List ℕ)) : Type 0 where
   pub received : List Received
   pub made : AreMade DATAGRAM_ROOM turns seen seen_now received
@@ -72,7 +72,7 @@ small_more turns t u v a b e =
       silent = omega (arith, a.silent, b.silent);
     })
 
-module _ (ids : List ℕ) (devices : List DeviceSetting) (turns : ℕ) (s0 s1 : Seen) (t : Standing) (a b : Option (List ℕ))
+module _ (ids : List ℕ) (devices : List DeviceSetting) (turns : ℕ) (s0 s1 : Seen) (t : Progress) (a b : Option (List ℕ))
     (so_far : HasListened ids devices turns s0 s1 t a b) where
   -- what is said in one turn more
   next_turns : (r : Received) (bookings : List Booking) (more : Said) → IsTurn ids devices (turns + 1) r t.bookings bookings more
@@ -82,7 +82,7 @@ module _ (ids : List ℕ) (devices : List DeviceSetting) (turns : ℕ) (s0 s1 : 
       (subst (λ n. IsTurn ids devices n r t.bookings bookings more) (omega (arith, so_far.made.number)) turn)
 
   -- one turn more
-  pub listened_more : (s2 : Seen) (u : Standing) (c : Option (List ℕ))
+  pub listened_more : (s2 : Seen) (u : Progress) (c : Option (List ℕ))
       → Turns (λ r. IsTurn ids devices (turns + 1) r t.bookings) s1 s2 t u b c → HasListened ids devices (turns + 1) s0 s2 u a c
   listened_more s2 u c turned =
       let more : Said = turned.2.0 in
@@ -178,7 +178,7 @@ tally_unchanged t =
     ∙ ap (λ x. tally_at (t.sent + 0) (t.unanswered + 0) x) c
 
 -- nothing was said
-said_nothing : (s : Standing) (a : Option (List ℕ)) → HasSaid nothing s s a a
+said_nothing : (s : Progress) (a : Option (List ℕ)) → HasSaid nothing s s a a
 said_nothing s a =
     record {
       tally = tally_unchanged s.tally;
@@ -189,7 +189,7 @@ said_nothing s a =
 
 -- where nothing is asked for
 pub nothing_asked : (ids : List ℕ) (devices : List DeviceSetting) (turn : ℕ) (datagram : List ℕ)
-    (event : Option (Event Global)) (s : Standing) (a : Option (List ℕ)) → event ≡ datagram_event devices turn datagram
+    (event : Option (Event Global)) (s : Progress) (a : Option (List ℕ)) → event ≡ datagram_event devices turn datagram
     → event ≡ None → Says (IsTurn ids devices turn (Some datagram) s.bookings) s s a a
 nothing_asked ids devices turn datagram event s a asked none = (
   nothing,
@@ -209,10 +209,10 @@ asked_in_part ids devices turn datagram asked event bookings a b r is some h =
 -- an event was answered by the lines that were told for it
 pub answered_by : (ids : List ℕ) (turn : ℕ) (event : Event Global) (old new : List Booking)
     (before told taken : List (Entry Global)) → before ≡ []
-    → IsDone ids turn event (kept old before) (kept new told) → taken ≡ told
+    → IsDone ids turn event (run_state old before) (run_state new told) → taken ≡ told
     → IsAnswered ids turn (Some event) old new (record { entries = taken; lines = entry_lines taken })
 answered_by ids turn event old new before told taken none done same = (
-  subst (λ l. IsDone ids turn event (kept old []) (kept new l)) (sym same)
-      (subst (λ l. IsDone ids turn event (kept old l) (kept new told)) none done),
+  subst (λ l. IsDone ids turn event (run_state old []) (run_state new l)) (sym same)
+      (subst (λ l. IsDone ids turn event (run_state old l) (run_state new told)) none done),
   refl,
 )

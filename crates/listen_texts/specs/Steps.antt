@@ -15,37 +15,37 @@ use Rattle.listen_texts.specs.Listening.{IsReport, SaysInPart}
 -- What the steps of a server that listens do.
 
 -- what it has come to: what was booked, how many uplinks were answered, and whether a line began with `no` or `bad`
-pub record Standing : Type 0 where
+pub record Progress : Type 0 where
   pub bookings : List Booking
   pub tally : Tally
   pub refused : Bool
 
-abbrev pub standing : List Booking → Tally → Bool → Standing
-standing bookings tally refused = record { bookings = bookings; tally = tally; refused = refused }
+abbrev pub progress : List Booking → Tally → Bool → Progress
+progress bookings tally refused = record { bookings = bookings; tally = tally; refused = refused }
 
 -- where nothing has happened
-abbrev pub opened : Standing
-opened = standing [] (tally_of {A = Unit {0}} []) false
+abbrev pub opened : Progress
+opened = progress [] (tally_of {A = Unit {0}} []) false
 
 -- this was said: it was counted, and written
-pub record HasSaid (said : Said) (old new : Standing) (before after : Option (List ℕ)) : Type 0 where
+pub record HasSaid (said : Said) (old new : Progress) (before after : Option (List ℕ)) : Type 0 where
   pub tally : new.tally ≡ tally_sum old.tally (tally_of said.entries)
   pub small : IsTallyUpTo (2 ^ 64) (tally_of said.entries)
   pub refused : new.refused ≡ old.refused || has_refusal said.lines
   pub written : Appends before after (text_of said.lines)
 
 -- what is to be said so, and booked, was
-abbrev pub Says : (List Booking → Said → Type 0) → Standing → Standing → Option (List ℕ) → Option (List ℕ) → Type 0
+abbrev pub Says : (List Booking → Said → Type 0) → Progress → Progress → Option (List ℕ) → Option (List ℕ) → Type 0
 Says IsSaid old new before after = (said : Said) × IsSaid new.bookings said × HasSaid said old new before after
 
 -- the report was written
-abbrev pub Reports : List ℕ → Standing → Option (List ℕ) → Option (List ℕ) → Type 0
+abbrev pub Reports : List ℕ → Progress → Option (List ℕ) → Option (List ℕ) → Type 0
 Reports ids s before after =
     (report : List (List ℕ)) × IsReport ids s.bookings s.tally report × (has_refusal report ≡ false)
     × Appends before after (text_of report)
 
 -- one receive was made, and what is to be said to what it gave was
-abbrev pub Turns : (Received → List Booking → Said → Type 0) → Seen → Seen → Standing → Standing → Option (List ℕ)
+abbrev pub Turns : (Received → List Booking → Said → Type 0) → Seen → Seen → Progress → Progress → Option (List ℕ)
     → Option (List ℕ) → Type 0
 Turns IsSaid seen seen_after old new before after =
     (received : Received) × AreMade DATAGRAM_ROOM 1 seen seen_after (received ∷ []) × Says (IsSaid received) old new before after

@@ -7,7 +7,7 @@ use Rattle.text_words.specs.Words.{spaced}
 use Rattle.run_lines.specs.Datagram.{datagram_event}
 use Rattle.run_lines.specs.ReplayText.{entry_lines}
 use Rattle.run_texts.specs.declared.receipts.Booking.{Booking}
-use Rattle.run_texts.specs.WorkersRun.{kept, IsDone}
+use Rattle.run_texts.specs.WorkersRun.{run_state, IsDone}
 use Rattle.listen_texts.specs.Receives.{Received}
 
 -- What a server that listens answers, turn by turn (docs/FORMATS.md, "airbook listen").
@@ -33,7 +33,7 @@ said_both first rest = record { entries = first.entries ++ rest.entries; lines =
 abbrev pub IsAnswered : List ℕ → ℕ → Option (Event Global) → List Booking → List Booking → Said → Type 0
 IsAnswered ids turn None old new said = (new ≡ old) × (said ≡ nothing)
 IsAnswered ids turn (Some event) old new said =
-    IsDone ids turn event (kept old []) (kept new said.entries) × (said.lines ≡ entry_lines said.entries)
+    IsDone ids turn event (run_state old []) (run_state new said.entries) × (said.lines ≡ entry_lines said.entries)
 
 -- what was received has an answer: a receive that failed has its line, and a datagram has one where it asks for something
 abbrev pub HasAnswer : List DeviceSetting → ℕ → Received → Type 0

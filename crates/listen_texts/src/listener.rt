@@ -6,7 +6,7 @@ ghost use Rattle.run_lines.specs.Tally.{IsTallyUpTo};
 ghost use Rattle.run_texts.specs.PassAnswers.{IsStaffed};
 ghost use Rattle.listen_texts.specs.Turns.{HasAnswer, IsAnswered, IsTurn};
 ghost use Rattle.listen_texts.specs.Listening.{Hears, HearsInPart, SaysInPart, ReportsInPart, IsWithinLimit, IsListenFault};
-ghost use Rattle.listen_texts.specs.Steps.{standing, opened, Says, Turns, TurnsInPart, Reports};
+ghost use Rattle.listen_texts.specs.Steps.{progress, opened, Says, Turns, TurnsInPart, Reports};
 
 use crate::source::Source;
 use crate::unread::write_unread;
@@ -45,7 +45,7 @@ impl<B: Ledger, H: BuildHasher + Clone + Drop> Listener<B, H> {
         requires all { blank.parts ≡ PARTS }
         requires staffed { IsStaffed workers }
         ensures gateways { IfOk result (λ l. AreInOrder settings.now.gateways l.shift.station) }
-        ensures opened { IfOk result (λ l. standing l.shift.receipts.bookings.items l.tally l.refused ≡ opened) }
+        ensures opened { IfOk result (λ l. progress l.shift.receipts.bookings.items l.tally l.refused ≡ opened) }
     {
         let shift = Shift::new(alloc, hasher, settings, workers, blank)?;
         let tally = Tally {
@@ -75,7 +75,7 @@ where
         turns: u32,
         writer: &mut W,
     ) -> Result<bool, TextFault>
-        requires opened { standing self.shift.receipts.bookings.items self.tally self.refused ≡ opened }
+        requires opened { progress self.shift.receipts.bookings.items self.tally self.refused ≡ opened }
         requires turns { IsWithinLimit turns }
         ensures ok { IfOk result (Hears turns self.shift.station devices.now (S.seen source.old) (S.seen source.new)
             (W.taken writer.old) (W.taken writer.new)) }
@@ -108,8 +108,8 @@ where
         ensures station { IfOk result (λ l. l.shift.station ≡ self.shift.station) }
         ensures ok { IfOk result (λ l. Turns
             (λ r. IsTurn self.shift.station devices.now turn r self.shift.receipts.bookings.items)
-            (S.seen source.old) (S.seen source.new) (standing self.shift.receipts.bookings.items self.tally self.refused)
-            (standing l.shift.receipts.bookings.items l.tally l.refused) (W.taken writer.old) (W.taken writer.new)) }
+            (S.seen source.old) (S.seen source.new) (progress self.shift.receipts.bookings.items self.tally self.refused)
+            (progress l.shift.receipts.bookings.items l.tally l.refused) (W.taken writer.old) (W.taken writer.new)) }
         ensures front { IfErr result (TurnsInPart (HasAnswer devices.now turn)
             (λ r. IsTurn self.shift.station devices.now turn r self.shift.receipts.bookings.items)
             (S.seen source.old) (S.seen source.new) (W.taken writer.old) (W.taken writer.new)) }
@@ -127,8 +127,8 @@ where
     fn unread<W: ByteOut>(self, turn: u32, writer: &mut W) -> Result<Self, TextFault>
         ensures station { IfOk result (λ l. l.shift.station ≡ self.shift.station) }
         ensures ok { IfOk result (λ l. Says (IsTurn [] [] turn None self.shift.receipts.bookings.items)
-            (standing self.shift.receipts.bookings.items self.tally self.refused)
-            (standing l.shift.receipts.bookings.items l.tally l.refused) (W.taken writer.old) (W.taken writer.new)) }
+            (progress self.shift.receipts.bookings.items self.tally self.refused)
+            (progress l.shift.receipts.bookings.items l.tally l.refused) (W.taken writer.old) (W.taken writer.new)) }
         ensures front { IfErr result (SaysInPart (IsTurn [] [] turn None self.shift.receipts.bookings.items)
             (W.taken writer.old) (W.taken writer.new)) }
         ensures fault { IfErr result (λ fault. fault ≡ TextFault.Write) }
@@ -163,8 +163,8 @@ where
         ensures station { IfOk result (λ l. l.shift.station ≡ self.shift.station) }
         ensures ok { IfOk result (λ l. Says
             (IsTurn self.shift.station devices.now turn (Some datagram.now) self.shift.receipts.bookings.items)
-            (standing self.shift.receipts.bookings.items self.tally self.refused)
-            (standing l.shift.receipts.bookings.items l.tally l.refused) (W.taken writer.old) (W.taken writer.new)) }
+            (progress self.shift.receipts.bookings.items self.tally self.refused)
+            (progress l.shift.receipts.bookings.items l.tally l.refused) (W.taken writer.old) (W.taken writer.new)) }
         ensures front { IfErr result (SaysInPart
             (IsTurn self.shift.station devices.now turn (Some datagram.now) self.shift.receipts.bookings.items)
             (W.taken writer.old) (W.taken writer.new)) }
@@ -192,8 +192,8 @@ where
         ensures station { IfOk result (λ l. l.shift.station ≡ self.shift.station) }
         ensures ok { IfOk result (λ l. Says
             (IsAnswered self.shift.station turn (Some event.now) self.shift.receipts.bookings.items)
-            (standing self.shift.receipts.bookings.items self.tally self.refused)
-            (standing l.shift.receipts.bookings.items l.tally l.refused) (W.taken writer.old) (W.taken writer.new)) }
+            (progress self.shift.receipts.bookings.items self.tally self.refused)
+            (progress l.shift.receipts.bookings.items l.tally l.refused) (W.taken writer.old) (W.taken writer.new)) }
         ensures front { IfErr result (SaysInPart
             (IsAnswered self.shift.station turn (Some event.now) self.shift.receipts.bookings.items)
             (W.taken writer.old) (W.taken writer.new)) }
@@ -226,7 +226,7 @@ where
     fn close<W: ByteOut>(self, alloc: Global, writer: &mut W) -> Result<bool, TextFault>
         ensures told { IfOk result (λ refused. refused ≡ self.refused) }
         ensures ok { IfOk result (λ _. Reports self.shift.station
-            (standing self.shift.receipts.bookings.items self.tally self.refused) (W.taken writer.old) (W.taken writer.new)) }
+            (progress self.shift.receipts.bookings.items self.tally self.refused) (W.taken writer.old) (W.taken writer.new)) }
         ensures front { IfErr result (ReportsInPart self.shift.station self.shift.receipts.bookings.items self.tally
             (W.taken writer.old) (W.taken writer.new)) }
         ensures fault { IfErr result IsListenFault }

@@ -9,14 +9,14 @@ use Rattle.server_desk.specs.declared.setting.GatewaySetting.{GatewaySetting}
 use Rattle.server_station.specs.Stations.{AreInOrder}
 use Rattle.text_words.specs.declared.fault.TextFault.{TextFault}
 use Rattle.text_words.specs.declared.fault.TextFault.TheVariants.{NoMemory}
-use Rattle.run_texts.specs.WorkersRun.{Kept, kept, HasPassed, IsDone, AreDone, AreAnswered, AreDealtWith}
+use Rattle.run_texts.specs.WorkersRun.{RunState, run_state, HasPassed, IsDone, AreDone, AreAnswered, AreDealtWith}
 use Rattle.run_texts.specs.WorkersRun.{IsClosing, IsClosingFault, IsFinished, IsFinishedApart, IsPlayedApart}
 use Rattle.run_texts.specs.Bookings.{open_receipts}
 use Rattle.run_texts.specs.declared.receipts.Booking.{Booking}
 use Rattle.run_texts.specs.declared.station_run.Played.{Played}
 
 -- one more event was done for
-pub done_more : (ids : List ℕ) (place : ℕ) (es : List (Event Global)) (e : Event Global) (old mid new : Kept)
+pub done_more : (ids : List ℕ) (place : ℕ) (es : List (Event Global)) (e : Event Global) (old mid new : RunState)
     → AreDone ids place es old mid → IsDone ids (place + length es) e mid new → AreDone ids place (es ++ e ∷ []) old new
 done_more ids place [] e old mid new same done = (
   new,
@@ -31,13 +31,13 @@ done_more ids place (f ∷ es) e old mid new so_far done = (
 )
 
 -- the same at the place behind all events from the first on
-pub done_behind : (ids : List ℕ) (es : List (Event Global)) (e : Event Global) (place : ℕ) (old mid new : Kept)
+pub done_behind : (ids : List ℕ) (es : List (Event Global)) (e : Event Global) (place : ℕ) (old mid new : RunState)
     → place ≡ length es → AreDone ids 0 es old mid → IsDone ids place e mid new → AreDone ids 0 (es ++ e ∷ []) old new
 done_behind ids es e place old mid new behind so_far done =
     done_more ids 0 es e old mid new so_far (subst (λ p. IsDone ids p e mid new) (omega (arith, behind)) done)
 
 -- some numbers were answered
-pub dealt_with : (place : ℕ) (numbers : List ℕ) (old new : Kept) → 0 < length numbers → AreAnswered place numbers old new
+pub dealt_with : (place : ℕ) (numbers : List ℕ) (old new : RunState) → 0 < length numbers → AreAnswered place numbers old new
     → AreDealtWith place numbers old new
 dealt_with place [] old new some h = absurd (omega (arith, some))
 dealt_with place (n ∷ numbers) old new some h = h
@@ -48,14 +48,14 @@ of_ok P r x e h = subst (λ s. IfOk s P) e h
 -- what was done for all events, and the books then
 pub finished_with : {E : Type 0} (ids : List ℕ) (es : List (Event Global)) (bookings : List Booking)
     (entries : Vec (Entry Global) Global) (r : Result Played E)
-    → AreDone ids 0 es (kept [] []) (kept bookings entries.items)
+    → AreDone ids 0 es (run_state [] []) (run_state bookings entries.items)
     → IfOk r (λ (p : Played). p.entries ≡ entries)
     → IfOk r (λ (p : Played). IsClosing ids (open_receipts bookings) p.totals.items p.books.items)
     → IfOk r (λ (p : Played). IsFinished ids es p.entries.items p.totals.items p.books.items)
 finished_with ids es bookings entries (Ok p) done same closing =
     record {
       bookings = bookings;
-      done = subst (λ (v : Vec (Entry Global) Global). AreDone ids 0 es (kept [] []) (kept bookings v.items)) (sym same) done;
+      done = subst (λ (v : Vec (Entry Global) Global). AreDone ids 0 es (run_state [] []) (run_state bookings v.items)) (sym same) done;
       closing = closing;
     }
 finished_with ids es bookings entries (Err e) done same closing = tt
@@ -63,7 +63,7 @@ finished_with ids es bookings entries (Err e) done same closing = tt
 -- what was done for all events, and why the books didn't go together then
 pub apart_with : {T : Type 0} (ids : List ℕ) (es : List (Event Global)) (bookings : List Booking)
     (entries : List (Entry Global)) (r : Result T TextFault)
-    → AreDone ids 0 es (kept [] []) (kept bookings entries)
+    → AreDone ids 0 es (run_state [] []) (run_state bookings entries)
     → IfErr r (λ fault. fault ≢ NoMemory → IsClosingFault ids (open_receipts bookings) fault)
     → IfErr r (λ fault. fault ≢ NoMemory → IsFinishedApart ids es fault)
 apart_with ids es bookings entries (Ok p) done why = tt
@@ -85,7 +85,7 @@ some_left [] m t e f same = absurd (cc (e, f))
 some_left (n ∷ l) m t e f same = subst (λ k. 0 < length k) same (omega arith)
 
 -- what was left of a `Pass` was done
-pub passed_then : (ids : List ℕ) (place now : ℕ) (e : Event Global) (old mid new : Kept)
+pub passed_then : (ids : List ℕ) (place now : ℕ) (e : Event Global) (old mid new : RunState)
     → (e ≡ events.Pass now) × (mid ≡ old) → HasPassed place now mid new → IsDone ids place e old new
 passed_then ids place now e old mid new left passed =
     subst (λ f. IsDone ids place f old new) (sym left.0) (subst (λ k. HasPassed place now k new) left.1 passed)

@@ -33,12 +33,12 @@ use Rattle.run_texts.specs.FinishFaults.{IsFinishFault}
 -- than a value's type, so what a station answers is what some desk or some book says.
 
 -- what was booked, and the lines that were told
-pub record Kept : Type 0 where
+pub record RunState : Type 0 where
   pub bookings : List Booking
   pub entries : List (Entry Global)
 
-abbrev pub kept : List Booking → List (Entry Global) → Kept
-kept bookings entries = record { bookings = bookings; entries = entries }
+abbrev pub run_state : List Booking → List (Entry Global) → RunState
+run_state bookings entries = record { bookings = bookings; entries = entries }
 
 -- the lines of these answers were told for the event at this place
 abbrev pub HasTold : ℕ → List Answer → List (Entry Global) → List (Entry Global) → Type 0
@@ -51,7 +51,7 @@ pub record WereClosed (now : ℕ) (numbers : List ℕ) : Type 0 where
   pub rising : IsStrictlyIncreasing numbers
 
 -- these numbers, of which there are some, were answered for the event at this place
-pub record AreAnswered (place : ℕ) (numbers : List ℕ) (old new : Kept) : Type 0 where
+pub record AreAnswered (place : ℕ) (numbers : List ℕ) (old new : RunState) : Type 0 where
   pub answers : List Answer
   pub booked : List (Receipt Global)
   pub pass : IsPassTold numbers answers booked
@@ -59,18 +59,18 @@ pub record AreAnswered (place : ℕ) (numbers : List ℕ) (old new : Kept) : Typ
   pub kept : HasMore booked old.bookings new.bookings
 
 -- so were these, of which there may be none
-abbrev pub AreDealtWith : ℕ → List ℕ → Kept → Kept → Type 0
+abbrev pub AreDealtWith : ℕ → List ℕ → RunState → RunState → Type 0
 AreDealtWith place [] old new = new ≡ old
 AreDealtWith place (n ∷ numbers) old new = AreAnswered place (n ∷ numbers) old new
 
 -- all that was closed at that time was answered, by number
-pub record HasPassed (place now : ℕ) (old new : Kept) : Type 0 where
+pub record HasPassed (place now : ℕ) (old new : RunState) : Type 0 where
   pub numbers : List ℕ
   pub closed : WereClosed now numbers
   pub answered : AreDealtWith place numbers old new
 
 -- one line was told for the event at this place, and nothing was booked or cancelled
-abbrev pub HasOneLine : ℕ → Line Global → Kept → Kept → Type 0
+abbrev pub HasOneLine : ℕ → Line Global → RunState → RunState → Type 0
 HasOneLine place line old new = (new.bookings ≡ old.bookings) × (new.entries ≡ old.entries ++ entry_at place line ∷ [])
 
 -- what a station of these gateways answers to a tick: the floor that some book had then, and none just where the gateway is not
@@ -84,13 +84,13 @@ floor_line gateway None = lines.NotTicked
 floor_line gateway (Some floor) = lines.Floor gateway floor
 
 -- a cancel of number n was answered
-abbrev pub HasCancelled : List ℕ → ℕ → ℕ → Kept → Kept → Type 0
+abbrev pub HasCancelled : List ℕ → ℕ → ℕ → RunState → RunState → Type 0
 HasCancelled ids place n old new =
     (line : Line Global) × IsCancelTold ids n (booked_for n old.bookings) old.bookings new.bookings line
     × (new.entries ≡ old.entries ++ entry_at place line ∷ [])
 
 -- what was done for the event at this place, at a station of these gateways
-abbrev pub IsDone : List ℕ → ℕ → Event Global → Kept → Kept → Type 0
+abbrev pub IsDone : List ℕ → ℕ → Event Global → RunState → RunState → Type 0
 IsDone ids place (events.Queue addr port payload) old new =
     (answer : Result ℕ QueueFault) × WasQueued addr (port, payload) answer × HasOneLine place (queued_line addr answer) old new
 IsDone ids place (events.Hear bytes heard arrived) old new =
@@ -102,17 +102,17 @@ IsDone ids place (events.Cancel n) old new = HasCancelled ids place n old new
 IsDone ids place (events.Bad line) old new = HasOneLine place (lines.Bad line) old new
 
 -- the same for all but a `Pass`: of that nothing was done, and the moment until which time passes is left
-abbrev pub IsDoneButPass : List ℕ → ℕ → Event Global → Kept → Kept → Option ℕ → Type 0
+abbrev pub IsDoneButPass : List ℕ → ℕ → Event Global → RunState → RunState → Option ℕ → Type 0
 IsDoneButPass ids place e old new None = IsDone ids place e old new
 IsDoneButPass ids place e old new (Some now) = (e ≡ events.Pass now) × (new ≡ old)
 
 -- what was done for some events, the first of them at this place, one after another
-abbrev pub AreDone : List ℕ → ℕ → List (Event Global) → Kept → Kept → Type 0
+abbrev pub AreDone : List ℕ → ℕ → List (Event Global) → RunState → RunState → Type 0
 AreDone ids place [] old new = new ≡ old
-AreDone ids place (e ∷ es) old new = (mid : Kept) × IsDone ids place e old mid × AreDone ids (place + 1) es mid new
+AreDone ids place (e ∷ es) old new = (mid : RunState) × IsDone ids place e old mid × AreDone ids (place + 1) es mid new
 
 -- nothing was booked, and nothing told
-abbrev pub HasOpened : Kept → Type 0
+abbrev pub HasOpened : RunState → Type 0
 HasOpened k = (k.bookings ≡ []) × (k.entries ≡ [])
 
 -- the books of the gateways with these numbers, at the end, and what they have counted: a desk has answered what they have
@@ -135,7 +135,7 @@ IsClosingFault ids receipts fault = (cause : FinishCause) × IsCauseAt ids recei
 pub record IsFinished (ids : List ℕ) (es : List (Event Global)) (entries : List (Entry Global)) (totals : List (ℕ × Totals))
     (books : List Book) : Type 0 where
   pub bookings : List Booking
-  pub done : AreDone ids 0 es (kept [] []) (kept bookings entries)
+  pub done : AreDone ids 0 es (run_state [] []) (run_state bookings entries)
   pub closing : IsClosing ids (open_receipts bookings) totals books
 
 -- at a station of gateways with these settings
@@ -150,7 +150,7 @@ pub record IsPlayed (gateways : List GatewaySetting) (es : List (Event Global)) 
 pub record IsFinishedApart (ids : List ℕ) (es : List (Event Global)) (fault : TextFault) : Type 0 where
   pub bookings : List Booking
   pub entries : List (Entry Global)
-  pub done : AreDone ids 0 es (kept [] []) (kept bookings entries)
+  pub done : AreDone ids 0 es (run_state [] []) (run_state bookings entries)
   pub cause : IsClosingFault ids (open_receipts bookings) fault
 
 -- at a station of gateways with these settings

@@ -5,7 +5,7 @@ ghost use Rattle.server_workers.specs.Works.{outcomes_airtime};
 ghost use Rattle.run_texts.specs.Bookings.{HasMore};
 ghost use Rattle.run_texts.specs.PassEnds.{AreNone, AreByNumber, AreServed, HasFiled};
 ghost use Rattle.run_texts.specs.PassAnswers.{IsPassTold, IsPassToldFrom, IsPassToldAlone};
-ghost use Rattle.run_texts.specs.WorkersRun.{kept, WereClosed, HasPassed, HasTold};
+ghost use Rattle.run_texts.specs.WorkersRun.{run_state, WereClosed, HasPassed, HasTold};
 
 use crate::pass_answers::Answer;
 use crate::pass_ends::Ends;
@@ -37,8 +37,8 @@ where
     ) -> Result<Self, NoMemory>
         ensures station { IfOk result (λ shift. shift.station ≡ self.station) }
         ensures workers { IfOk result (λ shift. shift.workers ≡ self.workers) }
-        ensures done { IfOk result (λ shift. HasPassed place now (kept self.receipts.bookings.items self.entries.items)
-            (kept shift.receipts.bookings.items shift.entries.items)) }
+        ensures done { IfOk result (λ shift. HasPassed place now (run_state self.receipts.bookings.items self.entries.items)
+            (run_state shift.receipts.bookings.items shift.entries.items)) }
     {
         let numbers = self.closed(rt, alloc, now)?;
         if numbers.as_slice().is_empty() {

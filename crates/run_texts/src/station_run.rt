@@ -5,7 +5,7 @@ ghost use Rattle.server_core.specs.Entries.{entry_at};
 ghost use Rattle.server_station.specs.Stations.{AreInOrder};
 ghost use Rattle.run_texts.specs.Bookings.{booked_for, IsCancelTold};
 ghost use Rattle.run_texts.specs.PassAnswers.{IsStaffed};
-ghost use Rattle.run_texts.specs.WorkersRun.{kept, floor_line, IsDone, IsDoneButPass, IsPlayed, IsFinished, HasOpened};
+ghost use Rattle.run_texts.specs.WorkersRun.{run_state, floor_line, IsDone, IsDoneButPass, IsPlayed, IsFinished, HasOpened};
 ghost use Rattle.run_texts.specs.WorkersRun.{IsPlayedApart, IsFinishedApart};
 ghost use Rattle.run_texts.specs.RunOutput.{IsPlayFault};
 
@@ -93,7 +93,7 @@ impl<B: Ledger, S: BuildHasher + Clone + Drop> Shift<B, S> {
         requires staffed { IsStaffed workers }
         ensures workers { IfOk result (λ shift. shift.workers ≡ workers) }
         ensures gateways { IfOk result (λ shift. AreInOrder settings.now.gateways shift.station) }
-        ensures none { IfOk result (λ shift. HasOpened (kept shift.receipts.bookings.items shift.entries.items)) }
+        ensures none { IfOk result (λ shift. HasOpened (run_state shift.receipts.bookings.items shift.entries.items)) }
     {
         let (station, till) = Station::new(alloc, hasher, settings, blank)?;
         Ok(Shift {
@@ -117,7 +117,7 @@ where
         alloc: Global,
         events: Vec<Event<Global>>,
     ) -> Result<Played, TextFault>
-        requires { HasOpened (kept self.receipts.bookings.items self.entries.items) }
+        requires { HasOpened (run_state self.receipts.bookings.items self.entries.items) }
         ensures played { IfOk result (λ played. IsFinished self.station events.items played.entries.items
             played.totals.items played.books.items) }
         ensures apart { IfErr result (λ fault. fault ≢ TextFault.NoMemory → IsFinishedApart self.station events.items fault) }
@@ -153,8 +153,8 @@ where
         ensures station { self.new.station ≡ self.old.station }
         ensures workers { self.new.workers ≡ self.old.workers }
         ensures done { IfOk result (IsDoneButPass self.old.station place event
-            (kept self.old.receipts.bookings.items self.old.entries.items)
-            (kept self.new.receipts.bookings.items self.new.entries.items)) }
+            (run_state self.old.receipts.bookings.items self.old.entries.items)
+            (run_state self.new.receipts.bookings.items self.new.entries.items)) }
     {
         self.answer_all_but_pass(rt, place, &event)
     }
@@ -171,8 +171,8 @@ where
         ensures station { IfOk result (λ shift. shift.station ≡ self.station) }
         ensures workers { IfOk result (λ shift. shift.workers ≡ self.workers) }
         ensures done { IfOk result (λ shift. IsDone self.station place event.now
-            (kept self.receipts.bookings.items self.entries.items)
-            (kept shift.receipts.bookings.items shift.entries.items)) }
+            (run_state self.receipts.bookings.items self.entries.items)
+            (run_state shift.receipts.bookings.items shift.entries.items)) }
     {
         let mut shift = self;
         match shift.answer_all_but_pass(rt, place, event)? {
@@ -192,8 +192,8 @@ where
         ensures station { self.new.station ≡ self.old.station }
         ensures workers { self.new.workers ≡ self.old.workers }
         ensures done { IfOk result (IsDoneButPass self.old.station place event.now
-            (kept self.old.receipts.bookings.items self.old.entries.items)
-            (kept self.new.receipts.bookings.items self.new.entries.items)) }
+            (run_state self.old.receipts.bookings.items self.old.entries.items)
+            (run_state self.new.receipts.bookings.items self.new.entries.items)) }
     {
         let line = match event {
             Event::Pass { now } => return Ok(Some(*now)),

@@ -8,9 +8,6 @@ use Rattle.server_core.specs.Answers.{is_not_given}
 use Rattle.server_core.specs.Desk.{DeskView}
 use Rattle.server_core.specs.Register.{Device}
 use Rattle.server_core.specs.Taking.{take_answer, take_known, take_asked, given_or, take_fault}
-use Rattle.server_station.specs.Handling.{WasGiven, WasTakenUp, was_taken}
-use Rattle.server_station.specs.declared.handled.Handled.{Handled}
-use Rattle.server_station.specs.declared.handled.Handled.TheVariants.{NotTaken, Settled, Stray}
 
 -- the job that a desk gives a ticket for has the number that was asked for
 module _ (d : DeskView) (n : ℕ) (job : Job) where
@@ -42,9 +39,3 @@ module _ (d : DeskView) (n : ℕ) (job : Job) where
   pub own_number : take_answer d.reg d.known n ≡ Ok job → job.number ≡ n
   unfolding take_answer
   own_number e = by_closed (is_closed_at n d.reg.gathered.list) e
-
--- where a ticket was given, number n was taken up so
-pub taken_up : {A : Type 0} (n : ℕ) (h : Handled A) → was_taken h ≡ true → WasGiven n → WasTakenUp n h
-taken_up n (NotTaken fault) taken given = absurd (cc (taken))
-taken_up n (Settled outcome receipt) taken given = given
-taken_up n (Stray outcome receipt) taken given = given

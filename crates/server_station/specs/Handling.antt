@@ -1,4 +1,4 @@
-use Rattle.std.specs.Prelude.{ℕ, ◌≡◌, ◌+◌, Bool, true, false, Option, Some, None, Ok, Err}
+use Rattle.std.specs.Prelude.{ℕ, ◌≡◌, ◌+◌, Bool, true, false, List, Option, Some, None, Err}
 use Rattle.std.specs.Option.{IsSomeAnd}
 use Rattle.radio_airtime.specs.TimeOnAir.{airtime_of}
 use Rattle.rx_windows.specs.declared.candidate.Window.{Window}
@@ -8,12 +8,13 @@ use Rattle.answer_ticket.specs.declared.outcome.Ending.TheVariants.{Answered, Un
 use Rattle.answer_ticket.specs.declared.outcome.Outcome.{Outcome}
 use Rattle.answer_ticket.specs.declared.tried.Receipt.{Receipt}
 use Rattle.answer_ticket.specs.Ended.{IsOfCandidate}
-use Rattle.answer_ticket.specs.Ticket.{Standing}
+use Rattle.server_desk.specs.declared.faults.TakeFault.{TakeFault}
 use Rattle.server_core.specs.Airtime.{airtime_of_ending}
 use Rattle.answer_ticket.specs.declared.tried.TriedOut.{TriedOut}
 use Rattle.server_station.specs.declared.handled.Handled.{Handled}
 use Rattle.server_station.specs.declared.handled.Handled.TheVariants.{NotTaken, Settled, Stray}
 use Rattle.server_station.specs.Stations.{WasTaken}
+use Rattle.server_station.specs.Tries.{IsAnswered}
 
 -- What becomes of an uplink that is taken up once, after this project's profile.
 
@@ -39,24 +40,33 @@ pub record IsEndOf {A : Type 0} (n : ℕ) (ended : TriedOut A) : Type 0 where
   pub receipt : GoesWith n ended.stub.result ended.receipt
 
 -- the answer to this number was settled, and its airtime counted with the till
-pub record IsTallied {A : Type 0} (n : ℕ) (old new : Holding) (outcome : Outcome) (booked : Option (Receipt A)) : Type 0 where
+pub record IsTallied {A : Type 0} (ids : List ℕ) (n : ℕ) (old new : Holding) (outcome : Outcome)
+    (booked : Option (Receipt A)) : Type 0 where
+  pub answered : IsAnswered ids n outcome.result booked
   pub number : outcome.number ≡ n
   pub timed : IsOfCandidate outcome.result
   pub receipt : GoesWith n outcome.result booked
   pub till : new ≡ record old { amount = old.amount + airtime_of_ending outcome.result }
 
 -- the stub of this number was handed back, and the till left as it was; what was booked has its receipt all the same
-pub record IsStray {A : Type 0} (n : ℕ) (old new : Holding) (outcome : Outcome) (booked : Option (Receipt A)) : Type 0 where
+pub record IsStray {A : Type 0} (ids : List ℕ) (n : ℕ) (old new : Holding) (outcome : Outcome)
+    (booked : Option (Receipt A)) : Type 0 where
+  pub answered : IsAnswered ids n outcome.result booked
   pub number : outcome.number ≡ n
   pub timed : IsOfCandidate outcome.result
   pub receipt : GoesWith n outcome.result booked
   pub till : new ≡ old
 
--- what became of the uplink with this number, and of the till
-abbrev pub IsHandled : {A : Type 0} → ℕ → Holding → Holding → Handled A → Type 0
-IsHandled n old new (NotTaken fault) = new ≡ old
-IsHandled n old new (Settled outcome receipt) = IsTallied n old new outcome receipt
-IsHandled n old new (Stray outcome receipt) = IsStray n old new outcome receipt
+-- some desk gave no ticket for this number, for this fault, and the till was left as it was
+pub record IsNotTaken (n : ℕ) (old new : Holding) (fault : TakeFault) : Type 0 where
+  pub refused : WasTaken n (Err fault)
+  pub till : new ≡ old
+
+-- what became of the uplink with this number at a station of these gateways, and of the till
+abbrev pub IsHandled : {A : Type 0} → List ℕ → ℕ → Holding → Holding → Handled A → Type 0
+IsHandled ids n old new (NotTaken fault) = IsNotTaken n old new fault
+IsHandled ids n old new (Settled outcome receipt) = IsTallied ids n old new outcome receipt
+IsHandled ids n old new (Stray outcome receipt) = IsStray ids n old new outcome receipt
 
 -- whether a ticket was given
 abbrev pub was_taken : {A : Type 0} → Handled A → Bool
@@ -75,13 +85,3 @@ abbrev pub outcome_of : {A : Type 0} → Handled A → Option Outcome
 outcome_of (NotTaken fault) = None
 outcome_of (Settled outcome receipt) = Some outcome
 outcome_of (Stray outcome receipt) = Some outcome
-
--- some desk gave a ticket for number n
-abbrev pub WasGiven : ℕ → Type 0
-WasGiven n = (ticket : Standing) × WasTaken n (Ok ticket)
-
--- number n was taken up once: some desk gave no ticket, for this fault, or it gave one
-abbrev pub WasTakenUp : {A : Type 0} → ℕ → Handled A → Type 0
-WasTakenUp n (NotTaken fault) = WasTaken n (Err fault)
-WasTakenUp n (Settled outcome receipt) = WasGiven n
-WasTakenUp n (Stray outcome receipt) = WasGiven n

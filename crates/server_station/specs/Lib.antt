@@ -1,3 +1,4 @@
 pub mod Stations
+pub mod Tries
 pub mod Handling
 pub mod Closings

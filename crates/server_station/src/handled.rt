@@ -1,6 +1,7 @@
 // An uplink is answered, once.
 ghost use Rattle.std.specs.Prelude.{◌≡◌, ◌≤◌, true, false, Some};
-ghost use Rattle.server_station.specs.Handling.{IsHandled, IsEndOf, WasTakenUp, was_taken, outcome_of, receipt_of};
+ghost use Rattle.server_station.specs.Handling.{IsHandled, IsEndOf, was_taken, outcome_of, receipt_of};
+ghost use Rattle.server_station.specs.Tries.{IsAnswered, IsTriedOut};
 
 use crate::{Gate, Ledger, Station, Till};
 use answer_ticket::{Outcome, Receipt, Ticket, Tried, TriedOut};
@@ -32,8 +33,7 @@ impl<B: Ledger, S: BuildHasher, A: Allocator + Copy> Station<B, S, A> {
         till: &mut Till<B>,
         overrun: &mut u64,
     ) -> Handled<A>
-        ensures turn { IsHandled number till.old till.new result }
-        ensures taken { WasTakenUp number result }
+        ensures turn { IsHandled self.now number till.old till.new result }
         ensures overrun { overrun.old ≤ overrun.new }
         ensures idle { was_taken result ≡ false → overrun.new ≡ overrun.old }
     {
@@ -54,7 +54,9 @@ impl<B: Ledger, S: BuildHasher, A: Allocator + Copy> Station<B, S, A> {
         ticket: Ticket<A>,
         overrun: &mut u64,
     ) -> TriedOut<A>
+        requires first { ticket.at ≡ 0 }
         ensures ended { IsEndOf ticket.job.number result }
+        ensures tries { IsTriedOut self.now ticket.job result.stub.result result.receipt }
         ensures overrun { overrun.old ≤ overrun.new }
     {
         let mut ticket = ticket;
@@ -85,8 +87,9 @@ impl<B: Ledger, S: BuildHasher, A: Allocator + Copy> Station<B, S, A> {
 
     /// Settles what is left of a ticket.
     fn settled<R: Wait>(&self, rt: &R, ended: TriedOut<A>, till: &mut Till<B>) -> Handled<A>
-        requires { IsEndOf ended.stub.number ended }
-        ensures turn { IsHandled ended.stub.number till.old till.new result }
+        requires ended { IsEndOf ended.stub.number ended }
+        requires answered { IsAnswered self.now ended.stub.number ended.stub.result ended.receipt }
+        ensures turn { IsHandled self.now ended.stub.number till.old till.new result }
         ensures taken { was_taken result ≡ true }
         ensures outcome { outcome_of result ≡ Some ended.stub }
         ensures receipt { receipt_of result ≡ ended.receipt }

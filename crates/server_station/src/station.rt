@@ -1,6 +1,7 @@
 ghost use Rattle.std.specs.Prelude.{◌≡◌, ◌+◌, ◌<◌, ◌≤◌, ◌↔◌, true, false, Err, IfOk, IfErr, OnOk, OnErr, IfSome, IsSome, IsNone};
 ghost use Rattle.std.specs.Prelude.{MatchBool, MatchOption};
 ghost use Rattle.answer_ticket.specs.Ended.{IsOfCandidate, gateway_of};
+ghost use Rattle.answer_ticket.specs.Ticket.{candidate_of};
 ghost use Rattle.server_core.specs.Airtime.{airtime_of_ending};
 ghost use Rattle.server_core.specs.Desk.{desk_of};
 ghost use Rattle.server_core.specs.Schedule.{usual_limits};
@@ -143,6 +144,7 @@ impl<B: Ledger, S: BuildHasher, A: Allocator + Copy> Station<B, S, A> {
         ticket: Ticket<A>,
         overrun: &mut u64,
     ) -> Tried<A>
+        ensures stands { IsSome (candidate_of ticket) }
         ensures tried { MatchBool (is_among self.now (gateway_to_try ticket)) (WasTried ticket result)
             (result ≡ Tried.Wrong ticket) }
         ensures overrun { overrun.old ≤ overrun.new }

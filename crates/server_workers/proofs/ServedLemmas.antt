@@ -1,7 +1,7 @@
 -- What workers keep, from the numbers that they took up.
 use Rattle.std.proofs.Common.{ℕ, ◌≡◌, ◌++◌, List, [], ◌∷◌, map, refl, sym, ap, ◌∙◌, subst, arith, false}
 use Rattle.std.proofs.Math.Logic.{∥∥₁_elim, ∥∥₁_map, ∥∥₁_prop}
-use Rattle.std.specs.Prelude.{All, sum_by}
+use Rattle.std.specs.Prelude.{sum_by}
 use Rattle.std.specs.List.{flat_map}
 use Rattle.std.specs.List.Sorted.{IsPermutation}
 use Rattle.std.proofs.lemmas.Grind.{flat_map-append}
@@ -34,14 +34,14 @@ done_none w idle =
     ) ∣₁
 
 module _ {A : Type 0} where
-  -- what a number's turn says without the tills that it stood between
+  -- what a number's turn says without the station and the tills that it stood between
   abbrev One : ℕ × Handled A → Type 0
-  One t = (old : Holding) × (new : Holding) × IsHandled t.0 old new t.1
+  One t = (ids : List ℕ) × (old : Holding) × (new : Holding) × IsHandled ids t.0 old new t.1
 
   -- numbers that were taken up one after another
-  each_told : (turns : Turns A) (old new : Holding) → AreHandled turns old new → AreTold turns
-  each_told [] old new h = All-nil One
-  each_told (t ∷ turns) old new h = All-cons One t turns (old, h.0, h.1) (each_told turns h.0 new h.2)
+  each_told : (ids : List ℕ) (turns : Turns A) (old new : Holding) → AreHandled ids turns old new → AreTold turns
+  each_told ids [] old new h = All-nil One
+  each_told ids (t ∷ turns) old new h = All-cons One t turns (ids, old, h.0, h.1) (each_told ids turns h.0 new h.2)
 
   -- numbers of which none got a ticket, cut in two
   idle_parts : (xs ys : Turns A) → AreIdle (xs ++ ys) → AreIdle xs × AreIdle ys
@@ -59,11 +59,12 @@ grown : {T X : Type 0} (f : T → List X) (first more : List T) (old new : List 
 grown f first more old new a b = b ∙ ap (λ l. l ++ flat_map f more) a ∙ sym (flat_map-append f first more)
 
 -- some numbers more were taken up
-more_done : {B A : Type 0} (first more : Turns A) (old new : Worked B A) → HasDone first old → AreFiled more old new
+more_done : {B A : Type 0} (ids : List ℕ) (first more : Turns A) (old new : Worked B A) → HasDone first old
+    → AreFiled ids more old new
     → HasDone (first ++ more) new
-more_done {B} {A} first more old new done filed =
+more_done {B} {A} ids first more old new done filed =
     record {
-      told = All-append One first more done.told (each_told more old.till new.till filed.told);
+      told = All-append One first more done.told (each_told ids more old.till new.till filed.told);
       idle = λ none. let parts = idle_parts first more none in filed.idle parts.1 ∙ done.idle parts.0;
       receipts = grown (λ (t : ℕ × Handled A). receipts_of t.1) first more _ _ done.receipts filed.receipts;
       outcomes = grown (λ (t : ℕ × Handled A). outcomes_of t.1) first more _ _ done.outcomes filed.outcomes;
@@ -72,9 +73,9 @@ more_done {B} {A} first more old new done filed =
       strays = grown (λ (t : ℕ × Handled A). strays_of t.0 t.1) first more _ _ done.strays filed.strays;
     }
 
-pub done_on : {B A : Type 0} (old new : Worked B A) → IsDone old → HasWorked old new → IsDone new
-done_on old new done worked =
-    ∥∥₁_map done (λ d. (d.0 ++ worked.0, more_done d.0 worked.0 old new d.1 worked.1))
+pub done_on : {B A : Type 0} (ids : List ℕ) (old new : Worked B A) → IsDone old → HasWorked ids old new → IsDone new
+done_on ids old new done worked =
+    ∥∥₁_map done (λ d. (d.0 ++ worked.0, more_done ids d.0 worked.0 old new d.1 worked.1))
 
 -- what these numbers came to is what a crew keeps
 record HaveDone {B A : Type 0} (turns : Turns A) (crew : List (Worked B A)) : Type 0 where

@@ -13,8 +13,8 @@ use Rattle.server_workers.specs.Working.{IsMore, HasFiled, receipts_of, outcomes
 use Rattle.server_workers.specs.Turns.{Turns, AreHandled, AreFiled, HasWorked}
 
 -- nothing was taken up yet
-pub worked_none : {B A : Type 0} (w : Worked B A) → HasWorked w w
-worked_none w = (
+pub worked_none : {B A : Type 0} (ids : List ℕ) (w : Worked B A) → HasWorked ids w w
+worked_none ids w = (
   [],
   record {
     told = refl;
@@ -36,23 +36,24 @@ more f turns t old mid new a b =
     ∙ ap (λ l. old ++ l) (sym (flat_map-append f turns (t ∷ [])))
 
 -- the till goes on to one number more
-handed_on : {A : Type 0} (turns : Turns A) (n : ℕ) (turn : Handled A) (old mid new : Holding) → AreHandled turns old mid
-    → IsHandled n mid new turn → AreHandled (turns ++ (n, turn) ∷ []) old new
-handed_on {A} [] n turn old mid new e h = (new, subst (λ till. IsHandled n till new turn) e h, refl)
-handed_on (t ∷ turns) n turn old mid new so_far h =
-    (so_far.0, so_far.1, handed_on turns n turn so_far.0 mid new so_far.2 h)
+handed_on : {A : Type 0} (ids : List ℕ) (turns : Turns A) (n : ℕ) (turn : Handled A) (old mid new : Holding)
+    → AreHandled ids turns old mid → IsHandled ids n mid new turn → AreHandled ids (turns ++ (n, turn) ∷ []) old new
+handed_on {A} ids [] n turn old mid new e h = (new, subst (λ till. IsHandled ids n till new turn) e h, refl)
+handed_on ids (t ∷ turns) n turn old mid new so_far h =
+    (so_far.0, so_far.1, handed_on ids turns n turn so_far.0 mid new so_far.2 h)
 
 -- one more number was taken up
-pub worked_on : {B A : Type 0} (n : ℕ) (old mid new : Worked B A) → HasWorked old mid → HasFiled n mid new → HasWorked old new
-worked_on {B} {A} n old mid new so_far filed =
+pub worked_on : {B A : Type 0} (ids : List ℕ) (n : ℕ) (old mid new : Worked B A) → HasWorked ids old mid
+    → HasFiled ids n mid new → HasWorked ids old new
+worked_on {B} {A} ids n old mid new so_far filed =
     let turns : Turns A = so_far.0 in
-    let all : AreFiled turns old mid = so_far.1 in
+    let all : AreFiled ids turns old mid = so_far.1 in
     let turn : Handled A = filed.0 in
     let t : ℕ × Handled A = (n, turn) in
     let one = filed.1 in (
       turns ++ t ∷ [],
       record {
-        told = handed_on turns n turn old.till mid.till new.till all.told one.told;
+        told = handed_on ids turns n turn old.till mid.till new.till all.told one.told;
         idle = λ none.
             let cut = All-pop (λ (s : ℕ × Handled A). was_taken s.1 ≡ false) (turns ++ t ∷ []) turns (Some t) refl none in
             one.idle cut.1 ∙ all.idle cut.0;

@@ -20,9 +20,10 @@ pub record IsIdle {B A : Type 0} (worked : Worked B A) : Type 0 where
   pub strays : worked.strays.items ≡ []
   pub overrun : worked.overrun ≡ 0
 
--- each of these numbers got what is told of it, counted with some till
+-- each of these numbers got what is told of it, at some station and counted with some till
 abbrev pub AreTold : {A : Type 0} → Turns A → Type 0
-AreTold {A} turns = All (λ (t : ℕ × Handled A). (old : Holding) × (new : Holding) × IsHandled t.0 old new t.1) turns
+AreTold {A} turns =
+    All (λ (t : ℕ × Handled A). (ids : List ℕ) × (old : Holding) × (new : Holding) × IsHandled ids t.0 old new t.1) turns
 
 -- what became of these numbers is all that a worker keeps, in their order; where none of them got a ticket, no try went on at a
 -- gate that didn't let it in

@@ -15,9 +15,9 @@ abbrev pub Turns : Type 0 → Type 0
 Turns A = List (ℕ × Handled A)
 
 -- the till went from hand to hand: each number's answer counted with it what the last one had left
-abbrev pub AreHandled : {A : Type 0} → Turns A → Holding → Holding → Type 0
-AreHandled [] old new = new ≡ old
-AreHandled (t ∷ turns) old new = (mid : Holding) × IsHandled t.0 old mid t.1 × AreHandled turns mid new
+abbrev pub AreHandled : {A : Type 0} → List ℕ → Turns A → Holding → Holding → Type 0
+AreHandled ids [] old new = new ≡ old
+AreHandled ids (t ∷ turns) old new = (mid : Holding) × IsHandled ids t.0 old mid t.1 × AreHandled ids turns mid new
 
 -- none of these numbers got a ticket
 abbrev pub AreIdle : {A : Type 0} → Turns A → Type 0
@@ -25,8 +25,8 @@ AreIdle {A} turns = All (λ (t : ℕ × Handled A). was_taken t.1 ≡ false) tur
 
 -- what became of these numbers stands at the ends of the lists, in their order, and nothing else was added; where none of them
 -- got a ticket, no try went on at a gate that didn't let it in
-pub record AreFiled {B A : Type 0} (turns : Turns A) (old new : Worked B A) : Type 0 where
-  pub told : AreHandled turns old.till new.till
+pub record AreFiled {B A : Type 0} (ids : List ℕ) (turns : Turns A) (old new : Worked B A) : Type 0 where
+  pub told : AreHandled ids turns old.till new.till
   pub idle : AreIdle turns → new.overrun ≡ old.overrun
   pub receipts : new.receipts.items ≡ old.receipts.items ++ flat_map (λ (t : ℕ × Handled A). receipts_of t.1) turns
   pub outcomes : new.outcomes.items ≡ old.outcomes.items ++ flat_map (λ (t : ℕ × Handled A). outcomes_of t.1) turns
@@ -34,9 +34,9 @@ pub record AreFiled {B A : Type 0} (turns : Turns A) (old new : Worked B A) : Ty
   pub refused : new.refused.items ≡ old.refused.items ++ flat_map (λ (t : ℕ × Handled A). refused_of t.0 t.1) turns
   pub strays : new.strays.items ≡ old.strays.items ++ flat_map (λ (t : ℕ × Handled A). strays_of t.0 t.1) turns
 
--- a worker took up some numbers, and filed what became of each
-abbrev pub HasWorked : {B A : Type 0} → Worked B A → Worked B A → Type 0
-HasWorked {B} {A} old new = (turns : Turns A) × AreFiled turns old new
+-- a worker took up some numbers, at a station of these gateways, and filed what became of each
+abbrev pub HasWorked : {B A : Type 0} → List ℕ → Worked B A → Worked B A → Type 0
+HasWorked {B} {A} ids old new = (turns : Turns A) × AreFiled ids turns old new
 
 -- a worker may stop where one more number may not fit, and where the channel told that it is closed and empty
 abbrev pub IsReason : {B A : Type 0} → Worked B A → Stopped → Type 0

@@ -69,8 +69,8 @@ strays_of n (Settled outcome receipt) = []
 strays_of n (Stray outcome receipt) = n ∷ []
 
 -- what became of number n stands at the ends of the lists, and nothing else was added
-pub record IsFiled {B A : Type 0} (n : ℕ) (old new : Worked B A) (turn : Handled A) : Type 0 where
-  pub told : IsHandled n old.till new.till turn
+pub record IsFiled {B A : Type 0} (ids : List ℕ) (n : ℕ) (old new : Worked B A) (turn : Handled A) : Type 0 where
+  pub told : IsHandled ids n old.till new.till turn
   pub receipts : new.receipts.items ≡ old.receipts.items ++ receipts_of turn
   pub outcomes : new.outcomes.items ≡ old.outcomes.items ++ outcomes_of turn
   pub skipped : new.skipped.items ≡ old.skipped.items ++ skipped_of n turn
@@ -78,6 +78,6 @@ pub record IsFiled {B A : Type 0} (n : ℕ) (old new : Worked B A) (turn : Handl
   pub strays : new.strays.items ≡ old.strays.items ++ strays_of n turn
   pub idle : was_taken turn ≡ false → new.overrun ≡ old.overrun
 
--- a worker took up number n once, and filed what became of it
-abbrev pub HasFiled : {B A : Type 0} → ℕ → Worked B A → Worked B A → Type 0
-HasFiled {B} {A} n old new = (turn : Handled A) × IsFiled n old new turn
+-- a worker took up number n once, at a station of these gateways, and filed what became of it
+abbrev pub HasFiled : {B A : Type 0} → List ℕ → ℕ → Worked B A → Worked B A → Type 0
+HasFiled {B} {A} ids n old new = (turn : Handled A) × IsFiled ids n old new turn

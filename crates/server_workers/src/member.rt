@@ -106,7 +106,7 @@ impl<K: Room, B: Ledger, A: Allocator + Copy> Member<K, B, A> {
         gate: &G,
     )
         ensures more { IsMore self.old.worked self.new.worked }
-        ensures turns { HasWorked self.old.worked self.new.worked }
+        ensures turns { HasWorked station.now self.old.worked self.new.worked }
         ensures stopped { HasStopped self.new.worked }
         ensures begun { self.new.has_begun ≡ true }
     {

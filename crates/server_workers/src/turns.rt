@@ -51,7 +51,7 @@ impl Given {
         overrun: &mut u64,
     ) -> Turn<A>
         ensures number { result.number ≡ self.number }
-        ensures turn { IsHandled self.number till.old till.new result.handled }
+        ensures turn { IsHandled station.now self.number till.old till.new result.handled }
         ensures overrun { overrun.old ≤ overrun.new }
         ensures idle { was_taken result.handled ≡ false → overrun.new ≡ overrun.old }
     {

@@ -26,7 +26,7 @@ pub fn work<R: Wait, B: Ledger, S: BuildHasher, A: Allocator + Copy, G: Gate>(
     ensures more { IsMore worked result }
     ensures till { (more : List Ends) × (result.outcomes.items ≡ worked.outcomes.items ++ more)
         × (result.till ≡ record worked.till { amount = worked.till.amount + outcomes_airtime more }) }
-    ensures turns { HasWorked worked result }
+    ensures turns { HasWorked station.now worked result }
     ensures stopped { HasStopped result }
 {
     let mut worked = worked;
@@ -44,7 +44,7 @@ pub(crate) fn work_on<R: Wait, B: Ledger, S: BuildHasher, A: Allocator + Copy, G
     worked: &mut Worked<B, A>,
 )
     ensures more { IsMore worked.old worked.new }
-    ensures turns { HasWorked worked.old worked.new }
+    ensures turns { HasWorked station.now worked.old worked.new }
     ensures stopped { HasStopped worked.new }
 {
     for _ in rt.forever() {
@@ -86,7 +86,7 @@ impl<B: Ledger, A: Allocator + Copy> Worked<B, A> {
     )
         requires { HasRoom self.old }
         ensures more { IsMore self.old self.new }
-        ensures filed { HasFiled given.number self.old self.new }
+        ensures filed { HasFiled station.now given.number self.old self.new }
     {
         let turn = given.answered(rt, station, gate, &mut self.till, &mut self.overrun);
         turn.file(

@@ -9,12 +9,13 @@ loop-number-preserved g c =
     let at = c.loop-number.number-index in
     let n = get_or c.args.numbers.now at 0 in
     record {
-      parts = handled_parts n c.loop-number.till c.answer-turn.new.till c.answer-turn.result c.answer-turn.ensures.turn
+      parts = handled_parts c.args.station.now n c.loop-number.till c.answer-turn.new.till c.answer-turn.result
+          c.answer-turn.ensures.turn
           ∙ c.loop-number.invariant.parts;
       filed =
           subst (λ l. HasFiled l c.args.ends.now c.file.new.self)
           (sym (take_more c.args.numbers.now at 0 (search rules)))
           (filed_more (take at c.args.numbers.now) n c.answer-turn.result c.args.ends.now c.loop-number.ends c.file.new.self
-          c.loop-number.invariant.filed (c.loop-number.till, c.answer-turn.new.till, c.answer-turn.ensures.turn)
+          c.loop-number.invariant.filed (c.args.station.now, c.loop-number.till, c.answer-turn.new.till, c.answer-turn.ensures.turn)
           c.in_ok-file.ensures);
     }

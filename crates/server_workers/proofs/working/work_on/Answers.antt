@@ -8,5 +8,5 @@ loop-preserved g c =
       tt,
       tt,
       more_on c.args.worked.now c.loop.worked c.answer.new.self so_far.2 one.more,
-      worked_on _ c.args.worked.now c.loop.worked c.answer.new.self so_far.3 one.filed,
+      worked_on _ _ c.args.worked.now c.loop.worked c.answer.new.self so_far.3 one.filed,
     )

@@ -1,11 +1,11 @@
-use Rattle.listen_texts.specs.Steps.{standing}
+use Rattle.listen_texts.specs.Steps.{progress}
 use Rattle.listen_texts.proofs.ListenLemmas.{nothing_asked, asked_in_part}
 use Rattle.listen_texts.proofs.listener.Listener.datagram.Goals as goal
 
 pub returns-in-Ok-None-clause-ok : goal.returns-in-Ok-None-clause-ok
 returns-in-Ok-None-clause-ok g c =
     nothing_asked c.args.self.shift.station c.args.devices.now c.args.turn c.args.datagram.now _
-    (standing c.args.self.shift.receipts.bookings.items c.args.self.tally c.args.self.refused)
+    (progress c.args.self.shift.receipts.bookings.items c.args.self.tally c.args.self.refused)
     (g.W.ByteOut.taken c.args.writer.now) c.in-Ok-None.ensures.event c.in-Ok-None.field-0-is
 
 pub returns-in-Ok-Some-clause-front : goal.returns-in-Ok-Some-clause-front

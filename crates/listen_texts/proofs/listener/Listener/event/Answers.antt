@@ -6,7 +6,7 @@ use Rattle.text_words.specs.Words.{has_refusal}
 use Rattle.server_core.specs.declared.entry.Entry.{Entry}
 use Rattle.run_lines.specs.ReplayText.{entry_lines}
 use Rattle.run_lines.specs.Tally.{tally_of, tally_sum, IsTallyUpTo}
-use Rattle.run_texts.specs.WorkersRun.{kept, IsDone}
+use Rattle.run_texts.specs.WorkersRun.{run_state, IsDone}
 use Rattle.run_texts.specs.declared.receipts.Receipts.{Receipts}
 use Rattle.listen_texts.proofs.ListenLemmas.{answered_by}
 use Rattle.listen_texts.proofs.listener.Listener.event.Goals as goal
@@ -35,8 +35,8 @@ returns-in-Ok-write_entries-clause-ok g c =
           c.take_lines-entries.new.self.receipts.bookings.items c.args.self.shift.entries.items c.in-Ok.shift.entries.items
           entries c.args.self.written
           (subst (λ (r : Receipts). IsDone c.args.self.shift.station c.args.turn c.args.event.now
-          (kept c.args.self.shift.receipts.bookings.items c.args.self.shift.entries.items)
-          (kept r.bookings.items c.in-Ok.shift.entries.items)) (sym c.take_lines-entries.ensures.receipts) c.in-Ok.ensures.done)
+          (run_state c.args.self.shift.receipts.bookings.items c.args.self.shift.entries.items)
+          (run_state r.bookings.items c.in-Ok.shift.entries.items)) (sym c.take_lines-entries.ensures.receipts) c.in-Ok.ensures.done)
           c.take_lines-entries.ensures.taken,
       record {
         tally = c.add.ensures ∙ ap (tally_sum c.args.self.tally) counted;

@@ -1,15 +1,20 @@
-use Rattle.std.proofs.Common.{◌≡◌, ◌∙◌, subst}
+use Rattle.std.proofs.Common.{◌≡◌, ◌∙◌, subst, sym}
 use Rattle.server_station.specs.Handling.{IsHandled}
-use Rattle.server_station.proofs.HandledLemmas.{own_number, taken_up}
+use Rattle.server_station.specs.Tries.{IsAnswered}
+use Rattle.server_station.proofs.HandledLemmas.{own_number}
 use Rattle.server_station.proofs.station.Station.answer.Goals as goal
+
+pub settled-requires-clause-answered : goal.settled-requires-clause-answered
+settled-requires-clause-answered g c =
+    let given = c.in-Ok.ensures in
+    let own : c.in-Ok.ticket.job.number ≡ c.args.number = own_number given.0 c.args.number c.in-Ok.ticket.job given.1.1.0 in
+    let ended = c.tried-ended.result in
+    subst (λ n. IsAnswered c.args.self.now n ended.stub.result ended.receipt) (sym (c.tried-ended.ensures.ended.number ∙ own))
+    (record { given = c.in-Ok.ticket; taken = given; tried = c.tried-ended.ensures.tries })
 
 pub returns-in-Ok-clause-turn : goal.returns-in-Ok-clause-turn
 returns-in-Ok-clause-turn g c =
     let given = c.in-Ok.ensures in
     let own : c.in-Ok.ticket.job.number ≡ c.args.number = own_number given.0 c.args.number c.in-Ok.ticket.job given.1.1.0 in
-    subst (λ n. IsHandled n c.args.till.now c.settled.new.till c.settled.result)
+    subst (λ n. IsHandled c.args.self.now n c.args.till.now c.settled.new.till c.settled.result)
     (c.tried-ended.ensures.ended.number ∙ own) c.settled.ensures.turn
-
-pub returns-in-Ok-clause-taken : goal.returns-in-Ok-clause-taken
-returns-in-Ok-clause-taken g c =
-    taken_up c.args.number c.settled.result c.settled.ensures.taken (c.in-Ok.ticket, c.in-Ok.ensures)

@@ -1,10 +1,12 @@
 use Rattle.std.proofs.Common.{◌≡◌, ◌≤◌, ◌-◌, length}
 use Rattle.answer_ticket.specs.Job.{candidates}
+use Rattle.server_station.specs.Tries.{AreRefused}
 use Rattle.server_station.proofs.station.Station.tried.Given as goal
 
 abbrev pub invariant-loop-stub : goal.invariant-loop-stub
 invariant-loop-stub g l = record {
   job : l.ticket.job ≡ l.initial.ticket.job;
+  refused : AreRefused l.initial.self l.ticket.job l.ticket.at;
   overrun : l.initial.overrun ≤ l.overrun;
 }
 

@@ -1,0 +1,160 @@
+-- Lemmas on the tries of a ticket.
+use Rattle.std.proofs.Common.{ℕ, ◌≡◌, ◌+◌, ◌⊎◌, inl, inr, Bool, true, false, List, Option, Some, None, IsSome, refl, sym}
+use Rattle.std.proofs.Common.{ap, ◌∙◌, subst, arith}
+use Rattle.std.specs.Prelude.{MatchBool}
+use Rattle.std.specs.Option.{IsSomeAnd, option_map_or}
+use Rattle.std.proofs.lemmas.Bool.{cases_lt}
+use Rattle.gateway_book.specs.declared.refusal.Refusal.{Refusal}
+use Rattle.gateway_book.specs.Book.{Book}
+use Rattle.rx_windows.specs.declared.candidate.Candidate.{Candidate}
+use Rattle.answer_ticket.specs.declared.outcome.Ending.TheVariants.{GivenUp}
+use Rattle.answer_ticket.specs.declared.outcome.Outcome.{Outcome}
+use Rattle.answer_ticket.specs.declared.tried.Receipt.{Receipt}
+use Rattle.answer_ticket.specs.declared.tried.Tried.{Tried}
+use Rattle.answer_ticket.specs.declared.tried.Tried.TheVariants.{Booked, Next, Out, Wrong, NoMemory}
+use Rattle.answer_ticket.specs.Job.{Job}
+use Rattle.answer_ticket.specs.Ticket.{Standing, candidate_of}
+use Rattle.answer_ticket.specs.Tried.{IsBooked, IsNext, IsOut, IsWrong, IsWithoutMemory}
+use Rattle.server_core.specs.Register.{is_among}
+use Rattle.server_station.specs.Stations.{WasTried, gateway_to_try}
+use Rattle.server_station.specs.Tries.{HasAnswered, AreRefused, EndsAt, IsTriedOut}
+
+-- no candidate stands before the first
+pub none_refused : (ids : List ℕ) (job : Job) (at : ℕ) → at ≡ 0 → AreRefused ids job at
+none_refused ids job at first k c before there = absurd (omega (arith, first, before))
+
+-- a try that hands this ticket back, as one of another gateway's book
+abbrev pub wrong_of : (A : Type 0) → Standing → Tried A
+wrong_of A t = Wrong t
+
+-- as one that found it refused
+abbrev pub next_of_try : (A : Type 0) → Standing → Refusal → Tried A
+next_of_try A t refusal = Next t refusal
+
+-- as one that ended it
+abbrev pub out_of_try : (A : Type 0) → Outcome → Refusal → Tried A
+out_of_try A stub refusal = Out stub refusal
+
+-- and as one that found no memory
+abbrev pub vain_of : (A : Type 0) → Standing → Tried A
+vain_of A t = NoMemory t
+
+-- a ticket that comes back, of a try that found no memory or another gateway's book, is as it was
+module _ (A : Type 0) (t back : Standing) where
+  wrong_at : (old new : Book) (o : Option Candidate) → IsSomeAnd o (λ c. IsWrong t c old new back) → back ≡ t
+  wrong_at old new None h = absurd h
+  wrong_at old new (Some c) h = h.same
+
+  vain_at : (old new : Book) (o : Option Candidate) → IsSomeAnd o (λ c. IsWithoutMemory t c old new back) → back ≡ t
+  vain_at old new None h = absurd h
+  vain_at old new (Some c) h = h.same
+
+  in_vain : (tried : Tried A) → WasTried t tried → (tried ≡ wrong_of A back) ⊎ (tried ≡ vain_of A back)
+      → WasTried t (vain_of A t) ⊎ WasTried t (wrong_of A t)
+  in_vain tried w (inl e) =
+      let h : WasTried t (wrong_of A back) = subst (λ (x : Tried A). WasTried t x) e w in
+      inr (subst (λ b. WasTried t (wrong_of A b)) (wrong_at h.0 h.1 (candidate_of t) h.2) h)
+  in_vain tried w (inr e) =
+      let h : WasTried t (vain_of A back) = subst (λ (x : Tried A). WasTried t x) e w in
+      inl (subst (λ b. WasTried t (vain_of A b)) (vain_at h.0 h.1 (candidate_of t) h.2) h)
+
+  -- where the station has its gateway
+  pub tried_in_vain : (among : Bool) (tried : Tried A) → MatchBool among (WasTried t tried) (tried ≡ wrong_of A t)
+      → (tried ≡ wrong_of A back) ⊎ (tried ≡ vain_of A back) → among ≡ true
+      → WasTried t (vain_of A t) ⊎ WasTried t (wrong_of A t)
+  tried_in_vain true tried w back e = in_vain tried w back
+  tried_in_vain false tried w back e = absurd (cc (e))
+
+-- what a try of a ticket says whose candidates were refused up to where it stands
+module _ (ids : List ℕ) (job : Job) (t : Standing) (own : t.job ≡ job) (so_far : AreRefused ids t.job t.at) where
+  -- the candidate's gateway is the one to try
+  here_at : (c : Candidate) → candidate_of t ≡ Some c → is_among ids (gateway_to_try t) ≡ true → is_among ids c.gateway ≡ true
+  here_at c stands among = sym (ap (λ o. is_among ids (option_map_or (λ (d : Candidate). d.gateway) o 0)) stands) ∙ among
+
+  one_more : (c : Candidate) (refusal : Refusal) → candidate_of t ≡ Some c → HasAnswered ids t.job c (Some refusal)
+      → AreRefused ids t.job (t.at + 1)
+  one_more c refusal stands answered k d before there =
+      elim (cases_lt k t.at) [
+        | inl h ↦ so_far k d h there
+        | inr h ↦
+            let here : k ≡ t.at = omega (arith, before, h) in
+            let same : c ≡ d = cc (stands, there, here) in (
+              refusal,
+              subst (λ (x : Candidate). HasAnswered ids t.job x (Some refusal)) same answered,
+            )
+      ]
+
+  next_at : (old new : Book) (next : Standing) (refusal : Refusal) (o : Option Candidate) → candidate_of t ≡ o
+      → is_among ids (gateway_to_try t) ≡ true → IsSomeAnd o (λ c. IsNext t c old new next refusal)
+      → (next.job ≡ job) × AreRefused ids next.job next.at
+  next_at old new next refusal None stands among h = absurd h
+  next_at old new next refusal (Some c) stands among h =
+      subst (λ (u : Standing). (u.job ≡ job) × AreRefused ids u.job u.at) (sym h.moved)
+      (own, one_more c refusal stands (record { here = here_at c stands among; book = old; asked = h.asked; answered = h.refused }))
+
+  -- it was refused there too, and stands at the next one
+  pub refused_there : (A : Type 0) (among : Bool) (next : Standing) (refusal : Refusal) → is_among ids (gateway_to_try t) ≡ among
+      → MatchBool among (WasTried {A = A} t (Next next refusal)) (next_of_try A next refusal ≡ wrong_of A t)
+      → (next.job ≡ job) × AreRefused ids next.job next.at
+  refused_there A false next refusal is w = absurd (cc (w))
+  refused_there A true next refusal is w = next_at w.0 w.1 next refusal (candidate_of t) refl is w.2
+
+  ended_with : {A : Type 0} (stub : Outcome) (booked : Option (Receipt A))
+      → IsSomeAnd (candidate_of t) (λ c. EndsAt ids t c stub.result booked) → IsTriedOut ids job stub.result booked
+  ended_with stub booked ends = record { ticket = t; own = own; before = so_far; ended = ends }
+
+  booked_at : {A : Type 0} (old new : Book) (stub : Outcome) (receipt : Receipt A) (o : Option Candidate) → candidate_of t ≡ o
+      → is_among ids (gateway_to_try t) ≡ true → IsSomeAnd o (λ c. IsBooked t c old new stub receipt) → IsSomeAnd o (λ c. EndsAt ids t c stub.result (Some receipt))
+  booked_at old new stub receipt None stands among h = absurd h
+  booked_at old new stub receipt (Some c) stands among h =
+      subst (λ e. EndsAt ids t c e (Some receipt)) (sym (ap (λ (s : Outcome). s.result) h.ended))
+      (record {
+        accepted = record { here = here_at c stands among; book = old; asked = h.asked; answered = h.accepted };
+        ended = refl;
+        receipt = h.named;
+      })
+
+  -- it was booked there
+  pub booked_there : (A : Type 0) (among : Bool) (stub : Outcome) (receipt : Receipt A) → is_among ids (gateway_to_try t) ≡ among
+      → MatchBool among (WasTried t (Booked stub receipt)) (Booked stub receipt ≡ wrong_of A t)
+      → IsTriedOut ids job stub.result (Some receipt)
+  booked_there A false stub receipt is w = absurd (cc (w))
+  booked_there A true stub receipt is w =
+      ended_with stub (Some receipt) (booked_at w.0 w.1 stub receipt (candidate_of t) refl is w.2)
+
+  out_at : (A : Type 0) (old new : Book) (stub : Outcome) (refusal : Refusal) (o : Option Candidate) → candidate_of t ≡ o
+      → is_among ids (gateway_to_try t) ≡ true → IsSomeAnd o (λ c. IsOut t c old new stub refusal) → IsSomeAnd o (λ c. EndsAt {A = A} ids t c stub.result None)
+  out_at A old new stub refusal None stands among h = absurd h
+  out_at A old new stub refusal (Some c) stands among h =
+      subst (λ e. EndsAt {A = A} ids t c e None) (sym (ap (λ (s : Outcome). s.result) h.ended))
+      (record {
+        refused = record { here = here_at c stands among; book = old; asked = h.asked; answered = h.refused };
+        last = h.last;
+        unbooked = refl;
+      })
+
+  -- it was refused there, at the last
+  pub out_there : (A : Type 0) (among : Bool) (stub : Outcome) (refusal : Refusal) → is_among ids (gateway_to_try t) ≡ among
+      → MatchBool among (WasTried {A = A} t (Out stub refusal)) (out_of_try A stub refusal ≡ wrong_of A t)
+      → IsTriedOut {A = A} ids job stub.result None
+  out_there A false stub refusal is w = absurd (cc (w))
+  out_there A true stub refusal is w = ended_with stub None (out_at A w.0 w.1 stub refusal (candidate_of t) refl is w.2)
+
+  given_up_at : (A : Type 0) (o : Option Candidate) → candidate_of t ≡ o → IsSome o
+      → (is_among ids (gateway_to_try t) ≡ true → WasTried {A = A} t (NoMemory t) ⊎ WasTried {A = A} t (Wrong t))
+      → IsSomeAnd o (λ c. EndsAt {A = A} ids t c GivenUp None)
+  given_up_at A None stands some tried = absurd (cc (some))
+  given_up_at A (Some c) stands some tried =
+      record {
+        tried = λ among. tried (ap (λ o. is_among ids (option_map_or (λ (d : Candidate). d.gateway) o 0)) stands ∙ among);
+        unbooked = refl;
+      }
+
+  -- it was given up there
+  pub given_up_there : (A : Type 0) (stub : Outcome) → IsSome (candidate_of t) → stub.result ≡ GivenUp
+      → (is_among ids (gateway_to_try t) ≡ true → WasTried {A = A} t (NoMemory t) ⊎ WasTried {A = A} t (Wrong t))
+      → IsTriedOut {A = A} ids job stub.result None
+  given_up_there A stub stands ended tried =
+      ended_with stub None
+      (subst (λ e. IsSomeAnd (candidate_of t) (λ c. EndsAt {A = A} ids t c e None)) (sym ended)
+      (given_up_at A (candidate_of t) refl stands tried))
