@@ -1,5 +1,5 @@
 -- What workers keep, from the numbers that they took up.
-use Rattle.std.proofs.Common.{ℕ, ◌≡◌, ◌++◌, List, [], ◌∷◌, map, refl, sym, ap, ◌∙◌, subst, arith, false}
+use Rattle.std.proofs.Common.{ℕ, ◌≡◌, ◌++◌, List, [], ◌∷◌, Some, map, refl, sym, ap, ◌∙◌, subst, arith, false}
 use Rattle.std.proofs.Math.Logic.{∥∥₁_elim, ∥∥₁_map, ∥∥₁_prop}
 use Rattle.std.specs.Prelude.{sum_by}
 use Rattle.std.specs.List.{flat_map}
@@ -14,15 +14,16 @@ use Rattle.server_workers.specs.declared.served.Served.{Served}
 use Rattle.server_workers.specs.declared.worked.Worked.{Worked}
 use Rattle.server_workers.specs.Served.{IsIdle, AreTold, HasDone, IsDone, HaveServed, IsServed}
 use Rattle.server_workers.specs.Serving.{IsSummedUp, added_up}
-use Rattle.server_workers.specs.Turns.{Turns, AreHandled, AreIdle, AreFiled, HasWorked}
+use Rattle.server_workers.specs.Turns.{Turns, AreHandled, AreIdle, AreFiled, HasWorked, IsOneOf, AreAmong}
 use Rattle.server_workers.specs.Working.{receipts_of, outcomes_of, skipped_of, refused_of, strays_of}
 
 -- nothing was taken up yet
-pub done_none : {B A : Type 0} (w : Worked B A) → IsIdle w → IsDone w
-done_none w idle =
+pub done_none : {B A : Type 0} (given : List ℕ) (w : Worked B A) → IsIdle w → IsDone given w
+done_none {B} {A} given w idle =
     ∣ (
       [],
       record {
+        among = All-nil (λ (t : ℕ × Handled A). IsOneOf (Some given) t.0);
         told = All-nil _;
         idle = λ none. idle.overrun;
         receipts = idle.receipts;
@@ -59,11 +60,12 @@ grown : {T X : Type 0} (f : T → List X) (first more : List T) (old new : List 
 grown f first more old new a b = b ∙ ap (λ l. l ++ flat_map f more) a ∙ sym (flat_map-append f first more)
 
 -- some numbers more were taken up
-more_done : {B A : Type 0} (ids : List ℕ) (first more : Turns A) (old new : Worked B A) → HasDone first old
-    → AreFiled ids more old new
-    → HasDone (first ++ more) new
-more_done {B} {A} ids first more old new done filed =
+more_done : {B A : Type 0} (given ids : List ℕ) (first more : Turns A) (old new : Worked B A) → HasDone given first old
+    → AreFiled (Some given) ids more old new
+    → HasDone given (first ++ more) new
+more_done {B} {A} given ids first more old new done filed =
     record {
+      among = All-append (λ (t : ℕ × Handled A). IsOneOf (Some given) t.0) first more done.among filed.among;
       told = All-append One first more done.told (each_told ids more old.till new.till filed.told);
       idle = λ none. let parts = idle_parts first more none in filed.idle parts.1 ∙ done.idle parts.0;
       receipts = grown (λ (t : ℕ × Handled A). receipts_of t.1) first more _ _ done.receipts filed.receipts;
@@ -73,12 +75,14 @@ more_done {B} {A} ids first more old new done filed =
       strays = grown (λ (t : ℕ × Handled A). strays_of t.0 t.1) first more _ _ done.strays filed.strays;
     }
 
-pub done_on : {B A : Type 0} (ids : List ℕ) (old new : Worked B A) → IsDone old → HasWorked ids old new → IsDone new
-done_on ids old new done worked =
-    ∥∥₁_map done (λ d. (d.0 ++ worked.0, more_done ids d.0 worked.0 old new d.1 worked.1))
+pub done_on : {B A : Type 0} (given ids : List ℕ) (old new : Worked B A) → IsDone given old
+    → HasWorked (Some given) ids old new → IsDone given new
+done_on given ids old new done worked =
+    ∥∥₁_map done (λ d. (d.0 ++ worked.0, more_done given ids d.0 worked.0 old new d.1 worked.1))
 
 -- what these numbers came to is what a crew keeps
-record HaveDone {B A : Type 0} (turns : Turns A) (crew : List (Worked B A)) : Type 0 where
+record HaveDone {B A : Type 0} (given : List ℕ) (turns : Turns A) (crew : List (Worked B A)) : Type 0 where
+  among : AreAmong (Some given) turns
   told : AreTold turns
   idle : AreIdle turns → sum_by (λ (w : Worked B A). w.overrun) crew ≡ 0
   receipts : flat_map (λ (w : Worked B A). w.receipts.items) crew ≡ flat_map (λ (t : ℕ × Handled A). receipts_of t.1) turns
@@ -93,10 +97,11 @@ before_others : {T W X : Type 0} (f : T → List X) (kept : W → List X) (first
 before_others f kept first more w crew a b =
     ap (λ l. l ++ flat_map kept crew) a ∙ ap (λ l. flat_map f first ++ l) b ∙ sym (flat_map-append f first more)
 
-one_more : {B A : Type 0} (first more : Turns A) (w : Worked B A) (crew : List (Worked B A)) → HasDone first w
-    → HaveDone more crew → HaveDone (first ++ more) (w ∷ crew)
-one_more {B} {A} first more w crew one others =
+one_more : {B A : Type 0} (given : List ℕ) (first more : Turns A) (w : Worked B A) (crew : List (Worked B A))
+    → HasDone given first w → HaveDone given more crew → HaveDone given (first ++ more) (w ∷ crew)
+one_more {B} {A} given first more w crew one others =
     record {
+      among = All-append (λ (t : ℕ × Handled A). IsOneOf (Some given) t.0) first more one.among others.among;
       told = All-append One first more one.told others.told;
       idle = λ none.
           let parts = idle_parts first more none in
@@ -116,9 +121,10 @@ one_more {B} {A} first more w crew one others =
           first more w crew one.strays others.strays;
     }
 
-nobody_done : {B A : Type 0} → HaveDone {B = B} {A = A} [] []
-nobody_done =
+nobody_done : {B A : Type 0} (given : List ℕ) → HaveDone {B = B} {A = A} given [] []
+nobody_done {B} {A} given =
     record {
+      among = All-nil (λ (t : ℕ × Handled A). IsOneOf (Some given) t.0);
       told = All-nil One;
       idle = λ none. refl;
       receipts = refl;
@@ -128,19 +134,20 @@ nobody_done =
       strays = refl;
     }
 
-crew_done : {M B A : Type 0} (worked : M → Worked B A) (done : (m : M) → IsDone (worked m)) (crew : List M)
-    → ∥ ((turns : Turns A) × HaveDone turns (map worked crew)) ∥₁
-crew_done worked done [] = ∣ ([], nobody_done) ∣₁
-crew_done worked done (m ∷ crew) =
+crew_done : {M B A : Type 0} (given : List ℕ) (worked : M → Worked B A) (done : (m : M) → IsDone given (worked m))
+    (crew : List M) → ∥ ((turns : Turns A) × HaveDone given turns (map worked crew)) ∥₁
+crew_done given worked done [] = ∣ ([], nobody_done given) ∣₁
+crew_done given worked done (m ∷ crew) =
     ∥∥₁_elim (done m) ∥∥₁_prop
-    (λ one. ∥∥₁_map (crew_done worked done crew)
-    (λ others. (one.0 ++ others.0, one_more one.0 others.0 (worked m) (map worked crew) one.1 others.1)))
+    (λ one. ∥∥₁_map (crew_done given worked done crew)
+    (λ others. (one.0 ++ others.0, one_more given one.0 others.0 (worked m) (map worked crew) one.1 others.1)))
 
 -- what is put together of them
-put_together : {B A : Type 0} (turns : Turns A) (crew : List (Worked B A)) (served : Served B A) → HaveDone turns crew
-    → IsSummedUp crew served → HaveServed turns served
-put_together {B} {A} turns crew served done all =
+put_together : {B A : Type 0} (given : List ℕ) (turns : Turns A) (crew : List (Worked B A)) (served : Served B A)
+    → HaveDone given turns crew → IsSummedUp crew served → HaveServed given turns served
+put_together {B} {A} given turns crew served done all =
     record {
+      among = done.among;
       told = done.told;
       idle = λ none.
           all.overrun ∙ ap (λ n. added_up 0 n) (done.idle none);
@@ -151,8 +158,8 @@ put_together {B} {A} turns crew served done all =
       strays = subst (λ l. IsPermutation l served.strays.items) done.strays all.strays;
     }
 
-pub served_by : {M B A : Type 0} (worked : M → Worked B A) (done : (m : M) → IsDone (worked m)) (crew : List M)
-    (served : Served B A) → IsSummedUp (map worked crew) served → IsServed served
-served_by worked done crew served all =
-    ∥∥₁_map (crew_done worked done crew)
-    (λ found. (found.0, put_together found.0 (map worked crew) served found.1 all))
+pub served_by : {M B A : Type 0} (given : List ℕ) (worked : M → Worked B A) (done : (m : M) → IsDone given (worked m))
+    (crew : List M) (served : Served B A) → IsSummedUp (map worked crew) served → IsServed given served
+served_by given worked done crew served all =
+    ∥∥₁_map (crew_done given worked done crew)
+    (λ found. (found.0, put_together given found.0 (map worked crew) served found.1 all))

@@ -1,22 +1,23 @@
 -- What a worker files, number by number.
-use Rattle.std.proofs.Common.{◌≡◌, ℕ, ◌++◌, List, [], ◌∷◌, Some, false, refl, sym}
+use Rattle.std.proofs.Common.{◌≡◌, ℕ, ◌++◌, List, [], ◌∷◌, Option, Some, false, refl, sym}
 use Rattle.std.proofs.Common.{ap, ◌∙◌, append_assoc, append-nil, subst, arith, Vec}
 use Rattle.std.specs.List.{flat_map}
 use Rattle.std.proofs.lemmas.Grind.{flat_map-append}
-use Rattle.std.proofs.lemmas.List.Elements.{All-pop}
+use Rattle.std.proofs.lemmas.List.Elements.{All-nil, All-push, All-pop}
 use Rattle.air_ledger.specs.Tills.{Holding}
 use Rattle.server_station.specs.Handling.{IsHandled, was_taken}
 use Rattle.server_station.specs.declared.handled.Handled.{Handled}
 use Rattle.server_workers.specs.declared.worked.Worked.{Worked}
 use Rattle.server_workers.specs.Works.{IsLonger}
 use Rattle.server_workers.specs.Working.{IsMore, HasFiled, receipts_of, outcomes_of, skipped_of, refused_of, strays_of}
-use Rattle.server_workers.specs.Turns.{Turns, AreHandled, AreFiled, HasWorked}
+use Rattle.server_workers.specs.Turns.{Turns, IsOneOf, AreHandled, AreFiled, HasWorked}
 
 -- nothing was taken up yet
-pub worked_none : {B A : Type 0} (ids : List ℕ) (w : Worked B A) → HasWorked ids w w
-worked_none ids w = (
+pub worked_none : {B A : Type 0} (known : Option (List ℕ)) (ids : List ℕ) (w : Worked B A) → HasWorked known ids w w
+worked_none {B} {A} known ids w = (
   [],
   record {
+    among = All-nil (λ (t : ℕ × Handled A). IsOneOf known t.0);
     told = refl;
     idle = λ none. refl;
     receipts = sym (append-nil w.receipts.items);
@@ -43,16 +44,17 @@ handed_on ids (t ∷ turns) n turn old mid new so_far h =
     (so_far.0, so_far.1, handed_on ids turns n turn so_far.0 mid new so_far.2 h)
 
 -- one more number was taken up
-pub worked_on : {B A : Type 0} (ids : List ℕ) (n : ℕ) (old mid new : Worked B A) → HasWorked ids old mid
-    → HasFiled ids n mid new → HasWorked ids old new
-worked_on {B} {A} ids n old mid new so_far filed =
+pub worked_on : {B A : Type 0} (known : Option (List ℕ)) (ids : List ℕ) (n : ℕ) (old mid new : Worked B A)
+    → IsOneOf known n → HasWorked known ids old mid → HasFiled ids n mid new → HasWorked known ids old new
+worked_on {B} {A} known ids n old mid new is so_far filed =
     let turns : Turns A = so_far.0 in
-    let all : AreFiled ids turns old mid = so_far.1 in
+    let all : AreFiled known ids turns old mid = so_far.1 in
     let turn : Handled A = filed.0 in
     let t : ℕ × Handled A = (n, turn) in
     let one = filed.1 in (
       turns ++ t ∷ [],
       record {
+        among = All-push (λ (s : ℕ × Handled A). IsOneOf known s.0) turns t all.among is;
         told = handed_on ids turns n turn old.till mid.till new.till all.told one.told;
         idle = λ none.
             let cut = All-pop (λ (s : ℕ × Handled A). was_taken s.1 ≡ false) (turns ++ t ∷ []) turns (Some t) refl none in
@@ -73,6 +75,21 @@ longer_on old mid new a b =
         b.begins.1 ∙ ap (λ l. l ++ b.begins.0) a.begins.1 ∙ append_assoc old.items a.begins.0 b.begins.0,
       );
       fits = b.fits ∙ a.fits;
+    }
+
+longer_none : {X Z : Type 0} (list : Vec X Z) → IsLonger list list
+longer_none list = record { begins = ([], sym (append-nil list.items)); fits = refl }
+
+-- a worker that did nothing
+pub more_none : {B A : Type 0} (w : Worked B A) → IsMore w w
+more_none w =
+    record {
+      receipts = longer_none w.receipts;
+      outcomes = longer_none w.outcomes;
+      skipped = longer_none w.skipped;
+      refused = longer_none w.refused;
+      strays = longer_none w.strays;
+      overrun = omega arith;
     }
 
 -- what a worker has done only grows

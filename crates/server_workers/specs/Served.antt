@@ -1,4 +1,4 @@
-use Rattle.std.specs.Prelude.{ℕ, ◌≡◌, List, [], All}
+use Rattle.std.specs.Prelude.{ℕ, ◌≡◌, List, [], All, Some}
 use Rattle.std.specs.List.{flat_map}
 use Rattle.std.specs.List.Sorted.{IsPermutation}
 use Rattle.air_ledger.specs.Tills.{Holding}
@@ -6,7 +6,7 @@ use Rattle.server_station.specs.Handling.{IsHandled}
 use Rattle.server_station.specs.declared.handled.Handled.{Handled}
 use Rattle.server_workers.specs.declared.served.Served.{Served}
 use Rattle.server_workers.specs.declared.worked.Worked.{Worked}
-use Rattle.server_workers.specs.Turns.{Turns, AreIdle}
+use Rattle.server_workers.specs.Turns.{Turns, AreAmong, AreIdle}
 use Rattle.server_workers.specs.Working.{receipts_of, outcomes_of, skipped_of, refused_of, strays_of}
 
 -- What becomes of the numbers that several workers take up.
@@ -25,9 +25,10 @@ abbrev pub AreTold : {A : Type 0} → Turns A → Type 0
 AreTold {A} turns =
     All (λ (t : ℕ × Handled A). (ids : List ℕ) × (old : Holding) × (new : Holding) × IsHandled ids t.0 old new t.1) turns
 
--- what became of these numbers is all that a worker keeps, in their order; where none of them got a ticket, no try went on at a
--- gate that didn't let it in
-pub record HasDone {B A : Type 0} (turns : Turns A) (worked : Worked B A) : Type 0 where
+-- what became of these, of the given numbers, is all that a worker keeps, in their order; where none of them got a ticket, no try
+-- went on at a gate that didn't let it in
+pub record HasDone {B A : Type 0} (given : List ℕ) (turns : Turns A) (worked : Worked B A) : Type 0 where
+  pub among : AreAmong (Some given) turns
   pub told : AreTold turns
   pub idle : AreIdle turns → worked.overrun ≡ 0
   pub receipts : worked.receipts.items ≡ flat_map (λ (t : ℕ × Handled A). receipts_of t.1) turns
@@ -36,12 +37,13 @@ pub record HasDone {B A : Type 0} (turns : Turns A) (worked : Worked B A) : Type
   pub refused : worked.refused.items ≡ flat_map (λ (t : ℕ × Handled A). refused_of t.0 t.1) turns
   pub strays : worked.strays.items ≡ flat_map (λ (t : ℕ × Handled A). strays_of t.0 t.1) turns
 
--- a worker keeps what became of some numbers, and nothing else
-abbrev pub IsDone : {B A : Type 0} → Worked B A → Type 0
-IsDone {B} {A} worked = ∥ ((turns : Turns A) × HasDone turns worked) ∥₁
+-- a worker keeps what became of some of the given numbers, and nothing else
+abbrev pub IsDone : {B A : Type 0} → List ℕ → Worked B A → Type 0
+IsDone {B} {A} given worked = ∥ ((turns : Turns A) × HasDone given turns worked) ∥₁
 
 -- the same of all workers together, each list in some order
-pub record HaveServed {B A : Type 0} (turns : Turns A) (served : Served B A) : Type 0 where
+pub record HaveServed {B A : Type 0} (given : List ℕ) (turns : Turns A) (served : Served B A) : Type 0 where
+  pub among : AreAmong (Some given) turns
   pub told : AreTold turns
   pub idle : AreIdle turns → served.overrun ≡ 0
   pub receipts : IsPermutation (flat_map (λ (t : ℕ × Handled A). receipts_of t.1) turns) served.receipts.items
@@ -50,6 +52,6 @@ pub record HaveServed {B A : Type 0} (turns : Turns A) (served : Served B A) : T
   pub refused : IsPermutation (flat_map (λ (t : ℕ × Handled A). refused_of t.0 t.1) turns) served.refused.items
   pub strays : IsPermutation (flat_map (λ (t : ℕ × Handled A). strays_of t.0 t.1) turns) served.strays.items
 
--- numbers were taken up, and the lists have what became of them, and nothing else
-abbrev pub IsServed : {B A : Type 0} → Served B A → Type 0
-IsServed {B} {A} served = ∥ ((turns : Turns A) × HaveServed turns served) ∥₁
+-- some of the given numbers were taken up, and the lists have what became of them, and nothing else
+abbrev pub IsServed : {B A : Type 0} → List ℕ → Served B A → Type 0
+IsServed {B} {A} given served = ∥ ((turns : Turns A) × HaveServed given turns served) ∥₁

@@ -1,6 +1,8 @@
-use Rattle.std.specs.Prelude.{ℕ, ◌≡◌, false, List, [], ◌∷◌, ◌++◌, All, IsSomeAnd, ⊤}
+use Rattle.std.specs.Prelude.{ℕ, ◌≡◌, true, false, List, [], ◌∷◌, ◌++◌, All, Option, IsSomeAnd, ⊤}
 use Rattle.std.specs.List.{flat_map}
+use Rattle.std.specs.Option.{ForSome}
 use Rattle.air_ledger.specs.Tills.{Holding}
+use Rattle.server_core.specs.Register.{is_among}
 use Rattle.server_station.specs.Handling.{IsHandled, was_taken}
 use Rattle.server_station.specs.declared.handled.Handled.{Handled}
 use Rattle.server_workers.specs.declared.worked.Stopped.{Stopped}
@@ -9,6 +11,10 @@ use Rattle.server_workers.specs.declared.worked.Worked.{Worked}
 use Rattle.server_workers.specs.Working.{HasRoom, receipts_of, outcomes_of, skipped_of, refused_of, strays_of}
 
 -- What a worker does from when it begins until it stops.
+
+-- the number is one of those that are known, if any are
+abbrev pub IsOneOf : Option (List ℕ) → ℕ → Type 0
+IsOneOf known n = ForSome known (λ numbers. is_among numbers n ≡ true)
 
 -- numbers that were taken up, one after another, and what became of each
 abbrev pub Turns : Type 0 → Type 0
@@ -23,9 +29,15 @@ AreHandled ids (t ∷ turns) old new = (mid : Holding) × IsHandled ids t.0 old 
 abbrev pub AreIdle : {A : Type 0} → Turns A → Type 0
 AreIdle {A} turns = All (λ (t : ℕ × Handled A). was_taken t.1 ≡ false) turns
 
+-- these numbers are among those that are known, if any are
+abbrev pub AreAmong : {A : Type 0} → Option (List ℕ) → Turns A → Type 0
+AreAmong {A} known turns = All (λ (t : ℕ × Handled A). IsOneOf known t.0) turns
+
 -- what became of these numbers stands at the ends of the lists, in their order, and nothing else was added; where none of them
 -- got a ticket, no try went on at a gate that didn't let it in
-pub record AreFiled {B A : Type 0} (ids : List ℕ) (turns : Turns A) (old new : Worked B A) : Type 0 where
+pub record AreFiled {B A : Type 0} (known : Option (List ℕ)) (ids : List ℕ) (turns : Turns A)
+    (old new : Worked B A) : Type 0 where
+  pub among : AreAmong known turns
   pub told : AreHandled ids turns old.till new.till
   pub idle : AreIdle turns → new.overrun ≡ old.overrun
   pub receipts : new.receipts.items ≡ old.receipts.items ++ flat_map (λ (t : ℕ × Handled A). receipts_of t.1) turns
@@ -34,9 +46,10 @@ pub record AreFiled {B A : Type 0} (ids : List ℕ) (turns : Turns A) (old new :
   pub refused : new.refused.items ≡ old.refused.items ++ flat_map (λ (t : ℕ × Handled A). refused_of t.0 t.1) turns
   pub strays : new.strays.items ≡ old.strays.items ++ flat_map (λ (t : ℕ × Handled A). strays_of t.0 t.1) turns
 
--- a worker took up some numbers, at a station of these gateways, and filed what became of each
-abbrev pub HasWorked : {B A : Type 0} → List ℕ → Worked B A → Worked B A → Type 0
-HasWorked {B} {A} ids old new = (turns : Turns A) × AreFiled ids turns old new
+-- a worker took up some numbers, of those that are known if any are, at a station of these gateways, and filed what became of
+-- each
+abbrev pub HasWorked : {B A : Type 0} → Option (List ℕ) → List ℕ → Worked B A → Worked B A → Type 0
+HasWorked {B} {A} known ids old new = (turns : Turns A) × AreFiled known ids turns old new
 
 -- a worker may stop where one more number may not fit, and where the channel told that it is closed and empty
 abbrev pub IsReason : {B A : Type 0} → Worked B A → Stopped → Type 0

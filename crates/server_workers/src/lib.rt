@@ -2,7 +2,6 @@
 //! of `server_station`.
 #![tactic(auto)]
 
-mod counts;
 mod gathering;
 mod lists;
 mod member;

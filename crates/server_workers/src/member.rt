@@ -1,10 +1,12 @@
 // A worker among others.
-ghost use Rattle.std.specs.Prelude.{◌≡◌, true, ℕ, length};
+ghost use Rattle.std.specs.Prelude.{◌≡◌, true, [], Some, List, ℕ, length};
+ghost use Rattle.server_core.specs.Register.{is_among};
 ghost use Rattle.server_workers.specs.Crew.{IsWithin, HasSettledNone, HasDoneItsPart};
 ghost use Rattle.server_workers.specs.Served.{IsIdle, IsDone};
 ghost use Rattle.server_workers.specs.Turns.{HasWorked, HasStopped};
 ghost use Rattle.server_workers.specs.Working.{IsMore};
 
+use crate::turns::Numbered;
 use crate::working::work_on;
 use crate::{Gate, Ledger, Station, Worked};
 use crossbeam_channel::{Receiver, bounded};
@@ -13,13 +15,33 @@ use std::hash::BuildHasher;
 use std::marker::{Brand, PhantomData};
 use std::sync::Wait;
 
-/// How many numbers a crew works at.
+/// The numbers that a crew works at, and how many they are.
 pub(crate) trait Room {
+    ghost numbers: { List ℕ };
+
     ghost room: { ℕ };
 }
 
 impl Room for Brand {
+    ghost numbers = { [] };
+
     ghost room = { 0 };
+}
+
+/// One of the numbers that a crew works at.
+#[derive(Drop)]
+pub(crate) struct Sent<K: Room> {
+    number: u64,
+    crew: PhantomData<K>,
+    ghost among: { is_among K.numbers number ≡ true },
+}
+
+impl<K: Room> Numbered for Sent<K> {
+    ghost numbers = { Some K.numbers };
+
+    fn number(self) -> u64 {
+        self.number
+    }
 }
 
 /// A worker of a crew. Its type keeps that its lists have no more room than the numbers need, that it has settled nothing
@@ -33,13 +55,14 @@ pub(crate) struct Member<K: Room, B: Ledger, A: Allocator> {
     ghost within: { IsWithin K.room worked },
     ghost before: { HasSettledNone has_begun worked },
     ghost after: { HasDoneItsPart has_begun worked },
-    ghost done: { IsDone worked },
+    ghost done: { IsDone K.numbers worked },
 }
 
-/// The numbers that a crew works at, in a channel that is closed. Its type keeps that as many were sent as there are.
+/// The numbers that a crew works at, in a channel that is closed. Its type keeps that as many were sent as there are, and
+/// that each is one of them.
 #[derive(Drop)]
 pub(crate) struct Numbers<K: Room, A: Allocator> {
-    channel: Receiver<u64, A>,
+    channel: Receiver<Sent<K>, A>,
     sent: usize,
     crew: PhantomData<K>,
     ghost all: { sent ≡ K.room },
@@ -48,12 +71,17 @@ pub(crate) struct Numbers<K: Room, A: Allocator> {
 impl<K: Room, A: Allocator + Copy> Numbers<K, A> {
     /// These numbers in a channel that is closed.
     pub(crate) fn new<R: Wait>(rt: &R, alloc: A, numbers: &[u64]) -> Result<Self, AllocError>
-        requires { length numbers.now ≡ K.room }
+        requires all { length numbers.now ≡ K.room }
+        requires given { numbers.now ≡ K.numbers }
     {
         let (sender, channel) = bounded(alloc, numbers.len().max(1))?;
         let mut sent = 0;
         for number in numbers {
-            if sender.send(rt, *number).is_err() {
+            let item = Sent {
+                number: *number,
+                crew: PhantomData,
+            };
+            if sender.send(rt, item).is_err() {
                 return Err(AllocError);
             }
             sent += 1;
@@ -106,7 +134,7 @@ impl<K: Room, B: Ledger, A: Allocator + Copy> Member<K, B, A> {
         gate: &G,
     )
         ensures more { IsMore self.old.worked self.new.worked }
-        ensures turns { HasWorked station.now self.old.worked self.new.worked }
+        ensures turns { HasWorked (Some K.numbers) station.now self.old.worked self.new.worked }
         ensures stopped { HasStopped self.new.worked }
         ensures begun { self.new.has_begun ≡ true }
     {

@@ -59,7 +59,7 @@ where
     requires { 16 < till.parts }
     ensures till { IfOk result (λ served. served.till
         ≡ record till { amount = till.amount + outcomes_airtime served.outcomes.items }) }
-    ensures turns { IfOk result (λ served. IsServed served) }
+    ensures turns { IfOk result (λ served. IsServed numbers.now served) }
     ensures sorted { IfOk result (λ served. IsSortedByNumber served) }
     ensures ran { IfOk result (λ served. (1 ≤ served.ran) × (served.ran ≤ workers)) }
     ensures asked { IfOk result (λ served. WereAsked workers served.counts) }
@@ -102,10 +102,11 @@ fn serve_by<
 where
     S::Hasher: Send + Sync,
     requires crew { (length numbers.now ≡ K.room) × (0 < workers) × (workers ≤ 16) }
+    requires given { numbers.now ≡ K.numbers }
     requires parts { 16 < till.parts }
     ensures till { IfOk result (λ served. served.till
         ≡ record till { amount = till.amount + outcomes_airtime served.outcomes.items }) }
-    ensures turns { IfOk result (λ served. IsServed served) }
+    ensures turns { IfOk result (λ served. IsServed numbers.now served) }
     ensures sorted { IfOk result (λ served. IsSortedByNumber served) }
     ensures ran { IfOk result (λ served. (1 ≤ served.ran) × (served.ran ≤ workers)) }
     ensures asked { IfOk result (λ served. WereAsked workers served.counts) }
@@ -141,7 +142,7 @@ where
     requires parts { 16 < till.parts }
     ensures till { IfOk result (λ served. served.till
         ≡ record till { amount = till.amount + outcomes_airtime served.outcomes.items }) }
-    ensures turns { IfOk result (λ served. IsServed served) }
+    ensures turns { IfOk result (λ served. IsServed K.numbers served) }
     ensures sorted { IfOk result (λ served. IsSortedByNumber served) }
     ensures ran { IfOk outfit (λ o. IfOk result (λ served. (1 ≤ served.ran) × (served.ran ≤ vec_len o.lists))) }
     ensures asked { IfOk outfit (λ o. IfOk result (λ served. WereAsked (vec_len o.lists) served.counts)) }
@@ -168,6 +169,7 @@ fn fitted_out<K: Room, R: Wait, B: Ledger, A: Allocator + Copy>(
 ) -> Result<Outfit<K, B, A>, AllocError>
     requires few { workers ≤ 16 }
     requires all { length numbers.now ≡ K.room }
+    requires given { numbers.now ≡ K.numbers }
     ensures lists { IfOk result (λ outfit. All (λ own. AreEmptyFor (length numbers.now) own) outfit.lists.items) }
     ensures count { IfOk result (λ outfit. vec_len outfit.lists ≡ workers) }
     ensures nobody { IfOk result (λ outfit. vec_len outfit.crew ≡ 0) }

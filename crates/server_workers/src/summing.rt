@@ -2,18 +2,52 @@
 ghost use Rattle.std.specs.Prelude.{◌≡◌, ◌+◌, ◌*◌, ◌≤◌, IfOk, IfErr, map, vec_len};
 ghost use Rattle.air_ledger.specs.Tills.{all_parts};
 ghost use Rattle.server_workers.specs.Works.{outcomes_airtime};
-ghost use Rattle.server_workers.specs.Counts.{WereAsked};
+ghost use Rattle.server_workers.specs.Counts.{IsCountOf, WereAsked};
 ghost use Rattle.server_workers.specs.EmptyLists.{AreEmptyFor};
 ghost use Rattle.server_workers.specs.Served.{IsServed};
 ghost use Rattle.server_workers.specs.Serving.{HasRoomFor, IsGatheredFrom, IsSummedUp, IsSortedByNumber, begun_count};
 
-use crate::counts::Counts;
 use crate::lists::Lists;
 use crate::member::{Member, Room};
 use crate::served::{ServeCause, ServeFault, Served};
 use crate::serving::fault;
 use crate::{Ledger, Till};
 use std::alloc::Allocator;
+
+/// How many workers a crew has, how many of them began, how many items their lists have together, and how many tries went on
+/// at a gate that didn't let them in. It is made only in this file, by counting them where the lists are put together.
+#[derive(Clone, Copy)]
+pub(crate) struct Counts {
+    hired: usize,
+    begun: u8,
+    receipts: usize,
+    outcomes: usize,
+    skipped: usize,
+    refused: usize,
+    strays: usize,
+    overrun: u64,
+}
+
+impl Counts {
+    /// Counts what a crew of so many workers did.
+    fn of<B: Ledger, A: Allocator>(hired: usize, served: &Served<B, A>) -> Self
+        ensures hired { result.hired ≡ hired }
+        ensures counted { IsCountOf result (vec_len served.now.receipts) (vec_len served.now.outcomes)
+            (vec_len served.now.skipped) (vec_len served.now.refused) (vec_len served.now.strays) served.now.overrun
+            served.now.ran }
+    {
+        Counts {
+            hired,
+            begun: served.ran,
+            receipts: served.receipts.len(),
+            outcomes: served.outcomes.len(),
+            skipped: served.skipped.len(),
+            refused: served.refused.len(),
+            strays: served.strays.len(),
+            overrun: served.overrun,
+        }
+    }
+}
 
 /// What a crew did, or the fault of one of which nobody was started.
 pub(crate) fn summed_up<K: Room, B: Ledger, A: Allocator>(
@@ -32,7 +66,7 @@ pub(crate) fn summed_up<K: Room, B: Ledger, A: Allocator>(
     ensures nobody { IfErr result (λ fault. fault.cause ≡ ServeCause.NoThread) }
     ensures none_began { IfErr result (λ _. begun_count (map (λ m. m.has_begun) crew.items) ≡ 0) }
     ensures all { IfOk result (IsSummedUp (map (λ m. m.worked) crew.items)) }
-    ensures turns { IfOk result (λ served. IsServed served) }
+    ensures turns { IfOk result (λ served. IsServed K.numbers served) }
     ensures asked { IfOk result (λ served. WereAsked (vec_len crew) served.counts) }
     ensures begun { IfOk result (λ served. served.ran ≡ begun_count (map (λ m. m.has_begun) crew.items)) }
 {

@@ -1,6 +1,7 @@
 // Each number that a channel gives is answered once, and what becomes of it is filed.
-ghost use Rattle.std.specs.Prelude.{◌≡◌, ◌≤◌, false};
+ghost use Rattle.std.specs.Prelude.{◌≡◌, ◌≤◌, false, None, IfOk};
 ghost use Rattle.server_station.specs.Handling.{IsHandled, was_taken};
+ghost use Rattle.server_workers.specs.Turns.{IsOneOf};
 ghost use Rattle.server_workers.specs.Works.{IsOpen, HasMore};
 ghost use Rattle.server_workers.specs.Working.{items_of, receipts_of, outcomes_of, skipped_of, refused_of, strays_of};
 
@@ -11,6 +12,25 @@ use server_core::TakeFault;
 use std::alloc::Allocator;
 use std::hash::BuildHasher;
 use std::sync::Wait;
+
+/// A number in a channel, and of which numbers it is one, where these are known.
+pub(crate) trait Numbered: Drop {
+    ghost use Rattle.std.specs.Prelude.{ℕ, List, Option};
+
+    ghost numbers: { Option (List ℕ) };
+
+    /// The number.
+    fn number(self) -> u64
+        ensures { IsOneOf Self.numbers result };
+}
+
+impl Numbered for u64 {
+    ghost numbers = { None };
+
+    fn number(self) -> u64 {
+        self
+    }
+}
 
 /// A number that a channel gave, and that is still to be answered: it can't be dropped, and is made nowhere else.
 pub(crate) struct Given {
@@ -30,12 +50,16 @@ pub(crate) struct Turn<A: Allocator> {
 }
 
 /// The next number of a channel, for which it waits.
-pub(crate) fn next_of<R: Wait, A: Allocator>(
+pub(crate) fn next_of<R: Wait, N: Numbered, A: Allocator>(
     rt: &R,
-    numbers: &Receiver<u64, A>,
-) -> Result<Given, Drained> {
+    numbers: &Receiver<N, A>,
+) -> Result<Given, Drained>
+    ensures { IfOk result (λ given. IsOneOf N.numbers given.number) }
+{
     match numbers.recv(rt) {
-        Ok(number) => Ok(Given { number }),
+        Ok(item) => Ok(Given {
+            number: item.number(),
+        }),
         Err(_) => Err(Drained { told: () }),
     }
 }

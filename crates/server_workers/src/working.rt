@@ -1,11 +1,11 @@
 // A worker takes, tries and settles one number after another.
-ghost use Rattle.std.specs.Prelude.{◌≡◌, ◌+◌, ◌↔◌, ◌++◌, List, IsTrue};
+ghost use Rattle.std.specs.Prelude.{◌≡◌, ◌+◌, ◌↔◌, ◌++◌, List, None, IsTrue};
 ghost use Rattle.answer_ticket.specs.declared.outcome.Outcome.{Outcome as Ends};
 ghost use Rattle.server_workers.specs.Works.{IsOpen, outcomes_airtime};
 ghost use Rattle.server_workers.specs.Working.{HasFiled, HasRoom, IsMore};
 ghost use Rattle.server_workers.specs.Turns.{HasWorked, HasStopped};
 
-use crate::turns::{Given, next_of};
+use crate::turns::{Given, Numbered, next_of};
 use crate::worked::Stopped;
 use crate::{Gate, Ledger, Station, Worked};
 use crossbeam_channel::Receiver;
@@ -26,7 +26,7 @@ pub fn work<R: Wait, B: Ledger, S: BuildHasher, A: Allocator + Copy, G: Gate>(
     ensures more { IsMore worked result }
     ensures till { (more : List Ends) × (result.outcomes.items ≡ worked.outcomes.items ++ more)
         × (result.till ≡ record worked.till { amount = worked.till.amount + outcomes_airtime more }) }
-    ensures turns { HasWorked station.now worked result }
+    ensures turns { HasWorked None station.now worked result }
     ensures stopped { HasStopped result }
 {
     let mut worked = worked;
@@ -35,16 +35,16 @@ pub fn work<R: Wait, B: Ledger, S: BuildHasher, A: Allocator + Copy, G: Gate>(
 }
 
 /// The same, in place.
-#[tactic(auto, using(crate::proofs::TurnLemmas::worked_none))]
-pub(crate) fn work_on<R: Wait, B: Ledger, S: BuildHasher, A: Allocator + Copy, G: Gate>(
-    rt: &R,
-    station: &Station<B, S, A>,
-    numbers: &Receiver<u64, A>,
-    gate: &G,
-    worked: &mut Worked<B, A>,
-)
+pub(crate) fn work_on<
+    R: Wait,
+    N: Numbered,
+    B: Ledger,
+    S: BuildHasher,
+    A: Allocator + Copy,
+    G: Gate,
+>(rt: &R, station: &Station<B, S, A>, numbers: &Receiver<N, A>, gate: &G, worked: &mut Worked<B, A>)
     ensures more { IsMore worked.old worked.new }
-    ensures turns { HasWorked station.now worked.old worked.new }
+    ensures turns { HasWorked N.numbers station.now worked.old worked.new }
     ensures stopped { HasStopped worked.new }
 {
     for _ in rt.forever() {

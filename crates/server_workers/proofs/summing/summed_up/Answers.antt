@@ -21,4 +21,4 @@ returns-clause-all g c =
 
 pub returns-clause-turns : goal.returns-clause-turns
 returns-clause-turns g c =
-    served_by (λ m. m.worked) (λ m. m.done) c.args.crew.items _ (returns-clause-all g c)
+    served_by g.K.Room.numbers (λ m. m.worked) (λ m. m.done) c.args.crew.items _ (returns-clause-all g c)

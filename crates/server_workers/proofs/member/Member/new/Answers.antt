@@ -5,4 +5,4 @@ pub invariant_of-result-clause-before : goal.invariant_of-result-clause-before
 invariant_of-result-clause-before g c = λ begun. c.requires.none.outcomes
 
 pub invariant_of-result-clause-done : goal.invariant_of-result-clause-done
-invariant_of-result-clause-done g c = done_none c.args.worked c.requires.none
+invariant_of-result-clause-done g c = done_none g.K.Room.numbers c.args.worked c.requires.none
