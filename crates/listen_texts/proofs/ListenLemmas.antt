@@ -11,16 +11,14 @@ use Rattle.text_words.specs.Words.{has_refusal}
 use Rattle.server_desk.specs.declared.setting.DeviceSetting.{DeviceSetting}
 use Rattle.server_core.specs.declared.entry.Entry.{Entry}
 use Rattle.server_core.specs.declared.event.Event.{Event}
-use Rattle.run_lines.specs.declared.datagram.TheConstants.{DATAGRAM_ROOM}
 use Rattle.run_lines.specs.Datagram.{datagram_event}
 use Rattle.run_lines.specs.ReplayText.{entry_lines}
 use Rattle.run_texts.specs.WorkersRun.{run_state, IsDone}
 use Rattle.run_lines.specs.declared.tally.Tally.{Tally}
 use Rattle.run_lines.specs.Tally.{tally_of, tally_sum, tally_of-append, IsTallyUpTo}
 use Rattle.std.proofs.Math.Bool.{or-false}
-use Rattle.run_texts.specs.declared.receipts.Booking.{Booking}
-use Rattle.listen_texts.specs.Receives.{Received, Seen, AreMade}
-use Rattle.listen_texts.specs.Turns.{Said, nothing, said_both, HasAnswer, IsAnswered, IsTurn, AreTurns}
+use Rattle.listen_texts.specs.Receives.{datagram_room, Received, Seen, AreMade}
+use Rattle.listen_texts.specs.Turns.{Account, empty_account, Said, nothing, said_both, HasAnswer, IsAnswered, IsTurn, AreTurns}
 use Rattle.listen_texts.specs.Listening.{IsReport, Hears, HearsInPart, SaysInPart, ReportsInPart}
 use Rattle.listen_texts.specs.Steps.{Progress, opened, HasSaid, Says, Turns, TurnsInPart, Reports}
 use Rattle.listen_texts.proofs.SourceLemmas.{made_none, made_more}
@@ -30,9 +28,9 @@ use Rattle.listen_texts.proofs.SaidLemmas.{turns_more, appends_both, refused_bot
 pub record HasListened (ids : List ℕ) (devices : List DeviceSetting) (turns : ℕ) (seen seen_now : Seen) (now : Progress)
     (before after : Option (List ℕ)) : Type 0 where
   pub received : List Received
-  pub made : AreMade DATAGRAM_ROOM turns seen seen_now received
+  pub made : AreMade datagram_room turns seen seen_now received
   pub said : Said
-  pub turned : AreTurns ids devices 1 received [] now.bookings said
+  pub turned : AreTurns ids devices 1 received empty_account now.account said
   pub tally : now.tally ≡ tally_of said.entries
   pub small : IsTallyUpTo (turns * 2 ^ 64) now.tally
   pub refused : now.refused ≡ has_refusal said.lines
@@ -43,7 +41,7 @@ pub listened_none : (ids : List ℕ) (devices : List DeviceSetting) (seen : Seen
 listened_none ids devices seen a =
     record {
       received = [];
-      made = made_none DATAGRAM_ROOM seen;
+      made = made_none datagram_room seen;
       said = nothing;
       turned = (refl, refl);
       tally = refl;
@@ -75,23 +73,23 @@ small_more turns t u v a b e =
 module _ (ids : List ℕ) (devices : List DeviceSetting) (turns : ℕ) (s0 s1 : Seen) (t : Progress) (a b : Option (List ℕ))
     (so_far : HasListened ids devices turns s0 s1 t a b) where
   -- what is said in one turn more
-  next_turns : (r : Received) (bookings : List Booking) (more : Said) → IsTurn ids devices (turns + 1) r t.bookings bookings more
-      → AreTurns ids devices 1 (so_far.received ++ r ∷ []) [] bookings (said_both so_far.said more)
-  next_turns r bookings more turn =
-      turns_more ids devices 1 so_far.received r [] t.bookings bookings so_far.said more so_far.turned
-      (subst (λ n. IsTurn ids devices n r t.bookings bookings more) (omega (arith, so_far.made.number)) turn)
+  next_turns : (r : Received) (account : Account) (more : Said) → IsTurn ids devices (turns + 1) r t.account account more
+      → AreTurns ids devices 1 (so_far.received ++ r ∷ []) empty_account account (said_both so_far.said more)
+  next_turns r account more turn =
+      turns_more ids devices 1 so_far.received r empty_account t.account account so_far.said more so_far.turned
+      (subst (λ n. IsTurn ids devices n r t.account account more) (omega (arith, so_far.made.number)) turn)
 
   -- one turn more
   pub listened_more : (s2 : Seen) (u : Progress) (c : Option (List ℕ))
-      → Turns (λ r. IsTurn ids devices (turns + 1) r t.bookings) s1 s2 t u b c → HasListened ids devices (turns + 1) s0 s2 u a c
+      → Turns (λ r. IsTurn ids devices (turns + 1) r t.account) s1 s2 t u b c → HasListened ids devices (turns + 1) s0 s2 u a c
   listened_more s2 u c turned =
       let more : Said = turned.2.0 in
       let step = turned.2.2 in
       record {
         received = so_far.received ++ turned.0 ∷ [];
-        made = made_more DATAGRAM_ROOM turns s0 s1 s2 so_far.received turned.0 so_far.made turned.1;
+        made = made_more datagram_room turns s0 s1 s2 so_far.received turned.0 so_far.made turned.1;
         said = said_both so_far.said more;
-        turned = next_turns turned.0 u.bookings more turned.2.1;
+        turned = next_turns turned.0 u.account more turned.2.1;
         tally = step.tally ∙ ap (λ k. tally_sum k (tally_of more.entries)) so_far.tally
             ∙ tally_of-append so_far.said.entries more.entries;
         small = small_more turns t.tally (tally_of more.entries) u.tally so_far.small step.small step.tally;
@@ -107,11 +105,11 @@ module _ (ids : List ℕ) (devices : List DeviceSetting) (turns : ℕ) (s0 s1 : 
         so_far.received,
         so_far.made,
         record {
-          bookings = t.bookings;
+          account = t.account;
           said = so_far.said;
           report = report;
           turns = so_far.turned;
-          reported = subst (λ k. IsReport ids t.bookings k report) so_far.tally reports.1;
+          reported = subst (λ k. IsReport ids t.account k report) so_far.tally reports.1;
           written = appends_both a b c so_far.said.lines report so_far.written reports.3;
           told = refused_both so_far.said.lines report t.refused refused so_far.refused
               (same ∙ sym (or-false t.refused) ∙ ap (λ k. t.refused || k) (sym reports.2));
@@ -120,22 +118,22 @@ module _ (ids : List ℕ) (devices : List DeviceSetting) (turns : ℕ) (s0 s1 : 
 
   -- all turns, and the report in part
   pub listened_all_in_part : (c : Option (List ℕ)) (fault : TextFault)
-      → ReportsInPart ids t.bookings t.tally b c fault → HearsInPart turns ids devices s0 s1 a c fault
+      → ReportsInPart ids t.account t.tally b c fault → HearsInPart turns ids devices s0 s1 a c fault
   listened_all_in_part c fault stopped =
       inr (record {
         received = so_far.received;
         made = so_far.made;
-        bookings = t.bookings;
+        account = t.account;
         said = so_far.said;
         turned = so_far.turned;
         between = b;
         written = so_far.written;
-        stopped = subst (λ k. ReportsInPart ids t.bookings k b c fault) so_far.tally stopped;
+        stopped = subst (λ k. ReportsInPart ids t.account k b c fault) so_far.tally stopped;
       })
 
   -- one turn more in part, of so many that are left
   pub listened_more_in_part : (most : ℕ) (s2 : Seen) (c : Option (List ℕ)) (fault : TextFault) → turns < most
-      → TurnsInPart (HasAnswer devices (turns + 1)) (λ r. IsTurn ids devices (turns + 1) r t.bookings) s1 s2 b c fault
+      → TurnsInPart (HasAnswer devices (turns + 1)) (λ r. IsTurn ids devices (turns + 1) r t.account) s1 s2 b c fault
       → HearsInPart most ids devices s0 s2 a c fault
   listened_more_in_part most s2 c fault less stopped =
       inl (record {
@@ -143,10 +141,10 @@ module _ (ids : List ℕ) (devices : List DeviceSetting) (turns : ℕ) (s0 s1 : 
         within = omega arith;
         received = so_far.received;
         last = stopped.0;
-        made = made_more DATAGRAM_ROOM turns s0 s1 s2 so_far.received stopped.0 so_far.made stopped.1;
+        made = made_more datagram_room turns s0 s1 s2 so_far.received stopped.0 so_far.made stopped.1;
         given = stopped.2;
         answered = stopped.3;
-        bookings = t.bookings;
+        account = t.account;
         said = so_far.said;
         turned = so_far.turned;
         between = b;
@@ -161,10 +159,10 @@ module _ (ids : List ℕ) (devices : List DeviceSetting) (turns : ℕ) (s0 s1 : 
   listened_closed same c (Err fault) e told reports = tt
 
   pub listened_closed_in_part : (same : List ℕ) (c : Option (List ℕ)) (r : Result Bool TextFault) → same ≡ ids
-      → IfErr r (ReportsInPart same t.bookings t.tally b c) → IfErr r (HearsInPart turns ids devices s0 s1 a c)
+      → IfErr r (ReportsInPart same t.account t.tally b c) → IfErr r (HearsInPart turns ids devices s0 s1 a c)
   listened_closed_in_part same c (Ok refused) e reports = tt
   listened_closed_in_part same c (Err fault) e reports =
-      listened_all_in_part c fault (subst (λ l. ReportsInPart l t.bookings t.tally b c fault) e reports)
+      listened_all_in_part c fault (subst (λ l. ReportsInPart l t.account t.tally b c fault) e reports)
 
 abbrev tally_at : ℕ → ℕ → ℕ → Tally
 tally_at sent unanswered silent = record { sent = sent; unanswered = unanswered; silent = silent }
@@ -190,29 +188,29 @@ said_nothing s a =
 -- where nothing is asked for
 pub nothing_asked : (ids : List ℕ) (devices : List DeviceSetting) (turn : ℕ) (datagram : List ℕ)
     (event : Option (Event Global)) (s : Progress) (a : Option (List ℕ)) → event ≡ datagram_event devices turn datagram
-    → event ≡ None → Says (IsTurn ids devices turn (Some datagram) s.bookings) s s a a
+    → event ≡ None → Says (IsTurn ids devices turn (Some datagram) s.account) s s a a
 nothing_asked ids devices turn datagram event s a asked none = (
   nothing,
-  subst (λ e. IsAnswered ids turn e s.bookings s.bookings nothing) (sym none ∙ asked) (refl, refl),
+  subst (λ e. IsAnswered ids turn e s.account s.account nothing) (sym none ∙ asked) (refl, refl),
   said_nothing s a,
 )
 
 -- what is said in part to the event that a datagram asks for
 pub asked_in_part : {X : Type 0} (ids : List ℕ) (devices : List DeviceSetting) (turn : ℕ) (datagram : List ℕ)
-    (asked : Option (Event Global)) (event : Event Global) (bookings : List Booking) (a b : Option (List ℕ))
+    (asked : Option (Event Global)) (event : Event Global) (account : Account) (a b : Option (List ℕ))
     (r : Result X TextFault) → asked ≡ datagram_event devices turn datagram → asked ≡ Some event
-    → IfErr r (SaysInPart (IsAnswered ids turn (Some event) bookings) a b)
-    → IfErr r (SaysInPart (IsTurn ids devices turn (Some datagram) bookings) a b)
-asked_in_part ids devices turn datagram asked event bookings a b r is some h =
-    subst (λ e. IfErr r (SaysInPart (IsAnswered ids turn e bookings) a b)) (sym some ∙ is) h
+    → IfErr r (SaysInPart (IsAnswered ids turn (Some event) account) a b)
+    → IfErr r (SaysInPart (IsTurn ids devices turn (Some datagram) account) a b)
+asked_in_part ids devices turn datagram asked event account a b r is some h =
+    subst (λ e. IfErr r (SaysInPart (IsAnswered ids turn e account) a b)) (sym some ∙ is) h
 
 -- an event was answered by the lines that were told for it
-pub answered_by : (ids : List ℕ) (turn : ℕ) (event : Event Global) (old new : List Booking)
+pub answered_by : (ids : List ℕ) (turn : ℕ) (event : Event Global) (old new : Account)
     (before told taken : List (Entry Global)) → before ≡ []
-    → IsDone ids turn event (run_state old before) (run_state new told) → taken ≡ told
+    → IsDone ids turn event (run_state old.till old.bookings before) (run_state new.till new.bookings told) → taken ≡ told
     → IsAnswered ids turn (Some event) old new (record { entries = taken; lines = entry_lines taken })
 answered_by ids turn event old new before told taken none done same = (
-  subst (λ l. IsDone ids turn event (run_state old []) (run_state new l)) (sym same)
-      (subst (λ l. IsDone ids turn event (run_state old l) (run_state new told)) none done),
+  subst (λ l. IsDone ids turn event (run_state old.till old.bookings []) (run_state new.till new.bookings l)) (sym same)
+      (subst (λ l. IsDone ids turn event (run_state old.till old.bookings l) (run_state new.till new.bookings told)) none done),
   refl,
 )

@@ -10,9 +10,8 @@ use Rattle.text_lines.specs.Writing.{WritesAllBut-from_all, WritesAllBut-more, A
 use Rattle.text_words.specs.Words.{is_refusal, has_refusal}
 use Rattle.server_desk.specs.declared.setting.DeviceSetting.{DeviceSetting}
 use Rattle.server_core.specs.declared.entry.Entry.{Entry}
-use Rattle.run_texts.specs.declared.receipts.Booking.{Booking}
 use Rattle.listen_texts.specs.Receives.{Received}
-use Rattle.listen_texts.specs.Turns.{Said, nothing, said_both, IsTurn, AreTurns}
+use Rattle.listen_texts.specs.Turns.{Account, Said, nothing, said_both, IsTurn, AreTurns}
 
 abbrev said_of : List (Entry Global) → List (List ℕ) → Said
 said_of entries lines = record { entries = entries; lines = lines }
@@ -30,7 +29,7 @@ said_three a b c =
 
 -- some turns, and one more
 pub turns_more : (ids : List ℕ) (devices : List DeviceSetting) (turn : ℕ) (rs : List Received) (r : Received)
-    (old mid new : List Booking) (said more : Said) → AreTurns ids devices turn rs old mid said
+    (old mid new : Account) (said more : Said) → AreTurns ids devices turn rs old mid said
     → IsTurn ids devices (turn + length rs) r mid new more
     → AreTurns ids devices turn (rs ++ r ∷ []) old new (said_both said more)
 turns_more ids devices turn [] r old mid new said more none last = (

@@ -4,6 +4,7 @@ use Rattle.text_lines.specs.Line.{text_of}
 use Rattle.text_lines.specs.Writing.{WritesFront}
 use Rattle.gateway_book.specs.Book.{Book}
 use Rattle.gateway_book.specs.declared.totals.Totals.{Totals}
+use Rattle.book_audit.specs.Audit.{booked_by}
 use Rattle.server_desk.specs.declared.setting.DeviceSetting.{DeviceSetting}
 use Rattle.server_core.specs.Settings.{SettingLists}
 use Rattle.server_core.specs.Entries.{gateway_of}
@@ -14,40 +15,39 @@ use Rattle.text_words.specs.Words.{has_refusal}
 use Rattle.run_lines.specs.declared.tally.Tally.{Tally}
 use Rattle.run_lines.specs.Tally.{tally_of}
 use Rattle.run_lines.specs.ReplayText.{report_of}
-use Rattle.run_lines.specs.declared.datagram.TheConstants.{DATAGRAM_ROOM}
-use Rattle.run_texts.specs.declared.receipts.Booking.{Booking}
 use Rattle.run_texts.specs.Bookings.{open_receipts}
 use Rattle.run_texts.specs.RunOutput.{IsFinishName}
 use Rattle.run_texts.specs.WorkersRun.{IsClosing, IsClosingFault}
-use Rattle.listen_texts.specs.Receives.{Received, Seen, AreMade}
-use Rattle.listen_texts.specs.Turns.{Said, HasAnswer, IsTurn, AreTurns}
+use Rattle.listen_texts.specs.Receives.{datagram_room, Received, Seen, AreMade}
+use Rattle.listen_texts.specs.Turns.{Account, Said, empty_account, HasAnswer, IsTurn, AreTurns}
 
 -- What a server that listens writes: its answers, turn by turn, and a report (docs/FORMATS.md, "airbook listen").
 
--- the report of just the books that a station of these gateways was closed with, after so much was booked, and of how many
--- uplinks were answered
-pub record IsReport (ids : List ℕ) (bookings : List Booking) (tally : Tally) (report : List (List ℕ)) : Type 0 where
+-- the report of just the books that a station of these gateways was closed with, after so much was settled and booked, and of
+-- how many uplinks were answered
+pub record IsReport (ids : List ℕ) (account : Account) (tally : Tally) (report : List (List ℕ)) : Type 0 where
   pub totals : List (ℕ × Totals)
   pub books : List Book
-  pub closing : IsClosing ids (open_receipts bookings) totals books
+  pub closing : IsClosing ids (open_receipts account.bookings) totals books
+  pub booked : booked_by books ≡ account.till.amount
   pub lines : report ≡ report_of tally (map gateway_of books)
 
 -- at a station of these gateways, with these devices, the writer took the answers to what was received, turn by turn, and the
 -- report; `refused` says whether a line of them begins with `no` or `bad`
 pub record IsHeard (ids : List ℕ) (devices : List DeviceSetting) (received : List Received) (before after : Option (List ℕ))
     (refused : Bool) : Type 0 where
-  pub bookings : List Booking
+  pub account : Account
   pub said : Said
   pub report : List (List ℕ)
-  pub turns : AreTurns ids devices 1 received [] bookings said
-  pub reported : IsReport ids bookings (tally_of said.entries) report
+  pub turns : AreTurns ids devices 1 received empty_account account said
+  pub reported : IsReport ids account (tally_of said.entries) report
   pub written : Appends before after (text_of (said.lines ++ report))
   pub told : refused ≡ has_refusal (said.lines ++ report)
 
 -- just so many receives were made, each with the room for a datagram, and answered so
 abbrev pub Hears : ℕ → List ℕ → List DeviceSetting → Seen → Seen → Option (List ℕ) → Option (List ℕ) → Bool → Type 0
 Hears turns ids devices old new before after refused =
-    (received : List Received) × AreMade DATAGRAM_ROOM turns old new received × IsHeard ids devices received before after refused
+    (received : List Received) × AreMade datagram_room turns old new received × IsHeard ids devices received before after refused
 
 -- at a server with these settings
 abbrev pub Listens : ℕ → SettingLists → Seen → Seen → Option (List ℕ) → Option (List ℕ) → Bool → Type 0
@@ -56,21 +56,21 @@ Listens turns settings old new before after refused =
 
 -- what was written of what is to be said so, by the fault: a front of it where a call of the writer failed, and nothing where a
 -- growth was refused
-abbrev pub SaysInPart : (List Booking → Said → Type 0) → Option (List ℕ) → Option (List ℕ) → TextFault → Type 0
+abbrev pub SaysInPart : (Account → Said → Type 0) → Option (List ℕ) → Option (List ℕ) → TextFault → Type 0
 SaysInPart IsSaid before after Write =
-    (bookings : List Booking) × (said : Said) × IsSaid bookings said × WritesFront before after (text_of said.lines)
+    (account : Account) × (said : Said) × IsSaid account said × WritesFront before after (text_of said.lines)
 SaysInPart IsSaid before after NoMemory = after ≡ before
 SaysInPart IsSaid before after other = ⊥
 
 -- what was written of the report: a front of it where a call of the writer failed, and nothing where a growth was refused, or
 -- where the books don't go with what was booked, as the fault's name says
-abbrev pub ReportsInPart : List ℕ → List Booking → Tally → Option (List ℕ) → Option (List ℕ) → TextFault → Type 0
-ReportsInPart ids bookings tally before after Write =
-    (report : List (List ℕ)) × IsReport ids bookings tally report × WritesFront before after (text_of report)
-ReportsInPart ids bookings tally before after NoMemory = after ≡ before
-ReportsInPart ids bookings tally before after (Settings name) =
-    (after ≡ before) × IsClosingFault ids (open_receipts bookings) (Settings name)
-ReportsInPart ids bookings tally before after other = ⊥
+abbrev pub ReportsInPart : List ℕ → Account → Tally → Option (List ℕ) → Option (List ℕ) → TextFault → Type 0
+ReportsInPart ids account tally before after Write =
+    (report : List (List ℕ)) × IsReport ids account tally report × WritesFront before after (text_of report)
+ReportsInPart ids account tally before after NoMemory = after ≡ before
+ReportsInPart ids account tally before after (Settings name) =
+    (after ≡ before) × IsClosingFault ids (open_receipts account.bookings) (Settings name)
+ReportsInPart ids account tally before after other = ⊥
 
 -- a server with these gateways and devices stopped in one of so many turns: all answers of the turns before were written, and its
 -- own in part; what it received then has an answer, and a growth was refused only where it is a datagram
@@ -80,27 +80,27 @@ pub record StopsInTurn (turns : ℕ) (ids : List ℕ) (devices : List DeviceSett
   pub within : turn ≤ turns
   pub received : List Received
   pub last : Received
-  pub made : AreMade DATAGRAM_ROOM turn old new (received ++ last ∷ [])
+  pub made : AreMade datagram_room turn old new (received ++ last ∷ [])
   pub given : fault ≡ NoMemory → IsSome last
   pub answered : HasAnswer devices turn last
-  pub bookings : List Booking
+  pub account : Account
   pub said : Said
-  pub turned : AreTurns ids devices 1 received [] bookings said
+  pub turned : AreTurns ids devices 1 received empty_account account said
   pub between : Option (List ℕ)
   pub written : Appends before between (text_of said.lines)
-  pub stopped : SaysInPart (IsTurn ids devices turn last bookings) between after fault
+  pub stopped : SaysInPart (IsTurn ids devices turn last account) between after fault
 
 -- it stopped after just so many turns, at a station of these gateways: all answers were written, and the report in part
 pub record StopsAtReport (turns : ℕ) (ids : List ℕ) (devices : List DeviceSetting) (old new : Seen)
     (before after : Option (List ℕ)) (fault : TextFault) : Type 0 where
   pub received : List Received
-  pub made : AreMade DATAGRAM_ROOM turns old new received
-  pub bookings : List Booking
+  pub made : AreMade datagram_room turns old new received
+  pub account : Account
   pub said : Said
-  pub turned : AreTurns ids devices 1 received [] bookings said
+  pub turned : AreTurns ids devices 1 received empty_account account said
   pub between : Option (List ℕ)
   pub written : Appends before between (text_of said.lines)
-  pub stopped : ReportsInPart ids bookings (tally_of said.entries) between after fault
+  pub stopped : ReportsInPart ids account (tally_of said.entries) between after fault
 
 -- it stopped in a turn or after all of them
 abbrev pub HearsInPart : ℕ → List ℕ → List DeviceSetting → Seen → Seen → Option (List ℕ) → Option (List ℕ) → TextFault → Type 0

@@ -4,7 +4,7 @@ ghost use Rattle.text_words.specs.Fault.{CountsWrites};
 ghost use Rattle.server_station.specs.Stations.{AreInOrder};
 ghost use Rattle.run_lines.specs.Tally.{IsTallyUpTo};
 ghost use Rattle.run_texts.specs.PassAnswers.{IsStaffed};
-ghost use Rattle.listen_texts.specs.Turns.{HasAnswer, IsAnswered, IsTurn};
+ghost use Rattle.listen_texts.specs.Turns.{account_of, HasAnswer, IsAnswered, IsTurn};
 ghost use Rattle.listen_texts.specs.Listening.{Hears, HearsInPart, SaysInPart, ReportsInPart, IsWithinLimit, IsListenFault};
 ghost use Rattle.listen_texts.specs.Steps.{progress, opened, Says, Turns, TurnsInPart, Reports};
 
@@ -45,7 +45,9 @@ impl<B: Ledger, H: BuildHasher + Clone + Drop> Listener<B, H> {
         requires all { blank.parts ≡ PARTS }
         requires staffed { IsStaffed workers }
         ensures gateways { IfOk result (λ l. AreInOrder settings.now.gateways l.shift.station) }
-        ensures opened { IfOk result (λ l. progress l.shift.receipts.bookings.items l.tally l.refused ≡ opened) }
+        ensures workers { IfOk result (λ l. l.shift.workers ≡ workers) }
+        ensures opened { IfOk result
+            (λ l. progress l.shift.till l.shift.receipts.bookings.items l.tally l.refused ≡ opened) }
     {
         let shift = Shift::new(alloc, hasher, settings, workers, blank)?;
         let tally = Tally {
@@ -75,7 +77,7 @@ where
         turns: u32,
         writer: &mut W,
     ) -> Result<bool, TextFault>
-        requires opened { progress self.shift.receipts.bookings.items self.tally self.refused ≡ opened }
+        requires opened { progress self.shift.till self.shift.receipts.bookings.items self.tally self.refused ≡ opened }
         requires turns { IsWithinLimit turns }
         ensures ok { IfOk result (Hears turns self.shift.station devices.now (S.seen source.old) (S.seen source.new)
             (W.taken writer.old) (W.taken writer.new)) }
@@ -106,12 +108,17 @@ where
     ) -> Result<Self, TextFault>
         requires room { IsTallyUpTo (2 ^ 126) self.tally }
         ensures station { IfOk result (λ l. l.shift.station ≡ self.shift.station) }
+        ensures workers { IfOk result (λ l. l.shift.workers ≡ self.shift.workers) }
         ensures ok { IfOk result (λ l. Turns
-            (λ r. IsTurn self.shift.station devices.now turn r self.shift.receipts.bookings.items)
-            (S.seen source.old) (S.seen source.new) (progress self.shift.receipts.bookings.items self.tally self.refused)
-            (progress l.shift.receipts.bookings.items l.tally l.refused) (W.taken writer.old) (W.taken writer.new)) }
+            (λ r. IsTurn self.shift.station devices.now turn r
+            (account_of self.shift.till self.shift.receipts.bookings.items))
+            (S.seen source.old) (S.seen source.new)
+            (progress self.shift.till self.shift.receipts.bookings.items self.tally self.refused)
+            (progress l.shift.till l.shift.receipts.bookings.items l.tally l.refused)
+            (W.taken writer.old) (W.taken writer.new)) }
         ensures front { IfErr result (TurnsInPart (HasAnswer devices.now turn)
-            (λ r. IsTurn self.shift.station devices.now turn r self.shift.receipts.bookings.items)
+            (λ r. IsTurn self.shift.station devices.now turn r
+            (account_of self.shift.till self.shift.receipts.bookings.items))
             (S.seen source.old) (S.seen source.new) (W.taken writer.old) (W.taken writer.new)) }
         ensures fault { IfErr result IsListenFault }
         ensures write { CountsWrites (W.failed_calls writer.old) (W.failed_calls writer.new) result }
@@ -126,10 +133,14 @@ where
     /// Tells that the receive of a turn failed.
     fn unread<W: ByteOut>(self, turn: u32, writer: &mut W) -> Result<Self, TextFault>
         ensures station { IfOk result (λ l. l.shift.station ≡ self.shift.station) }
-        ensures ok { IfOk result (λ l. Says (IsTurn [] [] turn None self.shift.receipts.bookings.items)
-            (progress self.shift.receipts.bookings.items self.tally self.refused)
-            (progress l.shift.receipts.bookings.items l.tally l.refused) (W.taken writer.old) (W.taken writer.new)) }
-        ensures front { IfErr result (SaysInPart (IsTurn [] [] turn None self.shift.receipts.bookings.items)
+        ensures workers { IfOk result (λ l. l.shift.workers ≡ self.shift.workers) }
+        ensures ok { IfOk result (λ l. Says (IsTurn [] [] turn None
+            (account_of self.shift.till self.shift.receipts.bookings.items))
+            (progress self.shift.till self.shift.receipts.bookings.items self.tally self.refused)
+            (progress l.shift.till l.shift.receipts.bookings.items l.tally l.refused)
+            (W.taken writer.old) (W.taken writer.new)) }
+        ensures front { IfErr result (SaysInPart (IsTurn [] [] turn None
+            (account_of self.shift.till self.shift.receipts.bookings.items))
             (W.taken writer.old) (W.taken writer.new)) }
         ensures fault { IfErr result (λ fault. fault ≡ TextFault.Write) }
         ensures write { CountsWrites (W.failed_calls writer.old) (W.failed_calls writer.new) result }
@@ -161,12 +172,16 @@ where
     ) -> Result<Self, TextFault>
         requires room { IsTallyUpTo (2 ^ 126) self.tally }
         ensures station { IfOk result (λ l. l.shift.station ≡ self.shift.station) }
+        ensures workers { IfOk result (λ l. l.shift.workers ≡ self.shift.workers) }
         ensures ok { IfOk result (λ l. Says
-            (IsTurn self.shift.station devices.now turn (Some datagram.now) self.shift.receipts.bookings.items)
-            (progress self.shift.receipts.bookings.items self.tally self.refused)
-            (progress l.shift.receipts.bookings.items l.tally l.refused) (W.taken writer.old) (W.taken writer.new)) }
+            (IsTurn self.shift.station devices.now turn (Some datagram.now)
+            (account_of self.shift.till self.shift.receipts.bookings.items))
+            (progress self.shift.till self.shift.receipts.bookings.items self.tally self.refused)
+            (progress l.shift.till l.shift.receipts.bookings.items l.tally l.refused)
+            (W.taken writer.old) (W.taken writer.new)) }
         ensures front { IfErr result (SaysInPart
-            (IsTurn self.shift.station devices.now turn (Some datagram.now) self.shift.receipts.bookings.items)
+            (IsTurn self.shift.station devices.now turn (Some datagram.now)
+            (account_of self.shift.till self.shift.receipts.bookings.items))
             (W.taken writer.old) (W.taken writer.new)) }
         ensures asked { IfErr result (λ _. HasAnswer devices.now turn (Some datagram.now)) }
         ensures fault { IfErr result IsListenFault }
@@ -190,12 +205,16 @@ where
     ) -> Result<Self, TextFault>
         requires room { IsTallyUpTo (2 ^ 126) self.tally }
         ensures station { IfOk result (λ l. l.shift.station ≡ self.shift.station) }
+        ensures workers { IfOk result (λ l. l.shift.workers ≡ self.shift.workers) }
         ensures ok { IfOk result (λ l. Says
-            (IsAnswered self.shift.station turn (Some event.now) self.shift.receipts.bookings.items)
-            (progress self.shift.receipts.bookings.items self.tally self.refused)
-            (progress l.shift.receipts.bookings.items l.tally l.refused) (W.taken writer.old) (W.taken writer.new)) }
+            (IsAnswered self.shift.station turn (Some event.now)
+            (account_of self.shift.till self.shift.receipts.bookings.items))
+            (progress self.shift.till self.shift.receipts.bookings.items self.tally self.refused)
+            (progress l.shift.till l.shift.receipts.bookings.items l.tally l.refused)
+            (W.taken writer.old) (W.taken writer.new)) }
         ensures front { IfErr result (SaysInPart
-            (IsAnswered self.shift.station turn (Some event.now) self.shift.receipts.bookings.items)
+            (IsAnswered self.shift.station turn (Some event.now)
+            (account_of self.shift.till self.shift.receipts.bookings.items))
             (W.taken writer.old) (W.taken writer.new)) }
         ensures fault { IfErr result IsListenFault }
         ensures write { CountsWrites (W.failed_calls writer.old) (W.failed_calls writer.new) result }
@@ -226,8 +245,10 @@ where
     fn close<W: ByteOut>(self, alloc: Global, writer: &mut W) -> Result<bool, TextFault>
         ensures told { IfOk result (λ refused. refused ≡ self.refused) }
         ensures ok { IfOk result (λ _. Reports self.shift.station
-            (progress self.shift.receipts.bookings.items self.tally self.refused) (W.taken writer.old) (W.taken writer.new)) }
-        ensures front { IfErr result (ReportsInPart self.shift.station self.shift.receipts.bookings.items self.tally
+            (progress self.shift.till self.shift.receipts.bookings.items self.tally self.refused)
+            (W.taken writer.old) (W.taken writer.new)) }
+        ensures front { IfErr result (ReportsInPart self.shift.station
+            (account_of self.shift.till self.shift.receipts.bookings.items) self.tally
             (W.taken writer.old) (W.taken writer.new)) }
         ensures fault { IfErr result IsListenFault }
         ensures write { CountsWrites (W.failed_calls writer.old) (W.failed_calls writer.new) result }

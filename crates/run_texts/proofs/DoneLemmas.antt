@@ -1,6 +1,8 @@
 -- What is done for events, one after another.
 use Rattle.std.proofs.Common.{◌≡◌, ◌≢◌, ℕ, ◌+◌, ◌<◌, ◌++◌, List, [], ◌∷◌, length, refl, sym}
 use Rattle.std.proofs.Common.{arith, subst, Result, Ok, Err, IfOk, IfErr, Vec, Bool, false, ◌==◌}
+use Rattle.air_ledger.specs.Tills.{Holding}
+use Rattle.book_audit.specs.Audit.{booked_by}
 use Rattle.std.specs.Global.{Global}
 use Rattle.server_core.specs.declared.entry.Entry.{Entry}
 use Rattle.server_core.specs.declared.event.Event.{Event}
@@ -9,7 +11,7 @@ use Rattle.server_desk.specs.declared.setting.GatewaySetting.{GatewaySetting}
 use Rattle.server_station.specs.Stations.{AreInOrder}
 use Rattle.text_words.specs.declared.fault.TextFault.{TextFault}
 use Rattle.text_words.specs.declared.fault.TextFault.TheVariants.{NoMemory}
-use Rattle.run_texts.specs.WorkersRun.{RunState, run_state, HasPassed, IsDone, AreDone, AreAnswered, AreDealtWith}
+use Rattle.run_texts.specs.WorkersRun.{RunState, run_state, opening_till, HasPassed, IsDone, AreDone, AreAnswered, AreDealtWith}
 use Rattle.run_texts.specs.WorkersRun.{IsClosing, IsClosingFault, IsFinished, IsFinishedApart, IsPlayedApart}
 use Rattle.run_texts.specs.Bookings.{open_receipts}
 use Rattle.run_texts.specs.declared.receipts.Booking.{Booking}
@@ -37,38 +39,42 @@ done_behind ids es e place old mid new behind so_far done =
     done_more ids 0 es e old mid new so_far (subst (λ p. IsDone ids p e mid new) (omega (arith, behind)) done)
 
 -- some numbers were answered
-pub dealt_with : (place : ℕ) (numbers : List ℕ) (old new : RunState) → 0 < length numbers → AreAnswered place numbers old new
-    → AreDealtWith place numbers old new
-dealt_with place [] old new some h = absurd (omega (arith, some))
-dealt_with place (n ∷ numbers) old new some h = h
+pub dealt_with : (ids : List ℕ) (place : ℕ) (numbers : List ℕ) (old new : RunState) → 0 < length numbers
+    → AreAnswered ids place numbers old new → AreDealtWith ids place numbers old new
+dealt_with ids place [] old new some h = absurd (omega (arith, some))
+dealt_with ids place (n ∷ numbers) old new some h = h
 
 pub of_ok : {X E : Type 0} (P : X → Type 0) (r : Result X E) (x : X) → r ≡ Ok x → IfOk r P → P x
 of_ok P r x e h = subst (λ s. IfOk s P) e h
 
 -- what was done for all events, and the books then
-pub finished_with : {E : Type 0} (ids : List ℕ) (es : List (Event Global)) (bookings : List Booking)
+pub finished_with : {E : Type 0} (ids : List ℕ) (es : List (Event Global)) (till : Holding) (bookings : List Booking)
     (entries : Vec (Entry Global) Global) (r : Result Played E)
-    → AreDone ids 0 es (run_state [] []) (run_state bookings entries.items)
+    → AreDone ids 0 es (run_state opening_till [] []) (run_state till bookings entries.items)
     → IfOk r (λ (p : Played). p.entries ≡ entries)
     → IfOk r (λ (p : Played). IsClosing ids (open_receipts bookings) p.totals.items p.books.items)
+    → IfOk r (λ (p : Played). booked_by p.books.items ≡ till.amount)
     → IfOk r (λ (p : Played). IsFinished ids es p.entries.items p.totals.items p.books.items)
-finished_with ids es bookings entries (Ok p) done same closing =
+finished_with ids es till bookings entries (Ok p) done same closing booked =
     record {
+      till = till;
       bookings = bookings;
-      done = subst (λ (v : Vec (Entry Global) Global). AreDone ids 0 es (run_state [] []) (run_state bookings v.items)) (sym same) done;
+      done = subst (λ (v : Vec (Entry Global) Global). AreDone ids 0 es (run_state opening_till [] []) (run_state till bookings v.items))
+          (sym same) done;
       closing = closing;
+      booked = booked;
     }
-finished_with ids es bookings entries (Err e) done same closing = tt
+finished_with ids es till bookings entries (Err e) done same closing booked = tt
 
 -- what was done for all events, and why the books didn't go together then
-pub apart_with : {T : Type 0} (ids : List ℕ) (es : List (Event Global)) (bookings : List Booking)
+pub apart_with : {T : Type 0} (ids : List ℕ) (es : List (Event Global)) (till : Holding) (bookings : List Booking)
     (entries : List (Entry Global)) (r : Result T TextFault)
-    → AreDone ids 0 es (run_state [] []) (run_state bookings entries)
+    → AreDone ids 0 es (run_state opening_till [] []) (run_state till bookings entries)
     → IfErr r (λ fault. fault ≢ NoMemory → IsClosingFault ids (open_receipts bookings) fault)
     → IfErr r (λ fault. fault ≢ NoMemory → IsFinishedApart ids es fault)
-apart_with ids es bookings entries (Ok p) done why = tt
-apart_with ids es bookings entries (Err fault) done why = λ other.
-    record { bookings = bookings; entries = entries; done = done; cause = why other }
+apart_with ids es till bookings entries (Ok p) done why = tt
+apart_with ids es till bookings entries (Err fault) done why = λ other.
+    record { till = till; bookings = bookings; entries = entries; done = done; cause = why other }
 
 -- at a station of gateways with these settings
 pub played_apart : {T : Type 0} (gateways : List GatewaySetting) (ids : List ℕ) (es : List (Event Global))
@@ -86,6 +92,6 @@ some_left (n ∷ l) m t e f same = subst (λ k. 0 < length k) same (omega arith)
 
 -- what was left of a `Pass` was done
 pub passed_then : (ids : List ℕ) (place now : ℕ) (e : Event Global) (old mid new : RunState)
-    → (e ≡ events.Pass now) × (mid ≡ old) → HasPassed place now mid new → IsDone ids place e old new
+    → (e ≡ events.Pass now) × (mid ≡ old) → HasPassed ids place now mid new → IsDone ids place e old new
 passed_then ids place now e old mid new left passed =
-    subst (λ f. IsDone ids place f old new) (sym left.0) (subst (λ k. HasPassed place now k new) left.1 passed)
+    subst (λ f. IsDone ids place f old new) (sym left.0) (subst (λ k. HasPassed ids place now k new) left.1 passed)

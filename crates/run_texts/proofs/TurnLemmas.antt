@@ -1,18 +1,29 @@
 -- What the calling thread files, number by number.
-use Rattle.std.proofs.Common.{◌≡◌, ℕ, ◌++◌, List, [], ◌∷◌, sym}
+use Rattle.std.proofs.Common.{◌≡◌, ℕ, ◌++◌, List, [], ◌∷◌, Some, Vec, subst, sym}
 use Rattle.std.proofs.Common.{ap, ◌∙◌, append_assoc, append-nil}
 use Rattle.std.specs.Global.{Global}
 use Rattle.std.specs.List.{flat_map}
+use Rattle.std.specs.List.Sorted.{IsPermutation}
+use Rattle.std.proofs.Math.Logic.{∥∥₁_map}
+use Rattle.std.proofs.lemmas.List.Elements.{All-nil}
+use Rattle.std.proofs.lemmas.List.Sorted.{IsPermutation-refl}
 use Rattle.std.proofs.lemmas.Grind.{flat_map-append}
 use Rattle.std.proofs.lemmas.List.{map-append}
-use Rattle.std.proofs.lemmas.List.Elements.{All-push}
 use Rattle.air_ledger.specs.Tills.{Holding}
+use Rattle.answer_ticket.specs.declared.outcome.Outcome.{Outcome}
+use Rattle.answer_ticket.specs.declared.tried.Receipt.{Receipt}
+use Rattle.server_desk.specs.declared.faults.TakeFault.{TakeFault}
 use Rattle.server_station.specs.Handling.{IsHandled}
 use Rattle.server_station.specs.declared.handled.Handled.{Handled}
 use Rattle.server_station.specs.declared.handled.Handled.TheVariants.{NotTaken, Settled, Stray}
+use Rattle.server_workers.specs.declared.served.Served.{Served}
+use Rattle.server_workers.specs.Served.{IsServed}
+use Rattle.server_workers.specs.Turns.{IsOneOf}
+use Rattle.server_workers.specs.Working as working
 use Rattle.server_workers.specs.Working.{receipts_of, outcomes_of, strays_of}
+use Rattle.server_workers.proofs.TurnLemmas.{handed_on}
 use Rattle.run_texts.specs.declared.pass_ends.Ends.{Ends}
-use Rattle.run_texts.specs.PassEnds.{TakenUp, WasHandled, IsFiled, HasFiled, refused_of}
+use Rattle.run_texts.specs.PassEnds.{AreNone, AreServed, WereEnded, TakenUp, IsFiled, HasFiled, refused_of}
 
 -- a list that has got more, one turn after others
 more : {X : Type 0} (f : TakenUp → List X) (turns : List TakenUp) (t : TakenUp) (old mid new : List X) → mid ≡ old ++ flat_map f turns
@@ -23,15 +34,16 @@ more f turns t old mid new a b =
     ∙ ap (λ l. old ++ l) (sym (flat_map-append f turns (t ∷ [])))
 
 -- one more number was taken up
-pub filed_more : (numbers : List ℕ) (n : ℕ) (turn : Handled Global) (old mid new : Ends) → HasFiled numbers old mid
-    → WasHandled (n, turn) → IsFiled n turn mid new → HasFiled (numbers ++ n ∷ []) old new
-filed_more numbers n turn old mid new so_far handled filed =
+pub filed_more : (ids numbers : List ℕ) (n : ℕ) (turn : Handled Global) (first till last : Holding) (old mid new : Ends)
+    → HasFiled ids numbers first till old mid → IsHandled ids n till last turn → IsFiled n turn mid new
+    → HasFiled ids (numbers ++ n ∷ []) first last old new
+filed_more ids numbers n turn first till last old mid new so_far handled filed =
     let turns : List TakenUp = so_far.0 in
     let t : TakenUp = (n, turn) in
     let all = so_far.3 in (
       turns ++ t ∷ [],
       map-append (λ (s : TakenUp). s.0) turns (t ∷ []) ∙ ap (λ l. l ++ n ∷ []) so_far.1,
-      All-push WasHandled turns t so_far.2 handled,
+      handed_on ids turns n turn first till last so_far.2 handled,
       record {
         receipts = more (λ (s : TakenUp). receipts_of s.1) turns t old.receipts.items mid.receipts.items new.receipts.items
             all.receipts filed.receipts;
@@ -43,6 +55,41 @@ filed_more numbers n turn old mid new so_far handled filed =
             all.strays filed.strays;
       },
     )
+
+-- what workers served is how they ended it
+pub served_ended : {B : Type 0} (numbers : List ℕ) (served : Served B Global) (e : Ends) → IsServed numbers served
+    → AreServed served e → WereEnded numbers e
+served_ended numbers served e all same =
+    ∥∥₁_map all (λ s. (
+      s.0,
+      record {
+        among = s.1.among;
+        told = s.1.told;
+        receipts = subst (IsPermutation (flat_map (λ (t : TakenUp). receipts_of t.1) s.0))
+            (sym (ap (λ (v : Vec (Receipt Global) Global). v.items) same.receipts)) s.1.receipts;
+        outcomes = subst (IsPermutation (flat_map (λ (t : TakenUp). outcomes_of t.1) s.0))
+            (sym (ap (λ (v : Vec Outcome Global). v.items) same.outcomes)) s.1.outcomes;
+        refused = subst (IsPermutation (flat_map (λ (t : TakenUp). working.refused_of t.0 t.1) s.0))
+            (sym (ap (λ (v : Vec (ℕ × TakeFault) Global). v.items) same.refused)) s.1.refused;
+        strays = subst (IsPermutation (flat_map (λ (t : TakenUp). strays_of t.0 t.1) s.0))
+            (sym (ap (λ (v : Vec ℕ Global). v.items) same.strays)) s.1.strays;
+      },
+    ))
+
+-- where nobody worked none ended
+pub none_ended : (numbers : List ℕ) (e : Ends) → AreNone e → WereEnded numbers e
+none_ended numbers e none =
+    ∣ (
+      [],
+      record {
+        among = All-nil (λ (t : TakenUp). IsOneOf (Some numbers) t.0);
+        told = All-nil _;
+        receipts = subst (IsPermutation []) (sym none.receipts) (IsPermutation-refl []);
+        outcomes = subst (IsPermutation []) (sym none.outcomes) (IsPermutation-refl []);
+        refused = subst (IsPermutation []) (sym none.refused) (IsPermutation-refl []);
+        strays = subst (IsPermutation []) (sym none.strays) (IsPermutation-refl []);
+      },
+    ) ∣₁
 
 -- the till keeps its parts
 pub handled_parts : (ids : List ℕ) (n : ℕ) (old new : Holding) (turn : Handled Global) → IsHandled ids n old new turn

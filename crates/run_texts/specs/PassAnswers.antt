@@ -1,7 +1,8 @@
-use Rattle.std.specs.Prelude.{ℕ, ◌≡◌, ◌≤◌, ◌==◌, Bool, List, [], ◌∷◌, map, find, Option, None, Some}
+use Rattle.std.specs.Prelude.{ℕ, ◌≡◌, ◌+◌, ◌≤◌, ◌==◌, Bool, List, [], ◌∷◌, map, find, Option, None, Some}
 use Rattle.std.specs.Global.{Global}
 use Rattle.std.specs.Option.{option_map_or}
 use Rattle.std.specs.List.{flat_map}
+use Rattle.air_ledger.specs.Tills.{Holding}
 use Rattle.answer_ticket.specs.declared.outcome.Ending.TheVariants.{Answered, Unanswered, GivenUp}
 use Rattle.answer_ticket.specs.declared.tried.Receipt.{Receipt}
 use Rattle.gateway_book.specs.declared.refusal.Refusal.TheVariants as refusals
@@ -10,11 +11,12 @@ use Rattle.server_core.specs.declared.entry.Line.{Line}
 use Rattle.server_core.specs.declared.entry.Line.TheVariants as lines
 use Rattle.server_core.specs.Entries.{not_taken}
 use Rattle.server_desk.specs.declared.faults.TakeFault.{TakeFault}
+use Rattle.server_workers.specs.Works.{outcomes_airtime}
 use Rattle.run_texts.specs.declared.pass_answers.Answer.{Answer}
 use Rattle.run_texts.specs.declared.pass_ends.End.{End}
 use Rattle.run_texts.specs.declared.pass_ends.End.TheVariants as ends
 use Rattle.run_texts.specs.declared.pass_ends.Ends.{Ends}
-use Rattle.run_texts.specs.PassEnds.{AreNone, AreByNumber, IsReordered, HasFiled, end_of, left_by}
+use Rattle.run_texts.specs.PassEnds.{AreNone, AreByNumber, IsReordered, HasFiled, WereEnded, end_of, left_by}
 
 -- What a run with workers answers to the uplinks that one `pass` closed (docs/FORMATS.md, "airbook run").
 
@@ -63,24 +65,33 @@ abbrev pub answer_in : Ends → ℕ → Answer
 answer_in e n = option_map_or (answer_to e.receipts.items n) (end_of e n) (line_alone n (lines.Stray n))
 
 -- one answer for each of these numbers, in their order: by how the workers ended it, and where none of them did, by how the
--- calling thread, which took up just those, did; and the receipts of all that was booked
-pub record IsPassToldFrom (workers : Ends) (numbers : List ℕ) (answers : List Answer) (booked : List (Receipt Global))
-    : Type 0 where
+-- calling thread, which took up just those at a station of these gateways, did; and the receipts of all that was booked
+pub record IsPassToldFrom (ids : List ℕ) (before after : Holding) (workers : Ends) (numbers : List ℕ) (answers : List Answer)
+    (booked : List (Receipt Global)) : Type 0 where
   pub finished : Ends
   pub all : Ends
-  pub rest : HasFiled (left_by workers numbers) workers finished
+  pub rest : HasFiled ids (left_by workers numbers) before after workers finished
   pub reordered : IsReordered finished all
   pub sorted : AreByNumber all
   pub told : answers ≡ map (answer_in all) numbers
   pub receipts : booked ≡ all.receipts.items
 
--- the same, however the workers ended them
-abbrev pub IsPassTold : List ℕ → List Answer → List (Receipt Global) → Type 0
-IsPassTold numbers answers booked = (workers : Ends) × AreByNumber workers × IsPassToldFrom workers numbers answers booked
+-- the till with the airtime of what workers settled
+abbrev pub raised : Holding → Ends → Holding
+raised till workers = record till { amount = till.amount + outcomes_airtime workers.outcomes.items }
+
+-- the same, as workers ended some of them; the till has the airtime of all that they and the calling thread settled
+pub record IsPassTold (ids : List ℕ) (before after : Holding) (numbers : List ℕ) (answers : List Answer)
+    (booked : List (Receipt Global)) : Type 0 where
+  pub workers : Ends
+  pub by_number : AreByNumber workers
+  pub ended : WereEnded numbers workers
+  pub told : IsPassToldFrom ids (raised before workers) after workers numbers answers booked
 
 -- the same where no worker ended any: the calling thread took up each of them
-abbrev pub IsPassToldAlone : List ℕ → List Answer → List (Receipt Global) → Type 0
-IsPassToldAlone numbers answers booked = (none : Ends) × AreNone none × IsPassToldFrom none numbers answers booked
+abbrev pub IsPassToldAlone : List ℕ → Holding → Holding → List ℕ → List Answer → List (Receipt Global) → Type 0
+IsPassToldAlone ids before after numbers answers booked =
+    (none : Ends) × AreNone none × IsPassToldFrom ids (raised before none) after none numbers answers booked
 
 -- the lines of an answer: its own, and that of its frame
 abbrev pub framed : ℕ → Option (List ℕ) → List (Line Global)

@@ -3,7 +3,7 @@ ghost use Rattle.std.specs.Prelude.{◌≡◌, ◌+◌, ◌≤◌, ◌↔◌, Ok
 ghost use Rattle.server_workers.specs.Serving.{IsOutside, IsSortedByNumber};
 ghost use Rattle.server_workers.specs.Works.{outcomes_airtime};
 ghost use Rattle.run_texts.specs.Bookings.{HasMore};
-ghost use Rattle.run_texts.specs.PassEnds.{AreNone, AreByNumber, AreServed, HasFiled};
+ghost use Rattle.run_texts.specs.PassEnds.{AreNone, AreByNumber, AreServed, HasFiled, WereEnded};
 ghost use Rattle.run_texts.specs.PassAnswers.{IsPassTold, IsPassToldFrom, IsPassToldAlone};
 ghost use Rattle.run_texts.specs.WorkersRun.{run_state, WereClosed, HasPassed, HasTold};
 
@@ -37,8 +37,8 @@ where
     ) -> Result<Self, NoMemory>
         ensures station { IfOk result (λ shift. shift.station ≡ self.station) }
         ensures workers { IfOk result (λ shift. shift.workers ≡ self.workers) }
-        ensures done { IfOk result (λ shift. HasPassed place now (run_state self.receipts.bookings.items self.entries.items)
-            (run_state shift.receipts.bookings.items shift.entries.items)) }
+        ensures done { IfOk result (λ shift. HasPassed self.station place now (run_state self.till self.receipts.bookings.items self.entries.items)
+            (run_state shift.till shift.receipts.bookings.items shift.entries.items)) }
     {
         let numbers = self.closed(rt, alloc, now)?;
         if numbers.as_slice().is_empty() {
@@ -77,6 +77,7 @@ where
     fn take_in(&mut self, alloc: Global, place: usize, told: Told) -> Result<(), NoMemory>
         ensures station { self.new.station ≡ self.old.station }
         ensures workers { self.new.workers ≡ self.old.workers }
+        ensures till { self.new.till ≡ self.old.till }
         ensures told { OnOk result (HasTold place told.answers.items self.old.entries.items self.new.entries.items) }
         ensures kept { OnOk result (HasMore told.booked.items self.old.receipts.bookings.items self.new.receipts.bookings.items) }
     {
@@ -107,6 +108,7 @@ where
     fn tell_all(&mut self, place: usize, answers: Vec<Answer>) -> Result<(), NoMemory>
         ensures station { self.new.station ≡ self.old.station }
         ensures workers { self.new.workers ≡ self.old.workers }
+        ensures till { self.new.till ≡ self.old.till }
         ensures receipts { self.new.receipts ≡ self.old.receipts }
         ensures told { OnOk result (HasTold place answers.items self.old.entries.items self.new.entries.items) }
     {
@@ -171,9 +173,10 @@ where
     ensures parts { result.till.parts ≡ till.parts }
     ensures ran { IfOk result.ran (λ ran. (1 ≤ ran) × (ran ≤ workers)) }
     ensures outside { IsErrAnd result.ran (λ cause. cause ≡ ServeCause.Workers) ↔ IsOutside workers }
-    ensures told { IfOk result.told (λ told. IsPassTold numbers.now told.answers.items told.booked.items) }
-    ensures alone { IfErr result.ran
-        (λ _. IfOk result.told (λ told. IsPassToldAlone numbers.now told.answers.items told.booked.items)) }
+    ensures told { IfOk result.told
+        (λ told. IsPassTold station.now till result.till numbers.now told.answers.items told.booked.items) }
+    ensures alone { IfErr result.ran (λ _. IfOk result.told
+        (λ told. IsPassToldAlone station.now till result.till numbers.now told.answers.items told.booked.items)) }
 {
     let Shared {
         mut till,
@@ -211,6 +214,7 @@ where
     requires { till.parts ≡ PARTS }
     ensures till { result.till ≡ record till { amount = till.amount + outcomes_airtime result.ends.outcomes.items } }
     ensures sorted { AreByNumber result.ends }
+    ensures ended { WereEnded numbers.now result.ends }
     ensures ran { IfOk result.ran (λ ran. (1 ≤ ran) × (ran ≤ workers)) }
     ensures outside { IsErrAnd result.ran (λ cause. cause ≡ ServeCause.Workers) ↔ IsOutside workers }
     ensures nobody { IfErr result.ran (λ cause. AreNone result.ends) }
@@ -268,7 +272,8 @@ fn told_of<B: Ledger, S: BuildHasher, R: Wait>(
 ) -> Result<Told, NoMemory>
     requires { AreByNumber ends }
     ensures parts { till.new.parts ≡ till.old.parts }
-    ensures told { IfOk result (λ told. IsPassToldFrom ends numbers.now told.answers.items told.booked.items) }
+    ensures told { IfOk result
+        (λ told. IsPassToldFrom station.now till.old till.new ends numbers.now told.answers.items told.booked.items) }
 {
     let mut ends = ends;
     let left = ends.left_of(alloc, numbers)?;
@@ -290,7 +295,7 @@ fn finish<B: Ledger, S: BuildHasher, R: Wait>(
     ends: &mut Ends,
 ) -> Result<(), NoMemory>
     ensures parts { till.new.parts ≡ till.old.parts }
-    ensures filed { OnOk result (HasFiled numbers.now ends.old ends.new) }
+    ensures filed { OnOk result (HasFiled station.now numbers.now till.old till.new ends.old ends.new) }
 {
     for number in numbers {
         let turn = station.answer(rt, &NoGate, *number, till, &mut 0);

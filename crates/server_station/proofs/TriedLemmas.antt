@@ -19,10 +19,6 @@ use Rattle.server_core.specs.Register.{is_among}
 use Rattle.server_station.specs.Stations.{WasTried, gateway_to_try}
 use Rattle.server_station.specs.Tries.{HasAnswered, AreRefused, EndsAt, IsTriedOut}
 
--- no candidate stands before the first
-pub none_refused : (ids : List ℕ) (job : Job) (at : ℕ) → at ≡ 0 → AreRefused ids job at
-none_refused ids job at first k c before there = absurd (omega (arith, first, before))
-
 -- a try that hands this ticket back, as one of another gateway's book
 abbrev pub wrong_of : (A : Type 0) → Standing → Tried A
 wrong_of A t = Wrong t

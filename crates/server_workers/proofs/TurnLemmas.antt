@@ -37,7 +37,7 @@ more f turns t old mid new a b =
     ∙ ap (λ l. old ++ l) (sym (flat_map-append f turns (t ∷ [])))
 
 -- the till goes on to one number more
-handed_on : {A : Type 0} (ids : List ℕ) (turns : Turns A) (n : ℕ) (turn : Handled A) (old mid new : Holding)
+pub handed_on : {A : Type 0} (ids : List ℕ) (turns : Turns A) (n : ℕ) (turn : Handled A) (old mid new : Holding)
     → AreHandled ids turns old mid → IsHandled ids n mid new turn → AreHandled ids (turns ++ (n, turn) ∷ []) old new
 handed_on {A} ids [] n turn old mid new e h = (new, subst (λ till. IsHandled ids n till new turn) e h, refl)
 handed_on ids (t ∷ turns) n turn old mid new so_far h =

@@ -1,4 +1,6 @@
+use Rattle.std.proofs.Common.{subst}
 use Rattle.std.proofs.lemmas.Result.{IfOk-weaker, IfErr-weaker}
+use Rattle.air_ledger.specs.Tills.{Holding}
 use Rattle.run_texts.specs.declared.station_pass.Told.{Told}
 use Rattle.run_texts.specs.PassAnswers.{IsPassTold, IsPassToldFrom, IsPassToldAlone}
 use Rattle.run_texts.specs.PassEnds.{AreNone}
@@ -6,18 +8,35 @@ use Rattle.run_texts.proofs.station_pass.answer_with_workers.Goals as goal
 
 pub returns-clause-told : goal.returns-clause-told
 returns-clause-told g c =
+    let shared = c.shared_out-till in
+    let after = c.told_of-told.new.till in
     IfOk-weaker c.told_of-told.result
-    (λ (t : Told). IsPassToldFrom c.shared_out-till.result.ends c.args.numbers.now t.answers.items t.booked.items)
-    (λ (t : Told). IsPassTold c.args.numbers.now t.answers.items t.booked.items)
-    (λ t told. (c.shared_out-till.result.ends, c.shared_out-till.ensures.sorted, told))
+    (λ (t : Told). IsPassToldFrom c.args.station.now shared.result.till after shared.result.ends c.args.numbers.now
+    t.answers.items t.booked.items)
+    (λ (t : Told). IsPassTold c.args.station.now c.args.till after c.args.numbers.now t.answers.items t.booked.items)
+    (λ t told. record {
+      workers = shared.result.ends;
+      by_number = shared.ensures.sorted;
+      ended = shared.ensures.ended;
+      told = subst (λ (h : Holding). IsPassToldFrom c.args.station.now h after shared.result.ends c.args.numbers.now
+          t.answers.items t.booked.items) shared.ensures.till told;
+    })
     c.told_of-told.ensures.told
 
 pub returns-clause-alone : goal.returns-clause-alone
 returns-clause-alone g c =
-    IfErr-weaker c.shared_out-till.result.ran (λ _. AreNone c.shared_out-till.result.ends) _
+    let shared = c.shared_out-till in
+    let after = c.told_of-told.new.till in
+    IfErr-weaker shared.result.ran (λ _. AreNone shared.result.ends) _
     (λ cause none. IfOk-weaker c.told_of-told.result
-    (λ (t : Told). IsPassToldFrom c.shared_out-till.result.ends c.args.numbers.now t.answers.items t.booked.items)
-    (λ (t : Told). IsPassToldAlone c.args.numbers.now t.answers.items t.booked.items)
-    (λ t told. (c.shared_out-till.result.ends, none, told))
+    (λ (t : Told). IsPassToldFrom c.args.station.now shared.result.till after shared.result.ends c.args.numbers.now
+    t.answers.items t.booked.items)
+    (λ (t : Told). IsPassToldAlone c.args.station.now c.args.till after c.args.numbers.now t.answers.items t.booked.items)
+    (λ t told. (
+      shared.result.ends,
+      none,
+      subst (λ (h : Holding). IsPassToldFrom c.args.station.now h after shared.result.ends c.args.numbers.now
+          t.answers.items t.booked.items) shared.ensures.till told,
+    ))
     c.told_of-told.ensures.told)
-    c.shared_out-till.ensures.nobody
+    shared.ensures.nobody

@@ -13,9 +13,10 @@ loop-number-preserved g c =
           c.answer-turn.ensures.turn
           ∙ c.loop-number.invariant.parts;
       filed =
-          subst (λ l. HasFiled l c.args.ends.now c.file.new.self)
+          subst (λ l. HasFiled c.args.station.now l c.args.till.now c.answer-turn.new.till c.args.ends.now c.file.new.self)
           (sym (take_more c.args.numbers.now at 0 (search rules)))
-          (filed_more (take at c.args.numbers.now) n c.answer-turn.result c.args.ends.now c.loop-number.ends c.file.new.self
-          c.loop-number.invariant.filed (c.args.station.now, c.loop-number.till, c.answer-turn.new.till, c.answer-turn.ensures.turn)
+          (filed_more c.args.station.now (take at c.args.numbers.now) n c.answer-turn.result c.args.till.now c.loop-number.till
+          c.answer-turn.new.till c.args.ends.now c.loop-number.ends c.file.new.self
+          c.loop-number.invariant.filed c.answer-turn.ensures.turn
           c.in_ok-file.ensures);
     }

@@ -5,5 +5,5 @@ use Rattle.run_texts.proofs.station_pass.finish.Given as goal
 abbrev pub invariant-loop-number : goal.invariant-loop-number
 invariant-loop-number g l = record {
   parts : l.till.parts ≡ l.fn.till.parts;
-  filed : HasFiled (take l.number-index l.numbers) l.fn.ends l.ends;
+  filed : HasFiled l.fn.station (take l.number-index l.numbers) l.fn.till l.till l.fn.ends l.ends;
 }

@@ -5,21 +5,24 @@ use Rattle.text_lines.specs.Writing.{WritesFront}
 use Rattle.text_words.specs.Words.{has_refusal}
 use Rattle.server_core.specs.declared.entry.Entry.{Entry}
 use Rattle.run_lines.specs.ReplayText.{entry_lines}
+use Rattle.air_ledger.specs.Tills.{Holding}
 use Rattle.run_lines.specs.Tally.{tally_of, tally_sum, IsTallyUpTo}
 use Rattle.run_texts.specs.WorkersRun.{run_state, IsDone}
 use Rattle.run_texts.specs.declared.receipts.Receipts.{Receipts}
+use Rattle.listen_texts.specs.Turns.{account_of}
 use Rattle.listen_texts.proofs.ListenLemmas.{answered_by}
 use Rattle.listen_texts.proofs.listener.Listener.event.Goals as goal
 
 pub returns-in-Err-clause-front : goal.returns-in-Err-clause-front
 returns-in-Err-clause-front g c =
-    let entries : List (Entry Global) = c.take_lines-entries.result.items in (
-      c.in-Ok.shift.receipts.bookings.items,
+    let entries : List (Entry Global) = c.take_lines-entries.result.items in
+    let old = c.args.self.shift in
+    let new = c.in-Ok.shift in (
+      account_of new.till new.receipts.bookings.items,
       record { entries = entries; lines = entry_lines entries },
-      answered_by c.args.self.shift.station c.args.turn c.args.event.now c.args.self.shift.receipts.bookings.items
-          c.in-Ok.shift.receipts.bookings.items c.args.self.shift.entries.items c.in-Ok.shift.entries.items entries
-          c.args.self.written c.in-Ok.ensures.done
-          c.take_lines-entries.ensures.taken,
+      answered_by old.station c.args.turn c.args.event.now (account_of old.till old.receipts.bookings.items)
+          (account_of new.till new.receipts.bookings.items) old.entries.items new.entries.items entries c.args.self.written
+          c.in-Ok.ensures.done c.take_lines-entries.ensures.taken,
       subst (λ l. WritesFront (g.W.ByteOut.taken c.args.writer.now) (g.W.ByteOut.taken c.write_entries.new.writer)
           (text_of (entry_lines l))) c.as_slice.ensures.value c.in-Err.ensures.err,
     )
@@ -29,14 +32,20 @@ returns-in-Ok-write_entries-clause-ok g c =
     let entries : List (Entry Global) = c.take_lines-entries.result.items in
     let wrote = c.in-Ok-write_entries.ensures in
     let counted : c.of.result ≡ tally_of entries =
-    c.of.ensures.tally ∙ ap (λ l. tally_of {A = Global} l) c.as_slice-in-Ok-write_entries.ensures.value in (
+    c.of.ensures.tally ∙ ap (λ l. tally_of {A = Global} l) c.as_slice-in-Ok-write_entries.ensures.value in
+    let old = c.args.self.shift in
+    let new = c.in-Ok.shift in
+    let last = c.take_lines-entries.new.self in (
       record { entries = entries; lines = entry_lines entries },
-      answered_by c.args.self.shift.station c.args.turn c.args.event.now c.args.self.shift.receipts.bookings.items
-          c.take_lines-entries.new.self.receipts.bookings.items c.args.self.shift.entries.items c.in-Ok.shift.entries.items
-          entries c.args.self.written
-          (subst (λ (r : Receipts). IsDone c.args.self.shift.station c.args.turn c.args.event.now
-          (run_state c.args.self.shift.receipts.bookings.items c.args.self.shift.entries.items)
-          (run_state r.bookings.items c.in-Ok.shift.entries.items)) (sym c.take_lines-entries.ensures.receipts) c.in-Ok.ensures.done)
+      answered_by old.station c.args.turn c.args.event.now (account_of old.till old.receipts.bookings.items)
+          (account_of last.till last.receipts.bookings.items) old.entries.items new.entries.items entries c.args.self.written
+          (subst (λ (h : Holding). IsDone old.station c.args.turn c.args.event.now
+          (run_state old.till old.receipts.bookings.items old.entries.items)
+          (run_state h last.receipts.bookings.items new.entries.items)) (sym c.take_lines-entries.ensures.till)
+          (subst (λ (r : Receipts). IsDone old.station c.args.turn c.args.event.now
+          (run_state old.till old.receipts.bookings.items old.entries.items)
+          (run_state new.till r.bookings.items new.entries.items)) (sym c.take_lines-entries.ensures.receipts)
+          c.in-Ok.ensures.done))
           c.take_lines-entries.ensures.taken,
       record {
         tally = c.add.ensures ∙ ap (tally_sum c.args.self.tally) counted;

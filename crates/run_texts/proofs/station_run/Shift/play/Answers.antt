@@ -1,6 +1,6 @@
-use Rattle.std.proofs.Common.{rules, ap, append_assoc, arith, refl, sym, ◌≡◌, ◌++◌, ◌∙◌, subst, [], IfOk, IfErr, ◌≢◌}
+use Rattle.std.proofs.Common.{ap, append_assoc, arith, refl, sym, ◌≡◌, ◌++◌, ◌∙◌, subst, [], IfOk, IfErr, ◌≢◌}
 use Rattle.server_core.proofs.Replays.{none_left, one_more}
-use Rattle.run_texts.specs.WorkersRun.{run_state, IsDone, IsDoneButPass, AreDone, IsClosing, IsClosingFault}
+use Rattle.run_texts.specs.WorkersRun.{run_state, opening_till, HasPassed, IsDone, IsDoneButPass, AreDone, IsClosing, IsClosingFault}
 use Rattle.run_texts.specs.Bookings.{open_receipts}
 use Rattle.text_words.specs.declared.fault.TextFault.TheVariants.{NoMemory}
 use Rattle.run_texts.proofs.DoneLemmas.{passed_then, done_behind, finished_with, apart_with}
@@ -8,16 +8,16 @@ use Rattle.run_texts.proofs.station_run.Shift.play.Goals as goal
 use Rattle.run_texts.proofs.station_run.Shift.play.Goals.{in-None-left, in-Some-left+in-Ok-pass}
 
 pub loop-event-init : goal.loop-event-init
-loop-event-init g c = record { left = search; place = refl; station = refl; done = search rules }
+loop-event-init g c = record { left = search; place = refl; station = refl; done = c.requires }
 
 pub loop-event-preserved : goal.loop-event-preserved
 loop-event-preserved g c =
     let before = c.loop-event in
     let here = before.shift in
     let after = c.match-left.shift in
-    let old = run_state here.receipts.bookings.items here.entries.items in
-    let new = run_state after.receipts.bookings.items after.entries.items in
-    let mid = run_state c.use_up.new.self.receipts.bookings.items c.use_up.new.self.entries.items in
+    let old = run_state here.till here.receipts.bookings.items here.entries.items in
+    let new = run_state after.till after.receipts.bookings.items after.entries.items in
+    let mid = run_state c.use_up.new.self.till c.use_up.new.self.receipts.bookings.items c.use_up.new.self.entries.items in
     let ids = here.station in
     let step : (after.station ≡ ids) × IsDone ids before.place c.in-Some.event old new =
     elim c.match-left.branch [
@@ -31,7 +31,9 @@ loop-event-preserved g c =
             w.in-Ok-pass.ensures.station ∙ c.use_up.ensures.station,
             passed_then ids before.place w.in-Some-left.now c.in-Some.event old mid _
                 (subst (IsDoneButPass ids before.place c.in-Some.event old mid) w.in-Some-left.is c.in-Ok.ensures.done)
-                w.in-Ok-pass.ensures.done,
+                (subst (λ s. HasPassed s before.place w.in-Some-left.now mid (run_state w.in-Ok-pass.shift.till
+                w.in-Ok-pass.shift.receipts.bookings.items w.in-Ok-pass.shift.entries.items)) c.use_up.ensures.station
+                w.in-Ok-pass.ensures.done),
           )
     ] in
     record {
@@ -40,7 +42,7 @@ loop-event-preserved g c =
       place = one_more before.yielded c.in-Some.event before.place before.invariant.place;
       station = step.0 ∙ before.invariant.station;
       done =
-          done_behind c.args.self.station before.yielded c.in-Some.event before.place (run_state [] []) old new
+          done_behind c.args.self.station before.yielded c.in-Some.event before.place (run_state opening_till [] []) old new
           before.invariant.place before.invariant.done
           (subst (λ l. IsDone l before.place c.in-Some.event old new) before.invariant.station step.1);
     }
@@ -50,23 +52,23 @@ returns-clause-played g c =
     let last = c.loop-event in
     let all = none_left last.yielded last.event-iterator.rest.items c.args.events.items
     (omega (arith, last.event-iterator.rest.ok.0, c.in-None.ensures.steps.0)) last.invariant.left in
-    finished_with c.args.self.station c.args.events.items last.shift.receipts.bookings.items last.shift.entries
+    finished_with c.args.self.station c.args.events.items last.shift.till last.shift.receipts.bookings.items last.shift.entries
     c.close.result
-    (subst (λ es. AreDone c.args.self.station 0 es (run_state [] [])
-    (run_state last.shift.receipts.bookings.items last.shift.entries.items)) all last.invariant.done)
+    (subst (λ es. AreDone c.args.self.station 0 es (run_state opening_till [] [])
+    (run_state last.shift.till last.shift.receipts.bookings.items last.shift.entries.items)) all last.invariant.done)
     c.close.ensures.entries
     (subst (λ ids. IfOk c.close.result (λ played. IsClosing ids (open_receipts last.shift.receipts.bookings.items)
-    played.totals.items played.books.items)) last.invariant.station c.close.ensures.books)
+    played.totals.items played.books.items)) last.invariant.station c.close.ensures.books) c.close.ensures.booked
 
 pub returns-clause-apart : goal.returns-clause-apart
 returns-clause-apart g c =
     let last = c.loop-event in
     let all = none_left last.yielded last.event-iterator.rest.items c.args.events.items
     (omega (arith, last.event-iterator.rest.ok.0, c.in-None.ensures.steps.0)) last.invariant.left in
-    apart_with c.args.self.station c.args.events.items last.shift.receipts.bookings.items last.shift.entries.items
+    apart_with c.args.self.station c.args.events.items last.shift.till last.shift.receipts.bookings.items last.shift.entries.items
     c.close.result
-    (subst (λ es. AreDone c.args.self.station 0 es (run_state [] [])
-    (run_state last.shift.receipts.bookings.items last.shift.entries.items)) all last.invariant.done)
+    (subst (λ es. AreDone c.args.self.station 0 es (run_state opening_till [] [])
+    (run_state last.shift.till last.shift.receipts.bookings.items last.shift.entries.items)) all last.invariant.done)
     (subst (λ ids. IfErr c.close.result (λ fault. fault ≢ NoMemory
     → IsClosingFault ids (open_receipts last.shift.receipts.bookings.items) fault)) last.invariant.station
     c.close.ensures.cause)

@@ -1,5 +1,5 @@
 use Rattle.std.proofs.Common.{◌≡◌, ◌++◌, [], length}
-use Rattle.run_texts.specs.WorkersRun.{run_state, AreDone}
+use Rattle.run_texts.specs.WorkersRun.{run_state, opening_till, AreDone}
 use Rattle.run_texts.proofs.station_run.Shift.play.Given as goal
 
 abbrev pub invariant-loop-event : goal.invariant-loop-event
@@ -7,5 +7,6 @@ invariant-loop-event g l = record {
   left : l.yielded ++ l.event-iterator.rest.items ≡ l.fn.events.items;
   place : l.place ≡ length l.yielded;
   station : l.shift.station ≡ l.fn.self.station;
-  done : AreDone l.fn.self.station 0 l.yielded (run_state [] []) (run_state l.shift.receipts.bookings.items l.shift.entries.items);
+  done : AreDone l.fn.self.station 0 l.yielded (run_state opening_till [] [])
+      (run_state l.shift.till l.shift.receipts.bookings.items l.shift.entries.items);
 }

@@ -8,5 +8,6 @@ invariant-loop-answer g l =
     × (goal.iterator-loop-answer g).is_finite l.answer-iterator
     × (l.self.station ≡ l.fn.self.station)
     × (l.self.workers ≡ l.fn.self.workers)
+    × (l.self.till ≡ l.fn.self.till)
     × (l.self.receipts ≡ l.fn.self.receipts)
     × HasTold l.place l.yielded l.fn.self.entries.items l.self.entries.items
