@@ -7,8 +7,8 @@ use Rattle.std.specs.Option.{option_map}
 abbrev pub Received : Type 0
 Received = Option (List ℕ)
 
--- the room that a receive has: that of the longest datagram that is answered, 1,026 bytes, and of one byte more, by which a longer
--- one is told
+-- the room that a receive has: that of the longest datagram that is answered, 1,026 bytes, and of one byte more, by which a
+-- longer one is told
 abbrev pub datagram_room : ℕ
 datagram_room = 1027
 

@@ -59,7 +59,8 @@ finished_with ids es till bookings entries (Ok p) done same closing booked =
     record {
       till = till;
       bookings = bookings;
-      done = subst (λ (v : Vec (Entry Global) Global). AreDone ids 0 es (run_state opening_till [] []) (run_state till bookings v.items))
+      done = subst
+          (λ (v : Vec (Entry Global) Global). AreDone ids 0 es (run_state opening_till [] []) (run_state till bookings v.items))
           (sym same) done;
       closing = closing;
       booked = booked;

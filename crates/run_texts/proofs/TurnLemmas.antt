@@ -26,8 +26,8 @@ use Rattle.run_texts.specs.declared.pass_ends.Ends.{Ends}
 use Rattle.run_texts.specs.PassEnds.{AreNone, AreServed, WereEnded, TakenUp, IsFiled, HasFiled, refused_of}
 
 -- a list that has got more, one turn after others
-more : {X : Type 0} (f : TakenUp → List X) (turns : List TakenUp) (t : TakenUp) (old mid new : List X) → mid ≡ old ++ flat_map f turns
-    → new ≡ mid ++ f t → new ≡ old ++ flat_map f (turns ++ t ∷ [])
+more : {X : Type 0} (f : TakenUp → List X) (turns : List TakenUp) (t : TakenUp) (old mid new : List X)
+    → mid ≡ old ++ flat_map f turns → new ≡ mid ++ f t → new ≡ old ++ flat_map f (turns ++ t ∷ [])
 more f turns t old mid new a b =
     b ∙ ap (λ l. l ++ f t) a ∙ append_assoc old (flat_map f turns) (f t)
     ∙ ap (λ l. old ++ (flat_map f turns ++ l)) (sym (append-nil (f t)))

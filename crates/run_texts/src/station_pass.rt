@@ -37,7 +37,8 @@ where
     ) -> Result<Self, NoMemory>
         ensures station { IfOk result (λ shift. shift.station ≡ self.station) }
         ensures workers { IfOk result (λ shift. shift.workers ≡ self.workers) }
-        ensures done { IfOk result (λ shift. HasPassed self.station place now (run_state self.till self.receipts.bookings.items self.entries.items)
+        ensures done { IfOk result (λ shift. HasPassed self.station place now
+            (run_state self.till self.receipts.bookings.items self.entries.items)
             (run_state shift.till shift.receipts.bookings.items shift.entries.items)) }
     {
         let numbers = self.closed(rt, alloc, now)?;

@@ -85,8 +85,11 @@ module _ (ids : List ℕ) (job : Job) (t : Standing) (own : t.job ≡ job) (so_f
       → (next.job ≡ job) × AreRefused ids next.job next.at
   next_at old new next refusal None stands among h = absurd h
   next_at old new next refusal (Some c) stands among h =
-      subst (λ (u : Standing). (u.job ≡ job) × AreRefused ids u.job u.at) (sym h.moved)
-      (own, one_more c refusal stands (record { here = here_at c stands among; book = old; asked = h.asked; answered = h.refused }))
+      subst (λ (u : Standing). (u.job ≡ job) × AreRefused ids u.job u.at) (sym h.moved) (
+        own,
+        one_more c refusal stands
+            (record { here = here_at c stands among; book = old; asked = h.asked; answered = h.refused }),
+      )
 
   -- it was refused there too, and stands at the next one
   pub refused_there : (A : Type 0) (among : Bool) (next : Standing) (refusal : Refusal) → is_among ids (gateway_to_try t) ≡ among
@@ -100,7 +103,8 @@ module _ (ids : List ℕ) (job : Job) (t : Standing) (own : t.job ≡ job) (so_f
   ended_with stub booked ends = record { ticket = t; own = own; before = so_far; ended = ends }
 
   booked_at : {A : Type 0} (old new : Book) (stub : Outcome) (receipt : Receipt A) (o : Option Candidate) → candidate_of t ≡ o
-      → is_among ids (gateway_to_try t) ≡ true → IsSomeAnd o (λ c. IsBooked t c old new stub receipt) → IsSomeAnd o (λ c. EndsAt ids t c stub.result (Some receipt))
+      → is_among ids (gateway_to_try t) ≡ true → IsSomeAnd o (λ c. IsBooked t c old new stub receipt)
+      → IsSomeAnd o (λ c. EndsAt ids t c stub.result (Some receipt))
   booked_at old new stub receipt None stands among h = absurd h
   booked_at old new stub receipt (Some c) stands among h =
       subst (λ e. EndsAt ids t c e (Some receipt)) (sym (ap (λ (s : Outcome). s.result) h.ended))
@@ -119,7 +123,8 @@ module _ (ids : List ℕ) (job : Job) (t : Standing) (own : t.job ≡ job) (so_f
       ended_with stub (Some receipt) (booked_at w.0 w.1 stub receipt (candidate_of t) refl is w.2)
 
   out_at : (A : Type 0) (old new : Book) (stub : Outcome) (refusal : Refusal) (o : Option Candidate) → candidate_of t ≡ o
-      → is_among ids (gateway_to_try t) ≡ true → IsSomeAnd o (λ c. IsOut t c old new stub refusal) → IsSomeAnd o (λ c. EndsAt {A = A} ids t c stub.result None)
+      → is_among ids (gateway_to_try t) ≡ true → IsSomeAnd o (λ c. IsOut t c old new stub refusal)
+      → IsSomeAnd o (λ c. EndsAt {A = A} ids t c stub.result None)
   out_at A old new stub refusal None stands among h = absurd h
   out_at A old new stub refusal (Some c) stands among h =
       subst (λ e. EndsAt {A = A} ids t c e None) (sym (ap (λ (s : Outcome). s.result) h.ended))

@@ -25,7 +25,8 @@ returns-clause-done g c =
                 told.booked.items) (sym c.take_in.ensures.till)
                 (subst (λ l. IsPassTold ids c.args.self.till after l told.answers.items told.booked.items)
                 c.as_slice-2.ensures.value
-                (of_ok (λ (t : Told). IsPassTold ids c.args.self.till after c.as_slice-2.result.now t.answers.items t.booked.items)
+                (of_ok (λ (t : Told).
+                IsPassTold ids c.args.self.till after c.as_slice-2.result.now t.answers.items t.booked.items)
                 c.answer_with_workers-till.result.told told c.in_ok-told.was c.answer_with_workers-till.ensures.told));
             told = c.in_ok-take_in.ensures.told;
             kept = c.in_ok-take_in.ensures.kept;

@@ -1,6 +1,7 @@
 use Rattle.std.proofs.Common.{ap, append_assoc, arith, refl, sym, ◌≡◌, ◌++◌, ◌∙◌, subst, [], IfOk, IfErr, ◌≢◌}
 use Rattle.server_core.proofs.Replays.{none_left, one_more}
-use Rattle.run_texts.specs.WorkersRun.{run_state, opening_till, HasPassed, IsDone, IsDoneButPass, AreDone, IsClosing, IsClosingFault}
+use Rattle.run_texts.specs.WorkersRun.{run_state, opening_till, HasPassed, IsDone, IsDoneButPass, AreDone}
+use Rattle.run_texts.specs.WorkersRun.{IsClosing, IsClosingFault}
 use Rattle.run_texts.specs.Bookings.{open_receipts}
 use Rattle.text_words.specs.declared.fault.TextFault.TheVariants.{NoMemory}
 use Rattle.run_texts.proofs.DoneLemmas.{passed_then, done_behind, finished_with, apart_with}

@@ -14,7 +14,9 @@ loop-stub-preserved g c =
     record {
       job = on.0;
       refused = on.1;
-      overrun = let first = c.loop-stub.invariant.overrun in let then = c.try_through.ensures.overrun in omega (arith, first, then);
+      overrun =
+          let first = c.loop-stub.invariant.overrun in
+          let then = c.try_through.ensures.overrun in omega (arith, first, then);
     }
 
 pub returns-in-Booked-clause-tries : goal.returns-in-Booked-clause-tries
