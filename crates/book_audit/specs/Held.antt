@@ -25,3 +25,7 @@ pub record AreAlike (held : List Kept) (number gateway other : ℕ) : Type 0 whe
   pub too : (d : Kept) → (get_or held (place + 1) d).0 ≡ other
   pub alike : (d : Kept) → (get_or held (place + 1) d).1.number ≡ number
   pub before : NeighboursDiffer held (place + 1)
+
+-- this stands at a place of the list
+abbrev pub StandsAt : List Kept → ℕ → Kept → Type 0
+StandsAt held at x = (at < length held) × (get_or held at x ≡ x)

@@ -3,7 +3,7 @@
 ghost use Rattle.std.specs.Prelude.{◌≡◌, ◌+◌, ◌<◌, ◌↔◌, All, Contains, IsTrue, MatchOption};
 ghost use Rattle.std.specs.List.Sorted.{IsPermutation, IsNonDecreasingBy};
 ghost use Rattle.book_audit.specs.Audit.{held_by, HasBook, IsAccountedFor, IsLost};
-ghost use Rattle.book_audit.specs.Held.{AllDiffer};
+ghost use Rattle.book_audit.specs.Held.{AllDiffer, StandsAt};
 
 use crate::held::Held;
 use answer_ticket::Receipt;
@@ -25,18 +25,21 @@ pub(crate) fn first_lost<A: Allocator + Copy>(
     requires differ { AllDiffer held.now }
     ensures { MatchOption result (All (IsAccountedFor shelf.now) receipts.now) (IsLost shelf.now receipts.now) }
 {
+    let mut likely = 0;
     for receipt in receipts {
-        if !is_accounted_for(shelf, held, receipt) {
+        if !is_accounted_for(shelf, held, &mut likely, receipt) {
             return Some(receipt.number);
         }
     }
     None
 }
 
-/// Whether a receipt's reservation is kept by the book of its gateway, or that book is past it.
+/// Whether a receipt's reservation is kept by the book of its gateway, or that book is past it. It is looked for as `is_held`
+/// does.
 fn is_accounted_for<A: Allocator + Copy>(
     shelf: &[(u16, Book<A>)],
     held: &[Held],
+    likely: &mut usize,
     receipt: &Receipt<A>,
 ) -> bool
     requires same { IsPermutation (held_by shelf.now) held.now }
@@ -44,19 +47,32 @@ fn is_accounted_for<A: Allocator + Copy>(
     requires differ { AllDiffer held.now }
     ensures { IsTrue result ↔ IsAccountedFor shelf.now receipt.now }
 {
-    if is_held(held, receipt.gateway, &receipt.reservation) {
+    if is_held(held, likely, receipt.gateway, &receipt.reservation) {
         return true;
     }
     is_past(shelf, receipt.gateway, &receipt.reservation)
 }
 
-/// Whether the list has this reservation of the gateway with this number.
-fn is_held(held: &[Held], gateway: u16, reservation: &Reservation) -> bool
+/// Whether the list has this reservation of the gateway with this number. It is looked for at the likely place first, which is
+/// renewed: behind where it stands, or would stand by its number.
+fn is_held(held: &[Held], likely: &mut usize, gateway: u16, reservation: &Reservation) -> bool
     requires rising { IsNonDecreasingBy (λ h. h.1.number) held.now }
     requires differ { AllDiffer held.now }
     ensures { IsTrue result ↔ Contains held.now (gateway, reservation.now) }
 {
+    if stands_at(held, *likely, gateway, reservation) {
+        *likely = likely.saturating_add(1);
+        return true;
+    }
     let at = held.partition_point(|(_, member)| member.number < reservation.number);
+    *likely = at.saturating_add(1);
+    stands_at(held, at, gateway, reservation)
+}
+
+/// Whether this reservation of the gateway with this number stands at a place of the list.
+fn stands_at(held: &[Held], at: usize, gateway: u16, reservation: &Reservation) -> bool
+    ensures { IsTrue result ↔ StandsAt held.now at (gateway, reservation.now) }
+{
     match held.get(at) {
         Some((keeper, member)) => *keeper == gateway && is_same(member, reservation),
         None => false,

@@ -1,35 +1,25 @@
 -- Bookings by number.
-use Rattle.std.proofs.Common.{◌≡◌, ℕ, zero, suc, ◌<◌, ◌≤◌, ◌++◌, true, false, List, [], ◌∷◌, length, get_or, map, Some}
-use Rattle.std.proofs.Common.{sym, ap, ◌∙◌, arith, nat_lt, subst, append_assoc}
+use Rattle.std.proofs.Common.{◌≡◌, ℕ, zero, suc, ◌<◌, ◌++◌, List, [], ◌∷◌, length, get_or, map, Some}
+use Rattle.std.proofs.Common.{sym, ap, ◌∙◌, arith, subst, append_assoc}
 use Rattle.std.specs.Prelude.{slice_get, insert, if◌then◌else◌, is_ok, Result, Ok, Err}
 use Rattle.std.specs.Global.{Global}
-use Rattle.std.specs.List.{AllWithin}
 use Rattle.std.specs.List.Sorted.{IsNonDecreasingBy, IsPermutation}
-use Rattle.std.proofs.lemmas.Bool.Decides.{nat_tests}
 use Rattle.std.proofs.lemmas.List.Sorted.{IsNonDecreasingBy-insert, IsPermutation-insert, IsPermutation-push_more}
 use Rattle.std.proofs.lemmas.List.{map-append}
 use Rattle.answer_ticket.specs.declared.tried.Receipt.{Receipt}
 use Rattle.run_texts.specs.declared.receipts.Booking.{Booking}
 use Rattle.run_texts.specs.Bookings.{booking_of, HasOneMore, HasMore}
+use Rattle.run_texts.specs.Numbered.{IsEndOfLesser}
 
 abbrev number_of : Booking → ℕ
 number_of b = b.receipt.number
 
 -- where the lesser numbers end, one more leaves them by number
 pub one_more_rises : (bookings : List Booking) (b : Booking) (at : ℕ) → IsNonDecreasingBy number_of bookings
-    → at ≤ length bookings
-    → AllWithin (λ c. nat_lt c.receipt.number b.receipt.number ≡ true) bookings 0 at
-    → AllWithin (λ c. nat_lt c.receipt.number b.receipt.number ≡ false) bookings at (length bookings)
-    → IsNonDecreasingBy number_of (insert bookings at b)
-one_more_rises bookings b at rising within low high =
-    IsNonDecreasingBy-insert number_of bookings at b rising within
-    (λ k d l. less (get_or bookings k d).receipt.number (low k d (omega arith) l))
-    (λ k d l m. more (get_or bookings k d).receipt.number (high k d l m)) where
-      less : (a : ℕ) → nat_lt a b.receipt.number ≡ true → a ≤ b.receipt.number
-      less a e = grind (arith, nat_tests, e)
-
-      more : (a : ℕ) → nat_lt a b.receipt.number ≡ false → b.receipt.number ≤ a
-      more a e = grind (arith, nat_tests, e)
+    → IsEndOfLesser number_of b.receipt.number bookings at → IsNonDecreasingBy number_of (insert bookings at b)
+one_more_rises bookings b at rising end =
+    IsNonDecreasingBy-insert number_of bookings at b rising end.within
+    (λ k d l. let less = end.lesser k d (omega arith) l in omega (arith, less)) (λ k d l m. end.others k d l m)
 
 -- one more receipt of several
 pub one_more_booked : (receipts : List (Receipt Global)) (r : Receipt Global) (old mid new : List Booking)
@@ -47,14 +37,12 @@ one_more_booked receipts r old mid new have one =
 
 -- whether or not there was memory for it
 pub after_insert : {T E : Type 0} (seen old new : List Booking) (b made : Booking) (at : ℕ) (r : Result T E) → seen ≡ old
-    → IsNonDecreasingBy number_of old → at ≤ length seen
-    → AllWithin (λ c. nat_lt c.receipt.number b.receipt.number ≡ true) seen 0 at
-    → AllWithin (λ c. nat_lt c.receipt.number b.receipt.number ≡ false) seen at (length seen)
+    → IsNonDecreasingBy number_of old → IsEndOfLesser number_of b.receipt.number seen at
     → made ≡ b → new ≡ (if is_ok r then insert old at made else old) → IsNonDecreasingBy number_of new
-after_insert seen old new b made at (Ok x) same rising within low high e n =
+after_insert seen old new b made at (Ok x) same rising end e n =
     subst (IsNonDecreasingBy number_of) (sym (n ∙ ap (insert old at) e ∙ ap (λ l. insert l at b) (sym same)))
-    (one_more_rises seen b at (subst (IsNonDecreasingBy number_of) (sym same) rising) within low high)
-after_insert seen old new b made at (Err x) same rising within low high e n =
+    (one_more_rises seen b at (subst (IsNonDecreasingBy number_of) (sym same) rising) end)
+after_insert seen old new b made at (Err x) same rising end e n =
     subst (IsNonDecreasingBy number_of) (sym n) rising
 
 -- the item at a place

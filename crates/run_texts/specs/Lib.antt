@@ -1,4 +1,5 @@
 pub mod RunSettings
+pub mod Numbered
 pub mod Bookings
 pub mod PassEnds
 pub mod PassAnswers

@@ -19,18 +19,21 @@ pub struct Answer {
     pub frame: Option<Bytes<Global>>,
 }
 
-/// The answer to an uplink that ended so, where these receipts are by number.
+/// The answer to an uplink that ended so, where these receipts are by number; one is looked for at the likely place first.
 pub(crate) fn answer_to(
     alloc: Global,
     number: u64,
     end: End,
     receipts: &[Receipt<Global>],
+    likely: &mut usize,
 ) -> Result<Answer, NoMemory>
     requires { IsNonDecreasingBy (λ r. r.number) receipts.now }
     ensures { IfOk result (λ answer. answer ≡ answer_to receipts.now number end) }
 {
     match end {
-        End::Settled(Ending::Answered { carried, .. }) => booked(alloc, number, carried, receipts),
+        End::Settled(Ending::Answered { carried, .. }) => {
+            booked(alloc, number, carried, receipts, likely)
+        }
         End::Settled(Ending::Unanswered(refusal)) => Ok(unanswered(number, refusal)),
         End::Settled(Ending::GivenUp) => Ok(unanswered(number, Refusal::NoMemory)),
         End::Refused(fault) => Ok(not_taken(number, fault)),
@@ -44,11 +47,12 @@ fn booked(
     number: u64,
     carried: bool,
     receipts: &[Receipt<Global>],
+    likely: &mut usize,
 ) -> Result<Answer, NoMemory>
     requires { IsNonDecreasingBy (λ r. r.number) receipts.now }
     ensures { IfOk result (λ answer. answer ≡ booked_answer receipts.now number carried) }
 {
-    match with_number(receipts, number) {
+    match with_number(receipts, likely, number) {
         Some(receipt) => sent(alloc, number, carried, receipt),
         None => Ok(line_alone(number, Line::Stray { number })),
     }

@@ -4,7 +4,7 @@ ghost use Rattle.std.specs.Option.{option_and_then, option_map};
 ghost use Rattle.std.specs.List.Sorted.{IsNonDecreasingBy};
 ghost use Rattle.run_texts.specs.Bookings.{booking_of, booked_for, HasOneMore, HasMore, IsMarkedAt, open_receipts};
 
-use crate::numbered::place_of;
+use crate::numbered::{end_of_lesser, place_of};
 use answer_ticket::{Bytes, Receipt};
 use server_core::NoMemory;
 use std::alloc::Global;
@@ -51,10 +51,7 @@ impl Receipts {
     fn add(&mut self, alloc: Global, receipt: Receipt<Global>) -> Result<(), NoMemory>
         ensures { OnOk result (HasOneMore (booking_of receipt) self.old.bookings.items self.new.bookings.items) }
     {
-        let number = receipt.number;
-        let at = self
-            .bookings
-            .partition_point(|booking| booking.receipt.number < number);
+        let at = end_of_lesser(&self.bookings, self.bookings.len(), receipt.number);
         self.bookings.insert(at, booking_of(alloc, receipt))?;
         Ok(())
     }
@@ -64,7 +61,7 @@ impl Receipts {
         ensures within { IfSome result (λ at. at < length self.now.bookings.items) }
         ensures found { option_and_then (slice_get self.now.bookings.items) result ≡ booked_for number self.now.bookings.items }
     {
-        place_of(self.bookings.as_slice(), number)
+        place_of(self.bookings.as_slice(), 0, number)
     }
 
     /// The receipt of the booking at this place.
