@@ -49,9 +49,10 @@ fn put_in(alloc: Global, members: &[Reservation]) -> Result<TreeRoster<Global>, 
     Ok(tree)
 }
 
-/// The roster holds just these members.
-fn lists<R: Roster>(roster: &R, members: &[Reservation]) -> Result<(), Fail> {
+/// The roster holds just these members, all at once and one after another.
+fn lists<R: Roster>(alloc: Global, roster: &R, members: &[Reservation]) -> Result<(), Fail> {
     equal(&roster.len(), &members.len())?;
+    equal(&roster.members(alloc)?.as_slice(), &members)?;
     let mut from = 0;
     for member in members {
         equal(&roster.first_from(from), &Some(*member))?;
@@ -86,6 +87,7 @@ fn told<R: Roster>(roster: &R, drawn: u64) -> (u64, u64, Option<Reservation>) {
 
 /// An empty roster that is filled with these members holds them, and is as another that does.
 fn is_filled_alike<R: Roster + Drop>(
+    alloc: Global,
     roster: R,
     other: &TreeRoster<Global>,
     members: &[Reservation],
@@ -95,17 +97,18 @@ fn is_filled_alike<R: Roster + Drop>(
     requires room { length members.now ≤ MAX_MEMBERS }
 {
     let filled = roster.filled(members)?;
-    lists(&filled, members)?;
+    lists(alloc, &filled, members)?;
     answers_alike(other, &filled)
 }
 
 #[test]
 fn a_roster_that_is_made_at_once_is_as_one_by_one(rt: HostRuntime) -> Result<(), Fail> {
     for asks in [0, 1, 2, 3, 4, 5, 700] {
-        let members = drawn_book(rt.alloc(), asks)?.list(rt.alloc())?;
-        let other = put_in(rt.alloc(), &members)?;
-        is_filled_alike(VecRoster::new(rt.alloc()), &other, &members)?;
-        is_filled_alike(TreeRoster::new(rt.alloc()), &other, &members)?;
+        let alloc = rt.alloc();
+        let members = drawn_book(alloc, asks)?.list(alloc)?;
+        let other = put_in(alloc, &members)?;
+        is_filled_alike(alloc, VecRoster::new(alloc), &other, &members)?;
+        is_filled_alike(alloc, TreeRoster::new(alloc), &other, &members)?;
     }
     Ok(())
 }

@@ -15,7 +15,6 @@ use crate::ask::fitted;
 use crate::busiest::busiest_hour;
 use crate::cancel::named;
 use crate::duty::full_hour;
-use crate::listing::members_of;
 use crate::opening::fault_of;
 use crate::{Ask, CancelFault, MAX_CAP, MAX_GAP, OpenFault, Refusal, Totals};
 use radio_bands::Band;
@@ -287,6 +286,6 @@ impl<R: Roster> GatewayBook<R> {
         ensures disjoint { AreApart 0 self.now.list }
         ensures whole { IsBookList self.now.rules self.now.floor self.now.booked self.now.list }
     {
-        members_of(alloc, &self.roster)
+        self.roster.members(alloc)
     }
 }

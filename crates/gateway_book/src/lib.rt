@@ -9,7 +9,6 @@ mod duty;
 mod earliest;
 mod following;
 mod laws;
-mod listing;
 mod loading;
 mod opening;
 mod overlap;

@@ -6,7 +6,7 @@ ghost use Rattle.resv_list.specs.Hours.{first_over, most_spent};
 
 use crate::Reservation;
 use radio_bands::Band;
-use std::alloc::AllocError;
+use std::alloc::{AllocError, Allocator};
 use thiserror::Error;
 
 /// The greatest number of reservations in a roster.
@@ -98,6 +98,20 @@ pub trait Roster {
             at = member.start + 1;
         }
         most
+    }
+
+    /// All members in a list of their own, for which it makes one growth where there is a member. This body looks for each of
+    /// them in turn; a roster may go over them once.
+    fn members<B: Allocator>(&self, alloc: B) -> Result<Vec<Reservation, B>, AllocError>
+        ensures { IfOk result (λ members. members.items ≡ list self.now) }
+    {
+        let mut members = Vec::with_capacity(alloc, self.len())?;
+        let mut at = 0;
+        while let Some(member) = self.first_from(at) {
+            members.push(member)?;
+            at = member.start + 1;
+        }
+        Ok(members)
     }
 
     /// Takes out the one that begins at `start`, if there is one.

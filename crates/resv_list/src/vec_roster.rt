@@ -7,7 +7,7 @@ ghost use Rattle.resv_list.specs.Reservations.{start_of, IsByStart, place, membe
 use crate::airtime::airtime_of;
 use crate::{Dropped, MAX_MEMBERS, Reservation, Roster, RosterFault};
 use radio_bands::Band;
-use std::alloc::Allocator;
+use std::alloc::{AllocError, Allocator};
 
 /// A roster in one sorted vector: looking up takes a binary search, inserting moves the tail.
 #[derive(Drop)]
@@ -45,6 +45,12 @@ impl<A: Allocator> Roster for VecRoster<A> {
 
     fn spent(&self, band: Band, from: u64, to: u64) -> u64 {
         spent_in(&self.items, band, from, to)
+    }
+
+    fn members<B: Allocator>(&self, alloc: B) -> Result<Vec<Reservation, B>, AllocError> {
+        let mut members = Vec::with_capacity(alloc, self.items.len())?;
+        members.extend_from_slice(&self.items)?;
+        Ok(members)
     }
 
     fn remove(&mut self, start: u64) -> Option<Reservation> {

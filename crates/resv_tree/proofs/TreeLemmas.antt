@@ -1,6 +1,6 @@
-use Rattle.std.specs.Prelude.{ℕ, ◌≡◌, ◌+◌, ◌-◌, ◌*◌, ◌<◌, ◌≤◌, ◌∷◌, ◌++◌, List, Some, length}
+use Rattle.std.specs.Prelude.{ℕ, ◌≡◌, ◌+◌, ◌-◌, ◌*◌, ◌<◌, ◌≤◌, ◌∷◌, ◌++◌, List, [], Some, length, Result, Ok, Err, OnOk}
 use Rattle.std.specs.Option.{option_or}
-use Rattle.std.proofs.Common.{subst, sym, ◌∙◌, ap, arith}
+use Rattle.std.proofs.Common.{subst, sym, ◌∙◌, ap, arith, append_assoc}
 use Rattle.radio_bands.specs.declared.band.Band.{Band}
 use Rattle.resv_list.specs.Reservations.{begun, start_of, place, without, IsFree, IsByStart}
 use Rattle.resv_list.specs.Reservations.{members_before, members_from, net}
@@ -104,6 +104,15 @@ module _ {t l r : Shape} {e : Entry} where
   spent_right band to m w b h =
       let all = ap (begun band 0 to) m.members ∙ begun_right band 0 to _ _ _ (subst IsByStart m.members b) h in
       omega (arith, all, kept_sum-total _ band m.left, kept_sum-parts t l r e.reservation band m.members w m.left m.right)
+
+  -- the left side's members, the one between and the right side's are all
+  pub listed : {Y Z : Type 0} (a b c d : List Reservation) (r' : Result Y Z) → IsSeenAs t l e r → b ≡ a ++ members_of l
+      → c ≡ b ++ e.reservation ∷ [] → OnOk r' (d ≡ c ++ members_of r) → OnOk r' (d ≡ a ++ members_of t)
+  listed a b c d (Ok _) m left middle right =
+      right ∙ ap (λ (x : List Reservation). x ++ members_of r) middle ∙ append_assoc b (e.reservation ∷ []) (members_of r)
+      ∙ ap (λ (x : List Reservation). x ++ e.reservation ∷ members_of r) left
+      ∙ append_assoc a (members_of l) (e.reservation ∷ members_of r) ∙ ap (λ (x : List Reservation). a ++ x) (sym m.members)
+  listed a b c d (Err _) m left middle right = right
 
 -- what begins before a moment is a part of all
 pub spent_in_all : (t : Shape) (band : Band) (to : ℕ) → IsWhole t → begun band 0 to (members_of t) ≤ kept_sum t band

@@ -1,4 +1,4 @@
-ghost use Rattle.std.specs.Prelude.{◌≡◌, ◌≤◌, ◌+◌, ◌&&◌, nat_le};
+ghost use Rattle.std.specs.Prelude.{◌≡◌, ◌≤◌, ◌+◌, ◌&&◌, ◌++◌, nat_le, OnOk};
 ghost use Rattle.resv_list.specs.Reservations.{begun, is_in, start_of, IsByStart};
 ghost use Rattle.resv_list.specs.Sorted.{first_from, last_below};
 ghost use Rattle.resv_tree.specs.Entries.{IsByKey, first_reaching};
@@ -10,7 +10,7 @@ use crate::sums::moved;
 use crate::told::{greatest_in, sum_in, top_in};
 use radio_bands::Band;
 use resv_list::{MAX_MEMBERS, Reservation};
-use std::alloc::Allocator;
+use std::alloc::{AllocError, Allocator};
 
 /// The member with the greatest start below `key`.
 #[tactic(auto, using(crate::proofs::TreeLemmas::looking_before))]
@@ -40,6 +40,21 @@ pub(crate) fn from<A: Allocator + Clone>(link: &Link<A>, key: u64) -> Option<Res
         return from(right, key);
     }
     from(left, key).or(Some(entry.reservation))
+}
+
+/// Adds all members to a list, which makes no growth where it has room for them.
+pub(crate) fn add_all<A: Allocator + Clone, B: Allocator>(
+    link: &Link<A>,
+    members: &mut Vec<Reservation, B>,
+) -> Result<(), AllocError>
+    requires { IsWhole (shape_of link.now) }
+    ensures { OnOk result (members.new.items ≡ members.old.items ++ members_of (shape_of link.now)) }
+{
+    let Some(node) = link else { return Ok(()) };
+    let Parts { left, entry, right } = look(node);
+    add_all(left, members)?;
+    members.push(entry.reservation)?;
+    add_all(right, members)
 }
 
 /// The airtime of the members of the sub-band that begin before `to`, in microseconds.

@@ -141,6 +141,13 @@ impl<A: Allocator + Clone> Roster for TreeRoster<A> {
         QUARTER_US * greatest_in(&self.root, band) as u64
     }
 
+    /// One walk over the tree, from left to right.
+    fn members<B: Allocator>(&self, alloc: B) -> Result<Vec<Reservation, B>, AllocError> {
+        let mut members = Vec::with_capacity(alloc, count(&self.root))?;
+        look::add_all(&self.root, &mut members)?;
+        Ok(members)
+    }
+
     #[tactic(auto, using(crate::proofs::TreeLemmas::staying))]
     fn remove(&mut self, start: u64) -> Option<Reservation> {
         let (mut root, removed) = change::remove(self.root.take(), start);
