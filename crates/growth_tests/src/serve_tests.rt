@@ -202,8 +202,8 @@ fn takes<R: Threads + Wait + Sync>(
 
 /// How many workers serve, whether all growths after the first refused one are refused too, and how many growths it takes.
 const TRIALS: [((u8, bool), u64); 4] = [
-    ((1, false), 94),
-    ((1, true), 94),
+    ((1, false), 85),
+    ((1, true), 85),
     ((2, false), 99),
     ((2, true), 99),
 ];

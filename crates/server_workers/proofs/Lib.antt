@@ -3,3 +3,4 @@ pub mod WorkLemmas
 pub mod TurnLemmas
 pub mod ServedLemmas
 pub mod Crossing
+pub mod AloneLemmas

@@ -40,7 +40,7 @@ module _ {A : Type 0} where
   One t = (ids : List ℕ) × (old : Holding) × (new : Holding) × IsHandled ids t.0 old new t.1
 
   -- numbers that were taken up one after another
-  each_told : (ids : List ℕ) (turns : Turns A) (old new : Holding) → AreHandled ids turns old new → AreTold turns
+  pub each_told : (ids : List ℕ) (turns : Turns A) (old new : Holding) → AreHandled ids turns old new → AreTold turns
   each_told ids [] old new h = All-nil One
   each_told ids (t ∷ turns) old new h = All-cons One t turns (ids, old, h.0, h.1) (each_told ids turns h.0 new h.2)
 

@@ -6,6 +6,7 @@ pub mod Served
 pub mod Crew
 pub mod Serving
 pub mod Counts
+pub mod Alone
 pub use Rattle.book_audit.specs.Audit
 pub use Rattle.server_station.specs.Stations
 pub use Rattle.server_station.specs.Handling

@@ -2,6 +2,7 @@
 //! of `server_station`.
 #![tactic(auto)]
 
+mod alone;
 mod gathering;
 mod lists;
 mod member;

@@ -2,11 +2,13 @@
 ghost use Rattle.std.specs.Prelude.{◌≡◌, ◌≢◌, ◌+◌, ◌-◌, ◌*◌, ◌<◌, ◌≤◌, ◌↔◌, All, IsErrAnd, IfOk, IfErr, OnOk, OnErr, length, ⊤};
 ghost use Rattle.std.specs.Prelude.{vec_len, vec_capacity};
 ghost use Rattle.server_workers.specs.Works.{outcomes_airtime};
+ghost use Rattle.server_workers.specs.Alone.{IsServedAlone};
 ghost use Rattle.server_workers.specs.Counts.{WereAsked};
 ghost use Rattle.server_workers.specs.EmptyLists.{AreEmptyFor};
 ghost use Rattle.server_workers.specs.Served.{IsServed};
 ghost use Rattle.server_workers.specs.Serving.{IsOutside, IsSortedByNumber};
 
+use crate::alone::serve_alone;
 use crate::lists::Lists;
 use crate::member::{Member, Numbers, Room};
 use crate::served::{ServeCause, ServeFault, Served};
@@ -35,8 +37,8 @@ struct Outfit<K: Room, B: Ledger, A: Allocator> {
 }
 
 /// Has some workers, 1 to 16, take, try and settle these numbers of a station, as `work` does, each with a part of a till
-/// that has more than 16. One worker works on the calling thread, and several on threads of their own, of which some may not
-/// be started; the others do all the work. After a fault no number was
+/// that has more than 16. One worker works on the calling thread and takes up each number once, in their order; several work on
+/// threads of their own, of which some may not be started; the others do all the work. After a fault no number was
 /// taken, and the till is handed back as it was given: `Workers` for another number of workers, `NoMemory` where a growth was
 /// refused before any worker was started, `NoThread` where none could be started.
 pub fn serve<
@@ -60,6 +62,7 @@ where
     ensures till { IfOk result (λ served. served.till
         ≡ record till { amount = till.amount + outcomes_airtime served.outcomes.items }) }
     ensures turns { IfOk result (λ served. IsServed numbers.now served) }
+    ensures alone { workers ≡ 1 → IfOk result (λ served. IsServedAlone numbers.now served) }
     ensures sorted { IfOk result (λ served. IsSortedByNumber served) }
     ensures ran { IfOk result (λ served. (1 ≤ served.ran) × (served.ran ≤ workers)) }
     ensures asked { IfOk result (λ served. WereAsked workers served.counts) }
@@ -71,6 +74,9 @@ where
     }
     if workers > MAX_WORKERS {
         return Err(fault(ServeCause::Workers, till));
+    }
+    if workers == 1 {
+        return serve_alone(rt, alloc, station, numbers, till, gate);
     }
     serve_by::<Brand, R, B, S, A, G>(rt, alloc, station, numbers, till, workers, gate)
 }
@@ -156,7 +162,7 @@ where
     let parts = till.parts();
     prove!(parts <= PARTS); // So they fit when they are joined again.
     let mut crew = hired(&mut till, outfit.lists, outfit.crew);
-    work_together(rt, station, &outfit.numbers, gate, crew.as_mut_slice());
+    run(rt, station, &outfit.numbers, gate, crew.as_mut_slice());
     summed_up(till, outfit.all, crew)
 }
 
@@ -221,31 +227,6 @@ fn hired<K: Room, B: Ledger, A: Allocator>(
         crew.push_reserved(Member::new(Worked::idle(till.split(), own)));
     }
     crew
-}
-
-/// Has a crew work: one worker alone on the calling thread, and several on threads of their own.
-fn work_together<
-    K: Room + Send + Sync,
-    R: Threads + Wait + Sync,
-    B: Ledger + Send + Sync,
-    S: BuildHasher + Send + Sync,
-    A: Allocator + Copy + Send + Sync,
-    G: Gate + Sync,
->(
-    rt: &R,
-    station: &Station<B, S, A>,
-    numbers: &Numbers<K, A>,
-    gate: &G,
-    crew: &mut [Member<K, B, A>],
-)
-where
-    S::Hasher: Send + Sync,
-{
-    if crew.len() == 1 {
-        crew[0].work(rt, station, numbers, gate);
-    } else {
-        run(rt, station, numbers, gate, crew);
-    }
 }
 
 /// Has a crew work on threads of their own, and waits for them. One that can't be started stays as it is.

@@ -1,5 +1,5 @@
 // What the workers did is put together.
-ghost use Rattle.std.specs.Prelude.{◌≡◌, ◌+◌, ◌*◌, ◌≤◌, IfOk, IfErr, map, vec_len};
+ghost use Rattle.std.specs.Prelude.{◌≡◌, ◌+◌, ◌*◌, ◌≤◌, [], ◌∷◌, IfOk, IfErr, map, vec_len};
 ghost use Rattle.air_ledger.specs.Tills.{all_parts};
 ghost use Rattle.server_workers.specs.Works.{outcomes_airtime};
 ghost use Rattle.server_workers.specs.Counts.{IsCountOf, WereAsked};
@@ -11,7 +11,7 @@ use crate::lists::Lists;
 use crate::member::{Member, Room};
 use crate::served::{ServeCause, ServeFault, Served};
 use crate::serving::fault;
-use crate::{Ledger, Till};
+use crate::{Ledger, Till, Worked};
 use std::alloc::Allocator;
 
 /// How many workers a crew has, how many of them began, how many items their lists have together, and how many tries went on
@@ -47,6 +47,45 @@ impl Counts {
             overrun: served.overrun,
         }
     }
+}
+
+/// What one worker did who worked alone: its lists are taken over as they stand, and sorted.
+pub(crate) fn taken_over<B: Ledger, A: Allocator>(
+    till: Till<B>,
+    worked: Worked<B, A>,
+) -> Served<B, A>
+    requires { till.parts + 1 ≤ all_parts }
+    ensures till { result.till ≡ record
+        { parts = till.parts + 1; amount = till.amount + outcomes_airtime result.outcomes.items } }
+    ensures all { IsSummedUp (worked ∷ []) result }
+    ensures sorted { IsSortedByNumber result }
+    ensures ran { result.ran ≡ 1 }
+    ensures asked { WereAsked 1 result.counts }
+{
+    let Worked {
+        till: own,
+        receipts,
+        outcomes,
+        skipped,
+        refused,
+        strays,
+        overrun,
+        stopped: _,
+    } = worked;
+    let lists = Lists {
+        receipts,
+        outcomes,
+        skipped,
+        refused,
+        strays,
+    };
+    let mut all = Served::new(till, lists);
+    all.till.join(own);
+    all.overrun = overrun;
+    all.ran = 1;
+    all.sort();
+    all.counts = Some(Counts::of(1, &all));
+    all
 }
 
 /// What a crew did, or the fault of one of which nobody was started.

@@ -32,7 +32,7 @@ impl Numbered for u64 {
     }
 }
 
-/// A number that a channel gave, and that is still to be answered: it can't be dropped, and is made nowhere else.
+/// A number that a channel or a list gave, and that is still to be answered: it can't be dropped.
 pub(crate) struct Given {
     number: u64,
 }
@@ -65,6 +65,13 @@ pub(crate) fn next_of<R: Wait, N: Numbered, A: Allocator>(
 }
 
 impl Given {
+    /// A number of a list.
+    pub(crate) fn listed(number: u64) -> Self
+        ensures { result.number ≡ number }
+    {
+        Given { number }
+    }
+
     /// Answers the uplink with this number, as the station does.
     pub(crate) fn answered<R: Wait, B: Ledger, S: BuildHasher, A: Allocator + Copy, G: Gate>(
         self,

@@ -77,7 +77,7 @@ impl<B: Ledger, A: Allocator> Worked<B, A> {
 
 impl<B: Ledger, A: Allocator + Copy> Worked<B, A> {
     /// Answers the uplink with this number, and files what became of it.
-    fn answer<R: Wait, S: BuildHasher, G: Gate>(
+    pub(crate) fn answer<R: Wait, S: BuildHasher, G: Gate>(
         &mut self,
         rt: &R,
         station: &Station<B, S, A>,
