@@ -1,4 +1,5 @@
 ghost use Rattle.std.specs.Prelude.{◌≡◌, ℕ, ◌-◌, ◌*◌, ◌/◌, ◌<◌};
+ghost use Rattle.std.specs.Int.{div_ceil};
 ghost use Rattle.radio_airtime.specs.DataRate.{spreading_factor_of};
 ghost use Rattle.radio_airtime.specs.TimeOnAir.{airtime_of, symbol_us, low_data_rate_optimisation};
 
@@ -13,18 +14,20 @@ pub fn airtime(rate: DataRate, len: u8) -> u64
     ensures short { result < 10000000 }
 {
     let bits = (8 * u64::from(len) + 28).saturating_sub(4 * rate.spreading_factor());
-    let symbols = 8 + 5 * bits.div_ceil(bits_per_block(rate));
+    let symbols = 8 + 5 * blocks_of(rate, bits);
     (49 + 4 * symbols) * quarter_symbol_us(rate)
 }
 
-/// The bits that a block of coded symbols carries: `4 (SF - 2 DE)`.
-fn bits_per_block(rate: DataRate) -> u64
-    ensures { result ≡ 4 * (spreading_factor_of rate - 2 * low_data_rate_optimisation rate) }
+/// How many blocks of coded symbols so many bits take, each of `4 (SF - 2 DE)` bits. These stand here as numbers, since to divide
+/// by one that is known beforehand is cheap.
+fn blocks_of(rate: DataRate, bits: u64) -> u64
+    ensures { result ≡ div_ceil bits (4 * (spreading_factor_of rate - 2 * low_data_rate_optimisation rate)) }
 {
-    let spreading_factor = rate.spreading_factor();
     match rate {
-        DataRate::Dr0 | DataRate::Dr1 => 4 * (spreading_factor - 2),
-        _ => 4 * spreading_factor,
+        DataRate::Dr0 | DataRate::Dr2 => bits.div_ceil(40),
+        DataRate::Dr1 | DataRate::Dr3 => bits.div_ceil(36),
+        DataRate::Dr4 => bits.div_ceil(32),
+        DataRate::Dr5 | DataRate::Dr6 => bits.div_ceil(28),
     }
 }
 

@@ -1,5 +1,5 @@
-use Rattle.std.specs.Prelude.{◌≡◌, ℕ, ◌/◌, ◌<◌, true, Some}
-use Rattle.std.proofs.Common.{arith}
+use Rattle.std.specs.Prelude.{◌≡◌, ℕ, ◌/◌, ◌<◌, Bool, true, false, Some, None}
+use Rattle.std.proofs.Common.{refl, sym, ap, ◌∙◌, arith, true≢false}
 use Rattle.std.proofs.lemmas.Bool.Decides.{nat_tests}
 use Rattle.radio_airtime.specs.declared.data_rate.DataRate.{DataRate}
 use Rattle.radio_airtime.specs.declared.data_rate.DataRate.TheVariants.{Dr0, Dr1, Dr2, Dr3, Dr4, Dr5, Dr6}
@@ -30,3 +30,17 @@ LiesIn-band_of f r M h = let w = has_width r in grind (arith, nat_tests)
 LiesIn-band_of f r N h = let w = has_width r in grind (arith, nat_tests)
 LiesIn-band_of f r P h = let w = has_width r in grind (arith, nat_tests)
 LiesIn-band_of f r Q h = let w = has_width r in grind (arith, nat_tests)
+
+-- where the only band that a channel may lie in doesn't hold it, no band does
+none_by : (t : Bool) (freq_hz : ℕ) (rate : DataRate) (near band : Band) → (LiesIn freq_hz rate band → near ≡ band)
+    → lies_in freq_hz rate near ≡ false → lies_in freq_hz rate band ≡ t → lies_in freq_hz rate band ≡ false
+none_by true f r near band only none test =
+    absurd (true≢false (sym test ∙ sym (ap (lies_in f r) (only (lies_in-true f r band test))) ∙ none))
+none_by false f r near band only none test = test
+
+pub none_there : (freq_hz : ℕ) (rate : DataRate) (near : Band) → ((band : Band) → LiesIn freq_hz rate band → near ≡ band)
+    → lies_in freq_hz rate near ≡ false → band_of freq_hz rate ≡ None
+unfolding band_of
+none_there f r near only none =
+    let there : (band : Band) → lies_in f r band ≡ false = λ band. none_by (lies_in f r band) f r near band (only band) none refl in
+    rw (there K, there L, there M, there N, there P, there Q) refl

@@ -1,4 +1,6 @@
-ghost use Rattle.std.specs.Prelude.{◌≡◌, ◌↔◌, IsTrue, find};
+ghost use Rattle.std.specs.Prelude.{◌≡◌, ◌↔◌, IsTrue};
+ghost use Rattle.radio_airtime.specs.declared.data_rate.DataRate.{DataRate as Rate};
+ghost use Rattle.radio_bands.specs.declared.band.Band.{Band as SubBand};
 
 use radio_airtime::DataRate;
 
@@ -15,26 +17,35 @@ pub enum Band {
 }
 
 impl Band {
-    ghost use Rattle.radio_bands.specs.Band.{bands, low_of, high_of, LiesIn, lies_in, band_of};
-
-    /// The sub-bands in the order of their frequencies.
-    const ALL: [Band; 6] = [Band::K, Band::L, Band::M, Band::N, Band::P, Band::Q];
+    ghost use Rattle.radio_bands.specs.Band.{low_of, high_of, LiesIn, lies_in, band_of};
 
     /// The sub-band that a channel lies in, half its bandwidth to either side of its centre `freq_hz`,
     /// in Hz; `None` where it lies in none (RP002, EU863-870, "Physical layer", and ETSI EN 300 220-2,
     /// annex B).
-    #[tactic(auto, unfolding(crate::specs::Band::band_of))]
     pub fn of(freq_hz: u32, rate: DataRate) -> Option<Band>
         ensures row { (band : Band) → (result ≡ Some band) ↔ LiesIn freq_hz rate band }
         ensures value { result ≡ band_of freq_hz rate }
     {
-        Self::first_of(&Self::ALL, freq_hz, rate)
+        let nearest = Self::nearest(freq_hz);
+        if nearest.holds(freq_hz, rate) {
+            Some(nearest)
+        } else {
+            None
+        }
     }
 
-    fn first_of(bands: &[Band], freq_hz: u32, rate: DataRate) -> Option<Band>
-        ensures { result ≡ find (lies_in freq_hz rate) bands.now }
+    /// The only sub-band that a channel round `freq_hz`, in Hz, may lie in: one look at the table in place of six.
+    fn nearest(freq_hz: u32) -> Band
+        ensures { (rate : Rate) (band : SubBand) → LiesIn freq_hz rate band → result ≡ band }
     {
-        bands.iter().copied().find(|band| band.holds(freq_hz, rate))
+        match freq_hz {
+            ..=864_999_999 => Band::K,
+            865_000_000..=867_999_999 => Band::L,
+            868_000_000..=868_649_999 => Band::M,
+            868_650_000..=869_299_999 => Band::N,
+            869_300_000..=869_674_999 => Band::P,
+            _ => Band::Q,
+        }
     }
 
     /// Whether the channel round `freq_hz`, in Hz, lies in this sub-band.

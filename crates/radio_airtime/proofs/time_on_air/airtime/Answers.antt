@@ -20,9 +20,8 @@ pub returns-clause-value : goal.returns-clause-value
 returns-clause-value c =
     rw (
       c.quarter_symbol_us.ensures,
-      c.div_ceil.ensures,
+      c.blocks_of.ensures,
       c.saturating_sub-bits.ensures,
-      c.bits_per_block.ensures,
       c.spreading_factor.ensures,
       c.from.ensures,
     )
