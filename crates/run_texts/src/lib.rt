@@ -8,6 +8,7 @@ mod receipts;
 mod run;
 mod run_alone;
 mod run_settings;
+mod shift_pass;
 mod station_close;
 mod station_pass;
 mod station_run;

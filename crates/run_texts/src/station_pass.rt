@@ -2,16 +2,13 @@
 ghost use Rattle.std.specs.Prelude.{◌≡◌, ◌+◌, ◌≤◌, ◌↔◌, Ok, IfOk, IfErr, OnOk, IsErrAnd};
 ghost use Rattle.server_workers.specs.Serving.{IsOutside, IsSortedByNumber};
 ghost use Rattle.server_workers.specs.Works.{outcomes_airtime};
-ghost use Rattle.run_texts.specs.Bookings.{HasMore};
 ghost use Rattle.run_texts.specs.PassEnds.{AreNone, AreByNumber, AreServed, HasFiled, WereEnded};
 ghost use Rattle.run_texts.specs.PassAnswers.{IsPassTold, IsPassToldFrom, IsPassToldAlone};
-ghost use Rattle.run_texts.specs.WorkersRun.{run_state, WereClosed, HasPassed, HasTold};
 
 use crate::pass_answers::Answer;
 use crate::pass_ends::Ends;
-use crate::station_run::Shift;
 use answer_ticket::Receipt;
-use server_core::{Line, NoMemory};
+use server_core::NoMemory;
 use server_workers::{
     Ledger, MAX_WORKERS, NoGate, PARTS, ServeCause, Served, Station, Till, serve,
 };
@@ -22,111 +19,6 @@ use std::thread::Threads;
 
 /// How many numbers are worth a thread.
 const NUMBERS_EACH: usize = 32;
-
-impl<B: Ledger + Send + Sync, S: BuildHasher + Drop + Send + Sync> Shift<B, S>
-where
-    S::Hasher: Send + Sync,
-{
-    /// Closes all gatherings that are due, and answers their uplinks.
-    pub(crate) fn pass<R: Threads + Wait + Sync>(
-        self,
-        rt: &R,
-        alloc: Global,
-        place: usize,
-        now: u64,
-    ) -> Result<Self, NoMemory>
-        ensures station { IfOk result (λ shift. shift.station ≡ self.station) }
-        ensures workers { IfOk result (λ shift. shift.workers ≡ self.workers) }
-        ensures done { IfOk result (λ shift. HasPassed self.station place now
-            (run_state self.till self.receipts.bookings.items self.entries.items)
-            (run_state shift.till shift.receipts.bookings.items shift.entries.items)) }
-    {
-        let numbers = self.closed(rt, alloc, now)?;
-        if numbers.as_slice().is_empty() {
-            return Ok(self);
-        }
-        let Shift {
-            station,
-            till,
-            receipts,
-            entries,
-            workers,
-        } = self;
-        let Answered { till, ran, told } = answer_with_workers(
-            rt,
-            alloc,
-            &station,
-            numbers.as_slice(),
-            till,
-            workers,
-        );
-        let is_outside = matches!(ran, Err(ServeCause::Workers));
-        prove!(!is_outside); // As many are asked for as a station may have.
-        let told = told?;
-        let mut shift = Shift {
-            station,
-            till,
-            receipts,
-            entries,
-            workers,
-        };
-        shift.take_in(alloc, place, told)?;
-        Ok(shift)
-    }
-
-    /// Takes in what is told of the uplinks that one `pass` closed.
-    fn take_in(&mut self, alloc: Global, place: usize, told: Told) -> Result<(), NoMemory>
-        ensures station { self.new.station ≡ self.old.station }
-        ensures workers { self.new.workers ≡ self.old.workers }
-        ensures till { self.new.till ≡ self.old.till }
-        ensures told { OnOk result (HasTold place told.answers.items self.old.entries.items self.new.entries.items) }
-        ensures kept { OnOk result (HasMore told.booked.items self.old.receipts.bookings.items self.new.receipts.bookings.items) }
-    {
-        let Told { answers, booked } = told;
-        self.tell_all(place, answers)?;
-        self.receipts.add_all(alloc, booked)?;
-        Ok(())
-    }
-
-    /// Closes the gatherings that are due until none is, and gives their numbers, each once in rising order.
-    fn closed<R: Wait>(&self, rt: &R, alloc: Global, now: u64) -> Result<Vec<u64>, NoMemory>
-        ensures { IfOk result (λ numbers. WereClosed now numbers.items) }
-    {
-        let mut numbers = Vec::new(alloc);
-        for _ in rt.forever() {
-            let Some(number) = self.station.pass(rt, now) else {
-                break;
-            };
-            numbers.push(number)?;
-        }
-        numbers.sort_unstable();
-        // A station gives no number twice; that these rise is then told by the list alone.
-        numbers.dedup();
-        Ok(numbers)
-    }
-
-    /// Tells the answers of a `pass`.
-    fn tell_all(&mut self, place: usize, answers: Vec<Answer>) -> Result<(), NoMemory>
-        ensures station { self.new.station ≡ self.old.station }
-        ensures workers { self.new.workers ≡ self.old.workers }
-        ensures till { self.new.till ≡ self.old.till }
-        ensures receipts { self.new.receipts ≡ self.old.receipts }
-        ensures told { OnOk result (HasTold place answers.items self.old.entries.items self.new.entries.items) }
-    {
-        for answer in answers {
-            let Answer {
-                number,
-                line,
-                frame,
-            } = answer;
-            self.tell(place, line)?;
-            if let Some(bytes) = frame {
-                self.tell(place, Line::Frame { number, bytes })?;
-            }
-        }
-        Ok(())
-    }
-}
 
 /// What became of the uplinks that one `pass` closed.
 #[derive(Drop)]

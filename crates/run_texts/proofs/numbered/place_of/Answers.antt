@@ -11,8 +11,8 @@ returns-then-number-clause-found g c =
 pub returns-else-number-clause-found : goal.returns-else-number-clause-found
 returns-else-number-clause-found g c =
     let there = c.in-Some.ensures.lookup.3 in
-    all_others g.T.Numbered.number_of c.args.number c.args.items.now c.requires c.end_of_lesser-at.result c.end_of_lesser-at.ensures
-    c.in-Some.item.now there.0 there.1 (search rules)
+    all_others g.T.Numbered.number_of c.args.number c.args.items.now c.requires c.end_of_lesser-at.result
+    c.end_of_lesser-at.ensures c.in-Some.item.now there.0 there.1 (search rules)
 
 pub returns-in-None-clause-found : goal.returns-in-None-clause-found
 returns-in-None-clause-found g c =
