@@ -34,18 +34,28 @@ impl Band {
         }
     }
 
-    /// The only sub-band that a channel round `freq_hz`, in Hz, may lie in: one look at the table in place of six.
+    /// The only sub-band that a channel round `freq_hz`, in Hz, may lie in: the last one whose lower edge isn't above its
+    /// centre, as each ends no later than the next one begins.
     fn nearest(freq_hz: u32) -> Band
         ensures { (rate : Rate) (band : SubBand) → LiesIn freq_hz rate band → result ≡ band }
     {
-        match freq_hz {
-            ..=864_999_999 => Band::K,
-            865_000_000..=867_999_999 => Band::L,
-            868_000_000..=868_649_999 => Band::M,
-            868_650_000..=869_299_999 => Band::N,
-            869_300_000..=869_674_999 => Band::P,
-            _ => Band::Q,
+        let centre = u64::from(freq_hz);
+        if centre < Band::L.low_hz() {
+            return Band::K;
         }
+        if centre < Band::M.low_hz() {
+            return Band::L;
+        }
+        if centre < Band::N.low_hz() {
+            return Band::M;
+        }
+        if centre < Band::P.low_hz() {
+            return Band::N;
+        }
+        if centre < Band::Q.low_hz() {
+            return Band::P;
+        }
+        Band::Q
     }
 
     /// Whether the channel round `freq_hz`, in Hz, lies in this sub-band.
