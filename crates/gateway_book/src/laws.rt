@@ -33,7 +33,7 @@ pub fn law_few_hours_suffice()
     ensures { FewHoursSuffice }
 {}
 
-/// The row of the duty cycle refuses exactly where some hour, wherever it opens, would pass the limit;
+/// `DutyFull` comes exactly where some hour, wherever it opens, would pass the limit;
 /// it names the least start, of the ask or of a member of its sub-band, at which such an hour opens;
 /// and there is one such answer.
 pub fn law_duty_row_is_exact()

@@ -158,8 +158,8 @@ pub fn read_uplink(bytes: &[u8]) -> Result<Uplink, FrameFault>
     Ok(uplink_from(bytes))
 }
 
-/// Whether an uplink ends in its MIC under NwkSKey and its whole counter (LoRaWAN L2 1.0.4 section 4.4).
-/// Needs no memory.
+/// Whether an uplink, one that `read_uplink` accepts, ends in its MIC under NwkSKey and its whole counter
+/// (LoRaWAN L2 1.0.4 section 4.4). Needs no memory.
 pub fn check_mic(bytes: &[u8], nwk: &Key, counter: u32) -> bool
     requires { IsOk (uplink_of bytes.now) }
     ensures mic { IsTrue result ↔ HasMic bytes.now nwk.now counter }

@@ -6,8 +6,9 @@ ghost use Rattle.radio_airtime.specs.TimeOnAir.{airtime_of, symbol_us, low_data_
 use crate::DataRate;
 
 /// The time on air in microseconds of a PHYPayload of `len` bytes, 0 to 255, from the first symbol of
-/// the preamble on (Semtech SX1276 datasheet, section 4.1.1.7, "Time on air"). Nothing is looked at
-/// but the length: a length above `max_phy` has its time too.
+/// the preamble on (Semtech SX1276 datasheet, section 4.1.1.7, "Time on air"), as a downlink is sent: a
+/// preamble of 8 symbols, the explicit header, coding rate 4/5 and no CRC, with which an uplink may last
+/// longer. Nothing is looked at but the length: a length above `max_phy` has its time too.
 pub fn airtime(rate: DataRate, len: u8) -> u64
     ensures value { result ≡ airtime_of rate len }
     ensures positive { 0 < result }

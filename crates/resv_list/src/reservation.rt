@@ -17,6 +17,7 @@ pub struct Reservation {
     pub start: u64,
     /// The centre of its channel, in Hz.
     pub freq_hz: u32,
+    /// Its data rate.
     pub rate: DataRate,
     /// The length of its PHYPayload, in bytes.
     pub len: u8,

@@ -48,14 +48,14 @@ impl<A: Allocator + Clone> Node<A> {
         }
     }
 
-    /// What it keeps, by value.
+    /// Its member, by value.
     pub(crate) fn entry(&self) -> Entry
         ensures { result ≡ entry_of self.now }
     {
         self.entry
     }
 
-    /// What it keeps, by value.
+    /// What it keeps of the tree of which it is the top, by value.
     pub(crate) fn kept(&self) -> Kept
         ensures { result ≡ kept_of self.now }
     {
@@ -90,7 +90,7 @@ impl<A: Allocator + Clone> Node<A> {
     }
 }
 
-/// The parts of a tree, left in it, and what its top owes them.
+/// The parts of a tree, left in it; its top may owe them a part of their own hours.
 pub(crate) fn look<'a, A: Allocator + Clone>(node: &'a Node<A>) -> Parts<'a, A>
     requires { IsWhole (shape node.now) }
     ensures seen { IsSeenAs (shape node.now) (shape_of result.left.now) result.entry (shape_of result.right.now) }

@@ -54,9 +54,10 @@ fn lower<A: Allocator + Clone>(root: &mut Link<A>, member: &Reservation)
 /// Which part of a bound the ends of a stretch may count for together before `is_within` looks closer.
 const SPARE: u64 = 8;
 
-/// A roster in a balanced tree: each call but `filled` takes a few walks from the root down. `insert` takes the memory of one
-/// node and `filled` that of one a member; `drop_before` gives back that of each member that it drops. It is dropped side by
-/// side, as deep as the tree is high: 33 levels at most, so no number of members exhausts the stack.
+/// A roster in a balanced tree: each call but `filled` and `members` takes a few walks from the root down. `insert` takes the
+/// memory of one node, `filled` that of one a member and `members` that of its list; `drop_before` gives back that of each member
+/// that it drops. It is dropped side by side, as deep as the tree is high: 33 levels at most, so no number of members exhausts the
+/// stack.
 #[derive(Drop)]
 pub struct TreeRoster<A: Allocator + Clone> {
     root: Link<A>,

@@ -16,8 +16,11 @@ use text_words::add_word;
 /// since the lines of a million turns are not counted ahead.
 #[derive(Clone, Copy, Debug, PartialEq, Eq)]
 pub struct Tally {
+    /// Those that were answered by a transmission.
     pub sent: u128,
+    /// Those to which an answer was owed, and none was booked.
     pub unanswered: u128,
+    /// Those to which no answer was owed.
     pub silent: u128,
 }
 
@@ -34,7 +37,7 @@ impl Tally {
         }
     }
 
-    /// Counts those of another tally too.
+    /// Counts those of another tally too; each count of the two is at most 2^126.
     pub fn add(&mut self, more: &Tally)
         requires counted { IsTallyUpTo (2 ^ 126) self.old }
         requires more { IsTallyUpTo (2 ^ 126) more.now }

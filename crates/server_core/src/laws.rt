@@ -60,11 +60,11 @@ pub fn law_book_calls_are_steps<A: Allocator>()
     ensures { BookCallsAreSteps A }
 {}
 
-/// The headline but its last part, on the shares of a ledger, for all settings that are accepted, all limits of gathering
-/// and every list of steps: the reservations of a gateway are pairwise disjoint, each as long as the formula says; in
-/// each sub-band the airtime that begins within any hour keeps the limit; a number stands at most once over all gateways;
-/// and each reservation takes RX1 or RX2 of a copy of the gathered uplink with its number, on the gateway that heard this
-/// copy. The statement stands on one page, over plain lists.
+/// What the project promises (docs/PROOFS.md, "The headline, sentence by sentence"), but for the shares of a ledger, for all
+/// settings that are accepted, all limits of gathering and every list of steps: the reservations of a gateway are pairwise
+/// disjoint, each as long as the formula says; in each sub-band the airtime that begins within any hour keeps the limit; a number
+/// stands at most once over all gateways; and each reservation takes RX1 or RX2 of a copy of the gathered uplink with its number,
+/// on the gateway that heard this copy. The statement stands on one page, over plain lists.
 pub fn law_every_run_keeps_headline()
     ensures { EveryRunKeepsHeadline }
 {}

@@ -72,6 +72,7 @@ impl<A: Allocator + Copy> KnownDevice<A> {
         }
         None
     }
+
     /// The answer of this device to uplink `n`, which says this and has these copies by rank, as it would be sent next.
     /// Takes memory for the payload alone.
     pub(crate) fn job(&self, n: u64, asked: &Asked, copies: Copies<A>) -> Result<Job<A>, AllocError>

@@ -88,7 +88,7 @@ pub(crate) fn fault<B: Ledger>(cause: ServeCause, till: Till<B>) -> ServeFault<B
     ServeFault { cause, till }
 }
 
-/// The same, by 1 to 16 workers.
+/// The same, by up to 16 workers on threads of their own.
 fn serve_by<
     K: Room + Send + Sync,
     R: Threads + Wait + Sync,

@@ -1,4 +1,4 @@
-// Each number that a channel gives is answered once, and what becomes of it is filed.
+// Each number that a channel or a list gives is answered once, and what becomes of it is filed.
 ghost use Rattle.std.specs.Prelude.{◌≡◌, ◌≤◌, false, None, IfOk};
 ghost use Rattle.server_station.specs.Handling.{IsHandled, was_taken};
 ghost use Rattle.server_workers.specs.Turns.{IsOneOf};

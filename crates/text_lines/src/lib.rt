@@ -1,5 +1,5 @@
-// What every text call shares: bytes in and out, lines, words and numbers. Nothing here takes memory,
-// but for the growing writer of tests.
+//! What every text call shares: bytes in and out, lines, words and numbers. Nothing here takes memory, but for the growing
+//! writer, which tests use, and a run whose lines several threads make.
 #![tactic(auto)]
 
 mod ahead;

@@ -1,4 +1,4 @@
-// Readers and writers over memory, for tests.
+// Readers and writers over memory: those of tests, and the writer into which a thread makes its part of a text.
 ghost use Rattle.std.specs.Prelude.{◌≡◌, ℕ, ◌+◌, ◌-◌, ◌^◌, ◌↔◌, min, max, List, [], Some, IsErr, IfOk, length};
 ghost use Rattle.std.specs.Io.{ReadsAtMost, WritesAtMost};
 ghost use Rattle.std.specs.Io.KnownBytes.{ReadConsumes, WriteAppends};

@@ -51,7 +51,7 @@ impl TextLine {
         self.len = 0;
     }
 
-    /// Adds bytes.
+    /// Adds bytes. The line has room for 1,024 in all.
     pub fn text(&mut self, text: &[u8])
         requires { length self.old + length text.now ≤ TEXT_LIMIT }
         ensures text { self.new ≡ self.old ++ text.now }
@@ -62,7 +62,7 @@ impl TextLine {
         self.len = end;
     }
 
-    /// Adds the decimal digits of a number, without leading zeros.
+    /// Adds the decimal digits of a number, without leading zeros: up to 20, for which there has to be room.
     pub fn number(&mut self, number: u64)
         requires { length self.old + NUMBER_DIGITS ≤ TEXT_LIMIT }
         ensures text { self.new ≡ self.old ++ decimal number }

@@ -53,7 +53,7 @@ impl WriteBehind {
         }
     }
 
-    /// Adds bytes to what is gathered, and writes all of it where that makes 4,096. After an Err a front of it was
+    /// Adds bytes, at most 4,096, to what is gathered, and writes all of it where that makes 4,096. After an Err a front of it was
     /// taken, and the rest is forgotten.
     pub fn put<W: ByteOut>(&mut self, writer: &mut W, bytes: &[u8]) -> Result<(), CallFailed>
         requires { length bytes.now ≤ WRITE_SIZE }

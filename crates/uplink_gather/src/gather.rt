@@ -19,8 +19,8 @@ pub type NoMemory = AllocError;
 /// come in any order.
 ///
 /// What is closed costs nothing any more: the newest gathering of some bytes is found by their hash, and
-/// what is due among those that aren't closed, whose numbers stand in a list of their own. So `place`,
-/// `copies`, `bytes` and `is_closed` take the time of one look-up, `hear` that and the time of the copies
+/// what is due among those that aren't closed, whose numbers stand in a list of their own. So `copies`,
+/// `bytes` and `is_closed` take the time of one look-up, `place` and `hear` that and the time of the copies
 /// of one gathering, `due` and `close` at most that of the unclosed, of which `max_open` bounds the count.
 #[derive(Drop)]
 pub struct Gather<S: BuildHasher, A: Allocator = Global> {

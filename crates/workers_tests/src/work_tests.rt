@@ -6,7 +6,7 @@ use crate::shifts::Shift;
 use crate::steps::{Row, Step};
 use std::test::Fail;
 
-/// All numbers wait for it at once; the station heard nothing.
+/// One worker takes them up one after another; the station heard nothing.
 static UNHEARD: [Row; 1] = [(
     Step::Work(Shift::Crew(0, 999, 1)),
     "(1, [0, 0], ([], 1000, 0), 0, false)",
