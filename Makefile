@@ -1,4 +1,4 @@
-# The commands of this repository. They need make, bash, python3 and the toolchain's command rt.
+# The commands of this repository. They need make, bash, python3, a C compiler as cc, and the toolchain's command rt.
 
 PROGRAM := crates/airbook/out/airbook
 PREFIX ?= /usr/local
@@ -11,15 +11,17 @@ demo:
 	@echo 'airbook run < examples/two-gateways.txt'
 	@cd crates/airbook && rt try -- run < ../../examples/two-gateways.txt
 
-# The gate, then what must not compile, and then the cases, random runs and saved books beside plain models, workers beside one
-# thread and a server that listens, on the program that the gate has proved and built. Where one fails, what comes after it is
-# not run.
+# The gate, then what must not compile, and then the cases, random runs and saved books beside plain models, growths that are
+# refused, workers beside one thread and a server that listens, on the program that the gate has proved and built. Where one fails,
+# what comes after it is not run.
 test:
 	rt ci
 	python3 tests/misuse.py
 	python3 tests/cases.py $(PROGRAM)
 	python3 tests/random_runs.py $(PROGRAM)
 	python3 tests/random_saved.py $(PROGRAM)
+	python3 tests/refused_growths.py $(PROGRAM)
+	python3 tests/refused_books.py $(PROGRAM)
 	python3 tests/workers.py $(PROGRAM)
 	python3 tests/listen.py $(PROGRAM)
 

@@ -16,8 +16,8 @@ import sys
 TOP = pathlib.Path(sys.argv[1] if len(sys.argv) > 1 else pathlib.Path(__file__).resolve().parent.parent)
 FOR_TESTS = {"worked_inputs", "refusing_alloc", "test_asserts"}
 WANT = r"\b(NoMemory|AllocError)\b"
-# It answers want of memory by handing back what it was given.
-UNNAMED = {("server_workers", "Worked::new")}
+# They answer want of memory by handing back what was given, or within what another call's fault is told in.
+UNNAMED = {("server_workers", "Worked::new"), ("server_station", "Station::answer")}
 
 
 def braced(text, at):

@@ -136,9 +136,9 @@ def ended(child, port):
         return Ended(None, *child.communicate())
 
 
-def run(program, library, folder, case, first, last):
-    """Runs a case with these growths refused: how many were, and how it ended."""
-    words, given, port = opened(*case, folder)
+def run_on(program, library, folder, opened, first, last):
+    """Runs the program on these words, standard input and port with these growths refused: how many were, and how it ended."""
+    words, given, port = opened
     read, write = os.pipe()
     env = {"LD_PRELOAD": str(library), "REFUSE_FIRST": str(first), "REFUSE_LAST": str(last), "REFUSE_TELL": str(write)}
     child = subprocess.Popen(
@@ -149,6 +149,11 @@ def run(program, library, folder, case, first, last):
     how = ended(child, port)
     with os.fdopen(read, "rb") as told:
         return len(told.read()), how
+
+
+def run(program, library, folder, case, first, last):
+    """The same on a case."""
+    return run_on(program, library, folder, opened(*case, folder), first, last)
 
 
 def report_of(out):
