@@ -1,6 +1,6 @@
 // Settings as a server is given them.
 
-use server_desk::{DeviceSetting, GatewaySetting, Settings, SettingsFault};
+use server_desk::{DeviceSetting, GatewaySetting, Settings};
 use std::alloc::Global;
 use std::test::Fail;
 use test_asserts::{equal, holds};

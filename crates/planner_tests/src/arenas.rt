@@ -3,7 +3,6 @@
 use crate::asks::{Answer, Row, ask_in_m, asks_in_m};
 use crate::trials::{AMPLE_BYTES, Live, answers_of, booked, tried};
 use bumpalo::Bump;
-use gateway_book::Refusal;
 use std::alloc::Global;
 use std::test::Fail;
 use test_asserts::{equal, holds};

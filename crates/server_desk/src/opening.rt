@@ -9,7 +9,6 @@ use crate::{DeviceSetting, GatewaySetting};
 use indexmap::IndexSet;
 use std::alloc::{AllocError, Allocator};
 use std::hash::BuildHasher;
-use uplink_gather::Limits;
 
 /// The numbers of the gateways, in their order.
 pub(crate) fn ids_of<A: Allocator + Drop>(
