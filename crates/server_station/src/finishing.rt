@@ -48,6 +48,31 @@ impl<B: Ledger, S: BuildHasher, A: Allocator + Copy> Station<B, S, A> {
         if !are_all_in(&tills) {
             return Err(FinishFault::new(FinishCause::TillMissing, self, tills));
         }
+        self.emptied(alloc, tills, receipts)
+    }
+
+    /// The same where all parts of the ledger are in: the books leave their locks, and are compared.
+    fn emptied(
+        self,
+        alloc: A,
+        tills: Vec<Till<B>, A>,
+        receipts: &[Receipt<A>],
+    ) -> Result<Closing<S, A>, FinishFault<B, S, A>>
+        requires { parts_of tills.items ≡ all_parts }
+        ensures all_in { OnOk result (parts_of tills.items ≡ all_parts) }
+        ensures booked { IfOk result (λ closing. closing.booked ≡ amount_of tills.items) }
+        ensures answered { IfOk result (λ closing. closing.booked ≡ total_of closing.desk) }
+        ensures sum { IfOk result (λ closing. booked_by closing.books.items ≡ closing.booked) }
+        ensures gateways { IfOk result (λ closing. map (λ t. t.0) closing.totals.items ≡ self) }
+        ensures totals { IfOk result (λ closing. map (λ t. t.1) closing.totals.items ≡ map totals_of closing.books.items) }
+        ensures equal { IfOk result (λ closing. All (λ t. t.1.booked ≡ airtime_at closing.desk t.0) closing.totals.items) }
+        ensures once { IfOk result (λ closing. EachStandsOnce (kept_numbers closing.books.items)) }
+        ensures accounted { IfOk result (λ closing. All (IsAccountedFor (shelved closing.totals.items closing.books.items))
+            receipts.now) }
+        ensures cause { IfErr result (λ fault. IsFinishCause tills.items self receipts.now fault.cause) }
+        ensures station_back { IfErr result (λ fault. fault.station ≡ self) }
+        ensures tills_back { IfErr result (λ fault. fault.tills.items ≡ tills.items) }
+    {
         let Station { office, mut places } = self;
         let Ok(mut lists) = ClosingLists::with_room(alloc, places.len()) else {
             let station = Station { office, places };
@@ -55,12 +80,49 @@ impl<B: Ledger, S: BuildHasher, A: Allocator + Copy> Station<B, S, A> {
         };
         take_out(&mut places, &mut lists.shelf);
         let (desk, tally) = office.into_inner().parted();
-        if let Err(cause) = compare(alloc, &desk, &lists.shelf, receipts) {
-            let station = shut(desk, tally, lists.shelf, places);
-            return Err(FinishFault::new(cause, station, tills));
-        }
-        Ok(close(desk, tally, tills, lists))
+        compared(alloc, desk, tally, lists, places, tills, receipts)
     }
+}
+
+/// The same where the books stand beside their gateways' numbers: whether they go with the desk, with one another and with the
+/// receipts.
+fn compared<B: Ledger, S: BuildHasher, A: Allocator + Copy>(
+    alloc: A,
+    desk: Desk<S, A>,
+    tally: Tally<B>,
+    lists: ClosingLists<A>,
+    places: Vec<Place<A>, A>,
+    tills: Vec<Till<B>, A>,
+    receipts: &[Receipt<A>],
+) -> Result<Closing<S, A>, FinishFault<B, S, A>>
+    requires tally { tally ≡ total_of desk }
+    requires all_in { parts_of tills.items ≡ all_parts }
+    requires no_totals { lists.totals.items ≡ [] }
+    requires no_books { lists.books.items ≡ [] }
+    requires totals_room { vec_len lists.shelf ≤ vec_capacity lists.totals }
+    requires books_room { vec_len lists.shelf ≤ vec_capacity lists.books }
+    requires empty { places.items ≡ [] }
+    requires room { vec_len lists.shelf ≤ vec_capacity places }
+    requires rising { IsStrictlyIncreasing (map (λ s. s.0) lists.shelf.items) }
+    ensures all_in { OnOk result (parts_of tills.items ≡ all_parts) }
+    ensures booked { IfOk result (λ closing. closing.booked ≡ amount_of tills.items) }
+    ensures answered { IfOk result (λ closing. closing.booked ≡ total_of closing.desk) }
+    ensures sum { IfOk result (λ closing. booked_by closing.books.items ≡ closing.booked) }
+    ensures gateways { IfOk result (λ closing. map (λ t. t.0) closing.totals.items ≡ map (λ s. s.0) lists.shelf.items) }
+    ensures totals { IfOk result (λ closing. map (λ t. t.1) closing.totals.items ≡ map totals_of closing.books.items) }
+    ensures equal { IfOk result (λ closing. All (λ t. t.1.booked ≡ airtime_at closing.desk t.0) closing.totals.items) }
+    ensures once { IfOk result (λ closing. EachStandsOnce (kept_numbers closing.books.items)) }
+    ensures accounted { IfOk result (λ closing. All (IsAccountedFor (shelved closing.totals.items closing.books.items))
+        receipts.now) }
+    ensures cause { IfErr result (λ fault. IsFinishCause tills.items (map (λ s. s.0) lists.shelf.items) receipts.now fault.cause) }
+    ensures station_back { IfErr result (λ fault. fault.station ≡ map (λ s. s.0) lists.shelf.items) }
+    ensures tills_back { IfErr result (λ fault. fault.tills.items ≡ tills.items) }
+{
+    if let Err(cause) = compare(alloc, &desk, &lists.shelf, receipts) {
+        let station = shut(desk, tally, lists.shelf, places);
+        return Err(FinishFault::new(cause, station, tills));
+    }
+    Ok(close(desk, tally, tills, lists))
 }
 
 /// The station with its desk and its books behind locks again.
