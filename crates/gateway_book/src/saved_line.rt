@@ -1,6 +1,6 @@
 // What a line of a saved book says.
 ghost use Rattle.std.specs.Prelude.{◌≡◌, map, None, if◌then◌else◌};
-ghost use Rattle.gateway_book.specs.Loading.{leads_zero, version_in, gateway_in, gap_in, member_in, count_in};
+ghost use Rattle.gateway_book.specs.Loading.{leads_zero, version_in, gateway_in, gap_in, member_in, member_with, count_in};
 ghost use Rattle.gateway_book.specs.Loading.{entry_in, words_between};
 
 use crate::Ask;
@@ -102,15 +102,34 @@ fn member_in(words: &[&[u8]]) -> Option<Ask>
     ensures { result ≡ member_in (map (λ word. word.now) words.now) }
 {
     match words {
-        [name, number, start, freq_hz, rate, len] if is_word(name, b"r") => Some(Ask {
-            number: plain(number, number_u64(number))?,
-            start: plain(start, number_u64(start))?,
-            freq_hz: plain(freq_hz, number_u32(freq_hz))?,
-            rate: DataRate::from_number(plain(rate, number_u8(rate))?)?,
-            len: plain(len, number_u8(len))?,
-        }),
+        [name, number, start, freq_hz, rate, len] if is_word(name, b"r") => member_with(
+            plain(number, number_u64(number)),
+            plain(start, number_u64(start)),
+            plain(freq_hz, number_u32(freq_hz)),
+            plain(rate, number_u8(rate)).and_then(DataRate::from_number),
+            plain(len, number_u8(len)),
+        ),
         _ => None,
     }
+}
+
+/// A member of these fields, where each is there.
+fn member_with(
+    number: Option<u64>,
+    start: Option<u64>,
+    freq_hz: Option<u32>,
+    rate: Option<DataRate>,
+    len: Option<u8>,
+) -> Option<Ask>
+    ensures { result ≡ member_with number start freq_hz rate len }
+{
+    Some(Ask {
+        number: number?,
+        start: start?,
+        freq_hz: freq_hz?,
+        rate: rate?,
+        len: len?,
+    })
 }
 
 /// COUNT of a line `end COUNT`.
