@@ -1,4 +1,4 @@
-use Rattle.std.specs.Prelude.{ℕ, ◌≡◌, ◌+◌, ◌-◌, ◌≤◌, min, Bool, true, false, ◌&&◌, List, [], ◌∷◌, Option}
+use Rattle.std.specs.Prelude.{ℕ, ◌≡◌, ◌+◌, ◌≤◌, min, Bool, true, false, ◌&&◌, List, [], ◌∷◌, Option}
 use Rattle.std.specs.Prelude.{Some, None, map, filter, find, cond, if◌then◌else◌, refl}
 use Rattle.std.specs.Option.{option_map, option_or}
 use Rattle.std.proofs.Common.{sym, ap, ◌∙◌, arith}
@@ -8,7 +8,7 @@ use Rattle.radio_bands.specs.Band.{hour, limit_of}
 use Rattle.resv_list.specs.declared.reservation.Reservation.{Reservation}
 use Rattle.resv_list.proofs.Walk.{found_passes}
 use Rattle.resv_list.specs.Reservations.{start_of, is_in, begun, IsByStart}
-use Rattle.resv_list.specs.Hours.{starts_in}
+use Rattle.resv_list.specs.Hours.{reach, starts_in}
 use Rattle.gateway_book.specs.Least.{least}
 use Rattle.gateway_book.proofs.SpacedLaws.{least-find}
 use Rattle.gateway_book.specs.Duty.{is_within_hour, would_pass, is_overfull, full_hour, opens_full}
@@ -62,10 +62,10 @@ full_hour-search l band start airtime s =
 
 -- where the two hours round the start leave room, no hour is full
 pub full_hour-spare : (l : List Reservation) (band : Band) (start airtime : ℕ)
-    → begun band (start + 1 - hour) (start + hour) l + airtime ≤ limit_of band → full_hour l band start airtime ≡ None
+    → begun band (reach start) (start + hour) l + airtime ≤ limit_of band → full_hour l band start airtime ≡ None
 full_hour-spare l band start airtime h =
     sym ((duty_row_is_exact l band start airtime None).0 (λ t a b. let w =
-    begun_wider band t (t + hour) (start + 1 - hour) (start + hour) l (omega arith) (omega arith) in omega arith))
+    begun_wider band t (t + hour) (reach start) (start + hour) l (omega arith) (omega arith) in omega arith))
 
 -- What the whole search answers, by what it found.
 

@@ -12,7 +12,7 @@ use Rattle.resv_list.specs.declared.reservation.Reservation.{Reservation}
 use Rattle.resv_list.specs.Fit.{last_end}
 use Rattle.resv_list.specs.Reservations.{start_of, airtime_us, is_in, share, begun, spent, IsByStart}
 use Rattle.resv_list.specs.Begun.{begun-cons}
-use Rattle.resv_list.specs.Hours.{starts_in, is_over, first_over, greatest, most_spent}
+use Rattle.resv_list.specs.Hours.{reach, starts_in, is_over, first_over, greatest, most_spent}
 use Rattle.resv_list.proofs.BegunLemmas.{share_within}
 use Rattle.resv_list.proofs.FilterLemmas.{find-alike, find-none}
 use Rattle.resv_list.proofs.HourLemmas.{greatest-cons}
@@ -52,7 +52,7 @@ own_hour-holds l band r c e =
 
 -- The question for a full hour: which member of the last hour before the start leaves no room in its own hour?
 
-opens_by : (start t : ℕ) → nat_le (start + 1 - hour) t ≡ nat_lt start (t + hour)
+opens_by : (start t : ℕ) → nat_le (reach start) t ≡ nat_lt start (t + hour)
 opens_by start t = grind (arith, nat_tests)
 
 begins_by : (start t : ℕ) → nat_lt t (start + 1) ≡ nat_le t start
@@ -69,25 +69,25 @@ swapped false false s = refl
 
 opens_over : (l : List Reservation) (band : Band) (start airtime : ℕ) (r : Reservation) (p : Bool) → is_in band r ≡ p
     → (p ≡ true → 0 < spent l band r.start)
-    → is_over l band (start + 1 - hour) (start + 1) (limit_of band - airtime) r ≡ opens_full l band start airtime r
+    → is_over l band (reach start) (start + 1) (limit_of band - airtime) r ≡ opens_full l band start airtime r
 opens_over l band start airtime r true e h =
     rw (e, opens_by start r.start, begins_by start r.start, no_room (limit_of band) airtime (spent l band r.start) (h refl))
     (swapped (nat_lt start (r.start + hour)) (nat_le r.start start) (nat_lt (limit_of band) (spent l band r.start + airtime)))
 opens_over l band start airtime r false e h = rw e refl
 
 first_over-full : (l : List Reservation) (band : Band) (start airtime : ℕ)
-    → first_over band (start + 1 - hour) (start + 1) (limit_of band - airtime) l ≡ find (opens_full l band start airtime) l
+    → first_over band (reach start) (start + 1) (limit_of band - airtime) l ≡ find (opens_full l band start airtime) l
 first_over-full l band start airtime =
-    find-alike (is_over l band (start + 1 - hour) (start + 1) (limit_of band - airtime)) (opens_full l band start airtime) l
+    find-alike (is_over l band (reach start) (start + 1) (limit_of band - airtime)) (opens_full l band start airtime) l
     (λ r c. opens_over l band start airtime r (is_in band r) refl (λ e. own_hour-holds l band r c e))
 
 -- it is the first that opens a full hour
 pub full_hour-asked : (l : List Reservation) (band : Band) (start airtime first limit room : ℕ) (o : Option Reservation)
-    → first ≡ start + 1 - hour → limit ≡ limit_of band → room ≡ limit - airtime
+    → first ≡ reach start → limit ≡ limit_of band → room ≡ limit - airtime
     → o ≡ first_over band first (start + 1) room l → o ≡ find (opens_full l band start airtime) l
 full_hour-asked l band start airtime first limit room o f h r e =
     e ∙ ap (λ (n : ℕ). first_over band n (start + 1) room l) f
-    ∙ ap (λ (n : ℕ). first_over band (start + 1 - hour) (start + 1) n l) (r ∙ ap (λ (n : ℕ). n - airtime) h)
+    ∙ ap (λ (n : ℕ). first_over band (reach start) (start + 1) n l) (r ∙ ap (λ (n : ℕ). n - airtime) h)
     ∙ first_over-full l band start airtime
 
 -- The question for the busiest hour: which member has the most in its own hour?

@@ -6,7 +6,7 @@ ghost use Rattle.gateway_book.specs.Answer.{total_limit};
 ghost use Rattle.gateway_book.specs.Duty.{would_pass, full_hour, opens_full, hour_from};
 
 use radio_bands::{Band, limit_us};
-use resv_list::{HOUR, Roster};
+use resv_list::{HOUR, Roster, reach};
 
 /// An hour, and how full it is.
 #[derive(Clone, Copy, Debug)]
@@ -31,7 +31,7 @@ pub(crate) fn full_hour<R: Roster>(
     requires bounded { net (R.list roster.now) ≤ total_limit }
     ensures { result ≡ option_map (hour_from (R.list roster.now) band) (full_hour (R.list roster.now) band start airtime) }
 {
-    let first = (start + 1).saturating_sub(HOUR);
+    let first = reach(start);
     let limit = limit_us(band);
     if airtime <= limit && roster.is_within(band, first, start + HOUR, limit - airtime) {
         return None;
@@ -49,7 +49,7 @@ fn first_full<R: Roster>(roster: &R, band: Band, start: u64, airtime: u64) -> Op
     ensures { result ≡ option_map (λ r. hour_from (R.list roster.now) band r.start)
         (find (opens_full (R.list roster.now) band start airtime) (R.list roster.now)) }
 {
-    let first = (start + 1).saturating_sub(HOUR);
+    let first = reach(start);
     let room = limit_us(band).saturating_sub(airtime);
     let member = roster.first_over(band, first, start + 1, room)?;
     Some(hour_from(roster, band, member.start))

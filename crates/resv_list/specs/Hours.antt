@@ -1,10 +1,15 @@
-use Rattle.std.specs.Prelude.{ℕ, max, nat_lt, nat_le, ◌&&◌, Bool, List, [], ◌∷◌, Option, map, filter, find}
+use Rattle.std.specs.Prelude.{ℕ, ◌+◌, ◌-◌, max, nat_lt, nat_le, ◌&&◌, Bool, List, [], ◌∷◌, Option, map, filter, find}
 use Rattle.radio_bands.specs.declared.band.Band.{Band}
+use Rattle.radio_bands.specs.Band.{hour}
 use Rattle.resv_list.specs.declared.reservation.Reservation.{Reservation}
 use Rattle.resv_list.specs.Reservations.{start_of, is_in, spent}
 
 -- The hours that members open: a member's own hour opens at its start, and has the airtime of the member's band that
 -- begins in it.
+
+-- from where on an hour that opens reaches a moment
+abbrev pub reach : ℕ → ℕ
+reach moment = moment + 1 - hour
 
 -- the starts of the members of the band
 abbrev pub starts_in : List Reservation → Band → List ℕ

@@ -10,5 +10,5 @@ mod vec_roster;
 pub use airtime::airtime_of;
 pub use laws::law_nearest_are_found;
 pub use reservation::{LAST_END, Reservation};
-pub use roster::{Dropped, HOUR, MAX_MEMBERS, Roster, RosterFault};
+pub use roster::{Dropped, HOUR, MAX_MEMBERS, Roster, RosterFault, reach};
 pub use vec_roster::VecRoster;

@@ -1,8 +1,8 @@
-ghost use Rattle.std.specs.Prelude.{◌≡◌, ℕ, ◌≤◌, nat_le, ◌↔◌, List, length, [], IfOk, IfErr, OnOk, OnErr, IsErrAnd};
+ghost use Rattle.std.specs.Prelude.{◌≡◌, ℕ, ◌<◌, ◌≤◌, ◌+◌, ◌^◌, nat_le, ◌↔◌, List, length, [], IfOk, IfErr, OnOk, OnErr, IsErrAnd};
 ghost use Rattle.resv_list.specs.declared.reservation.Reservation.{Reservation as Member};
 ghost use Rattle.resv_list.specs.Reservations.{IsByStart, IsFree, place, member_before, member_from, member_at, without, begun};
 ghost use Rattle.resv_list.specs.Reservations.{members_before, members_from, net};
-ghost use Rattle.resv_list.specs.Hours.{first_over, most_spent};
+ghost use Rattle.resv_list.specs.Hours.{reach, first_over, most_spent};
 
 use crate::Reservation;
 use radio_bands::Band;
@@ -155,4 +155,12 @@ pub trait Roster {
     }
 
     ghost by_start: { (r : Self) → IsByStart (list r) };
+}
+
+/// From where on an hour that opens reaches a moment, in microseconds.
+pub fn reach(moment: u64) -> u64
+    requires { moment + 1 < 2 ^ 64 }
+    ensures { result ≡ reach moment }
+{
+    (moment + 1).saturating_sub(HOUR)
 }

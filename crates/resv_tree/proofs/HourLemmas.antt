@@ -4,12 +4,12 @@ use Rattle.std.proofs.Common.{refl, arith, sym, ap, ◌∙◌, subst}
 use Rattle.radio_bands.specs.declared.band.Band.{Band}
 use Rattle.resv_list.specs.declared.reservation.Reservation.{Reservation}
 use Rattle.resv_list.specs.Reservations.{is_in, spent}
-use Rattle.resv_list.specs.Hours.{starts_in, is_over, first_over, greatest, most_spent}
+use Rattle.resv_list.specs.Hours.{reach, starts_in, is_over, first_over, greatest, most_spent}
 use Rattle.resv_list.proofs.HourLemmas.{greatest-cons}
 use Rattle.resv_tree.specs.declared.entry.Entry.{Entry}
 use Rattle.resv_tree.specs.Entries.{key_of, Each, reaches, first_reaching, member_of, members, most_own}
 use Rattle.resv_tree.specs.Entries.{moved_in, CanMoveIn}
-use Rattle.resv_tree.specs.OwnHours.{own_hour, HasHours, reach, airtimes, raised, lowered, CountsIn}
+use Rattle.resv_tree.specs.OwnHours.{own_hour, HasHours, airtimes, raised, lowered, CountsIn}
 use Rattle.resv_tree.specs.Shape.{Shape, entries, members_of, greatest_of, IsWhole}
 use Rattle.resv_tree.proofs.EntryLemmas.{in_band, amount_of}
 use Rattle.resv_tree.proofs.OwedLemmas.{entries-members, greatest_is_most}

@@ -7,6 +7,7 @@ use Rattle.radio_bands.specs.declared.band.Band.{Band}
 use Rattle.radio_bands.specs.Band.{hour, band_of}
 use Rattle.resv_list.specs.declared.reservation.Reservation.{Reservation}
 use Rattle.resv_list.specs.Sorted.{place_by, rest_from}
+use Rattle.resv_list.specs.Hours.{reach}
 use Rattle.resv_list.specs.Reservations.{start_of, is_in, airtime_in, airtime_us, share, begun, spent, place, member_at}
 use Rattle.resv_list.specs.Reservations.{without, members_from}
 use Rattle.resv_list.specs.Reservations.{IsByStart, IsFree}
@@ -14,7 +15,7 @@ use Rattle.resv_list.proofs.BegunLemmas.{share_within, begun-place}
 use Rattle.resv_list.proofs.SortedLaws.{RisesFrom-filter}
 use Rattle.resv_tree.specs.declared.entry.Entry.{Entry}
 use Rattle.resv_tree.specs.Entries.{Each, key_of, IsByKey, members, most_own, entry_at, entries_without}
-use Rattle.resv_tree.specs.OwnHours.{own_hour, HasHours, reach, airtimes, nothing, raised, lowered, CountsIn}
+use Rattle.resv_tree.specs.OwnHours.{own_hour, HasHours, airtimes, nothing, raised, lowered, CountsIn}
 use Rattle.resv_tree.specs.Shape.{Shape, entries, members_of, greatest_of, count_of, IsWhole}
 use Rattle.resv_tree.proofs.EntryLemmas.{each-with, each-to-map, banded, amount_at, amount_of, entry_with, rises_entries}
 use Rattle.resv_tree.proofs.OwedLemmas.{entries-members, greatest_is_most}

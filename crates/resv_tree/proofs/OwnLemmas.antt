@@ -8,6 +8,7 @@ use Rattle.radio_bands.specs.Band.{hour}
 use Rattle.resv_list.specs.declared.reservation.Reservation.{Reservation}
 use Rattle.resv_list.specs.Begun.{begun-cons}
 use Rattle.resv_list.specs.Sorted.{RisesFrom, place_by, rest_from}
+use Rattle.resv_list.specs.Hours.{reach}
 use Rattle.resv_list.specs.Reservations.{start_of, airtime_in, share, begun, spent, place, member_at}
 use Rattle.resv_list.specs.Reservations.{without, members_from}
 use Rattle.resv_list.specs.Reservations.{IsFree}
@@ -15,7 +16,7 @@ use Rattle.resv_list.proofs.BegunLemmas.{share_before, share_after, share_within
 use Rattle.resv_list.proofs.SortedLaws.{at_none}
 use Rattle.resv_tree.specs.declared.entry.Entry.{Entry}
 use Rattle.resv_tree.specs.Entries.{Each, key_of, members, moved_in, amount, entry_at, entries_without}
-use Rattle.resv_tree.specs.OwnHours.{own_hour, reach, airtimes, nothing, raised, lowered, CountsIn}
+use Rattle.resv_tree.specs.OwnHours.{own_hour, airtimes, nothing, raised, lowered, CountsIn}
 use Rattle.resv_tree.specs.Sums.{total_in}
 use Rattle.resv_tree.specs.Shape.{Shape, entries, kept_sum, IsWhole}
 use Rattle.resv_tree.proofs.EntryLemmas.{Banded, banded, amount_at}

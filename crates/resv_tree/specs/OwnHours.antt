@@ -1,8 +1,8 @@
-use Rattle.std.specs.Prelude.{ℕ, ◌≡◌, ◌+◌, ◌-◌, ◌*◌, ◌/◌, List}
+use Rattle.std.specs.Prelude.{ℕ, ◌≡◌, ◌*◌, ◌/◌, List}
 use Rattle.std.specs.Coded.{Coded-set, coded_ℕ}
 use Rattle.radio_bands.specs.declared.band.Band.{Band}
-use Rattle.radio_bands.specs.Band.{hour}
 use Rattle.resv_list.specs.declared.reservation.Reservation.{Reservation}
+use Rattle.resv_list.specs.Hours.{reach}
 use Rattle.resv_list.specs.Reservations.{airtime_in, spent}
 use Rattle.resv_tree.specs.declared.entry.Entry.{Entry}
 use Rattle.resv_tree.specs.Entries.{amount, members, moved_in, CanMoveIn, Each, Each-prop}
@@ -29,10 +29,6 @@ nothing band = 0
 -- the airtime of one member by sub-bands, in quarters of the shortest symbol
 abbrev pub airtimes : Reservation → Band → ℕ
 airtimes r band = airtime_in band r / 128
-
--- from where on an hour that opens reaches a moment
-abbrev pub reach : ℕ → ℕ
-reach start = start + 1 - hour
 
 -- one more member counts in the hours that open before it and reach it
 abbrev pub raised : Reservation → Entry → Entry

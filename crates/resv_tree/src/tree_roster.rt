@@ -17,7 +17,7 @@ use crate::sums::{QUARTER_US, Sums};
 use crate::told::{count, greatest_in, height};
 use crate::{change, look, told};
 use radio_bands::Band;
-use resv_list::{Dropped, HOUR, MAX_MEMBERS, Reservation, Roster, RosterFault};
+use resv_list::{Dropped, HOUR, MAX_MEMBERS, Reservation, Roster, RosterFault, reach};
 use std::alloc::{AllocError, Allocator};
 
 /// In the tree the hours before a member that is placed, and that reach it, have its airtime too, of which these are the sums.
@@ -31,7 +31,7 @@ fn raise<A: Allocator + Clone>(root: &mut Link<A>, member: &Reservation, more: &
     ensures count { count_of (shape_of root.new) ≡ count_of (shape_of root.old) }
     ensures whole { IsWhole (shape_of root.new) }
 {
-    let from = (member.start + 1).saturating_sub(HOUR);
+    let from = reach(member.start);
     shift(root, from, member.start, member.band(), more, &Sums::NONE);
 }
 
@@ -47,7 +47,7 @@ fn lower<A: Allocator + Clone>(root: &mut Link<A>, member: &Reservation)
     ensures whole { IsWhole (shape_of root.new) }
 {
     let less = Sums::around(&Sums::NONE, member, &Sums::NONE);
-    let from = (member.start + 1).saturating_sub(HOUR);
+    let from = reach(member.start);
     shift(root, from, member.start, member.band(), &Sums::NONE, &less);
 }
 

@@ -10,7 +10,7 @@ returns-then-is_within g c =
     let l = g.R.Roster.list c.args.roster.now in
     let within = leb-true _ _ (sym c.is_within.ensures ∙ c.if-is_within.true) in
     sym (ap (option_map (hour_from l c.args.band)) (full_hour-spare l c.args.band c.args.start c.args.airtime
-    (rw (← c.saturating_sub-first.ensures) (omega (arith, within, c.if-airtime-limit.true, c.limit_us-limit.ensures)))))
+    (rw (← c.reach-first.ensures) (omega (arith, within, c.if-airtime-limit.true, c.limit_us-limit.ensures)))))
 
 pub returns-in-Some : goal.returns-in-Some
 returns-in-Some g c =

@@ -8,15 +8,15 @@ use Rattle.resv_tree.proofs.tree_roster.lower.Goals as goal
 
 pub shift-requires-clause-covered : goal.shift-requires-clause-covered
 shift-requires-clause-covered g c =
-    lower_covered c.args.member.now c.saturating_sub-from.result _ (quarters_in c.around-less.result)
-    (entries (shape_of c.args.root.now)) c.saturating_sub-from.ensures no_quarters
+    lower_covered c.args.member.now c.reach-from.result _ (quarters_in c.around-less.result)
+    (entries (shape_of c.args.root.now)) c.reach-from.ensures no_quarters
     (λ band. omega (arith, c.around-less.ensures.value band, no_quarters band)) c.requires.counted
 
 pub returns-clause-entries : goal.returns-clause-entries
 returns-clause-entries g c =
     c.shift.ensures.entries
-    ∙ lowered_by c.args.member.now c.saturating_sub-from.result _ (quarters_in c.around-less.result)
-    (entries (shape_of c.args.root.now)) c.saturating_sub-from.ensures no_quarters
+    ∙ lowered_by c.args.member.now c.reach-from.result _ (quarters_in c.around-less.result)
+    (entries (shape_of c.args.root.now)) c.reach-from.ensures no_quarters
     (λ band. omega (arith, c.around-less.ensures.value band, no_quarters band))
 
 pub shift-requires-clause-only : goal.shift-requires-clause-only

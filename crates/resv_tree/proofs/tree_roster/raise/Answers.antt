@@ -14,8 +14,8 @@ shift-requires-clause-fits g c = λ band.
 pub returns-clause-entries : goal.returns-clause-entries
 returns-clause-entries g c =
     c.shift.ensures.entries
-    ∙ raised_by c.args.member.now c.saturating_sub-from.result (quarters_in c.args.more.now) _
-    (entries (shape_of c.args.root.now)) c.saturating_sub-from.ensures (λ band. omega (arith, c.requires.more band)) no_quarters
+    ∙ raised_by c.args.member.now c.reach-from.result (quarters_in c.args.more.now) _
+    (entries (shape_of c.args.root.now)) c.reach-from.ensures (λ band. omega (arith, c.requires.more band)) no_quarters
 
 pub shift-requires-clause-only : goal.shift-requires-clause-only
 shift-requires-clause-only g c = λ other f. omega (
