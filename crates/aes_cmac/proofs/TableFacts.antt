@@ -1,8 +1,7 @@
 -- The code's tables are what the standard computes, at each of the 256 bytes.
-use Rattle.std.proofs.Common.{◌≡◌, ℕ, zero, suc, ◌+◌, ◌<◌, List, [], ◌∷◌, map, get_or, length, refl, ap, sym, ◌∙◌, arith, Bool}
-use Rattle.std.proofs.Common.{true, false, nat_lt}
-use Rattle.std.specs.Prelude.{◌&&◌}
-use Rattle.std.proofs.lemmas.Bool.{ltb-true, false≢true}
+use Rattle.std.proofs.Common.{◌≡◌, ℕ, zero, suc, ◌+◌, ◌<◌, List, [], ◌∷◌, map, get_or, length, refl, ap, sym, ◌∙◌, arith}
+use Rattle.std.proofs.Common.{true, nat_lt}
+use Rattle.std.proofs.lemmas.Bool.{ltb-true, and_parts}
 use Rattle.std.proofs.lemmas.List.{get_or-map}
 use Rattle.std.specs.List.{range_with_len, list_all}
 use Rattle.aes_cmac.specs.Field.{times_x, product_of_bits, product, power, inverse, s_box}
@@ -88,15 +87,11 @@ pub get_or-FOURTH_COLUMN : (i : ℕ) → i < 256 → word_bytes (get_or FOURTH_C
 unfolding fourth_column
 get_or-FOURTH_COLUMN i h = get_or-table FOURTH_COLUMN fourth_column FOURTH_COLUMN-map refl i h
 
-both_true : (a b : Bool) → (a && b) ≡ true → (a ≡ true) × (b ≡ true)
-both_true true b h = (refl, h)
-both_true false b h = absurd (false≢true h)
-
 -- every element of a list of bytes is one, and so is what is read past its end
 below_by_test : (xs : List ℕ) → list_all (λ x. nat_lt x 256) xs ≡ true → (i : ℕ) → get_or xs i 0 < 256
 below_by_test [] h i = omega arith
-below_by_test (x ∷ xs) h zero = ltb-true _ _ (both_true _ _ h).0
-below_by_test (x ∷ xs) h (suc i) = below_by_test xs (both_true _ _ h).1 i
+below_by_test (x ∷ xs) h zero = ltb-true _ _ (and_parts _ _ h).0
+below_by_test (x ∷ xs) h (suc i) = below_by_test xs (and_parts _ _ h).1 i
 
 pub S_BOX-below : (i : ℕ) → get_or S_BOX i 0 < 256
 S_BOX-below i = below_by_test S_BOX refl i

@@ -3,6 +3,7 @@ use Rattle.std.specs.Prelude.{Option, Some, None, if◌then◌else◌, cond}
 use Rattle.std.proofs.Common.{refl, sym, ap, ◌∙◌, arith, subst}
 use Rattle.std.proofs.lemmas.Bool.{leb-true, ltb-true, and_parts}
 use Rattle.std.proofs.lemmas.Bool.Decides.{nat_tests}
+use Rattle.std.proofs.lemmas.Option.{same_Some}
 use Rattle.radio_airtime.specs.DataRate.{max_phy_of}
 use Rattle.radio_bands.specs.Band.{hour, band_of}
 use Rattle.resv_list.specs.Fit.{last_end}
@@ -32,12 +33,9 @@ pub record IsFollower (s : Saved) (ask : Ask) (r : Reservation) : Type 0 where
   pub room : length s.list < s.rules.cap
   pub joins : MayJoin s.rules.gap s.list r
 
-only_one : {X : Type 0} {x y : X} → Some x ≡ Some y → y ≡ x
-only_one e = cc
-
 -- the reservation that an ask becomes has its fields
 made_asked : (ask : Ask) (r : Reservation) (t : Bool) (e : is_fit ask ≡ t) → made_if ask t e ≡ Some r → IsAsked ask r
-made_asked ask r true e m = let same = only_one m in record {
+made_asked ask r true e m = let same = sym (same_Some _ _ m) in record {
   number = ap (λ (s : Reservation). s.number) same;
   start = ap (λ (s : Reservation). s.start) same;
   freq_hz = ap (λ (s : Reservation). s.freq_hz) same;

@@ -1,6 +1,6 @@
 use Rattle.std.proofs.Common.{◌≡◌, ◌≢◌, ℕ, ◌^◌, ◌<◌, ◌≤◌, Bool, true, false, cond, ◌&&◌, ltb, eqb, List, [], ◌∷◌, ◌++◌, length}
 use Rattle.std.proofs.Common.{get_or, None, Some, refl, ap, ◌∙◌, arith, decimal, ⊎_elim, suc}
-use Rattle.std.proofs.lemmas.Bool.{ne_eqb, and_parts, leb-true, lt-ltb, ltb-true, cases_lt}
+use Rattle.std.proofs.lemmas.Bool.{ne_eqb, and_parts, and_right, leb-true, lt-ltb, ltb-true, cases_lt}
 use Rattle.std.proofs.lemmas.Fmt.{decimal_digit, first_decimal}
 use Rattle.std.proofs.lemmas.List.Splits.{slice_split_none, slice_split_at}
 use Rattle.std.proofs.lemmas.List.Sums.{list_all-from_AllPass, AllPass-from_list_all}
@@ -21,11 +21,7 @@ more_digits : (number : ℕ) → 0 < number → number < 2 ^ 64 → leads_zero (
 more_digits number some small =
     let first : eqb (get_or (decimal number) 0 0) 48 ≡ false =
     ne_eqb _ _ (λ e. omega (arith, e, first_decimal number some small)) in
-    ap (λ t. ltb 1 (length (decimal number)) && t) first ∙ none (ltb 1 (length (decimal number)))
-  where
-    none : (t : Bool) → (t && false) ≡ false
-    none true = refl
-    none false = refl
+    ap (λ t. ltb 1 (length (decimal number)) && t) first ∙ and_right (ltb 1 (length (decimal number))) false refl
 
 -- no zero leads what is written of a number
 pub leads_zero-decimal : (number : ℕ) → number < 2 ^ 64 → leads_zero (decimal number) ≡ false

@@ -1,7 +1,7 @@
-use Rattle.std.proofs.Common.{◌≡◌, ◌≢◌, ℕ, ◌+◌, ◌<◌, ◌≤◌, true, false, leb, ltb, ◌&&◌, List, [], ◌∷◌, ◌++◌, length, take}
-use Rattle.std.proofs.Common.{Option, None, Some, refl, Bool, suc}
+use Rattle.std.proofs.Common.{◌≡◌, ◌≢◌, ℕ, ◌+◌, ◌<◌, ◌≤◌, false, leb, ltb, ◌&&◌, List, [], ◌∷◌, ◌++◌, length, take}
+use Rattle.std.proofs.Common.{Option, None, Some, refl, suc}
 use Rattle.std.proofs.Common.{sym, ap, ◌∙◌, arith, append-nil, subst, eqb}
-use Rattle.std.proofs.lemmas.Bool.{ne_eqb, lt-leb}
+use Rattle.std.proofs.lemmas.Bool.{ne_eqb, lt-leb, and_right}
 use Rattle.std.proofs.lemmas.List.{take_all, length_push, length-append}
 use Rattle.std.proofs.lemmas.List.Elements.{All-push}
 use Rattle.std.proofs.lemmas.List.Splits.{slice_split-cons_no, slice_split_none, length-slice_split}
@@ -42,11 +42,7 @@ TakesOn-feed a b c held before short taken = record {
 }
 
 no_part_behind : (n : ℕ) → (leb n 80 && false) ≡ false
-no_part_behind n = both (leb n 80)
-  where
-    both : (t : Bool) → (t && false) ≡ false
-    both true = refl
-    both false = refl
+no_part_behind n = and_right (leb n 80) false refl
 
 whole_part : (bytes : List ℕ) → HasNoLineFeed bytes → lines_between bytes ≡ bytes ∷ []
 whole_part bytes unbroken = slice_split_none (λ byte. eqb byte 10) bytes (λ k d h. ne_eqb _ _ (unbroken k d h))

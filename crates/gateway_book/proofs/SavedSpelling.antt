@@ -2,6 +2,7 @@ use Rattle.std.specs.Prelude.{ℕ, ◌≡◌, ◌^◌, ◌<◌, ◌≤◌, ◌&&
 use Rattle.std.specs.Prelude.{Option, Some, None, cond, option_and_then}
 use Rattle.std.proofs.Common.{refl, sym, ap, ◌∙◌, arith, eqb, ltb, get_or, true≢false}
 use Rattle.std.proofs.lemmas.Bool.{and_parts, ltb-true, ltb-false, leb-true, eqb-true, eq-eqb}
+use Rattle.std.proofs.lemmas.Option.{same_Some}
 use Rattle.std.specs.Cmp.Lexicographic.{bytes_decides}
 use Rattle.radio_airtime.specs.DataRate.{number_of, rates, known_rate}
 use Rattle.radio_airtime.specs.declared.data_rate.DataRate.{DataRate}
@@ -23,15 +24,12 @@ pub record IsSpelled (bound : ℕ) (word : List ℕ) (number : ℕ) : Type 0 whe
   pub written : word ≡ decimal number
   pub small : number < bound
 
-only_one : {X : Type 0} {x y : X} → Some x ≡ Some y → x ≡ y
-only_one e = cc
-
 below_by : (bound : ℕ) (word : List ℕ) (number : ℕ) (t : Bool) → (is_digits 20 word && ltb (value_of word) bound) ≡ t
     → cond t (Some (value_of word)) None ≡ Some number → leads_zero word ≡ false → bound ≤ 2 ^ 64
     → IsSpelled bound word number
 below_by bound word number true read e zero fits =
     let parts = and_parts (is_digits 20 word) (ltb (value_of word) bound) read in
-    let same : value_of word ≡ number = only_one e in
+    let same : value_of word ≡ number = same_Some _ _ e in
     let small : value_of word < bound = ltb-true (value_of word) bound parts.1 in
     let some : 1 ≤ length word = leb-true 1 (length word) (and_parts _ _ (and_parts _ _ parts.0).0).0 in
     record {
@@ -82,7 +80,7 @@ record AreMember (ask : Ask) (a b c : Option ℕ) (d : Option DataRate) (e : Opt
 are_member : (ask : Ask) (a b c : Option ℕ) (d : Option DataRate) (e : Option ℕ) → member_with a b c d e ≡ Some ask
     → AreMember ask a b c d e
 are_member ask (Some n) (Some s) (Some f) (Some r) (Some l) h =
-    let same = only_one h in
+    let same = same_Some _ _ h in
     record {
       number = ap (λ (u : Ask). Some u.number) same;
       start = ap (λ (u : Ask). Some u.start) same;
@@ -162,7 +160,7 @@ gap_line : (version : ℕ) (words : List (List ℕ)) (gap : ℕ) (t : Bool) → 
 gap_line version [] gap true v e =
     let none : gap_words version gap ≡ [] = ap (λ t. cond t [] (decimal gap ∷ [])) v in
     let zero : Some 0 ≡ Some gap = rw v at e in
-    (sym none, λ _. sym (only_one zero))
+    (sym none, λ _. sym (same_Some _ _ zero))
 gap_line version [] gap false v e = let no : None ≡ Some gap = rw v at e in absurd (cc)
 gap_line version (a ∷ []) gap true v e = let no : None ≡ Some gap = rw v at e in absurd (cc)
 gap_line version (a ∷ []) gap false v e =
@@ -181,7 +179,7 @@ record AreGateway (g : SavedGateway) (a b c d : Option ℕ) : Type 0 where
 
 are_gateway : (g : SavedGateway) (a b c d : Option ℕ) → gateway_with a b c d ≡ Some g → AreGateway g a b c d
 are_gateway g (Some i) (Some c) (Some f) (Some n) h =
-    let same = only_one h in
+    let same = same_Some _ _ h in
     record {
       id = ap (λ (u : SavedGateway). Some u.id) same;
       cap = ap (λ (u : SavedGateway). Some u.cap) same;

@@ -1,7 +1,6 @@
 use Rattle.std.specs.Prelude.{ℕ, ◌≡◌, ◌+◌, nat_le, Bool, true, false, ◌&&◌, is_some, refl, List, Option, Some, None, ◌==◌}
 use Rattle.std.specs.Prelude.{if◌then◌else◌, not, filter, find, max, Result, Ok, Err}
-use Rattle.std.proofs.Common.{sym, true≢false}
-use Rattle.std.proofs.lemmas.Bool.{leb-true}
+use Rattle.std.proofs.lemmas.Bool.{leb-true, and_parts}
 use Rattle.radio_airtime.specs.DataRate.{max_phy_of}
 use Rattle.radio_bands.specs.Band.{band_of}
 use Rattle.resv_list.specs.declared.reservation.Reservation.{Reservation}
@@ -20,15 +19,11 @@ abbrev pub is_fit : Ask → Bool
 is_fit ask =
     is_some (band_of ask.freq_hz ask.rate) && nat_le ask.len (max_phy_of ask.rate) && nat_le (ask_end ask) last_end
 
-both : (s t : Bool) → (s && t) ≡ true → (s ≡ true) × (t ≡ true)
-both true t h = (refl, h)
-both false t h = absurd (true≢false (sym h))
-
 pub is_fit-IsFit : (ask : Ask) → is_fit ask ≡ true → IsFit ask.start ask.freq_hz ask.rate ask.len
 is_fit-IsFit ask h =
-    let outer = both (is_some (band_of ask.freq_hz ask.rate) && nat_le ask.len (max_phy_of ask.rate))
+    let outer = and_parts (is_some (band_of ask.freq_hz ask.rate) && nat_le ask.len (max_phy_of ask.rate))
     (nat_le (ask_end ask) last_end) h in
-    let inner = both (is_some (band_of ask.freq_hz ask.rate)) (nat_le ask.len (max_phy_of ask.rate)) outer.0 in
+    let inner = and_parts (is_some (band_of ask.freq_hz ask.rate)) (nat_le ask.len (max_phy_of ask.rate)) outer.0 in
     record {
       banded = inner.0;
       sized = leb-true ask.len (max_phy_of ask.rate) inner.1;

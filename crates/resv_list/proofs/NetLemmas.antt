@@ -1,6 +1,6 @@
-use Rattle.std.specs.Prelude.{ℕ, ◌≡◌, ◌≢◌, ◌+◌, nat_lt, nat_le, Bool, true, false, List, [], ◌∷◌, length, cond, find, Option}
+use Rattle.std.specs.Prelude.{ℕ, ◌≡◌, ◌≢◌, ◌+◌, nat_lt, nat_le, Bool, true, false, List, [], ◌∷◌, length, Option}
 use Rattle.std.specs.Prelude.{Some, None, is_some}
-use Rattle.std.proofs.Common.{refl, sym, ap, ◌∙◌, arith}
+use Rattle.std.proofs.Common.{refl, arith}
 use Rattle.std.proofs.lemmas.Bool.{ltb-true, ltb-false, lt-leb, le-leb}
 use Rattle.radio_bands.specs.declared.band.Band.{Band}
 use Rattle.radio_bands.specs.declared.band.Band.TheVariants.{K, L, M, N, P, Q}
@@ -8,6 +8,7 @@ use Rattle.radio_bands.specs.Band.{bands, band_of, lies_in}
 use Rattle.radio_bands.proofs.BandLaws.{LiesIn-band_of, lies_in-true}
 use Rattle.resv_list.specs.declared.reservation.Reservation.{Reservation}
 use Rattle.resv_list.specs.Reservations.{airtime_us, airtime_in, is_in, net, members_before, members_from}
+use Rattle.resv_list.proofs.Walk.{found_passes}
 
 -- The airtime of all members.
 
@@ -49,18 +50,9 @@ length-parted start (r ∷ rs) = by (nat_lt r.start start) refl (length-parted s
 
 -- A member's airtime counts in its own sub-band alone.
 
-found : {X : Type 0} (test : X → Bool) (xs : List X) (x : X) → find test xs ≡ Some x → test x ≡ true
-found test [] x e = absurd (cc)
-found test (y ∷ ys) x e = by (test y) refl e (found test ys x)
-  where
-    by : (t : Bool) → test y ≡ t → cond t (Some y) (find test ys) ≡ Some x → (find test ys ≡ Some x → test x ≡ true)
-        → test x ≡ true
-    by true u f rest = let same : y ≡ x = cc in sym (ap test same) ∙ u
-    by false u f rest = rest f
-
-in_own : (r : Reservation) (band : Band) → band_of r.freq_hz r.rate ≡ Some band → is_in band r ≡ true
+pub in_own : (r : Reservation) (band : Band) → band_of r.freq_hz r.rate ≡ Some band → is_in band r ≡ true
 unfolding band_of
-in_own r band e = found (lies_in r.freq_hz r.rate) bands band e
+in_own r band e = found_passes (λ (b : Band). 0) (lies_in r.freq_hz r.rate) band bands e
 
 in_no_other : (r : Reservation) (band other : Band) → band_of r.freq_hz r.rate ≡ Some band → band ≢ other → is_in other r ≡ false
 in_no_other r band other e n = by (is_in other r) refl

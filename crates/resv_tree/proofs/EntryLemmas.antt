@@ -4,12 +4,12 @@ use Rattle.std.specs.Prelude.{is_some}
 use Rattle.std.proofs.Common.{refl, arith, zero, suc, ap, ◌∙◌}
 use Rattle.radio_airtime.specs.Bounds.{airtime_of-positive}
 use Rattle.radio_bands.specs.declared.band.Band.{Band}
-use Rattle.radio_bands.specs.Band.{bands, band_of, lies_in}
+use Rattle.radio_bands.specs.Band.{band_of}
 use Rattle.radio_bands.proofs.BandLaws.{LiesIn-band_of, lies_in-true}
 use Rattle.resv_list.specs.declared.reservation.Reservation.{Reservation}
 use Rattle.resv_list.specs.Sorted.{RisesFrom}
 use Rattle.resv_list.specs.Reservations.{start_of, is_in, airtime_us, airtime_in}
-use Rattle.resv_list.proofs.Walk.{found_passes}
+use Rattle.resv_list.proofs.NetLemmas.{in_own}
 use Rattle.resv_tree.specs.declared.entry.Entry.{Entry}
 use Rattle.resv_tree.specs.Entries.{Each, amount, at_band, moved, own_in, most_own, members, key_of}
 use Rattle.resv_tree.specs.Sums.{total_in}
@@ -67,16 +67,12 @@ pub record Banded (r : Reservation) : Type 0 where
 pub in_band : (r : Reservation) (band : Band) → is_in band r ≡ true → band_of r.freq_hz r.rate ≡ Some band
 in_band r band e = LiesIn-band_of r.freq_hz r.rate band (lies_in-true r.freq_hz r.rate band e)
 
-pub held : (r : Reservation) (band : Band) → band_of r.freq_hz r.rate ≡ Some band → is_in band r ≡ true
-unfolding band_of
-held r band e = found_passes (λ (b : Band). 0) (lies_in r.freq_hz r.rate) band bands e
-
 pub banded : (r : Reservation) → Banded r
 banded r = by (band_of r.freq_hz r.rate) refl r.fit.banded
   where
     by : (o : Option Band) → band_of r.freq_hz r.rate ≡ o → is_some (band_of r.freq_hz r.rate) ≡ true → Banded r
     by None e h = absurd (cc)
-    by (Some band) e h = record { band = band; is = e; holds = held r band e }
+    by (Some band) e h = record { band = band; is = e; holds = in_own r band e }
 
 pub amount_of : (f : Band → ℕ) (r : Reservation) (band : Band) → band_of r.freq_hz r.rate ≡ Some band → amount f r ≡ f band
 amount_of f r band e = ap (at_band f) e

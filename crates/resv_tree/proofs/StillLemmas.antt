@@ -6,6 +6,7 @@ use Rattle.radio_bands.specs.declared.band.Band.TheVariants.{K, L, M, N, P, Q}
 use Rattle.radio_bands.specs.Band.{band_of}
 use Rattle.resv_list.specs.declared.reservation.Reservation.{Reservation}
 use Rattle.resv_list.specs.Reservations.{is_in, airtime_us, airtime_in}
+use Rattle.resv_list.proofs.NetLemmas.{in_own}
 use Rattle.resv_tree.specs.declared.entry.Entry.{Entry}
 use Rattle.resv_tree.specs.declared.node.Node.{Node}
 use Rattle.resv_tree.specs.declared.sums.Sums.{Sums}
@@ -13,7 +14,7 @@ use Rattle.resv_tree.specs.Entries.{key_of, amount, moved, moved_in, own_in, mos
 use Rattle.resv_tree.specs.Sums.{quarters_in, sum_in, order_of, is_same, IsOnly}
 use Rattle.resv_tree.specs.Shape.{Shape, shape, entries, entry_of, kept_of, left_of, right_of, greatest_of, top_of, IsWhole}
 use Rattle.resv_tree.specs.Parts.{IsMadeOf}
-use Rattle.resv_tree.proofs.EntryLemmas.{own_moved, in_band, held, banded, amount_at}
+use Rattle.resv_tree.proofs.EntryLemmas.{own_moved, in_band, banded, amount_at}
 use Rattle.resv_tree.proofs.QuarterLemmas.{airtime_of-quarters}
 use Rattle.resv_tree.proofs.OwedLemmas.{greatest_is_most}
 use Rattle.resv_tree.proofs.ShapeLemmas.{shape-out}
@@ -65,7 +66,7 @@ in_own_alone r band other is = by (is_in other r) refl (is_same other band) refl
         let self = subst (λ (b : Band). is_same b band ≡ true) (sym one) (same-self band) in
         absurd (cc)
     by false h true e =
-        let here = subst (λ (b : Band). is_in b r ≡ true) (sym (one_band other band e)) (held r band is) in
+        let here = subst (λ (b : Band). is_in b r ≡ true) (sym (one_band other band e)) (in_own r band is) in
         absurd (cc)
 
 -- and so does its airtime
