@@ -1,4 +1,4 @@
-// Places, lengths and types of data frames (LoRaWAN L2 1.0.4 section 4).
+// Places, lengths, ports and types of data frames (LoRaWAN L2 1.0.4 section 4).
 
 /// The place of DevAddr, after MHDR.
 pub(crate) const ADDR_AT: usize = 1;
@@ -25,7 +25,10 @@ pub(crate) const MAX_LEN: usize = 255;
 pub(crate) const MAX_OPTIONS: usize = 15;
 
 /// The bytes of the longest FRMPayload, beside FPort.
-pub(crate) const MAX_PAYLOAD: usize = MAX_LEN - EMPTY_LEN - 1;
+pub const MAX_PAYLOAD: usize = MAX_LEN - EMPTY_LEN - 1;
+
+/// The greatest FPort of the application (section 4.3.2).
+pub const MAX_PORT: u8 = 223;
 
 /// The type of an unconfirmed data uplink, in the top three bits of MHDR.
 pub(crate) const UNCONFIRMED_UP: u8 = 2;

@@ -9,7 +9,8 @@ ghost use Rattle.lora_frame.specs.Faults.{down_fault, up_fault, has_high_port};
 
 use crate::blocks::{DOWN, UP, append, append_crypted, mic};
 use crate::layout::{
-    CONFIRMED_UP, EMPTY_LEN, MAX_LEN, MAX_OPTIONS, MAX_PAYLOAD, UNCONFIRMED_DOWN, UNCONFIRMED_UP,
+    CONFIRMED_UP, EMPTY_LEN, MAX_LEN, MAX_OPTIONS, MAX_PAYLOAD, MAX_PORT, UNCONFIRMED_DOWN,
+    UNCONFIRMED_UP,
 };
 use crate::parts::{Body, Down, Keys, Up};
 use aes_cmac::Key;
@@ -42,7 +43,7 @@ fn down_refusal(down: &Down) -> Option<DownFault>
     ensures { result ≡ down_fault down.now }
 {
     let body = down.body?;
-    if body.port == 0 || body.port > 223 {
+    if body.port == 0 || body.port > MAX_PORT {
         return Some(DownFault::Port);
     }
     if body.payload.len() > MAX_PAYLOAD {
@@ -70,7 +71,7 @@ fn has_high_port(body: Option<Body>) -> bool
     ensures { result ≡ has_high_port body.entry }
 {
     match body {
-        Some(body) => body.port > 223,
+        Some(body) => body.port > MAX_PORT,
         None => false,
     }
 }

@@ -11,7 +11,7 @@ use crate::answers::Asked;
 use crate::device::KnownDevice;
 use crate::{DeviceSetting, QueueFault, TakeFault, keys_of};
 use answer_ticket::{Bytes, Copies, Job};
-use lora_frame::Key;
+use lora_frame::{Key, MAX_PAYLOAD, MAX_PORT};
 use rx_windows::Plan;
 use std::alloc::{AllocError, Allocator};
 
@@ -61,10 +61,10 @@ impl<A: Allocator + Copy> KnownDevice<A> {
     fn queue_fault(&self, port: u8, payload: &[u8]) -> Option<QueueFault>
         ensures { result ≡ queue_fault (shown self.now) (port, payload.now) }
     {
-        if port == 0 || port > 223 {
+        if port == 0 || port > MAX_PORT {
             return Some(QueueFault::Port);
         }
-        if payload.len() > 242 {
+        if payload.len() > MAX_PAYLOAD {
             return Some(QueueFault::Long);
         }
         if self.queue.len() >= QUEUE_LIMIT {

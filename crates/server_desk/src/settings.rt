@@ -6,6 +6,7 @@ ghost use Rattle.server_desk.specs.Settings.{SettingLists, AreSettings, are_coun
 ghost use Rattle.server_desk.specs.Settings.{first_fault, settings_fault, is_gateway_in_range, is_device_in_range};
 
 use crate::{DeviceSetting, GatewaySetting, SettingsFault};
+use gateway_book::{MAX_CAP, MAX_GAP};
 use radio_bands::Band;
 use std::alloc::Allocator;
 use std::marker::Model;
@@ -162,7 +163,7 @@ fn has_device(devices: &[DeviceSetting], addr: u32) -> bool
 fn is_gateway_in_range(gateway: &GatewaySetting) -> bool
     ensures { result ≡ is_gateway_in_range gateway.now }
 {
-    1 <= gateway.id && 1 <= gateway.cap && gateway.cap <= 65_536 && gateway.gap <= 100_000
+    1 <= gateway.id && 1 <= gateway.cap && gateway.cap <= MAX_CAP && gateway.gap <= MAX_GAP
 }
 
 /// Whether the device's delay is 1 to 15, its offset 0 to 5 and its next downlink counter 0 to 2^32.
