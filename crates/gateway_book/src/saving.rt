@@ -1,5 +1,5 @@
 // A book as the text from which it is opened again.
-ghost use Rattle.std.specs.Prelude.{◌≡◌, ◌+◌, ◌≤◌, [], ◌∷◌, ◌++◌, length, codes, decimal, OnOk, OnErr};
+ghost use Rattle.std.specs.Prelude.{◌≡◌, [], ◌∷◌, ◌++◌, codes, decimal, OnOk, OnErr};
 ghost use Rattle.std.specs.Io.KnownBytes.{Appends};
 ghost use Rattle.text_lines.specs.Calls.{CountsFailure};
 ghost use Rattle.text_lines.specs.Words.{spaced};
@@ -8,7 +8,7 @@ ghost use Rattle.gateway_book.specs.Saved.{saved_of, saved_text, version_words, 
 
 use crate::GatewayBook;
 use resv_list::{Reservation, Roster};
-use text_lines::{ByteOut, CallFailed, TextLine, WriteBehind};
+use text_lines::{ByteOut, CallFailed, TextLine, WriteBehind, add_number};
 use thiserror::Error;
 
 /// Why a book was not saved. A front of its text was written.
@@ -129,14 +129,4 @@ fn write_end(count: usize, text: &mut TextLine)
     text.text(b"end");
     add_number(text, count as u64);
     text.text(b"\n");
-}
-
-/// Adds a space and a number.
-fn add_number(text: &mut TextLine, number: u64)
-    requires { length text.old + 21 ≤ 1024 }
-    ensures text { text.new ≡ text.old ++ (32 ∷ decimal number) }
-    ensures len { length text.new ≤ length text.old + 21 }
-{
-    text.text(b" ");
-    text.number(number);
 }

@@ -1,5 +1,5 @@
 // A line of output, in a buffer of fixed size.
-ghost use Rattle.std.specs.Prelude.{◌≡◌, ℕ, ◌+◌, ◌≤◌, List, [], ◌++◌, length, take, decimal};
+ghost use Rattle.std.specs.Prelude.{◌≡◌, ℕ, ◌+◌, ◌≤◌, List, [], ◌∷◌, ◌++◌, length, take, decimal};
 
 use itoa::Buffer;
 use std::marker::Model;
@@ -71,4 +71,24 @@ impl TextLine {
         let mut digits = Buffer::new();
         self.text(digits.format(number).as_bytes());
     }
+}
+
+/// Adds a space and a number.
+pub fn add_number(text: &mut TextLine, number: u64)
+    requires { length text.old + 21 ≤ 1024 }
+    ensures text { text.new ≡ text.old ++ (32 ∷ decimal number) }
+    ensures len { length text.new ≤ length text.old + 21 }
+{
+    text.text(b" ");
+    text.number(number);
+}
+
+/// Adds a space and a word.
+pub fn add_word(text: &mut TextLine, word: &[u8])
+    requires { length text.old + 1 + length word.now ≤ 1024 }
+    ensures text { text.new ≡ text.old ++ (32 ∷ word.now) }
+    ensures len { length text.new ≡ length text.old + 1 + length word.now }
+{
+    text.text(b" ");
+    text.text(word);
 }

@@ -4,11 +4,11 @@ ghost use Rattle.text_lines.specs.Line.{text_of};
 ghost use Rattle.text_words.specs.Words.{spaced};
 ghost use Rattle.text_words.specs.Busiest.{gateway_words, busiest_lines, all_busiest_lines};
 
-use crate::words::{add_band, add_number};
+use crate::words::add_band;
 use gateway_book::GatewayBook;
 use radio_bands::Band;
 use resv_list::Roster;
-use text_lines::TextLine;
+use text_lines::{TextLine, add_number};
 
 /// Adds a line for each sub-band's busiest hour, where the sub-band has one, with the gateway's id if it is given.
 pub fn add_busiest<B: Roster>(text: &mut TextLine, gateway: Option<u16>, book: &GatewayBook<B>)

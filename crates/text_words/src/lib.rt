@@ -7,4 +7,5 @@ mod words;
 
 pub use busiest::add_busiest;
 pub use fault::TextFault;
-pub use words::{add_band, add_fault, add_number, add_refusal, add_word, refusal_name};
+pub use text_lines::{add_number, add_word};
+pub use words::{add_band, add_fault, add_refusal, refusal_name};

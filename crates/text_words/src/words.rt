@@ -1,31 +1,11 @@
 // The words of answers and reports.
-ghost use Rattle.std.specs.Prelude.{◌≡◌, ℕ, ◌+◌, ◌≤◌, List, [], ◌∷◌, ◌++◌, length, decimal};
+ghost use Rattle.std.specs.Prelude.{◌≡◌, ℕ, ◌+◌, ◌≤◌, List, [], ◌∷◌, ◌++◌, length};
 ghost use Rattle.text_words.specs.Words.{spaced, band_word, fault_word, refusal_words};
 ghost use Rattle.text_words.specs.Words as words;
 
 use gateway_book::{CancelFault, Refusal};
 use radio_bands::Band;
-use text_lines::TextLine;
-
-/// Adds a space and a number.
-pub fn add_number(text: &mut TextLine, number: u64)
-    requires { length text.old + 21 ≤ 1024 }
-    ensures text { text.new ≡ text.old ++ (32 ∷ decimal number) }
-    ensures len { length text.new ≤ length text.old + 21 }
-{
-    text.text(b" ");
-    text.number(number);
-}
-
-/// Adds a space and a word.
-pub fn add_word(text: &mut TextLine, word: &[u8])
-    requires { length text.old + 1 + length word.now ≤ 1024 }
-    ensures text { text.new ≡ text.old ++ (32 ∷ word.now) }
-    ensures len { length text.new ≡ length text.old + 1 + length word.now }
-{
-    text.text(b" ");
-    text.text(word);
-}
+use text_lines::{TextLine, add_number, add_word};
 
 /// The name of a refusal, without its numbers.
 pub fn refusal_name(refusal: Refusal) -> &'static [u8]
