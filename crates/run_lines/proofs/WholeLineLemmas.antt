@@ -5,7 +5,7 @@ use Rattle.std.proofs.Common.{if◌then◌else◌, true≢false}
 use Rattle.std.specs.Prelude.{decimal, All}
 use Rattle.std.specs.Fmt.{digit_glyph, digits_onto, digits}
 use Rattle.std.specs.List.{list_all, join_with_byte, flat_map}
-use Rattle.std.proofs.lemmas.Bool.{and_from, eqb-true}
+use Rattle.std.proofs.lemmas.Bool.{and_from, and_parts, eqb-true}
 use Rattle.std.proofs.lemmas.List.Folds.{list_all-append}
 use Rattle.std.proofs.lemmas.List.Elements.{All-nil, All-cons}
 use Rattle.hex.specs.Hex.{encode_with, lower_digits, encode_lower}
@@ -22,23 +22,19 @@ are_whole lines = list_all is_whole lines
 pub record AreWhole (lines : List (List ℕ)) : Type 0 where
   pub test : are_whole lines ≡ true
 
-pub both : (a b : Bool) → (a && b) ≡ true → (a ≡ true) × (b ≡ true)
-both true b h = (refl, h)
-both false b h = absurd (true≢false (sym h))
-
 not_feed : (b : ℕ) → not (b == 10) ≡ true → b ≢ 10
 not_feed b h e = absurd (true≢false (sym (subst (λ x. not (x == 10) ≡ true) e h)))
 
 pub no_feed : (line : List ℕ) → is_whole line ≡ true → HasNoLineFeed line
 no_feed [] h = All-nil (λ b. b ≢ 10)
 no_feed (b ∷ line) h =
-    let parts = both (not (b == 10)) (is_whole line) h in
+    let parts = and_parts (not (b == 10)) (is_whole line) h in
     All-cons (λ b. b ≢ 10) b line (not_feed b parts.0) (no_feed line parts.1)
 
 pub no_feeds : (lines : List (List ℕ)) → are_whole lines ≡ true → All HasNoLineFeed lines
 no_feeds [] h = All-nil HasNoLineFeed
 no_feeds (line ∷ lines) h =
-    let parts = both (is_whole line) (are_whole lines) h in
+    let parts = and_parts (is_whole line) (are_whole lines) h in
     All-cons HasNoLineFeed line lines (no_feed line parts.0) (no_feeds lines parts.1)
 
 pub whole_append : (a b : List ℕ) → is_whole a ≡ true → is_whole b ≡ true → is_whole (a ++ b) ≡ true
@@ -62,9 +58,9 @@ lines_of_each f h (x ∷ xs) = lines_append (f x) (flat_map f xs) (h x) (lines_o
 
 joined_test : (words : List (List ℕ)) → are_whole words ≡ true → is_whole (join_with_byte 32 words) ≡ true
 joined_test [] h = refl
-joined_test (w ∷ []) h = (both (is_whole w) true h).0
+joined_test (w ∷ []) h = (and_parts (is_whole w) true h).0
 joined_test (w ∷ v ∷ words) h =
-    let parts = both (is_whole w) (are_whole (v ∷ words)) h in
+    let parts = and_parts (is_whole w) (are_whole (v ∷ words)) h in
     whole_append w (32 ∷ join_with_byte 32 (v ∷ words)) parts.0 (joined_test (v ∷ words) parts.1)
 
 -- words with a space between two
@@ -105,8 +101,8 @@ whole_decimal n = whole_digits 64 10 false n [] refl
 
 whole_at : (table : List ℕ) (k : ℕ) → is_whole table ≡ true → not (get_or table k 0 == 10) ≡ true
 whole_at [] k h = refl
-whole_at (b ∷ table) zero h = (both (not (b == 10)) (is_whole table) h).0
-whole_at (b ∷ table) (suc k) h = whole_at table k (both (not (b == 10)) (is_whole table) h).1
+whole_at (b ∷ table) zero h = (and_parts (not (b == 10)) (is_whole table) h).0
+whole_at (b ∷ table) (suc k) h = whole_at table k (and_parts (not (b == 10)) (is_whole table) h).1
 
 pub whole_hex : (bytes : List ℕ) → is_whole (encode_lower bytes) ≡ true
 unfolding encode_with

@@ -114,7 +114,8 @@ fn compared<B: Ledger, S: BuildHasher, A: Allocator + Copy>(
     ensures once { IfOk result (λ closing. EachStandsOnce (kept_numbers closing.books.items)) }
     ensures accounted { IfOk result (λ closing. All (IsAccountedFor (shelved closing.totals.items closing.books.items))
         receipts.now) }
-    ensures cause { IfErr result (λ fault. IsFinishCause tills.items (map (λ s. s.0) lists.shelf.items) receipts.now fault.cause) }
+    ensures cause { IfErr result
+        (λ fault. IsFinishCause tills.items (map (λ s. s.0) lists.shelf.items) receipts.now fault.cause) }
     ensures station_back { IfErr result (λ fault. fault.station ≡ map (λ s. s.0) lists.shelf.items) }
     ensures tills_back { IfErr result (λ fault. fault.tills.items ≡ tills.items) }
 {

@@ -8,7 +8,8 @@ pub returns-in-Err-clause-cause : goal.returns-in-Err-clause-cause
 returns-in-Err-clause-cause g c =
     let told = cause_handed (map (λ s. s.0) c.args.lists.shelf.items) c.args.tills.items c.args.receipts.now c.args.desk _ _
     c.deref.ensures.value refl c.in-Err.cause c.in-Err.ensures.cause in
-    subst (IsFinishCause c.args.tills.items (map (λ s. s.0) c.args.lists.shelf.items) c.args.receipts.now) (sym (ap (λ f. f.cause) c.new.ensures)) told
+    subst (IsFinishCause c.args.tills.items (map (λ s. s.0) c.args.lists.shelf.items) c.args.receipts.now)
+    (sym (ap (λ f. f.cause) c.new.ensures)) told
 
 pub returns-clause-sum : goal.returns-clause-sum
 returns-clause-sum g c =
