@@ -24,10 +24,11 @@ pub(crate) const MAX_LEN: usize = 255;
 /// The bytes of the longest FOpts.
 pub(crate) const MAX_OPTIONS: usize = 15;
 
-/// The bytes of the longest FRMPayload, beside FPort.
+/// The bytes of the longest FRMPayload, beside FPort and without FOpts, so that the PHYPayload has 255 bytes (LoRaWAN L2 1.0.4
+/// section 4.3.3).
 pub const MAX_PAYLOAD: usize = MAX_LEN - EMPTY_LEN - 1;
 
-/// The greatest FPort of the application (section 4.3.2).
+/// The greatest FPort that an application's payload may have; the least is 1 (LoRaWAN L2 1.0.4 section 4.3.2).
 pub const MAX_PORT: u8 = 223;
 
 /// The type of an unconfirmed data uplink, in the top three bits of MHDR.
