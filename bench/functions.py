@@ -15,52 +15,22 @@ It needs python3, Linux's /proc and the toolchain's command rt.
 import argparse
 import os
 import pathlib
-import shutil
 import subprocess
 import sys
 
 TOP = pathlib.Path(__file__).resolve().parent.parent
-KIT = pathlib.Path(shutil.which("rt") or "rt").resolve().parent.parent
 TICKS = os.sysconf("SC_CLK_TCK")
 
-
-def crates():
-    """The crates of crates.txt, each with the libraries that it uses, of the repository and of the toolchain."""
-    lines = [line.split("#")[0] for line in (TOP / "crates.txt").read_text().splitlines()]
-    named = [line.split(":", 1) for line in lines if ":" in line]
-    return {name.split()[0]: words.split() for name, words in named}
-
-
-def below(crate, uses):
-    """All crates of the repository that it stands on."""
-    found, waiting = set(), [crate]
-    while waiting:
-        fresh = {it for it in uses[waiting.pop()] if it in uses} - found
-        found |= fresh
-        waiting += fresh
-    return found
-
-
-def rlib(name, uses):
-    folder = TOP / "crates" / name / "out" / "rlib" if name in uses else KIT / "rlibs"
-    return folder / f"{name}.rlib"
+sys.path.insert(0, str(TOP / "tests"))
+import prover
 
 
 def command(crate, more):
-    uses = crates()
+    uses = prover.crates()
     if crate not in uses:
         raise SystemExit(f"crates.txt has no crate {crate}")
-    lacking = [it for it in sorted(below(crate, uses)) if not rlib(it, uses).is_dir()]
-    if lacking:
-        raise SystemExit(f"not built: {', '.join(lacking)}; run the gate (rt ci) here first")
     root = "src/main.rt" if (TOP / "crates" / crate / "src" / "main.rt").exists() else "src/lib.rt"
-    words = [KIT / "bin" / "rattle", "check", "--crate-name", crate, root]
-    for name in ["std", *uses[crate]]:
-        words += ["--extern", f"{name}={rlib(name, uses)}"]
-    for folder in [KIT / "rlibs", *(rlib(it, uses).parent for it in sorted(below(crate, uses)))]:
-        words += ["-L", f"dependency={folder}"]
-    logic = ["--antt-project", KIT / "rattle" / "logic" / "antt-project.json", "--logic-built", KIT / "logic_built"]
-    return [*map(str, [*words, *logic]), "--jobs", "1", "--progress", *more]
+    return [*prover.check(crate, root, uses[crate]), "--progress", *more]
 
 
 def processor_seconds(pid):
