@@ -2,7 +2,7 @@
 use Rattle.server_core.proofs.Words
 use Words.{arith, ap, sym, ◌∙◌, AllZip, option_map, Bool, Err, List, None, Ok, Option, Result, Some, [], false, get_or, length}
 use Words.{map, refl, slice_get, slice_set, suc, true, zero, ℕ, ◌<◌, ◌==◌, ◌∷◌, ◌≡◌, Book, ticked, CancelFault, NotHere, numbered}
-use Words.{Answer, is_given, known_of, numbered-map, map_set, some_inj, kept_by, Gateway, World, gateway_with, known, found_there}
+use Words.{Answer, is_given, known_of, numbered-map, map_set, same_Some, kept_by, Gateway, World, gateway_with, known, found_there}
 use Words.{Sent, gateway_of, lines_for, AreBooksOf, IsAt, IsBookOf, IsCancelled, IsIdle, IsBetweenCalls, Seen, cancelled_line}
 use Words.{ids_of, is_among, with_lines, with_step, Cancel, Tick, sent_for, Line, step, Reply, Step, option_and_then, is_placed}
 use Words.{place_within}
@@ -18,7 +18,7 @@ module _ {X Y : Type 0} (R : X → Y → Type 0) where
       → slice_get ys i ≡ Some y → R x y
   zip_at [] ys i x y z e f = absurd (cc (e))
   zip_at (a ∷ u) [] i x y z e f = absurd z
-  zip_at (a ∷ u) (b ∷ v) zero x y z e f = rw (some_inj e, some_inj f) at z.0
+  zip_at (a ∷ u) (b ∷ v) zero x y z e f = rw (same_Some _ _ e, same_Some _ _ f) at z.0
   zip_at (a ∷ u) (b ∷ v) (suc i) x y z e f = zip_at u v i x y z.1 e f
 
   -- one member of each is written anew, or the one that stands there again
@@ -32,7 +32,7 @@ module _ {X Y : Type 0} (R : X → Y → Type 0) where
 -- the place of a member, and the member there
 found_at : {X : Type 0} (o : Option (ℕ × X)) (i : ℕ) → Some i ≡ option_map (λ p. p.0) o → (x : X) × (o ≡ Some (i, x))
 found_at None i e = absurd (cc (e))
-found_at (Some p) i e = (p.1, ap (λ (j : ℕ). Some (j, p.1)) (sym (some_inj e)))
+found_at (Some p) i e = (p.1, ap (λ (j : ℕ). Some (j, p.1)) (sym (same_Some _ _ e)))
 
 -- the book that was found
 pub record IsFound (id at : ℕ) (books : List Book) (book : Book) : Type 0 where

@@ -4,7 +4,7 @@ use Words.{arith, ap, sym, ◌∙◌, map-append, Err, List, None, Ok, Option, R
 use Words.{true, ℕ, ◌+◌, ◌==◌, ◌∷◌, ◌≡◌, State, book_step, cancel_step, tick_step, refusal_of, NotHere, Refusal, numbered}
 use Words.{Candidate, Job, ask_for, candidate_at, Ending, answer_airtime, answered_at, answered_in, known_airtime, Answer, Booked}
 use Words.{Open, Settled, known_of, desk_of, desk_settled, desk_taken, known_after, Decision, register_after, map-rewritten}
-use Words.{numbered-map, same_rewritten, map_set, some_inj, after_settling, is_here, may_settle, sent_of, Gateway, World}
+use Words.{numbered-map, same_rewritten, map_set, same_Some, after_settling, is_here, may_settle, sent_of, Gateway, World}
 use Words.{gateway_with, ids, known, found_there, Known, Done, Sent, TakeFault, After, answers_after, cancel, cancel_at}
 use Words.{cancel_of, cancel_sent, ending_of, refused, sent_by, sent_for, settle, settle_as, settle_of, take_by, terms, tick}
 use Words.{tick_at, tried_by, try, try_candidate, try_of, try_on, DeskCallsAreSteps, told, decide, take_answer, step}
@@ -73,7 +73,7 @@ settle_as_desk w n ending = ap (λ (l : List Known). record { ids = ids w; reg =
 pub settle_desk : (w : World) (n : ℕ) (ending : Ending) → told w n ≡ Some ending
     → desk_of (settle w n).0 ≡ desk_settled ending n (desk_of w)
 settle_desk w n ending e = settle_walk w (λ a. desk_of a.0 ≡ desk_settled ending n (desk_of w)) n (λ f. absurd (cc (e, f)))
-    (λ answer x q g f. rw (some_inj (sym e ∙ f)) (settle_as_desk w n x))
+    (λ answer x q g f. rw (same_Some _ _ (sym e ∙ f)) (settle_as_desk w n x))
 
 -- what is out and on a gateway of the settings may be settled
 pub may : (w : World) (n : ℕ) (ending : Ending) → told w n ≡ Some ending → is_here (ids w) ending ≡ true

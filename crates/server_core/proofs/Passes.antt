@@ -3,7 +3,7 @@ use Rattle.server_core.proofs.Words
 use Words.{ap, append-nil, arith, sym, ◌∙◌, position_from, Bool, List, None, Some, [], false, if◌then◌else◌, length, refl}
 use Words.{slice_get, slice_set, suc, true, ℕ, ◌++◌, ◌+◌, ◌<◌, ◌∷◌, ◌≡◌, Gathering, Gatherings, close_step, is_due, is_open}
 use Words.{DeskView, desk_pass, World, closing, pass_answer, answer_steps, closing_steps, due_from, due_numbers, reached, IsAt}
-use Words.{IsBetweenCalls, Makes, Moves, Seen, pass_whole, with_step, Pass, due_of, pass_steps, run_from, step, some_inj}
+use Words.{IsBetweenCalls, Makes, Moves, Seen, pass_whole, with_step, Pass, due_of, pass_steps, run_from, step, same_Some}
 use Rattle.server_core.proofs.{Calls.one_step, Calls.moves_on, Ready.heard_closed}
 
 -- The gatherings that are due, one after another.
@@ -29,7 +29,7 @@ module _ (now : ℕ) where
       → (position_from (is_due now) (k + 1) gs ≡ Some m → IsFirst (k + 1) gs m) → IsFirst k (g ∷ gs) m
   first_by k g gs m true t e r =
       let is = was_open g t in
-      rw (some_inj (sym e))
+      rw (same_Some _ _ (sym e))
       (record { place = 0; gathering = g; number = omega arith; there = refl; is_open = is; rest = rw t refl })
   first_by k g gs m false t e r =
       let f = r e in

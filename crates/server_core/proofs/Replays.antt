@@ -4,7 +4,7 @@ use Words.{ap, append-nil, append_assoc, sym, ◌∙◌, List, [], Option, Some,
 use Words.{◌<◌, ◌∷◌, ◌≡◌, ◌≤◌, map-map, Book, orderly_nil, kept-nil, remembers_own, desk_of, Gateway, World, opened_gateway}
 use Words.{opening, AreSettings, SettingLists, GatewaySetting, entries, gateway_of, kept_gateway, reached}
 use Words.{noting, schedule, usual_limits, AreBooksOf, Does, IsAt, IsOpened, IsBetweenCalls, Seen, with_lines, Step, Event}
-use Words.{event_steps, entry_at, length-append, subst, schedule_from, entries_from, run_from, some_inj, arith, All, All-head}
+use Words.{event_steps, entry_at, length-append, subst, schedule_from, entries_from, run_from, same_Some, arith, All, All-head}
 use Words.{All-tail, IsGatewayInRange}
 use Rattle.server_core.proofs.{Calls.noting_none, Calls.noting_twice, Calls.reached_append, Members.none_numbered}
 use Rattle.server_core.specs.Entries.{event_lines, gateways_after}
@@ -152,4 +152,4 @@ one_more xs x n e = omega (arith, e, length-append xs (x ∷ []))
 -- the steps, where they were kept from the first one on
 pub steps_kept : (made : Option (List Step)) (first last ss : List Step) → made ≡ noting ss (Some first) → first ≡ []
     → made ≡ Some last → last ≡ ss
-steps_kept made first last ss noted none are = some_inj (sym are ∙ noted) ∙ ap (λ l. l ++ ss) none
+steps_kept made first last ss noted none are = same_Some _ _ (sym are ∙ noted) ∙ ap (λ l. l ++ ss) none

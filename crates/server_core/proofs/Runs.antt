@@ -2,7 +2,7 @@
 use Rattle.server_core.proofs.Words
 use Words.{ap, arith, inl, inr, subst, sym, ◌∙◌, All-cons, All-nil, All-weaker, Contains-append_right, AllPairs-cons, All}
 use Words.{AllPairs, Contains, List, Ok, Some, [], map, refl, slice_get, ℕ, ◌+◌, ◌∷◌, ◌≡◌, ◌≢◌, ◌⊎◌, start_of, Reservation}
-use Words.{orderly_nil, IsLawful, addr_of, Limits, Job, candidates, from_map, get_contains, some_inj, Device, opened_device}
+use Words.{orderly_nil, IsLawful, addr_of, Limits, Job, candidates, from_map, get_contains, same_Some, Device, opened_device}
 use Words.{plan_for, Gateway, World, opened_gateway, opening, AreSettings, SettingLists, Sent, EveryInterleavingIsSafe}
 use Words.{HaveOwnCounters, IsMember, IsOwnWindow, IsSafe, jobs_given, setting_of, with_given, Cancel, Given, Hear, Pass, Queue}
 use Words.{all_get, IsGatewayInRange}
@@ -18,7 +18,7 @@ module _ {settings : SettingLists} (are : AreSettings settings.gateways settings
     (h : Holds settings T w) where
   -- one number has one answer
   same_sent : (m n : ℕ) (s t : Sent) → m ≡ n → IsKept w.answers m s → IsKept w.answers n t → s ≡ t
-  same_sent m n s t q a b = some_inj (sym a.is ∙ ap sent_for (some_inj (sym (rw q at a.there) ∙ b.there)) ∙ b.is)
+  same_sent m n s t q a b = same_Some _ _ (sym a.is ∙ ap sent_for (same_Some _ _ (sym (rw q at a.there) ∙ b.there)) ∙ b.is)
 
   module _ (i j k l : ℕ) (g f : Gateway) (a b : Reservation) (m : IsMember w i k g a) (o : IsMember w j l f b) where
     pub once_by : a.number ≡ b.number → (i ≡ j) × (k ≡ l)
@@ -30,7 +30,7 @@ module _ {settings : SettingLists} (are : AreSettings settings.gateways settings
         let start = sym s.booking.start ∙ ap (λ (x : Sent). x.start) sent ∙ t.booking.start in
         let p : i ≡ j =
         apart_once setting_of (λ x. x.id) w.gateways settings.gateways h.gateways are.ids_differ i j g f m.gateway o.gateway id in
-        let same : f ≡ g = some_inj (sym o.gateway ∙ rw p at m.gateway) in
+        let same : f ≡ g = same_Some _ _ (sym o.gateway ∙ rw p at m.gateway) in
         let rises = (h.in_order i g m.gateway).orderly.by_start in
         (p, rises_once start_of 0 g.state.list k l a b rises m.member (rw same at o.member) start)
 

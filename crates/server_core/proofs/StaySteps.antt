@@ -3,7 +3,7 @@ use Rattle.server_core.proofs.Words
 use Words.{arith, ap, sym, true≢false, ◌∙◌, AllPairs, Bool, Err, List, None, Ok, Option, Result, Some, [], false, map}
 use Words.{option_and_then, option_map, refl, slice_get, slice_set, suc, true, zero, ℕ, ◌==◌, ◌∷◌, ◌≡◌, ◌≢◌, inl, inr, kept-nil}
 use Words.{remembers_own, Refusal, orderly_nil, AllPairs-head, AllPairs-tail, numbered, rewritten, Candidate, Job, Ending}
-use Words.{Outcome, Answer, Waiting, Open, is_given, known_of, Decision, all_get, numbered-append, numbered_after, some_inj}
+use Words.{Outcome, Answer, Waiting, Open, is_given, known_of, Decision, all_get, numbered-append, numbered_after, same_Some}
 use Words.{Gateway, World, gateway_with, ids, known, opened_gateway, GatewaySetting, Sent, TakeFault, Step, Queue, Hear, Pass}
 use Words.{Take, Settle, Try, Cancel, Tick, answers_after, cancel_at, cancel_sent, ending_of, take_by, tick_at, tried_by, decide}
 use Words.{take_answer, step, IsGatewayInRange}
@@ -23,7 +23,7 @@ module _ (w : World) (n : ℕ) (a : Answer) (at : numbered n w.answers ≡ Some 
   other_stays : (f : Answer → Answer) (m : ℕ) (x : Answer) → numbered m w.answers ≡ Some x → (m ≡ n → x ≡ a → ⊥)
       → numbered n (rewritten f m w.answers) ≡ Some a
   other_stays f m x e d = elim (numbered_after f m n w.answers a at)
-      [ inl h ↦ absurd (d h.0 (some_inj (sym e ∙ ap (λ i. numbered i w.answers) h.0 ∙ at))) | inr h ↦ h ]
+      [ inl h ↦ absurd (d h.0 (same_Some _ _ (sym e ∙ ap (λ i. numbered i w.answers) h.0 ∙ at))) | inr h ↦ h ]
 
   heard_stays : (d : Decision) → numbered n (answers_after d w.answers) ≡ Some a
   heard_stays (hearing.Open o) = numbered-append n w.answers (Waiting ∷ []) a at
@@ -122,8 +122,8 @@ first_opened : (gs : List GatewaySetting) (at : ℕ) (g : GatewaySetting) → Al
     → slice_get gs at ≡ Some g → gateway_with g.id (map opened_gateway gs) ≡ Some (at, opened_gateway g)
 first_opened [] at g d e = absurd (cc (e))
 first_opened (x ∷ xs) zero g d e =
-    let same : (x.id == g.id) ≡ true = (unsigned_Decides x.id g.id).1 (ap (λ (s : GatewaySetting). s.id) (some_inj e)) in
-    rw same (ap (λ (s : GatewaySetting). Some (0, opened_gateway s)) (some_inj e))
+    let same : (x.id == g.id) ≡ true = (unsigned_Decides x.id g.id).1 (ap (λ (s : GatewaySetting). s.id) (same_Some _ _ e)) in
+    rw same (ap (λ (s : GatewaySetting). Some (0, opened_gateway s)) (same_Some _ _ e))
 first_opened (x ∷ xs) (suc i) g d e =
     let other = all_get (λ b. x.id ≢ b.id) xs i g (AllPairs-head (λ a b. a.id ≢ b.id) x xs d) e in
     let test : (x.id == g.id) ≡ false = ne_eqb x.id g.id other in

@@ -2,7 +2,7 @@
 use Rattle.server_core.proofs.Words
 use Words.{arith, inl, inr, subst, sym, true≢false, ◌∙◌, Err, List, Ok, Result, Some, map, refl, slice_get, true, ℕ, ◌≡◌, ◌⊎◌}
 use Words.{copies_of, numbered, IsWindowOf, IsWindowOf-ranked, on_gateways_that_heard, candidates_of, Candidate, Job}
-use Words.{candidate_at, Answer, Open, Waiting, is_not_given, known_of, numbered-here, all_get, get_set_same, some_inj, Device}
+use Words.{candidate_at, Answer, Open, Waiting, is_not_given, known_of, numbered-here, all_get, get_set_same, same_Some, Device}
 use Words.{Register, job_of, with_counter_given, World, known, AreSettings, SettingLists, Asked, Known, TakeFault, take, take_by}
 use Words.{take_answer, numbered-map}
 use Rattle.server_core.proofs.Holds.{IsJobAt, Holds, IsGood, IsGoodStep, IsNew, IsUsed, Holds-weaker, has_now}
@@ -53,7 +53,7 @@ module _ {settings : SettingLists} (are : AreSettings settings.gateways settings
     job_at =
         let u = h.asked n asked there in
         let served_is = device_setting h asked.device device served in
-        let same : u.own.setting ≡ device.setting = some_inj (sym u.own.served ∙ served_is) in
+        let same : u.own.setting ≡ device.setting = same_Some _ _ (sym u.own.served ∙ served_is) in
         record {
           number = refl;
           given = told;
@@ -87,11 +87,11 @@ module _ {settings : SettingLists} (are : AreSettings settings.gateways settings
 
     new : IsNew w job
     new = record {
-      number = λ g. let same : g.member ≡ Waiting = some_inj (sym g.there ∙ waits) in true≢false (rw same at g.is);
+      number = λ g. let same : g.member ≡ Waiting = same_Some _ _ (sym g.there ∙ waits) in true≢false (rw same at g.is);
       counter = λ p d e a.
           let place = apart_once (λ x. x.setting) (λ x. x.addr) w.reg.devices settings.devices h.devices are.addrs_differ p
           asked.device d device e served a in
-          let same : d ≡ device = some_inj (sym (rw place at e) ∙ served) in
+          let same : d ≡ device = same_Some _ _ (sym (rw place at e) ∙ served) in
           rw same (omega arith);
     }
 

@@ -3,7 +3,7 @@ use Rattle.server_core.proofs.Words
 use Words.{ap, arith, subst, sym, ◌∙◌, IsSomeAnd, option_map, List, None, Option, Some, [], drop, get_or}
 use Words.{if◌then◌else◌, map, refl, slice_get, slice_set, ℕ, ◌+◌, ◌∷◌, ◌≡◌, Book, IsAsked, refusal_of, Refusal, Candidate}
 use Words.{ask_for, candidates, IsBooked, IsReceipt, IsWrong, refusal_by, answered_as, Standing, candidate_of, Outcome, Receipt}
-use Words.{Answer, Open, map_set, some_inj, Gateway, World, gateway_with, is_accepted, is_none, noting, up_to_first, AreBooksOf}
+use Words.{Answer, Open, map_set, same_Some, Gateway, World, gateway_with, is_accepted, is_none, noting, up_to_first, AreBooksOf}
 use Words.{AreHere, Seen, ids_of, with_step, Try, terms, AreTries, EndsTries, MovesOn, HasTicketOut, IsSame, tries_from}
 use Words.{step_lines, run_from, step, get_or_from_slice_get, slice_get_within, slice_get_cases, drop_more, drop_all}
 use Rattle.server_core.proofs.BookSteps.{book_calls_are_steps, some_and, found_for, answer_is, try_is}
@@ -95,7 +95,7 @@ module _ {A : Type 0} (t : Standing) (old mid : Seen A) (gateway i : ℕ) (book 
       → IsSomeAnd (candidate_of t) (λ c. IsWrong t c book after ticket) → ⊥
   not_wrong own ticket h =
       let x = some_and (λ c. IsWrong t c book after ticket) (candidate_of t) h in
-      x.2.other (b.own ∙ some_inj (sym own ∙ ap (option_map (λ (c : Candidate). c.gateway)) x.1))
+      x.2.other (b.own ∙ same_Some _ _ (sym own ∙ ap (option_map (λ (c : Candidate). c.gateway)) x.1))
 
   -- another follows
   pub next_turn : (ticket : Standing) (refusal : Refusal) → TriedIs {A = A} t book after (tried.Next ticket refusal)
@@ -164,4 +164,4 @@ has_book {A} t old mid gateway noted here own f = by (candidate_of t) refl own
   where
     by : (o : Option Candidate) → candidate_of t ≡ o → option_map (λ (c : Candidate). c.gateway) o ≡ Some gateway → ⊥
     by None at e = cc (e)
-    by (Some c) at e = has_place gateway mid.books (rw (noted, ← some_inj e) (here t.at c at)) f
+    by (Some c) at e = has_place gateway mid.books (rw (noted, ← same_Some _ _ e) (here t.at c at)) f

@@ -2,7 +2,7 @@
 pub use Rattle.std.proofs.lemmas.List.Elements.{All-cons, All-filter, All-head, All-nil, All-tail, All-weaker}
 pub use Rattle.std.proofs.lemmas.List.Elements.{Contains-append_left, Contains-append_right, Contains-push_cases}
 pub use Rattle.std.proofs.Common.{ap, append-nil, append_assoc, arith, inl, inr, length-append, subst, sym, true≢false, ◌∙◌}
-pub use Rattle.std.proofs.lemmas.Option.{get_or_from_slice_get, slice_get_cases, slice_get_within}
+pub use Rattle.std.proofs.lemmas.Option.{get_or_from_slice_get, same_Some, slice_get_cases, slice_get_within}
 pub use Rattle.std.proofs.{Math.ListN.drop_of_length-le, lemmas.Bool.Decides.nat_tests, lemmas.List.drop_all}
 pub use Rattle.std.proofs.{lemmas.List.drop_more, lemmas.List.map-append, lemmas.List.map-id, lemmas.List.set-set}
 pub use Rattle.std.proofs.{lemmas.List.Kept.AllPairs-cons, lemmas.Simd.map-map}
@@ -63,7 +63,7 @@ pub use Rattle.server_desk.specs.{declared.setting.GatewaySetting.GatewaySetting
 pub use Rattle.server_desk.proofs.Numbers.{length-rewritten, map-rewritten, numbered-append, numbered-append_cases, numbered-here}
 pub use Rattle.server_desk.proofs.Numbers.{numbered-map, numbered_after, numbered_cases, numbered_next, same_rewritten}
 pub use Rattle.server_desk.proofs.Places.{all_get, from_map, get_contains, get_set_after, get_set_cases, get_set_same, map_set}
-pub use Rattle.server_desk.proofs.Places.{map_there, some_inj, found_there, is_placed, place_within}
+pub use Rattle.server_desk.proofs.Places.{map_there, found_there, is_placed, place_within}
 pub use Rattle.server_desk.proofs.Decided.{join_decided, open_decided}
 pub use Rattle.server_core.specs.Promise.{EveryInterleavingIsSafe, HaveOwnCounters, IsMember, IsOwnWindow, IsSafe, jobs_given}
 pub use Rattle.server_core.specs.Promise.{setting_of, with_given}

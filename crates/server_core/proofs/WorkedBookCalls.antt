@@ -1,6 +1,6 @@
 -- What the laws of the calls of a ticket and of a book say of the worked run: each clause tells a fact.
 use Rattle.server_core.proofs.Words
-use Words.{ap, arith, None, Some, [], Ok, Err, refl, ◌≡◌, ◌∷◌, List, slice_set, some_inj, desk_of, Done, DeskView, Settle, step}
+use Words.{ap, arith, None, Some, [], Ok, Err, refl, ◌≡◌, ◌∷◌, List, slice_set, same_Some, desk_of, Done, DeskView, Settle, step}
 use Words.{Reservation, Try, Cancel, Tick, opening, Standing, Outcome, GatewaySetting, NotHere, ticked, with_booked, Book}
 use Words.{CancelFault, Result, Sent, ℕ, Step, Reply, Answer, World, told, with_cancelled, orderly_nil, IsOrderly}
 use Rattle.server_core.proofs.WorkedInputs.{settings, limits, gateway_at, unused, sent_at, ended_at, rx1}
@@ -100,7 +100,7 @@ module _ {A : Type 0} (calls : BookCallsAreSteps A) (alone : OthersLeaveAlone) w
 
   still_kept : IsBookAt 1 0 (step (opening settings limits) (Tick 2 7)).0.gateways (unused_book first_gateway)
   still_kept = alone.book (opening settings limits) (Tick 2 7) 1 0 (unused_book first_gateway) opened
-      (λ e. absurd (omega (arith, some_inj e)))
+      (λ e. absurd (omega (arith, same_Some _ _ e)))
 
 -- after the first was taken out again
 abbrev without_first : Book
@@ -242,4 +242,4 @@ module _ (alone : OthersLeaveAlone) where
   not_cancelled : (new : Book) (result : Result ℕ CancelFault) → IsCancel 2 6000000 first_book new result → new ≡ first_book
   not_cancelled new result c =
       alone.cancel settings are limits steps 2 6000000 1 0 first_book new result (rw whole_run first_kept) c
-      (rw whole_run (λ sent e here begins. omega (arith, begins, ap (λ (s : Sent). s.start) (some_inj e))))
+      (rw whole_run (λ sent e here begins. omega (arith, begins, ap (λ (s : Sent). s.start) (same_Some _ _ e))))

@@ -1,6 +1,6 @@
 -- What the headline and the law of book calls say of the worked run: each clause tells a fact.
 use Rattle.server_core.proofs.Words.{ap, arith, inl, inr, subst, sym, ◌∙◌, Contains, refl, true, ◌+◌, ◌≡◌, ◌≤◌, Gathering}
-use Rattle.server_core.proofs.Words.{HeardCopy, numbered, some_inj, DeviceSetting, addr_of}
+use Rattle.server_core.proofs.Words.{HeardCopy, numbered, same_Some, DeviceSetting, addr_of}
 use Rattle.server_core.proofs.WorkedInputs.{settings, limits, first_device, second_device, kept_copy, both_copies, gathering}
 use Rattle.server_core.proofs.WorkedInputs.{uplink}
 use Rattle.server_core.proofs.WorkedSteps.{gateway_1, gateway_3, third_copy, w18, steps, after, whole_run}
@@ -31,7 +31,7 @@ module _ (headline : KeepsHeadline settings after) where
   own = headline.own 1 0 gateway_3 second_held.member refl second_held.there
 
   its_uplink : own.uplink ≡ gathering (uplink 0xda 1) 300000 both_copies true
-  its_uplink = some_inj (sym own.its_own ∙ ap (λ n. numbered n w18.reg.gathered.list) second_held.asked.number)
+  its_uplink = same_Some _ _ (sym own.its_own ∙ ap (λ n. numbered n w18.reg.gathered.list) second_held.asked.number)
 
   its_copy : own.copy ≡ kept_copy 2 9000000 50
   its_copy = the_only (λ (c : HeardCopy). c.gateway) (kept_copy 2 9000000 50) both_copies own.copy (assumption)
@@ -56,7 +56,7 @@ module _ (headline : KeepsHeadline settings after) where
   third_own = headline.own 1 1 gateway_3 third_held.member refl third_held.there
 
   third_uplink : third_own.uplink ≡ gathering (uplink 0xdb 0) 600000 third_copy true
-  third_uplink = some_inj (sym third_own.its_own ∙ ap (λ n. numbered n w18.reg.gathered.list) third_held.asked.number)
+  third_uplink = same_Some _ _ (sym third_own.its_own ∙ ap (λ n. numbered n w18.reg.gathered.list) third_held.asked.number)
 
   third_is_heard : third_own.copy ≡ kept_copy 2 8000000 50
   third_is_heard = the_only (λ (c : HeardCopy). c.gateway) (kept_copy 2 8000000 50) third_copy third_own.copy (assumption)

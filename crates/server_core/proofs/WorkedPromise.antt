@@ -2,7 +2,7 @@
 use Rattle.server_core.proofs.Words
 use Words.{ap, arith, inl, inr, subst, sym, ◌∙◌, All-head, Contains, Some, [], length, refl, slice_get, suc, true, ℕ, zero, ◌+◌}
 use Words.{◌≡◌, ◌≢◌, ◌≤◌, ◌∷◌, Reservation, IsAsked, Gathering, HeardCopy, numbered, AllPairs-head, Candidate, Job, ask_for}
-use Words.{candidates, Device, Gateway, AreSettings, some_inj, HaveOwnCounters, IsMember, IsOwnWindow, IsSafe, plan_for}
+use Words.{candidates, Device, Gateway, AreSettings, same_Some, HaveOwnCounters, IsMember, IsOwnWindow, IsSafe, plan_for}
 use Words.{setting_of, net, None, addr_of, Bool, false, ◌==◌, ⊤, List}
 use Rattle.server_core.proofs.WorkedInputs.{settings, limits, first_device, second_device, kept_copy, both_copies, gathering}
 use Rattle.server_core.proofs.WorkedInputs.{uplink, rx1, rx2, device_at}
@@ -105,7 +105,7 @@ module _ (safe : IsSafe settings after) where
   number_is = second_held.asked.number
 
   its_gathering : own.gathering ≡ gathering (uplink 0xda 1) 300000 both_copies true
-  its_gathering = some_inj (sym own.gathered ∙ ap (λ n. numbered n w18.reg.gathered.list) number_is)
+  its_gathering = same_Some _ _ (sym own.gathered ∙ ap (λ n. numbered n w18.reg.gathered.list) number_is)
 
   its_job : own.job ≡ job_2
   its_job = the_only (λ (j : Job). j.number) job_2 (job_1 ∷ job_2 ∷ job_3 ∷ []) own.job (assumption) own.given
@@ -146,7 +146,7 @@ module _ (safe : IsSafe settings after) where
   third_own = safe.own 1 1 gateway_3 third_held.member third_member
 
   third_gathering : third_own.gathering ≡ gathering (uplink 0xdb 0) 600000 third_copy true
-  third_gathering = some_inj (sym third_own.gathered ∙ ap (λ n. numbered n w18.reg.gathered.list) third_held.asked.number)
+  third_gathering = same_Some _ _ (sym third_own.gathered ∙ ap (λ n. numbered n w18.reg.gathered.list) third_held.asked.number)
 
   third_job : third_own.job ≡ job_3
   third_job = the_only (λ (j : Job). j.number) job_3 (job_1 ∷ job_2 ∷ job_3 ∷ []) third_own.job (assumption) third_own.given

@@ -3,7 +3,7 @@ use Rattle.server_core.proofs.Words
 use Words.{ap, arith, inl, inr, length-append, subst, sym, ◌∙◌, List, Some, [], false, length, refl, slice_get, slice_set, ℕ}
 use Words.{◌++◌, ◌+◌, ◌∷◌, ◌≡◌, ◌≤◌, Gathering, numbered, rewritten, Job, Answer, Open, Waiting, is_not_given, known_of}
 use Words.{length-rewritten, numbered-append_cases, numbered_cases, numbered_next, get_set_after, get_set_cases, map_set}
-use Words.{some_inj, Device, Gateway, World, SettingLists, Asked, Sent, setting_of, sent_for}
+use Words.{same_Some, Device, Gateway, World, SettingLists, Asked, Sent, setting_of, sent_for}
 use Rattle.server_core.proofs.Holds.{IsGrown, IsOfDevice, IsAskedAt, IsJobAt, AllStand, Holds, Grow, IsGivenAt, IsGood}
 use Rattle.server_core.proofs.Holds.{Follows-refl, job_on, jobs_on, stands_on, Has-append, Has-rewritten, has_now, Has, IsInOrder}
 use Rattle.server_core.proofs.Holds.{IsLater}
@@ -19,7 +19,7 @@ module _ {settings : SettingLists} {T : Job → Type 0} {w : World} (h : Holds s
   device_written p d e g s c =
       let later : (q : ℕ) (f : Device) → slice_get w.reg.devices q ≡ Some f → IsLater (slice_set w.reg.devices p e) q f =
       λ q f i. elim (get_set_after w.reg.devices p q e f i) [
-        | inl o ↦ let same : f ≡ d = some_inj (sym i ∙ rw o.0 at g) in rw same
+        | inl o ↦ let same : f ≡ d = same_Some _ _ (sym i ∙ rw o.0 at g) in rw same
             (record { device = e; there = o.1; addr = ap (λ t. t.addr) s; counter = c })
         | inr o ↦ record { device = f; there = o; addr = refl; counter = omega arith }
       ] in
@@ -33,7 +33,7 @@ module _ {settings : SettingLists} {T : Job → Type 0} {w : World} (h : Holds s
   module _ (n : ℕ) (old new : Answer) (there : numbered n w.answers ≡ Some old) where
     -- what holds of the old answer, and of the new one then, holds still
     has_still : (P : Answer → Type 0) → (P old → P new) → (m : ℕ) → Has P w.answers m → Has P (rewritten (λ a. new) n w.answers) m
-    has_still P f m x = Has-rewritten P w.answers (λ a. new) n m (λ y e p. f (subst P (some_inj (sym e ∙ there)) p)) x
+    has_still P f m x = Has-rewritten P w.answers (λ a. new) n m (λ y e p. f (subst P (same_Some _ _ (sym e ∙ there)) p)) x
 
     pub answer_written : ((s : Sent) → sent_for old ≡ Some s → sent_for new ≡ Some s) → is_not_given (known_of new) ≡ false
         → ((k : ℕ) (job : Job) → new ≡ Open k job → IsJobAt settings T w.reg.gathered.list n job)

@@ -3,8 +3,8 @@ use Rattle.server_desk.proofs.Words
 use Words.{ℕ, ◌≡◌, ◌≢◌, ◌-◌, ◌<◌, ◌==◌, false, List, [], ◌∷◌, ◌++◌, length, All, get_or, Option, Some, None, Result, Ok, Err}
 use Words.{IfOk, refl, sym, ◌∙◌, arith, eq-eqb, true≢false, length-append, All-set, All-push, All-nil, All-cons, list_any_at}
 use Words.{HeardCopy, HearFault, Heard, Opened, Joined, Joins, Gathering, Gatherings, numbered, rewritten, place_of, place_by}
-use Words.{has_gateway, hear_answer, after_hearing, with_copy, IsHeard, IsGathered}
-use Rattle.server_desk.proofs.{Places.some_inj, Places.all_get, Numbers.at_number}
+use Words.{has_gateway, hear_answer, after_hearing, with_copy, IsHeard, IsGathered, same_Some}
+use Rattle.server_desk.proofs.{Places.all_get, Numbers.at_number}
 use Rattle.uplink_gather.specs.Hearing.{opening}
 use Rattle.std.proofs.lemmas.List.Quantifiers.{all_pairs_push}
 use Rattle.uplink_gather.proofs.HearingLaws.{joins_at, answer_joined}
@@ -46,7 +46,7 @@ new_gateway : (s : Gatherings) (bytes : List ℕ) (gateway arrived n : ℕ) (g :
     → place_of s bytes gateway arrived ≡ Ok (Joins n) → numbered n s.list ≡ Some g → has_gateway gateway g.copies ≡ false
 new_gateway s bytes gateway arrived n g e there =
     let at = joins_at s bytes gateway arrived n e in
-    let same : at.gathering ≡ g = some_inj (sym at.there ∙ there) in
+    let same : at.gathering ≡ g = same_Some _ _ (sym at.there ∙ there) in
     let here : place_by s.limits gateway arrived (Some (n, g)) ≡ Ok (Joins n) = rw (at.newest_is, same) at e in
     grind (arith, here)
 

@@ -4,9 +4,9 @@ use Words.{length_push, nat_tests, slice_get_within, decide, ℕ, ◌≡◌, ◌
 use Words.{length, slice_get, slice_set, Some, Result, Ok, Err, IfOk, OnErr, MatchResult, IsOkUnless, refl, sym, ap, ◌∙◌, arith}
 use Words.{addr_of, Heard, HearFault, Gatherings, hear_answer, after_hearing, with_copy, hear_step, KnownDevice, Known, NotGiven}
 use Words.{NewUplink, Heard1, Device, Asked, Register, copy_of, answer_to, shown, IsServable, IsDesk, desk_answer, desk_hear}
-use Words.{length-map, length-set, map-set, All-push, DeskFault, NoMemory}
+use Words.{length-map, length-set, map-set, All-push, DeskFault, NoMemory, same_Some}
 use Rattle.server_desk.proofs.DeskLemmas.{Holds, seen_reg, seen, queued_holds}
-use Rattle.server_desk.proofs.{Places.map_there, Places.some_inj, Places.found_there, Numbers.length-rewritten}
+use Rattle.server_desk.proofs.{Places.map_there, Places.found_there, Numbers.length-rewritten}
 use Rattle.server_desk.proofs.{OutLemmas.count_push, CopyLemmas.all_heard, Decided.IsJoin, Decided.IsNew}
 use Rattle.uplink_gather.specs.Hearing.{opening}
 use Rattle.server_desk.specs.declared.heard.DeskHeard.{DeskHeard}
@@ -114,5 +114,5 @@ module _ {A : Type 0} (ids : List ℕ) (kepts : List (KnownDevice A)) (gathered 
     pub open_step : seen ids (slice_set kepts new.asked.device new_kept) (hear_step gathered bytes (copy_of heard) arrived)
         (asked ++ new.asked ∷ []) (known ++ NotGiven ∷ []) ≡ desk_hear (seen ids kepts gathered asked known) bytes heard arrived
     open_step =
-        let same : shown k ≡ n.opening.device = some_inj (sym (map_there shown kepts new.asked.device k at) ∙ there) in
+        let same : shown k ≡ n.opening.device = same_Some _ _ (sym (map_there shown kepts new.asked.device k at) ∙ there) in
         rw (n.decided_so, map-set shown kepts new.asked.device new_kept, s, ← same, ← n.is) refl

@@ -1,12 +1,9 @@
 -- Members of a list by their places.
 use Rattle.server_desk.proofs.Words
 use Words.{Bool, true, first_at, ℕ, zero, suc, ◌≡◌, ◌≢◌, ◌⊎◌, List, [], ◌∷◌, ◌++◌, map, length, All, Contains, slice_get}
-use Words.{slice_set, Option, Some, unwrap_or, refl, sym, ap, ◌∙◌, subst, arith, option_map, slice_get-map, slice_get_within}
+use Words.{slice_set, Option, Some, same_Some, refl, sym, ap, ◌∙◌, subst, arith, option_map, slice_get-map, slice_get_within}
 use Words.{get_or_from_slice_get, get_or, None, ◌<◌, slice_get_read}
 use Rattle.std.proofs.Math.Seq.{map-set_same}
-
-pub some_inj : {X : Type 0} {x y : X} → Some x ≡ Some y → x ≡ y
-some_inj {X} {x} {y} e = ap (λ (o : Option X). unwrap_or o x) e
 
 module _ {X : Type 0} where
   -- what is written at a place is found there, and what stands at other places stays
@@ -54,7 +51,7 @@ module _ {X Y : Type 0} (f : X → Y) where
 
   pub from_map : (xs : List X) (k : ℕ) (y : Y) → slice_get (map f xs) k ≡ Some y → (x : X) × (slice_get xs k ≡ Some x) × (f x ≡ y)
   from_map [] k y e = absurd (cc)
-  from_map (x ∷ xs) zero y e = (x, refl, some_inj e)
+  from_map (x ∷ xs) zero y e = (x, refl, same_Some _ _ e)
   from_map (x ∷ xs) (suc k) y e = from_map xs k y e
 
   -- a member is written anew by one that f can't tell from it

@@ -5,8 +5,8 @@ use Words.{slice_set, Option, Some, None, Result, Ok, Err, IfOk, refl, option_ma
 use Words.{length-map, length-set, map-set, All-head, HeardCopy, Gatherings, numbered, is_closed_at, copies_of, length-ranked}
 use Words.{All-ranked, IsHeard, Job, Payload, IsJob, IsPort, payload_len, KnownDevice, Known, NotGiven, Pending, is_not_given}
 use Words.{Device, Asked, head, is_engaged, job_for, fault_of, given_or, take_answer, with_counter_given, shown, outs, IsSendable}
-use Words.{IsServable, IsGathered, MayBeGiven, desk_take, TakeFault, slice_get_cases, slice_get_within, inl, inr}
-use Rattle.server_desk.proofs.Places.{map_there, some_inj, all_get}
+use Words.{IsServable, IsGathered, MayBeGiven, desk_take, TakeFault, same_Some, slice_get_cases, slice_get_within, inl, inr}
+use Rattle.server_desk.proofs.Places.{map_there, all_get}
 use Rattle.server_desk.proofs.DeskLemmas.{seen_reg, Holds, seen, written_holds}
 use Rattle.server_desk.proofs.{Numbers.at_number, OutLemmas.engaged_is, OutLemmas.out_given}
 use Rattle.rx_windows.specs.Rank.{ranked}
@@ -15,11 +15,11 @@ use Rattle.answer_ticket.specs.Ticket.{Standing}
 -- the job that a ticket is given for
 head_port : (queue : List Payload) → All IsSendable queue → ForSome (head queue) (λ b. IsPort b.0)
 head_port [] h x e = absurd (cc)
-head_port (p ∷ queue) h x e = subst (λ y. IsPort y.0) (some_inj e) (All-head IsSendable p queue h).port
+head_port (p ∷ queue) h x e = subst (λ y. IsPort y.0) (same_Some _ _ e) (All-head IsSendable p queue h).port
 
 head_len : (queue : List Payload) → All IsSendable queue → ForSome (option_map payload_len (head queue)) (λ n. n ≤ 242)
 head_len [] h x e = absurd (cc)
-head_len (p ∷ queue) h x e = subst (λ n. n ≤ 242) (some_inj e) (All-head IsSendable p queue h).len
+head_len (p ∷ queue) h x e = subst (λ n. n ≤ 242) (same_Some _ _ e) (All-head IsSendable p queue h).len
 
 is_job : (device : Device) (n : ℕ) (a : Asked) (copies : List HeardCopy) → IsServable device → 0 < length copies
     → All IsHeard copies → IsJob (job_for device n a (ranked copies))
@@ -99,7 +99,7 @@ module _ {A : Type 0} (keys : List ℕ) (kepts : List (KnownDevice A)) (gathered
     -- a ticket may be given
     module _ (ready : MayBeGiven (seen_reg kepts gathered asked) known n a) where
       same_device : ready.device ≡ shown k
-      same_device = some_inj (sym ready.served ∙ there)
+      same_device = same_Some _ _ (sym ready.served ∙ there)
 
       -- no other is out, and a counter is left
       free : (k.out ≡ false) × (k.down < 2 ^ 32)

@@ -8,7 +8,7 @@ pub use Rattle.std.proofs.Common.{◌≢◌, ◌≤◌, ◌⊎◌}
 pub use Rattle.std.proofs.lemmas.List.Elements.{All-cons, All-drop, All-head, All-map, All-nil, All-push, All-set, All-tail}
 pub use Rattle.std.proofs.lemmas.List.Elements.{All-weaker}
 pub use Rattle.std.proofs.lemmas.List.{get_or-map, get_or_default, length-map, length_push, map-set, map_more, map_push}
-pub use Rattle.std.proofs.lemmas.Option.{get_or_from_slice_get, slice_get-map, slice_get_cases, slice_get_read, slice_get_within}
+pub use Rattle.std.proofs.lemmas.Option.{get_or_from_slice_get, same_Some, slice_get-map, slice_get_cases, slice_get_read, slice_get_within}
 pub use Rattle.std.proofs.{lemmas.List.Folds.list_any_at, lemmas.List.Folds.list_any_none, lemmas.Bool.Decides.nat_tests}
 pub use Rattle.std.proofs.{lemmas.Simd.map-map}
 pub use Rattle.std.specs.{Option.ForSome, Option.option_map, Option.option_or, List.list_any, List.position_from}
