@@ -27,7 +27,10 @@ pub(crate) trait Numbered: Drop {
 impl Numbered for u64 {
     ghost numbers = { None };
 
-    fn number(self) -> u64 {
+    fn number(self) -> u64
+        ensures one { IsOneOf None result }
+        ensures same { result ≡ self }
+    {
         self
     }
 }
