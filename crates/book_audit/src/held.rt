@@ -48,12 +48,21 @@ fn held_of<A: Allocator + Copy>(
 ) -> Result<Vec<Held, A>, NoMemory>
     ensures { IfOk result (λ held. held.items ≡ held_by shelf.now) }
 {
-    let mut held = Vec::new(alloc);
+    let mut held = Vec::with_capacity(alloc, count_of(shelf))?;
     for (gateway, book) in shelf {
         let members = book.list(alloc)?;
         add_all(&mut held, *gateway, &members)?;
     }
     Ok(held)
+}
+
+/// For how many members there is room to be had before they are listed, so that the list grows once: as many as the books keep.
+fn count_of<A: Allocator + Copy>(shelf: &[(u16, Book<A>)]) -> usize {
+    let mut count: usize = 0;
+    for (_, book) in shelf {
+        count = count.saturating_add(book.totals().kept);
+    }
+    count
 }
 
 /// Adds what one book keeps.
