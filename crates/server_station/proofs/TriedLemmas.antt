@@ -1,9 +1,9 @@
 -- Lemmas on the tries of a ticket.
-use Rattle.std.proofs.Common.{ℕ, ◌≡◌, ◌+◌, ◌⊎◌, inl, inr, Bool, true, false, List, Option, Some, None, IsSome, refl, sym}
+use Rattle.std.proofs.Common.{ℕ, ◌≡◌, ◌+◌, ◌⊎◌, inl, inr, true, List, Option, Some, None, IsSome, refl, sym}
 use Rattle.std.proofs.Common.{ap, ◌∙◌, subst, arith}
-use Rattle.std.specs.Prelude.{MatchBool}
-use Rattle.std.specs.Option.{IsSomeAnd, option_map_or}
+use Rattle.std.specs.Option.{IsSomeAnd, option_map, option_map_or}
 use Rattle.std.proofs.lemmas.Bool.{cases_lt}
+use Rattle.std.proofs.lemmas.Option.{same_Some}
 use Rattle.gateway_book.specs.declared.refusal.Refusal.{Refusal}
 use Rattle.gateway_book.specs.Book.{Book}
 use Rattle.rx_windows.specs.declared.candidate.Candidate.{Candidate}
@@ -11,7 +11,7 @@ use Rattle.answer_ticket.specs.declared.outcome.Ending.TheVariants.{GivenUp}
 use Rattle.answer_ticket.specs.declared.outcome.Outcome.{Outcome}
 use Rattle.answer_ticket.specs.declared.tried.Receipt.{Receipt}
 use Rattle.answer_ticket.specs.declared.tried.Tried.{Tried}
-use Rattle.answer_ticket.specs.declared.tried.Tried.TheVariants.{Booked, Next, Out, Wrong, NoMemory}
+use Rattle.answer_ticket.specs.declared.tried.Tried.TheVariants.{Wrong, NoMemory}
 use Rattle.answer_ticket.specs.Job.{Job}
 use Rattle.answer_ticket.specs.Ticket.{Standing, candidate_of}
 use Rattle.answer_ticket.specs.Tried.{IsBooked, IsNext, IsOut, IsWrong, IsWithoutMemory}
@@ -22,14 +22,6 @@ use Rattle.server_station.specs.Tries.{HasAnswered, AreRefused, EndsAt, IsTriedO
 -- a try that hands this ticket back, as one of another gateway's book
 abbrev pub wrong_of : (A : Type 0) → Standing → Tried A
 wrong_of A t = Wrong t
-
--- as one that found it refused
-abbrev pub next_of_try : (A : Type 0) → Standing → Refusal → Tried A
-next_of_try A t refusal = Next t refusal
-
--- as one that ended it
-abbrev pub out_of_try : (A : Type 0) → Outcome → Refusal → Tried A
-out_of_try A stub refusal = Out stub refusal
 
 -- and as one that found no memory
 abbrev pub vain_of : (A : Type 0) → Standing → Tried A
@@ -45,21 +37,29 @@ module _ (A : Type 0) (t back : Standing) where
   vain_at old new None h = absurd h
   vain_at old new (Some c) h = h.same
 
-  in_vain : (tried : Tried A) → WasTried t tried → (tried ≡ wrong_of A back) ⊎ (tried ≡ vain_of A back)
+  pub tried_in_vain : (tried : Tried A) → WasTried t tried → (tried ≡ wrong_of A back) ⊎ (tried ≡ vain_of A back)
       → WasTried t (vain_of A t) ⊎ WasTried t (wrong_of A t)
-  in_vain tried w (inl e) =
+  tried_in_vain tried w (inl e) =
       let h : WasTried t (wrong_of A back) = subst (λ (x : Tried A). WasTried t x) e w in
       inr (subst (λ b. WasTried t (wrong_of A b)) (wrong_at h.0 h.1 (candidate_of t) h.2) h)
-  in_vain tried w (inr e) =
+  tried_in_vain tried w (inr e) =
       let h : WasTried t (vain_of A back) = subst (λ (x : Tried A). WasTried t x) e w in
       inl (subst (λ b. WasTried t (vain_of A b)) (vain_at h.0 h.1 (candidate_of t) h.2) h)
 
-  -- where the station has its gateway
-  pub tried_in_vain : (among : Bool) (tried : Tried A) → MatchBool among (WasTried t tried) (tried ≡ wrong_of A t)
-      → (tried ≡ wrong_of A back) ⊎ (tried ≡ vain_of A back) → among ≡ true
-      → WasTried t (vain_of A t) ⊎ WasTried t (wrong_of A t)
-  tried_in_vain true tried w back e = in_vain tried w back
-  tried_in_vain false tried w back e = absurd (cc (e))
+-- the gateway of a book that was asked is that of the candidate at which the ticket stands
+tried_gateway : (o : Option Candidate) (id : ℕ) → option_map (λ (c : Candidate). c.gateway) o ≡ Some id
+    → option_map_or (λ (c : Candidate). c.gateway) o 0 ≡ id
+tried_gateway None id e = absurd (cc (e))
+tried_gateway (Some c) id e = same_Some _ _ e
+
+pub is_among_tried : (ids : List ℕ) (t : Standing) (id : ℕ) → option_map (λ (c : Candidate). c.gateway) (candidate_of t) ≡ Some id
+    → is_among ids id ≡ true → is_among ids (gateway_to_try t) ≡ true
+is_among_tried ids t id e among = ap (is_among ids) (tried_gateway (candidate_of t) id e) ∙ among
+
+-- and the ticket stands at one
+pub stands_at : (o : Option Candidate) (id : ℕ) → option_map (λ (c : Candidate). c.gateway) o ≡ Some id → IsSome o
+stands_at None id e = absurd (cc (e))
+stands_at (Some c) id e = refl
 
 -- what a try of a ticket says whose candidates were refused up to where it stands
 module _ (ids : List ℕ) (job : Job) (t : Standing) (own : t.job ≡ job) (so_far : AreRefused ids t.job t.at) where
@@ -92,11 +92,9 @@ module _ (ids : List ℕ) (job : Job) (t : Standing) (own : t.job ≡ job) (so_f
       )
 
   -- it was refused there too, and stands at the next one
-  pub refused_there : (A : Type 0) (among : Bool) (next : Standing) (refusal : Refusal) → is_among ids (gateway_to_try t) ≡ among
-      → MatchBool among (WasTried {A = A} t (Next next refusal)) (next_of_try A next refusal ≡ wrong_of A t)
-      → (next.job ≡ job) × AreRefused ids next.job next.at
-  refused_there A false next refusal is w = absurd (cc (w))
-  refused_there A true next refusal is w = next_at w.0 w.1 next refusal (candidate_of t) refl is w.2
+  pub refused_there : (old new : Book) (next : Standing) (refusal : Refusal) → is_among ids (gateway_to_try t) ≡ true
+      → IsSomeAnd (candidate_of t) (λ c. IsNext t c old new next refusal) → (next.job ≡ job) × AreRefused ids next.job next.at
+  refused_there old new next refusal among w = next_at old new next refusal (candidate_of t) refl among w
 
   ended_with : {A : Type 0} (stub : Outcome) (booked : Option (Receipt A))
       → IsSomeAnd (candidate_of t) (λ c. EndsAt ids t c stub.result booked) → IsTriedOut ids job stub.result booked
@@ -115,12 +113,10 @@ module _ (ids : List ℕ) (job : Job) (t : Standing) (own : t.job ≡ job) (so_f
       })
 
   -- it was booked there
-  pub booked_there : (A : Type 0) (among : Bool) (stub : Outcome) (receipt : Receipt A) → is_among ids (gateway_to_try t) ≡ among
-      → MatchBool among (WasTried t (Booked stub receipt)) (Booked stub receipt ≡ wrong_of A t)
-      → IsTriedOut ids job stub.result (Some receipt)
-  booked_there A false stub receipt is w = absurd (cc (w))
-  booked_there A true stub receipt is w =
-      ended_with stub (Some receipt) (booked_at w.0 w.1 stub receipt (candidate_of t) refl is w.2)
+  pub booked_there : {A : Type 0} (old new : Book) (stub : Outcome) (receipt : Receipt A) → is_among ids (gateway_to_try t) ≡ true
+      → IsSomeAnd (candidate_of t) (λ c. IsBooked t c old new stub receipt) → IsTriedOut ids job stub.result (Some receipt)
+  booked_there old new stub receipt among w =
+      ended_with stub (Some receipt) (booked_at old new stub receipt (candidate_of t) refl among w)
 
   out_at : (A : Type 0) (old new : Book) (stub : Outcome) (refusal : Refusal) (o : Option Candidate) → candidate_of t ≡ o
       → is_among ids (gateway_to_try t) ≡ true → IsSomeAnd o (λ c. IsOut t c old new stub refusal)
@@ -135,11 +131,10 @@ module _ (ids : List ℕ) (job : Job) (t : Standing) (own : t.job ≡ job) (so_f
       })
 
   -- it was refused there, at the last
-  pub out_there : (A : Type 0) (among : Bool) (stub : Outcome) (refusal : Refusal) → is_among ids (gateway_to_try t) ≡ among
-      → MatchBool among (WasTried {A = A} t (Out stub refusal)) (out_of_try A stub refusal ≡ wrong_of A t)
-      → IsTriedOut {A = A} ids job stub.result None
-  out_there A false stub refusal is w = absurd (cc (w))
-  out_there A true stub refusal is w = ended_with stub None (out_at A w.0 w.1 stub refusal (candidate_of t) refl is w.2)
+  pub out_there : (A : Type 0) (old new : Book) (stub : Outcome) (refusal : Refusal) → is_among ids (gateway_to_try t) ≡ true
+      → IsSomeAnd (candidate_of t) (λ c. IsOut t c old new stub refusal) → IsTriedOut {A = A} ids job stub.result None
+  out_there A old new stub refusal among w =
+      ended_with stub None (out_at A old new stub refusal (candidate_of t) refl among w)
 
   given_up_at : (A : Type 0) (o : Option Candidate) → candidate_of t ≡ o → IsSome o
       → (is_among ids (gateway_to_try t) ≡ true → WasTried {A = A} t (NoMemory t) ⊎ WasTried {A = A} t (Wrong t))

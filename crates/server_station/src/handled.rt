@@ -1,10 +1,11 @@
 // An uplink is answered, once.
-ghost use Rattle.std.specs.Prelude.{◌≡◌, ◌≤◌, true, false, Some};
+ghost use Rattle.std.specs.Prelude.{◌≡◌, ◌≤◌, true, false, Some, None};
+ghost use Rattle.answer_ticket.specs.Tried.{stub_of};
 ghost use Rattle.server_station.specs.Handling.{IsHandled, IsEndOf, was_taken, outcome_of, receipt_of};
 ghost use Rattle.server_station.specs.Tries.{IsAnswered, IsTriedOut};
 
 use crate::{Gate, Ledger, Station, Till};
-use answer_ticket::{Outcome, Receipt, Ticket, Tried, TriedOut};
+use answer_ticket::{Ending, Outcome, Receipt, Ticket, Tried, TriedOut};
 use server_core::TakeFault;
 use std::alloc::Allocator;
 use std::hash::BuildHasher;
@@ -51,7 +52,7 @@ impl<B: Ledger, S: BuildHasher, A: Allocator + Copy> Station<B, S, A> {
         &self,
         rt: &R,
         gate: &G,
-        ticket: Ticket<A>,
+        mut ticket: Ticket<A>,
         overrun: &mut u64,
     ) -> TriedOut<A>
         requires first { ticket.at ≡ 0 }
@@ -59,9 +60,15 @@ impl<B: Ledger, S: BuildHasher, A: Allocator + Copy> Station<B, S, A> {
         ensures tries { IsTriedOut self.now ticket.job result.stub.result result.receipt }
         ensures overrun { overrun.old ≤ overrun.new }
     {
-        let mut ticket = ticket;
         loop {
-            match self.try_through(rt, gate, ticket, overrun) {
+            let gateway = ticket.gateway();
+            let Some(mut book) = self.entered(rt, gate, gateway, overrun) else {
+                return given_up(ticket);
+            };
+            let tried = ticket.try_on(&mut book);
+            drop(book);
+            gate.left(gateway);
+            match tried {
                 Tried::Booked(stub, receipt) => {
                     return TriedOut {
                         stub,
@@ -75,12 +82,7 @@ impl<B: Ledger, S: BuildHasher, A: Allocator + Copy> Station<B, S, A> {
                         receipt: None,
                     };
                 }
-                Tried::Wrong(ticket) | Tried::NoMemory(ticket) => {
-                    return TriedOut {
-                        stub: ticket.give_up(),
-                        receipt: None,
-                    };
-                }
+                Tried::Wrong(ticket) | Tried::NoMemory(ticket) => return given_up(ticket),
             }
         }
     }
@@ -99,5 +101,15 @@ impl<B: Ledger, S: BuildHasher, A: Allocator + Copy> Station<B, S, A> {
             Ok(outcome) => Handled::Settled(outcome, receipt),
             Err(stub) => Handled::Stray(stub.end(), receipt),
         }
+    }
+}
+
+/// What is left of a ticket that is given up.
+fn given_up<A: Allocator>(ticket: Ticket<A>) -> TriedOut<A>
+    ensures { result ≡ record { stub = stub_of ticket.job Ending.GivenUp; receipt = None } }
+{
+    TriedOut {
+        stub: ticket.give_up(),
+        receipt: None,
     }
 }

@@ -1,7 +1,6 @@
 ghost use Rattle.std.specs.Prelude.{◌≡◌, ◌+◌, ◌<◌, ◌≤◌, ◌↔◌, true, false, Err, IfOk, IfErr, OnOk, OnErr, IfSome, IsSome, IsNone};
 ghost use Rattle.std.specs.Prelude.{MatchBool, MatchOption};
 ghost use Rattle.answer_ticket.specs.Ended.{IsOfCandidate, gateway_of};
-ghost use Rattle.answer_ticket.specs.Ticket.{candidate_of};
 ghost use Rattle.server_core.specs.Airtime.{airtime_of_ending};
 ghost use Rattle.server_core.specs.Desk.{desk_of};
 ghost use Rattle.server_core.specs.Schedule.{usual_limits};
@@ -11,19 +10,19 @@ ghost use Rattle.server_station.specs.Stations.{AreInOrder, gateway_to_try, WasQ
 ghost use Rattle.server_station.specs.Stations.{WasTaken};
 ghost use Rattle.server_station.specs.Stations.{WasTried, WasAsked, WasTicked, WereCounted, IsBehind};
 
-use crate::gate::{NoGate, is_let_in};
+use crate::gate::is_let_in;
 use crate::place::{Place, place_numbered, places_of};
 use crate::{Blank, Gate, Ledger, NoMemory, Office, PARTS, Till, TotalsFault};
 use air_ledger::begin;
 use answer_ticket::{Outcome, Receipt, Stub, Ticket, Tried};
 use gateway_book::{CancelFault, Totals};
 use server_core::{
-    Desk, DeskFault, DeskHeard, Heard1, QueueFault, Settings, TakeFault, USUAL_LIMITS,
+    Book, Desk, DeskFault, DeskHeard, Heard1, QueueFault, Settings, TakeFault, USUAL_LIMITS,
 };
 use std::alloc::{Allocator, Global};
 use std::hash::BuildHasher;
 use std::marker::Model;
-use std::sync::{Mutex, Wait};
+use std::sync::{Mutex, MutexGuard, Wait};
 
 /// A server for several threads: the desk with the ledger's tally behind one lock, and each gateway's book behind its own.
 /// Each call takes one of these locks, and waits for it, but for `new` and `finish`. Seen as the numbers of its gateways; its
@@ -132,36 +131,31 @@ impl<B: Ledger, S: BuildHasher, A: Allocator + Copy> Station<B, S, A> {
         ensures { MatchBool (is_among self.now (gateway_to_try ticket)) (WasTried ticket result)
             (result ≡ Tried.Wrong ticket) }
     {
-        let mut overrun = 0;
-        self.try_through(rt, &NoGate, ticket, &mut overrun)
+        match self.place_of(ticket.gateway()) {
+            Some(place) => ticket.try_on(&mut place.book.lock(rt)),
+            None => Tried::Wrong(ticket),
+        }
     }
 
-    /// The same, and stops at a gate before it asks the book; a try that the gate didn't let in in time is counted.
-    pub(crate) fn try_through<R: Wait, G: Gate>(
+    /// Gives the book of the gateway with this number, once its lock is free and the gate lets the caller ask it; where the gate
+    /// didn't let it in in time, that is counted. `None` where the station has no such gateway.
+    pub(crate) fn entered<R: Wait, G: Gate>(
         &self,
         rt: &R,
         gate: &G,
-        ticket: Ticket<A>,
+        gateway: u16,
         overrun: &mut u64,
-    ) -> Tried<A>
-        ensures stands { IsSome (candidate_of ticket) }
-        ensures tried { MatchBool (is_among self.now (gateway_to_try ticket)) (WasTried ticket result)
-            (result ≡ Tried.Wrong ticket) }
+    ) -> Option<MutexGuard<'_, Book<A>>>
+        ensures here { IsSome result ↔ (is_among self.now gateway ≡ true) }
         ensures overrun { overrun.old ≤ overrun.new }
         ensures once { overrun.new ≤ overrun.old + 1 }
     {
-        let gateway = ticket.gateway();
-        let Some(place) = self.place_of(gateway) else {
-            return Tried::Wrong(ticket);
-        };
-        let mut book = place.book.lock(rt);
+        let place = self.place_of(gateway)?;
+        let book = place.book.lock(rt);
         if !is_let_in(gate, gateway) {
             *overrun = overrun.saturating_add(1);
         }
-        let tried = ticket.try_on(&mut book);
-        drop(book);
-        gate.left(gateway);
-        tried
+        Some(book)
     }
 }
 

@@ -3,12 +3,12 @@ use Rattle.answer_ticket.specs.Job.{candidates}
 use Rattle.server_station.specs.Tries.{AreRefused}
 use Rattle.server_station.proofs.station.Station.tried.Given as goal
 
-abbrev pub invariant-loop-stub : goal.invariant-loop-stub
-invariant-loop-stub g l = record {
+abbrev pub invariant-loop-book : goal.invariant-loop-book
+invariant-loop-book g l = record {
   job : l.ticket.job ≡ l.initial.ticket.job;
   refused : AreRefused l.initial.self l.ticket.job l.ticket.at;
   overrun : l.initial.overrun ≤ l.overrun;
 }
 
-abbrev pub decreases-loop-stub : goal.decreases-loop-stub
-decreases-loop-stub g l = length (candidates l.ticket.job) - l.ticket.at
+abbrev pub decreases-loop-book : goal.decreases-loop-book
+decreases-loop-book g l = length (candidates l.ticket.job) - l.ticket.at
