@@ -7,7 +7,7 @@ use Rattle.text_words.specs.declared.fault.TextFault.TheVariants.{NoMemory}
 use Rattle.text_words.specs.Words.{has_refusal}
 use Rattle.run_lines.specs.declared.tally.Tally.{Tally}
 use Rattle.run_lines.specs.Tally.{tally_of, tally_sum, IsTallyUpTo}
-use Rattle.run_texts.specs.declared.receipts.Booking.{Booking}
+use Rattle.run_texts.specs.Bookings.{Booking}
 use Rattle.run_texts.specs.WorkersRun.{opening_till}
 use Rattle.listen_texts.specs.Receives.{datagram_room, Received, Seen, AreMade}
 use Rattle.listen_texts.specs.Turns.{Account, Said, account_of}

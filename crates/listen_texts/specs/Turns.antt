@@ -7,7 +7,7 @@ use Rattle.text_words.specs.Words.{spaced}
 use Rattle.run_lines.specs.Datagram.{datagram_event}
 use Rattle.run_lines.specs.ReplayText.{entry_lines}
 use Rattle.air_ledger.specs.Tills.{Holding}
-use Rattle.run_texts.specs.declared.receipts.Booking.{Booking}
+use Rattle.run_texts.specs.Bookings.{Booking}
 use Rattle.run_texts.specs.WorkersRun.{run_state, opening_till, IsDone}
 use Rattle.listen_texts.specs.Receives.{Received}
 

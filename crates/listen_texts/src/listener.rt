@@ -47,7 +47,7 @@ impl<B: Ledger, H: BuildHasher + Clone + Drop> Listener<B, H> {
         ensures gateways { IfOk result (λ l. AreInOrder settings.now.gateways l.shift.station) }
         ensures workers { IfOk result (λ l. l.shift.workers ≡ workers) }
         ensures opened { IfOk result
-            (λ l. progress l.shift.till l.shift.receipts.bookings.items l.tally l.refused ≡ opened) }
+            (λ l. progress l.shift.till l.shift.receipts l.tally l.refused ≡ opened) }
     {
         let shift = Shift::new(alloc, hasher, settings, workers, blank)?;
         let tally = Tally {
@@ -77,7 +77,7 @@ where
         turns: u32,
         writer: &mut W,
     ) -> Result<bool, TextFault>
-        requires opened { progress self.shift.till self.shift.receipts.bookings.items self.tally self.refused ≡ opened }
+        requires opened { progress self.shift.till self.shift.receipts self.tally self.refused ≡ opened }
         requires turns { IsWithinLimit turns }
         ensures ok { IfOk result (Hears turns self.shift.station devices.now (S.seen source.old) (S.seen source.new)
             (W.taken writer.old) (W.taken writer.new)) }
@@ -111,14 +111,14 @@ where
         ensures workers { IfOk result (λ l. l.shift.workers ≡ self.shift.workers) }
         ensures ok { IfOk result (λ l. Turns
             (λ r. IsTurn self.shift.station devices.now turn r
-            (account_of self.shift.till self.shift.receipts.bookings.items))
+            (account_of self.shift.till self.shift.receipts))
             (S.seen source.old) (S.seen source.new)
-            (progress self.shift.till self.shift.receipts.bookings.items self.tally self.refused)
-            (progress l.shift.till l.shift.receipts.bookings.items l.tally l.refused)
+            (progress self.shift.till self.shift.receipts self.tally self.refused)
+            (progress l.shift.till l.shift.receipts l.tally l.refused)
             (W.taken writer.old) (W.taken writer.new)) }
         ensures front { IfErr result (TurnsInPart (HasAnswer devices.now turn)
             (λ r. IsTurn self.shift.station devices.now turn r
-            (account_of self.shift.till self.shift.receipts.bookings.items))
+            (account_of self.shift.till self.shift.receipts))
             (S.seen source.old) (S.seen source.new) (W.taken writer.old) (W.taken writer.new)) }
         ensures fault { IfErr result IsListenFault }
         ensures write { CountsWrites (W.failed_calls writer.old) (W.failed_calls writer.new) result }
@@ -135,12 +135,12 @@ where
         ensures station { IfOk result (λ l. l.shift.station ≡ self.shift.station) }
         ensures workers { IfOk result (λ l. l.shift.workers ≡ self.shift.workers) }
         ensures ok { IfOk result (λ l. Says (IsTurn [] [] turn None
-            (account_of self.shift.till self.shift.receipts.bookings.items))
-            (progress self.shift.till self.shift.receipts.bookings.items self.tally self.refused)
-            (progress l.shift.till l.shift.receipts.bookings.items l.tally l.refused)
+            (account_of self.shift.till self.shift.receipts))
+            (progress self.shift.till self.shift.receipts self.tally self.refused)
+            (progress l.shift.till l.shift.receipts l.tally l.refused)
             (W.taken writer.old) (W.taken writer.new)) }
         ensures front { IfErr result (SaysInPart (IsTurn [] [] turn None
-            (account_of self.shift.till self.shift.receipts.bookings.items))
+            (account_of self.shift.till self.shift.receipts))
             (W.taken writer.old) (W.taken writer.new)) }
         ensures fault { IfErr result (λ fault. fault ≡ TextFault.Write) }
         ensures write { CountsWrites (W.failed_calls writer.old) (W.failed_calls writer.new) result }
@@ -175,13 +175,13 @@ where
         ensures workers { IfOk result (λ l. l.shift.workers ≡ self.shift.workers) }
         ensures ok { IfOk result (λ l. Says
             (IsTurn self.shift.station devices.now turn (Some datagram.now)
-            (account_of self.shift.till self.shift.receipts.bookings.items))
-            (progress self.shift.till self.shift.receipts.bookings.items self.tally self.refused)
-            (progress l.shift.till l.shift.receipts.bookings.items l.tally l.refused)
+            (account_of self.shift.till self.shift.receipts))
+            (progress self.shift.till self.shift.receipts self.tally self.refused)
+            (progress l.shift.till l.shift.receipts l.tally l.refused)
             (W.taken writer.old) (W.taken writer.new)) }
         ensures front { IfErr result (SaysInPart
             (IsTurn self.shift.station devices.now turn (Some datagram.now)
-            (account_of self.shift.till self.shift.receipts.bookings.items))
+            (account_of self.shift.till self.shift.receipts))
             (W.taken writer.old) (W.taken writer.new)) }
         ensures asked { IfErr result (λ _. HasAnswer devices.now turn (Some datagram.now)) }
         ensures fault { IfErr result IsListenFault }
@@ -208,13 +208,13 @@ where
         ensures workers { IfOk result (λ l. l.shift.workers ≡ self.shift.workers) }
         ensures ok { IfOk result (λ l. Says
             (IsAnswered self.shift.station turn (Some event.now)
-            (account_of self.shift.till self.shift.receipts.bookings.items))
-            (progress self.shift.till self.shift.receipts.bookings.items self.tally self.refused)
-            (progress l.shift.till l.shift.receipts.bookings.items l.tally l.refused)
+            (account_of self.shift.till self.shift.receipts))
+            (progress self.shift.till self.shift.receipts self.tally self.refused)
+            (progress l.shift.till l.shift.receipts l.tally l.refused)
             (W.taken writer.old) (W.taken writer.new)) }
         ensures front { IfErr result (SaysInPart
             (IsAnswered self.shift.station turn (Some event.now)
-            (account_of self.shift.till self.shift.receipts.bookings.items))
+            (account_of self.shift.till self.shift.receipts))
             (W.taken writer.old) (W.taken writer.new)) }
         ensures fault { IfErr result IsListenFault }
         ensures write { CountsWrites (W.failed_calls writer.old) (W.failed_calls writer.new) result }
@@ -245,10 +245,10 @@ where
     fn close<W: ByteOut>(self, alloc: Global, writer: &mut W) -> Result<bool, TextFault>
         ensures told { IfOk result (λ refused. refused ≡ self.refused) }
         ensures ok { IfOk result (λ _. Reports self.shift.station
-            (progress self.shift.till self.shift.receipts.bookings.items self.tally self.refused)
+            (progress self.shift.till self.shift.receipts self.tally self.refused)
             (W.taken writer.old) (W.taken writer.new)) }
         ensures front { IfErr result (ReportsInPart self.shift.station
-            (account_of self.shift.till self.shift.receipts.bookings.items) self.tally
+            (account_of self.shift.till self.shift.receipts) self.tally
             (W.taken writer.old) (W.taken writer.new)) }
         ensures fault { IfErr result IsListenFault }
         ensures write { CountsWrites (W.failed_calls writer.old) (W.failed_calls writer.new) result }

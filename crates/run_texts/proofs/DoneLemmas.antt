@@ -14,7 +14,7 @@ use Rattle.text_words.specs.declared.fault.TextFault.TheVariants.{NoMemory}
 use Rattle.run_texts.specs.WorkersRun.{RunState, run_state, opening_till, HasPassed, IsDone, AreDone, AreAnswered, AreDealtWith}
 use Rattle.run_texts.specs.WorkersRun.{IsClosing, IsClosingFault, IsFinished, IsFinishedApart, IsPlayedApart}
 use Rattle.run_texts.specs.Bookings.{open_receipts}
-use Rattle.run_texts.specs.declared.receipts.Booking.{Booking}
+use Rattle.run_texts.specs.Bookings.{Booking}
 use Rattle.run_texts.specs.declared.station_run.Played.{Played}
 
 -- one more event was done for

@@ -1,8 +1,8 @@
-use Rattle.std.specs.Prelude.{ℕ, ◌≡◌, ◌==◌, true, false, not, List, MatchBool}
-use Rattle.std.specs.Prelude.{[], ◌++◌, map, filter, find, insert, slice_get, slice_set}
+use Rattle.std.specs.Prelude.{ℕ, ◌≡◌, ◌==◌, Bool, true, false, not, List, MatchBool}
+use Rattle.std.specs.Prelude.{[], ◌∷◌, ◌++◌, length, map, filter, find, insert, slice_get, slice_set}
 use Rattle.std.specs.Prelude.{Option, Some, None, Result, Ok, Err}
 use Rattle.std.specs.Global.{Global}
-use Rattle.std.specs.List.Sorted.{IsPermutation}
+use Rattle.std.specs.List.Sorted.{IsNonDecreasingBy, IsPermutation}
 use Rattle.gateway_book.specs.declared.cancel.CancelFault.{CancelFault}
 use Rattle.gateway_book.specs.declared.cancel.CancelFault.TheVariants.{NotHere}
 use Rattle.answer_ticket.specs.declared.tried.Receipt.{Receipt}
@@ -11,9 +11,24 @@ use Rattle.server_core.specs.declared.entry.Line.TheVariants as lines
 use Rattle.server_core.specs.Server.{cancelled_line}
 use Rattle.server_desk.specs.Register.{is_among}
 use Rattle.server_station.specs.Stations.{WasAsked}
-use Rattle.run_texts.specs.declared.receipts.Booking.{Booking}
 
 -- What was booked in a run with workers, after this project's profile.
+
+-- what was booked for the uplink with the receipt's number, and whether it was cancelled
+pub record Booking : Type 0 where
+  pub receipt : Receipt Global
+  pub is_cancelled : Bool
+
+-- these receipts as bookings, where the flag at the same place says whether one was cancelled
+abbrev pub bookings_in : List (Receipt Global) → List Bool → List Booking
+bookings_in [] flags = []
+bookings_in (r ∷ receipts) [] = []
+bookings_in (r ∷ receipts) (flag ∷ flags) = record { receipt = r; is_cancelled = flag } ∷ bookings_in receipts flags
+
+-- each of these receipts has a flag, and they are by number
+pub record AreFlaggedByNumber (receipts : List (Receipt Global)) (flags : List Bool) : Type 0 where
+  pub same_length : length flags ≡ length receipts
+  pub by_number : IsNonDecreasingBy (λ (r : Receipt Global). r.number) receipts
 
 -- what a receipt says was booked, and is not cancelled; its frame is not kept
 abbrev pub booking_of : Receipt Global → Booking

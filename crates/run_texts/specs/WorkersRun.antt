@@ -25,7 +25,7 @@ use Rattle.server_station.specs.Stations.{AreInOrder, WasQueued, WasHeard, WasPa
 use Rattle.server_station.specs.Closings.{shelved, IsCauseAt}
 use Rattle.text_words.specs.declared.fault.TextFault.{TextFault}
 use Rattle.run_texts.specs.declared.pass_answers.Answer.{Answer}
-use Rattle.run_texts.specs.declared.receipts.Booking.{Booking}
+use Rattle.run_texts.specs.Bookings.{Booking}
 use Rattle.run_texts.specs.Bookings.{HasMore, booked_for, open_receipts, IsCancelTold}
 use Rattle.run_texts.specs.PassAnswers.{all_lines, IsPassTold}
 use Rattle.run_texts.specs.FinishFaults.{IsFinishFault}

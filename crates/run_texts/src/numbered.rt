@@ -4,7 +4,6 @@ ghost use Rattle.std.specs.Option.{option_map, option_and_then};
 ghost use Rattle.std.specs.List.Sorted.{IsNonDecreasingBy};
 ghost use Rattle.run_texts.specs.Numbered.{IsEndOfLesser};
 
-use crate::receipts::Booking;
 use answer_ticket::{Outcome, Receipt};
 use server_core::TakeFault;
 use std::alloc::Global;
@@ -51,14 +50,6 @@ impl Numbered for Receipt<Global> {
     }
 }
 
-impl Numbered for Booking {
-    ghost number_of = { λ b. b.receipt.number };
-
-    fn number(&self) -> u64 {
-        self.receipt.number
-    }
-}
-
 /// The first of these items with this number, which are by number. It is looked for at the likely place first, which is renewed:
 /// behind what was found, where the next one stands if the numbers that are looked for rise.
 pub(crate) fn with_number<'i, T: Numbered>(
@@ -81,6 +72,7 @@ pub(crate) fn with_number<'i, T: Numbered>(
 /// Its place.
 pub(crate) fn place_of<T: Numbered>(items: &[T], likely: usize, number: u64) -> Option<usize>
     requires { IsNonDecreasingBy T.number_of items.now }
+    ensures first { IfSome result (IsEndOfLesser T.number_of number items.now) }
     ensures within { IfSome result (λ at. at < length items.now) }
     ensures found { option_and_then (slice_get items.now) result ≡ find (λ x. T.number_of x == number) items.now }
 {

@@ -1,35 +1,41 @@
 // What was booked in a run with workers, by number.
 ghost use Rattle.std.specs.Prelude.{◌≡◌, ◌<◌, [], length, slice_get, OnOk, IfOk, IfSome, Some};
 ghost use Rattle.std.specs.Option.{option_and_then, option_map};
-ghost use Rattle.std.specs.List.Sorted.{IsNonDecreasingBy};
-ghost use Rattle.run_texts.specs.Bookings.{booking_of, booked_for, HasOneMore, HasMore, IsMarkedAt, open_receipts};
+ghost use Rattle.run_texts.specs.Bookings.{bookings_in, booking_of, booked_for, HasOneMore, HasMore, IsMarkedAt, open_receipts};
 
 use crate::numbered::{end_of_lesser, place_of};
 use answer_ticket::{Bytes, Receipt};
 use server_core::NoMemory;
 use std::alloc::Global;
+use std::marker::Model;
 
-/// What was booked for the uplink with the receipt's number.
-#[derive(Drop)]
-pub struct Booking {
-    pub receipt: Receipt<Global>,
-    pub is_cancelled: bool,
-}
-
-/// What was booked, by number. The frames were told, and are not kept.
+/// What was booked, by number, and whether it was cancelled. The frames were told, and are not kept.
 #[derive(Drop)]
 pub struct Receipts {
-    pub(crate) bookings: Vec<Booking>,
-    ghost by_number: { IsNonDecreasingBy (λ b. b.receipt.number) bookings.items },
+    receipts: Vec<Receipt<Global>>,
+    /// Whether the one at the same place was cancelled.
+    are_cancelled: Vec<bool>,
+}
+
+impl Model for Receipts {
+    ghost use Rattle.std.specs.Prelude.{List};
+    ghost use Rattle.run_texts.specs.Bookings.{Booking, bookings_in, AreFlaggedByNumber};
+
+    ghost Value = { List Booking };
+
+    ghost view = { λ r. bookings_in r.receipts.items r.are_cancelled.items };
+
+    ghost invariant = { λ r. AreFlaggedByNumber r.receipts.items r.are_cancelled.items };
 }
 
 impl Receipts {
     /// Nothing was booked.
     pub(crate) fn new(alloc: Global) -> Self
-        ensures { result.bookings.items ≡ [] }
+        ensures { result ≡ [] }
     {
         Receipts {
-            bookings: Vec::new(alloc),
+            receipts: Vec::new(alloc),
+            are_cancelled: Vec::new(alloc),
         }
     }
 
@@ -39,7 +45,7 @@ impl Receipts {
         alloc: Global,
         receipts: Vec<Receipt<Global>>,
     ) -> Result<(), NoMemory>
-        ensures { OnOk result (HasMore receipts.items self.old.bookings.items self.new.bookings.items) }
+        ensures { OnOk result (HasMore receipts.items self.old self.new) }
     {
         for receipt in receipts {
             self.add(alloc, receipt)?;
@@ -49,60 +55,77 @@ impl Receipts {
 
     /// Takes in a receipt.
     fn add(&mut self, alloc: Global, receipt: Receipt<Global>) -> Result<(), NoMemory>
-        ensures { OnOk result (HasOneMore (booking_of receipt) self.old.bookings.items self.new.bookings.items) }
+        ensures { OnOk result (HasOneMore (booking_of receipt) self.old self.new) }
     {
-        let at = end_of_lesser(&self.bookings, self.bookings.len(), receipt.number);
-        self.bookings.insert(at, booking_of(alloc, receipt))?;
+        self.are_cancelled.reserve(1)?;
+        let at = end_of_lesser(&self.receipts, self.receipts.len(), receipt.number);
+        self.receipts.insert(at, without_frame(alloc, receipt))?;
+        let has_room = self.are_cancelled.insert(at, false).is_ok();
+        prove!(has_room); // It was reserved.
         Ok(())
     }
 
     /// The place of the first booking for the uplink with this number.
     pub(crate) fn place_of(&self, number: u64) -> Option<usize>
-        ensures within { IfSome result (λ at. at < length self.now.bookings.items) }
-        ensures found { option_and_then (slice_get self.now.bookings.items) result ≡ booked_for number self.now.bookings.items }
+        ensures within { IfSome result (λ at. at < length self.now) }
+        ensures found { option_and_then (slice_get self.now) result ≡ booked_for number self.now }
     {
-        place_of(self.bookings.as_slice(), 0, number)
+        place_of(self.receipts.as_slice(), 0, number)
     }
 
     /// The receipt of the booking at this place.
     pub(crate) fn receipt_at(&self, at: usize) -> &Receipt<Global>
-        requires { at < length self.now.bookings.items }
-        ensures { option_map (λ b. b.receipt) (slice_get self.now.bookings.items at) ≡ Some result.now }
+        requires { at < length self.now }
+        ensures { option_map (λ b. b.receipt) (slice_get self.now at) ≡ Some result.now }
     {
-        &self.bookings[at].receipt
+        &self.receipts[at]
     }
 
     /// Marks the booking at this place as cancelled.
     pub(crate) fn mark(&mut self, at: usize)
-        requires { at < length self.old.bookings.items }
-        ensures { IsMarkedAt at self.old.bookings.items self.new.bookings.items }
+        requires { at < length self.old }
+        ensures { IsMarkedAt at self.old self.new }
     {
-        self.bookings[at].is_cancelled = true;
+        self.are_cancelled[at] = true;
     }
 
-    /// The receipts of what was not cancelled.
+    /// The receipts of what was not cancelled. Where nothing was, that is all of them, and takes no memory.
     pub(crate) fn not_cancelled(self, alloc: Global) -> Result<Vec<Receipt<Global>>, NoMemory>
-        ensures { IfOk result (λ receipts. receipts.items ≡ open_receipts self.bookings.items) }
+        ensures { IfOk result (λ receipts. receipts.items ≡ open_receipts self) }
     {
-        let Receipts { bookings } = self;
-        let mut receipts = Vec::with_capacity(alloc, bookings.len())?;
-        for booking in bookings {
-            if !booking.is_cancelled {
-                receipts.push(booking.receipt)?;
-            }
+        let Receipts {
+            receipts,
+            are_cancelled,
+        } = self;
+        if !are_cancelled.contains(&true) {
+            return Ok(receipts);
         }
-        Ok(receipts)
+        open_receipts(alloc, receipts, are_cancelled)
     }
 }
 
-/// What a receipt says was booked, without its frame.
-fn booking_of(alloc: Global, receipt: Receipt<Global>) -> Booking
-    ensures { result ≡ booking_of receipt }
+/// Those of these receipts that are not cancelled.
+fn open_receipts(
+    alloc: Global,
+    receipts: Vec<Receipt<Global>>,
+    are_cancelled: Vec<bool>,
+) -> Result<Vec<Receipt<Global>>, NoMemory>
+    ensures { IfOk result (λ kept. kept.items ≡ open_receipts (bookings_in receipts.items are_cancelled.items)) }
+{
+    let mut kept = Vec::with_capacity(alloc, receipts.len())?;
+    for (receipt, is_cancelled) in receipts.into_iter().zip(are_cancelled) {
+        if !is_cancelled {
+            kept.push(receipt)?;
+        }
+    }
+    Ok(kept)
+}
+
+/// A receipt without its frame.
+fn without_frame(alloc: Global, receipt: Receipt<Global>) -> Receipt<Global>
+    ensures { result ≡ (booking_of receipt).receipt }
 {
     let mut receipt = receipt;
     receipt.frame = Bytes::new(Vec::new(alloc));
-    Booking {
-        receipt,
-        is_cancelled: false,
-    }
+    receipt
 }

@@ -28,8 +28,8 @@ where
         ensures station { IfOk result (λ shift. shift.station ≡ self.station) }
         ensures workers { IfOk result (λ shift. shift.workers ≡ self.workers) }
         ensures done { IfOk result (λ shift. HasPassed self.station place now
-            (run_state self.till self.receipts.bookings.items self.entries.items)
-            (run_state shift.till shift.receipts.bookings.items shift.entries.items)) }
+            (run_state self.till self.receipts self.entries.items)
+            (run_state shift.till shift.receipts shift.entries.items)) }
     {
         let numbers = self.closed(rt, alloc, now)?;
         if numbers.as_slice().is_empty() {
@@ -70,7 +70,7 @@ where
         ensures workers { self.new.workers ≡ self.old.workers }
         ensures till { self.new.till ≡ self.old.till }
         ensures told { OnOk result (HasTold place told.answers.items self.old.entries.items self.new.entries.items) }
-        ensures kept { OnOk result (HasMore told.booked.items self.old.receipts.bookings.items self.new.receipts.bookings.items) }
+        ensures kept { OnOk result (HasMore told.booked.items self.old.receipts self.new.receipts) }
     {
         let Told { answers, booked } = told;
         self.tell_all(place, answers)?;

@@ -93,7 +93,7 @@ impl<B: Ledger, S: BuildHasher + Clone + Drop> Shift<B, S> {
         requires staffed { IsStaffed workers }
         ensures workers { IfOk result (λ shift. shift.workers ≡ workers) }
         ensures gateways { IfOk result (λ shift. AreInOrder settings.now.gateways shift.station) }
-        ensures none { IfOk result (λ shift. HasOpened (run_state shift.till shift.receipts.bookings.items shift.entries.items)) }
+        ensures none { IfOk result (λ shift. HasOpened (run_state shift.till shift.receipts shift.entries.items)) }
     {
         let (station, till) = Station::new(alloc, hasher, settings, blank)?;
         Ok(Shift {
@@ -117,7 +117,7 @@ where
         alloc: Global,
         events: Vec<Event<Global>>,
     ) -> Result<Played, TextFault>
-        requires { HasOpened (run_state self.till self.receipts.bookings.items self.entries.items) }
+        requires { HasOpened (run_state self.till self.receipts self.entries.items) }
         ensures played { IfOk result (λ played. IsFinished self.station events.items played.entries.items
             played.totals.items played.books.items) }
         ensures apart { IfErr result (λ fault. fault ≢ TextFault.NoMemory → IsFinishedApart self.station events.items fault) }
@@ -153,8 +153,8 @@ where
         ensures station { self.new.station ≡ self.old.station }
         ensures workers { self.new.workers ≡ self.old.workers }
         ensures done { IfOk result (IsDoneButPass self.old.station place event
-            (run_state self.old.till self.old.receipts.bookings.items self.old.entries.items)
-            (run_state self.new.till self.new.receipts.bookings.items self.new.entries.items)) }
+            (run_state self.old.till self.old.receipts self.old.entries.items)
+            (run_state self.new.till self.new.receipts self.new.entries.items)) }
     {
         self.answer_all_but_pass(rt, place, &event)
     }
@@ -171,8 +171,8 @@ where
         ensures station { IfOk result (λ shift. shift.station ≡ self.station) }
         ensures workers { IfOk result (λ shift. shift.workers ≡ self.workers) }
         ensures done { IfOk result (λ shift. IsDone self.station place event.now
-            (run_state self.till self.receipts.bookings.items self.entries.items)
-            (run_state shift.till shift.receipts.bookings.items shift.entries.items)) }
+            (run_state self.till self.receipts self.entries.items)
+            (run_state shift.till shift.receipts shift.entries.items)) }
     {
         let mut shift = self;
         match shift.answer_all_but_pass(rt, place, event)? {
@@ -192,8 +192,8 @@ where
         ensures station { self.new.station ≡ self.old.station }
         ensures workers { self.new.workers ≡ self.old.workers }
         ensures done { IfOk result (IsDoneButPass self.old.station place event.now
-            (run_state self.old.till self.old.receipts.bookings.items self.old.entries.items)
-            (run_state self.new.till self.new.receipts.bookings.items self.new.entries.items)) }
+            (run_state self.old.till self.old.receipts self.old.entries.items)
+            (run_state self.new.till self.new.receipts self.new.entries.items)) }
     {
         let line = match event {
             Event::Pass { now } => return Ok(Some(*now)),
@@ -249,8 +249,8 @@ where
         ensures workers { self.new.workers ≡ self.old.workers }
         ensures till { self.new.till ≡ self.old.till }
         ensures entries { self.new.entries ≡ self.old.entries }
-        ensures told { IsCancelTold self.old.station number (booked_for number self.old.receipts.bookings.items)
-            self.old.receipts.bookings.items self.new.receipts.bookings.items result }
+        ensures told { IsCancelTold self.old.station number (booked_for number self.old.receipts)
+            self.old.receipts self.new.receipts result }
     {
         let Some(at) = self.receipts.place_of(number) else {
             return Line::NotCancelled {

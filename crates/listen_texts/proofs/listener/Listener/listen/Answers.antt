@@ -27,17 +27,17 @@ loop-turn-preserved g c =
     let l = c.loop-turn in
     let was = l.listener in
     let is = c.in-Ok.listener in
-    let now = progress is.shift.till is.shift.receipts.bookings.items is.tally is.refused in
+    let now = progress is.shift.till is.shift.receipts is.tally is.refused in
     record {
       station = c.in-Ok.ensures.station ∙ l.invariant.station;
       so_far = listened_more c.args.self.shift.station c.args.devices.now l.turn (g.S.Source.seen c.args.source.now)
-          (g.S.Source.seen l.source) (progress was.shift.till was.shift.receipts.bookings.items was.tally was.refused)
+          (g.S.Source.seen l.source) (progress was.shift.till was.shift.receipts was.tally was.refused)
           (g.W.ByteOut.taken c.args.writer.now) (g.W.ByteOut.taken l.writer) l.invariant.so_far
           (g.S.Source.seen c.turn.new.source) now (g.W.ByteOut.taken c.turn.new.writer)
           (subst (λ ids. Turns (λ r. IsTurn ids c.args.devices.now (l.turn + 1) r
-          (account_of was.shift.till was.shift.receipts.bookings.items))
+          (account_of was.shift.till was.shift.receipts))
           (g.S.Source.seen l.source) (g.S.Source.seen c.turn.new.source)
-          (progress was.shift.till was.shift.receipts.bookings.items was.tally was.refused) now (g.W.ByteOut.taken l.writer)
+          (progress was.shift.till was.shift.receipts was.tally was.refused) now (g.W.ByteOut.taken l.writer)
           (g.W.ByteOut.taken c.turn.new.writer)) l.invariant.station c.in-Ok.ensures.ok);
       calls = search rules;
     }
@@ -47,11 +47,11 @@ returns-in-Err-clause-front g c =
     let l = c.loop-turn in
     let was = l.listener in
     listened_more_in_part c.args.self.shift.station c.args.devices.now l.turn (g.S.Source.seen c.args.source.now)
-    (g.S.Source.seen l.source) (progress was.shift.till was.shift.receipts.bookings.items was.tally was.refused)
+    (g.S.Source.seen l.source) (progress was.shift.till was.shift.receipts was.tally was.refused)
     (g.W.ByteOut.taken c.args.writer.now) (g.W.ByteOut.taken l.writer) l.invariant.so_far c.args.turns
     (g.S.Source.seen c.turn.new.source) (g.W.ByteOut.taken c.turn.new.writer) c.in-Err.fault c.loop-turn-test.true
     (subst (λ ids. TurnsInPart (HasAnswer c.args.devices.now (l.turn + 1))
-    (λ r. IsTurn ids c.args.devices.now (l.turn + 1) r (account_of was.shift.till was.shift.receipts.bookings.items))
+    (λ r. IsTurn ids c.args.devices.now (l.turn + 1) r (account_of was.shift.till was.shift.receipts))
     (g.S.Source.seen l.source) (g.S.Source.seen c.turn.new.source) (g.W.ByteOut.taken l.writer)
     (g.W.ByteOut.taken c.turn.new.writer) c.in-Err.fault) l.invariant.station c.in-Err.ensures.front)
 
@@ -62,10 +62,10 @@ returns-clause-ok g c =
     let ids = c.args.self.shift.station in
     let all : l.turn ≡ c.args.turns = omega arith in
     let so_far = subst (λ n. HasListened ids c.args.devices.now n (g.S.Source.seen c.args.source.now)
-    (g.S.Source.seen l.source) (progress was.shift.till was.shift.receipts.bookings.items was.tally was.refused)
+    (g.S.Source.seen l.source) (progress was.shift.till was.shift.receipts was.tally was.refused)
     (g.W.ByteOut.taken c.args.writer.now) (g.W.ByteOut.taken l.writer)) all l.invariant.so_far in
     listened_closed ids c.args.devices.now c.args.turns (g.S.Source.seen c.args.source.now) (g.S.Source.seen l.source)
-    (progress was.shift.till was.shift.receipts.bookings.items was.tally was.refused) (g.W.ByteOut.taken c.args.writer.now)
+    (progress was.shift.till was.shift.receipts was.tally was.refused) (g.W.ByteOut.taken c.args.writer.now)
     (g.W.ByteOut.taken l.writer) so_far was.shift.station (g.W.ByteOut.taken c.close.new.writer)
     c.close.result l.invariant.station c.close.ensures.told c.close.ensures.ok
 
@@ -76,9 +76,9 @@ returns-clause-front g c =
     let ids = c.args.self.shift.station in
     let all : l.turn ≡ c.args.turns = omega arith in
     let so_far = subst (λ n. HasListened ids c.args.devices.now n (g.S.Source.seen c.args.source.now)
-    (g.S.Source.seen l.source) (progress was.shift.till was.shift.receipts.bookings.items was.tally was.refused)
+    (g.S.Source.seen l.source) (progress was.shift.till was.shift.receipts was.tally was.refused)
     (g.W.ByteOut.taken c.args.writer.now) (g.W.ByteOut.taken l.writer)) all l.invariant.so_far in
     listened_closed_in_part ids c.args.devices.now c.args.turns (g.S.Source.seen c.args.source.now)
-    (g.S.Source.seen l.source) (progress was.shift.till was.shift.receipts.bookings.items was.tally was.refused)
+    (g.S.Source.seen l.source) (progress was.shift.till was.shift.receipts was.tally was.refused)
     (g.W.ByteOut.taken c.args.writer.now) (g.W.ByteOut.taken l.writer) so_far was.shift.station
     (g.W.ByteOut.taken c.close.new.writer) c.close.result l.invariant.station c.close.ensures.front

@@ -16,9 +16,9 @@ loop-event-preserved g c =
     let before = c.loop-event in
     let here = before.shift in
     let after = c.match-left.shift in
-    let old = run_state here.till here.receipts.bookings.items here.entries.items in
-    let new = run_state after.till after.receipts.bookings.items after.entries.items in
-    let mid = run_state c.use_up.new.self.till c.use_up.new.self.receipts.bookings.items c.use_up.new.self.entries.items in
+    let old = run_state here.till here.receipts here.entries.items in
+    let new = run_state after.till after.receipts after.entries.items in
+    let mid = run_state c.use_up.new.self.till c.use_up.new.self.receipts c.use_up.new.self.entries.items in
     let ids = here.station in
     let step : (after.station ≡ ids) × IsDone ids before.place c.in-Some.event old new =
     elim c.match-left.branch [
@@ -33,7 +33,7 @@ loop-event-preserved g c =
             passed_then ids before.place w.in-Some-left.now c.in-Some.event old mid _
                 (subst (IsDoneButPass ids before.place c.in-Some.event old mid) w.in-Some-left.is c.in-Ok.ensures.done)
                 (subst (λ s. HasPassed s before.place w.in-Some-left.now mid (run_state w.in-Ok-pass.shift.till
-                w.in-Ok-pass.shift.receipts.bookings.items w.in-Ok-pass.shift.entries.items)) c.use_up.ensures.station
+                w.in-Ok-pass.shift.receipts w.in-Ok-pass.shift.entries.items)) c.use_up.ensures.station
                 w.in-Ok-pass.ensures.done),
           )
     ] in
@@ -53,12 +53,12 @@ returns-clause-played g c =
     let last = c.loop-event in
     let all = none_left last.yielded last.event-iterator.rest.items c.args.events.items
     (omega (arith, last.event-iterator.rest.ok.0, c.in-None.ensures.steps.0)) last.invariant.left in
-    finished_with c.args.self.station c.args.events.items last.shift.till last.shift.receipts.bookings.items last.shift.entries
+    finished_with c.args.self.station c.args.events.items last.shift.till last.shift.receipts last.shift.entries
     c.close.result
     (subst (λ es. AreDone c.args.self.station 0 es (run_state opening_till [] [])
-    (run_state last.shift.till last.shift.receipts.bookings.items last.shift.entries.items)) all last.invariant.done)
+    (run_state last.shift.till last.shift.receipts last.shift.entries.items)) all last.invariant.done)
     c.close.ensures.entries
-    (subst (λ ids. IfOk c.close.result (λ played. IsClosing ids (open_receipts last.shift.receipts.bookings.items)
+    (subst (λ ids. IfOk c.close.result (λ played. IsClosing ids (open_receipts last.shift.receipts)
     played.totals.items played.books.items)) last.invariant.station c.close.ensures.books) c.close.ensures.booked
 
 pub returns-clause-apart : goal.returns-clause-apart
@@ -66,10 +66,10 @@ returns-clause-apart g c =
     let last = c.loop-event in
     let all = none_left last.yielded last.event-iterator.rest.items c.args.events.items
     (omega (arith, last.event-iterator.rest.ok.0, c.in-None.ensures.steps.0)) last.invariant.left in
-    apart_with c.args.self.station c.args.events.items last.shift.till last.shift.receipts.bookings.items last.shift.entries.items
+    apart_with c.args.self.station c.args.events.items last.shift.till last.shift.receipts last.shift.entries.items
     c.close.result
     (subst (λ es. AreDone c.args.self.station 0 es (run_state opening_till [] [])
-    (run_state last.shift.till last.shift.receipts.bookings.items last.shift.entries.items)) all last.invariant.done)
+    (run_state last.shift.till last.shift.receipts last.shift.entries.items)) all last.invariant.done)
     (subst (λ ids. IfErr c.close.result (λ fault. fault ≢ NoMemory
-    → IsClosingFault ids (open_receipts last.shift.receipts.bookings.items) fault)) last.invariant.station
+    → IsClosingFault ids (open_receipts last.shift.receipts) fault)) last.invariant.station
     c.close.ensures.cause)

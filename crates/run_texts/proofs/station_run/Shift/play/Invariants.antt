@@ -8,5 +8,5 @@ invariant-loop-event g l = record {
   place : l.place ≡ length l.yielded;
   station : l.shift.station ≡ l.fn.self.station;
   done : AreDone l.fn.self.station 0 l.yielded (run_state opening_till [] [])
-      (run_state l.shift.till l.shift.receipts.bookings.items l.shift.entries.items);
+      (run_state l.shift.till l.shift.receipts l.shift.entries.items);
 }
