@@ -44,7 +44,7 @@ impl<B: Ledger, H: BuildHasher + Clone + Drop> Listener<B, H> {
         requires parts { blank.parts ≡ B.parts }
         requires all { blank.parts ≡ PARTS }
         requires staffed { IsStaffed workers }
-        ensures gateways { IfOk result (λ l. AreInOrder settings.now.gateways l.shift.station) }
+        ensures gateways { IfOk result (λ l. AreInOrder settings.now.gateways l.shift.station.value) }
         ensures workers { IfOk result (λ l. l.shift.workers ≡ workers) }
         ensures opened { IfOk result
             (λ l. progress l.shift.till l.shift.receipts l.tally l.refused ≡ opened) }
@@ -79,9 +79,9 @@ where
     ) -> Result<bool, TextFault>
         requires opened { progress self.shift.till self.shift.receipts self.tally self.refused ≡ opened }
         requires turns { IsWithinLimit turns }
-        ensures ok { IfOk result (Hears turns self.shift.station devices.now (S.seen source.old) (S.seen source.new)
+        ensures ok { IfOk result (Hears turns self.shift.station.value devices.now (S.seen source.old) (S.seen source.new)
             (W.taken writer.old) (W.taken writer.new)) }
-        ensures front { IfErr result (HearsInPart turns self.shift.station devices.now (S.seen source.old) (S.seen source.new)
+        ensures front { IfErr result (HearsInPart turns self.shift.station.value devices.now (S.seen source.old) (S.seen source.new)
             (W.taken writer.old) (W.taken writer.new)) }
         ensures fault { IfErr result IsListenFault }
         ensures write { CountsWrites (W.failed_calls writer.old) (W.failed_calls writer.new) result }
@@ -107,17 +107,17 @@ where
         writer: &mut W,
     ) -> Result<Self, TextFault>
         requires room { IsTallyUpTo (2 ^ 126) self.tally }
-        ensures station { IfOk result (λ l. l.shift.station ≡ self.shift.station) }
+        ensures station { IfOk result (λ l. l.shift.station.value ≡ self.shift.station.value) }
         ensures workers { IfOk result (λ l. l.shift.workers ≡ self.shift.workers) }
         ensures ok { IfOk result (λ l. Turns
-            (λ r. IsTurn self.shift.station devices.now turn r
+            (λ r. IsTurn self.shift.station.value devices.now turn r
             (account_of self.shift.till self.shift.receipts))
             (S.seen source.old) (S.seen source.new)
             (progress self.shift.till self.shift.receipts self.tally self.refused)
             (progress l.shift.till l.shift.receipts l.tally l.refused)
             (W.taken writer.old) (W.taken writer.new)) }
         ensures front { IfErr result (TurnsInPart (HasAnswer devices.now turn)
-            (λ r. IsTurn self.shift.station devices.now turn r
+            (λ r. IsTurn self.shift.station.value devices.now turn r
             (account_of self.shift.till self.shift.receipts))
             (S.seen source.old) (S.seen source.new) (W.taken writer.old) (W.taken writer.new)) }
         ensures fault { IfErr result IsListenFault }
@@ -132,7 +132,7 @@ where
 
     /// Tells that the receive of a turn failed.
     fn unread<W: ByteOut>(self, turn: u32, writer: &mut W) -> Result<Self, TextFault>
-        ensures station { IfOk result (λ l. l.shift.station ≡ self.shift.station) }
+        ensures station { IfOk result (λ l. l.shift.station.value ≡ self.shift.station.value) }
         ensures workers { IfOk result (λ l. l.shift.workers ≡ self.shift.workers) }
         ensures ok { IfOk result (λ l. Says (IsTurn [] [] turn None
             (account_of self.shift.till self.shift.receipts))
@@ -171,16 +171,16 @@ where
         writer: &mut W,
     ) -> Result<Self, TextFault>
         requires room { IsTallyUpTo (2 ^ 126) self.tally }
-        ensures station { IfOk result (λ l. l.shift.station ≡ self.shift.station) }
+        ensures station { IfOk result (λ l. l.shift.station.value ≡ self.shift.station.value) }
         ensures workers { IfOk result (λ l. l.shift.workers ≡ self.shift.workers) }
         ensures ok { IfOk result (λ l. Says
-            (IsTurn self.shift.station devices.now turn (Some datagram.now)
+            (IsTurn self.shift.station.value devices.now turn (Some datagram.now)
             (account_of self.shift.till self.shift.receipts))
             (progress self.shift.till self.shift.receipts self.tally self.refused)
             (progress l.shift.till l.shift.receipts l.tally l.refused)
             (W.taken writer.old) (W.taken writer.new)) }
         ensures front { IfErr result (SaysInPart
-            (IsTurn self.shift.station devices.now turn (Some datagram.now)
+            (IsTurn self.shift.station.value devices.now turn (Some datagram.now)
             (account_of self.shift.till self.shift.receipts))
             (W.taken writer.old) (W.taken writer.new)) }
         ensures asked { IfErr result (λ _. HasAnswer devices.now turn (Some datagram.now)) }
@@ -204,16 +204,16 @@ where
         writer: &mut W,
     ) -> Result<Self, TextFault>
         requires room { IsTallyUpTo (2 ^ 126) self.tally }
-        ensures station { IfOk result (λ l. l.shift.station ≡ self.shift.station) }
+        ensures station { IfOk result (λ l. l.shift.station.value ≡ self.shift.station.value) }
         ensures workers { IfOk result (λ l. l.shift.workers ≡ self.shift.workers) }
         ensures ok { IfOk result (λ l. Says
-            (IsAnswered self.shift.station turn (Some event.now)
+            (IsAnswered self.shift.station.value turn (Some event.now)
             (account_of self.shift.till self.shift.receipts))
             (progress self.shift.till self.shift.receipts self.tally self.refused)
             (progress l.shift.till l.shift.receipts l.tally l.refused)
             (W.taken writer.old) (W.taken writer.new)) }
         ensures front { IfErr result (SaysInPart
-            (IsAnswered self.shift.station turn (Some event.now)
+            (IsAnswered self.shift.station.value turn (Some event.now)
             (account_of self.shift.till self.shift.receipts))
             (W.taken writer.old) (W.taken writer.new)) }
         ensures fault { IfErr result IsListenFault }
@@ -244,10 +244,10 @@ where
     /// Compares the books with what was answered, and writes the report.
     fn close<W: ByteOut>(self, alloc: Global, writer: &mut W) -> Result<bool, TextFault>
         ensures told { IfOk result (λ refused. refused ≡ self.refused) }
-        ensures ok { IfOk result (λ _. Reports self.shift.station
+        ensures ok { IfOk result (λ _. Reports self.shift.station.value
             (progress self.shift.till self.shift.receipts self.tally self.refused)
             (W.taken writer.old) (W.taken writer.new)) }
-        ensures front { IfErr result (ReportsInPart self.shift.station
+        ensures front { IfErr result (ReportsInPart self.shift.station.value
             (account_of self.shift.till self.shift.receipts) self.tally
             (W.taken writer.old) (W.taken writer.new)) }
         ensures fault { IfErr result IsListenFault }

@@ -25,9 +25,9 @@ where
         place: usize,
         now: u64,
     ) -> Result<Self, NoMemory>
-        ensures station { IfOk result (λ shift. shift.station ≡ self.station) }
+        ensures station { IfOk result (λ shift. shift.station.value ≡ self.station.value) }
         ensures workers { IfOk result (λ shift. shift.workers ≡ self.workers) }
-        ensures done { IfOk result (λ shift. HasPassed self.station place now
+        ensures done { IfOk result (λ shift. HasPassed self.station.value place now
             (run_state self.till self.receipts self.entries.items)
             (run_state shift.till shift.receipts shift.entries.items)) }
     {
@@ -66,7 +66,7 @@ where
 
     /// Takes in what is told of the uplinks that one `pass` closed.
     fn take_in(&mut self, alloc: Global, place: usize, told: Told) -> Result<(), NoMemory>
-        ensures station { self.new.station ≡ self.old.station }
+        ensures station { self.new.station.value ≡ self.old.station.value }
         ensures workers { self.new.workers ≡ self.old.workers }
         ensures till { self.new.till ≡ self.old.till }
         ensures told { OnOk result (HasTold place told.answers.items self.old.entries.items self.new.entries.items) }
@@ -97,7 +97,7 @@ where
 
     /// Tells the answers of a `pass`.
     fn tell_all(&mut self, place: usize, answers: Vec<Answer>) -> Result<(), NoMemory>
-        ensures station { self.new.station ≡ self.old.station }
+        ensures station { self.new.station.value ≡ self.old.station.value }
         ensures workers { self.new.workers ≡ self.old.workers }
         ensures till { self.new.till ≡ self.old.till }
         ensures receipts { self.new.receipts ≡ self.old.receipts }

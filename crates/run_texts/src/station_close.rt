@@ -19,11 +19,11 @@ where
     /// Compares the books with what was answered, and with the receipts of what was not cancelled.
     pub fn close(self, alloc: Global) -> Result<Played, TextFault>
         ensures entries { IfOk result (λ played. played.entries ≡ self.entries) }
-        ensures books { IfOk result (λ played. IsClosing self.station (open_receipts self.receipts)
+        ensures books { IfOk result (λ played. IsClosing self.station.value (open_receipts self.receipts)
             played.totals.items played.books.items) }
         ensures booked { IfOk result (λ played. booked_by played.books.items ≡ self.till.amount) }
         ensures cause { IfErr result (λ fault. fault ≢ TextFault.NoMemory
-            → IsClosingFault self.station (open_receipts self.receipts) fault) }
+            → IsClosingFault self.station.value (open_receipts self.receipts) fault) }
         ensures fault { IfErr result IsPlayFault }
     {
         let Shift {
@@ -40,7 +40,7 @@ where
             return Err(TextFault::NoMemory);
         };
         tills.push_reserved(till);
-        match station.finish(alloc, tills, receipts.as_slice()) {
+        match Box::into_inner(station).finish(alloc, tills, receipts.as_slice()) {
             Ok(Closing { totals, books, .. }) => Ok(Played {
                 entries,
                 totals,

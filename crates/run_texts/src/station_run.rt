@@ -35,7 +35,8 @@ pub struct Played {
 /// out.
 #[derive(Drop)]
 pub struct Shift<B: Ledger, S: BuildHasher> {
-    pub(crate) station: Station<B, S>,
+    /// In a box, since a shift is handed on by value where a `pass` is due.
+    pub(crate) station: Box<Station<B, S>>,
     pub(crate) till: Till<B>,
     pub(crate) receipts: Receipts,
     pub(crate) entries: Vec<Entry<Global>>,
@@ -92,12 +93,12 @@ impl<B: Ledger, S: BuildHasher + Clone + Drop> Shift<B, S> {
         requires all { blank.parts ≡ PARTS }
         requires staffed { IsStaffed workers }
         ensures workers { IfOk result (λ shift. shift.workers ≡ workers) }
-        ensures gateways { IfOk result (λ shift. AreInOrder settings.now.gateways shift.station) }
+        ensures gateways { IfOk result (λ shift. AreInOrder settings.now.gateways shift.station.value) }
         ensures none { IfOk result (λ shift. HasOpened (run_state shift.till shift.receipts shift.entries.items)) }
     {
         let (station, till) = Station::new(alloc, hasher, settings, blank)?;
         Ok(Shift {
-            station,
+            station: Box::new(alloc, station)?,
             till,
             receipts: Receipts::new(alloc),
             entries: Vec::new(alloc),
@@ -118,9 +119,9 @@ where
         events: Vec<Event<Global>>,
     ) -> Result<Played, TextFault>
         requires { HasOpened (run_state self.till self.receipts self.entries.items) }
-        ensures played { IfOk result (λ played. IsFinished self.station events.items played.entries.items
+        ensures played { IfOk result (λ played. IsFinished self.station.value events.items played.entries.items
             played.totals.items played.books.items) }
-        ensures apart { IfErr result (λ fault. fault ≢ TextFault.NoMemory → IsFinishedApart self.station events.items fault) }
+        ensures apart { IfErr result (λ fault. fault ≢ TextFault.NoMemory → IsFinishedApart self.station.value events.items fault) }
         ensures fault { IfErr result IsPlayFault }
     {
         let mut shift = self;
@@ -150,9 +151,9 @@ where
         place: usize,
         event: Event<Global>,
     ) -> Result<Option<u64>, NoMemory>
-        ensures station { self.new.station ≡ self.old.station }
+        ensures station { self.new.station.value ≡ self.old.station.value }
         ensures workers { self.new.workers ≡ self.old.workers }
-        ensures done { IfOk result (IsDoneButPass self.old.station place event
+        ensures done { IfOk result (IsDoneButPass self.old.station.value place event
             (run_state self.old.till self.old.receipts self.old.entries.items)
             (run_state self.new.till self.new.receipts self.new.entries.items)) }
     {
@@ -168,9 +169,9 @@ where
         place: usize,
         event: &Event<Global>,
     ) -> Result<Self, NoMemory>
-        ensures station { IfOk result (λ shift. shift.station ≡ self.station) }
+        ensures station { IfOk result (λ shift. shift.station.value ≡ self.station.value) }
         ensures workers { IfOk result (λ shift. shift.workers ≡ self.workers) }
-        ensures done { IfOk result (λ shift. IsDone self.station place event.now
+        ensures done { IfOk result (λ shift. IsDone self.station.value place event.now
             (run_state self.till self.receipts self.entries.items)
             (run_state shift.till shift.receipts shift.entries.items)) }
     {
@@ -189,9 +190,9 @@ where
         place: usize,
         event: &Event<Global>,
     ) -> Result<Option<u64>, NoMemory>
-        ensures station { self.new.station ≡ self.old.station }
+        ensures station { self.new.station.value ≡ self.old.station.value }
         ensures workers { self.new.workers ≡ self.old.workers }
-        ensures done { IfOk result (IsDoneButPass self.old.station place event.now
+        ensures done { IfOk result (IsDoneButPass self.old.station.value place event.now
             (run_state self.old.till self.old.receipts self.old.entries.items)
             (run_state self.new.till self.new.receipts self.new.entries.items)) }
     {
@@ -222,7 +223,7 @@ where
 
     /// Takes the lines out that were told.
     pub fn take_lines(&mut self, alloc: Global) -> Vec<Entry<Global>>
-        ensures station { self.new.station ≡ self.old.station }
+        ensures station { self.new.station.value ≡ self.old.station.value }
         ensures workers { self.new.workers ≡ self.old.workers }
         ensures till { self.new.till ≡ self.old.till }
         ensures receipts { self.new.receipts ≡ self.old.receipts }
@@ -234,7 +235,7 @@ where
 
     /// Tells a line.
     pub(crate) fn tell(&mut self, place: usize, line: Line<Global>) -> Result<(), NoMemory>
-        ensures station { self.new.station ≡ self.old.station }
+        ensures station { self.new.station.value ≡ self.old.station.value }
         ensures workers { self.new.workers ≡ self.old.workers }
         ensures till { self.new.till ≡ self.old.till }
         ensures receipts { self.new.receipts ≡ self.old.receipts }
@@ -245,11 +246,11 @@ where
 
     /// Cancels what was booked for the uplink with this number.
     fn cancel<R: Wait>(&mut self, rt: &R, number: u64) -> Line<Global>
-        ensures station { self.new.station ≡ self.old.station }
+        ensures station { self.new.station.value ≡ self.old.station.value }
         ensures workers { self.new.workers ≡ self.old.workers }
         ensures till { self.new.till ≡ self.old.till }
         ensures entries { self.new.entries ≡ self.old.entries }
-        ensures told { IsCancelTold self.old.station number (booked_for number self.old.receipts)
+        ensures told { IsCancelTold self.old.station.value number (booked_for number self.old.receipts)
             self.old.receipts self.new.receipts result }
     {
         let Some(at) = self.receipts.place_of(number) else {

@@ -20,7 +20,7 @@ returns-in-Err-clause-front g c =
     let new = c.in-Ok.shift in (
       account_of new.till new.receipts,
       record { entries = entries; lines = entry_lines entries },
-      answered_by old.station c.args.turn c.args.event.now (account_of old.till old.receipts)
+      answered_by old.station.value c.args.turn c.args.event.now (account_of old.till old.receipts)
           (account_of new.till new.receipts) old.entries.items new.entries.items entries c.args.self.written
           c.in-Ok.ensures.done c.take_lines-entries.ensures.taken,
       subst (λ l. WritesFront (g.W.ByteOut.taken c.args.writer.now) (g.W.ByteOut.taken c.write_entries.new.writer)
@@ -37,12 +37,12 @@ returns-in-Ok-write_entries-clause-ok g c =
     let new = c.in-Ok.shift in
     let last = c.take_lines-entries.new.self in (
       record { entries = entries; lines = entry_lines entries },
-      answered_by old.station c.args.turn c.args.event.now (account_of old.till old.receipts)
+      answered_by old.station.value c.args.turn c.args.event.now (account_of old.till old.receipts)
           (account_of last.till last.receipts) old.entries.items new.entries.items entries c.args.self.written
-          (subst (λ (h : Holding). IsDone old.station c.args.turn c.args.event.now
+          (subst (λ (h : Holding). IsDone old.station.value c.args.turn c.args.event.now
           (run_state old.till old.receipts old.entries.items)
           (run_state h last.receipts new.entries.items)) (sym c.take_lines-entries.ensures.till)
-          (subst (λ (r : Receipts). IsDone old.station c.args.turn c.args.event.now
+          (subst (λ (r : Receipts). IsDone old.station.value c.args.turn c.args.event.now
           (run_state old.till old.receipts old.entries.items)
           (run_state new.till r new.entries.items)) (sym c.take_lines-entries.ensures.receipts)
           c.in-Ok.ensures.done))

@@ -12,8 +12,8 @@ loop-turn-init g c =
     let a = g.W.ByteOut.taken c.args.writer.now in
     record {
       station = search rules;
-      so_far = subst (λ t. HasListened c.args.self.shift.station c.args.devices.now 0 s s t a a) (sym c.requires.opened)
-          (listened_none c.args.self.shift.station c.args.devices.now s a);
+      so_far = subst (λ t. HasListened c.args.self.shift.station.value c.args.devices.now 0 s s t a a) (sym c.requires.opened)
+          (listened_none c.args.self.shift.station.value c.args.devices.now s a);
       calls = search rules;
     }
 
@@ -30,7 +30,7 @@ loop-turn-preserved g c =
     let now = progress is.shift.till is.shift.receipts is.tally is.refused in
     record {
       station = c.in-Ok.ensures.station ∙ l.invariant.station;
-      so_far = listened_more c.args.self.shift.station c.args.devices.now l.turn (g.S.Source.seen c.args.source.now)
+      so_far = listened_more c.args.self.shift.station.value c.args.devices.now l.turn (g.S.Source.seen c.args.source.now)
           (g.S.Source.seen l.source) (progress was.shift.till was.shift.receipts was.tally was.refused)
           (g.W.ByteOut.taken c.args.writer.now) (g.W.ByteOut.taken l.writer) l.invariant.so_far
           (g.S.Source.seen c.turn.new.source) now (g.W.ByteOut.taken c.turn.new.writer)
@@ -46,7 +46,7 @@ pub returns-in-Err-clause-front : goal.returns-in-Err-clause-front
 returns-in-Err-clause-front g c =
     let l = c.loop-turn in
     let was = l.listener in
-    listened_more_in_part c.args.self.shift.station c.args.devices.now l.turn (g.S.Source.seen c.args.source.now)
+    listened_more_in_part c.args.self.shift.station.value c.args.devices.now l.turn (g.S.Source.seen c.args.source.now)
     (g.S.Source.seen l.source) (progress was.shift.till was.shift.receipts was.tally was.refused)
     (g.W.ByteOut.taken c.args.writer.now) (g.W.ByteOut.taken l.writer) l.invariant.so_far c.args.turns
     (g.S.Source.seen c.turn.new.source) (g.W.ByteOut.taken c.turn.new.writer) c.in-Err.fault c.loop-turn-test.true
@@ -59,26 +59,26 @@ pub returns-clause-ok : goal.returns-clause-ok
 returns-clause-ok g c =
     let l = c.loop-turn in
     let was = l.listener in
-    let ids = c.args.self.shift.station in
+    let ids = c.args.self.shift.station.value in
     let all : l.turn ≡ c.args.turns = omega arith in
     let so_far = subst (λ n. HasListened ids c.args.devices.now n (g.S.Source.seen c.args.source.now)
     (g.S.Source.seen l.source) (progress was.shift.till was.shift.receipts was.tally was.refused)
     (g.W.ByteOut.taken c.args.writer.now) (g.W.ByteOut.taken l.writer)) all l.invariant.so_far in
     listened_closed ids c.args.devices.now c.args.turns (g.S.Source.seen c.args.source.now) (g.S.Source.seen l.source)
     (progress was.shift.till was.shift.receipts was.tally was.refused) (g.W.ByteOut.taken c.args.writer.now)
-    (g.W.ByteOut.taken l.writer) so_far was.shift.station (g.W.ByteOut.taken c.close.new.writer)
+    (g.W.ByteOut.taken l.writer) so_far was.shift.station.value (g.W.ByteOut.taken c.close.new.writer)
     c.close.result l.invariant.station c.close.ensures.told c.close.ensures.ok
 
 pub returns-clause-front : goal.returns-clause-front
 returns-clause-front g c =
     let l = c.loop-turn in
     let was = l.listener in
-    let ids = c.args.self.shift.station in
+    let ids = c.args.self.shift.station.value in
     let all : l.turn ≡ c.args.turns = omega arith in
     let so_far = subst (λ n. HasListened ids c.args.devices.now n (g.S.Source.seen c.args.source.now)
     (g.S.Source.seen l.source) (progress was.shift.till was.shift.receipts was.tally was.refused)
     (g.W.ByteOut.taken c.args.writer.now) (g.W.ByteOut.taken l.writer)) all l.invariant.so_far in
     listened_closed_in_part ids c.args.devices.now c.args.turns (g.S.Source.seen c.args.source.now)
     (g.S.Source.seen l.source) (progress was.shift.till was.shift.receipts was.tally was.refused)
-    (g.W.ByteOut.taken c.args.writer.now) (g.W.ByteOut.taken l.writer) so_far was.shift.station
+    (g.W.ByteOut.taken c.args.writer.now) (g.W.ByteOut.taken l.writer) so_far was.shift.station.value
     (g.W.ByteOut.taken c.close.new.writer) c.close.result l.invariant.station c.close.ensures.front

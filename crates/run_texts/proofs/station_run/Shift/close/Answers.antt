@@ -10,7 +10,7 @@ returns-in-Ok-finish-clause-books g c =
     let done = c.in-Ok-finish.ensures in
     record {
       desk = closing.desk;
-      gateways = done.gateways;
+      gateways = done.gateways ∙ c.into_inner.ensures;
       counted = done.totals;
       sum = done.sum ∙ done.answered;
       equal = done.equal;
@@ -21,10 +21,12 @@ returns-in-Ok-finish-clause-books g c =
 
 pub returns-in-Err-clause-cause : goal.returns-in-Err-clause-cause
 returns-in-Err-clause-cause g c other =
-    closing_fault c.push_reserved.new.self.items c.args.self.station _ c.in-Err.fault.cause c.named.result
+    closing_fault c.push_reserved.new.self.items c.args.self.station.value _ c.in-Err.fault.cause c.named.result
     (search rules)
-    (subst (λ l. IsFinishCause c.push_reserved.new.self.items c.args.self.station l c.in-Err.fault.cause)
-    (c.as_slice.ensures.value ∙ c.in-Ok.ensures) c.in-Err.ensures.cause)
+    (subst (λ l. IsFinishCause c.push_reserved.new.self.items c.args.self.station.value l c.in-Err.fault.cause)
+    (c.as_slice.ensures.value ∙ c.in-Ok.ensures)
+    (subst (λ s. IsFinishCause c.push_reserved.new.self.items s c.as_slice.result.now c.in-Err.fault.cause)
+    c.into_inner.ensures c.in-Err.ensures.cause))
     c.named.ensures.exact other
 
 pub returns-in-Ok-finish-clause-booked : goal.returns-in-Ok-finish-clause-booked

@@ -8,7 +8,7 @@ use Rattle.run_texts.proofs.station_run.Shift.pass.Goals as goal
 pub returns-clause-done : goal.returns-clause-done
 returns-clause-done g c =
     let told = c.in_ok-told.told in
-    let ids = c.args.self.station in
+    let ids = c.args.self.station.value in
     let after = c.answer_with_workers-till.result.till in
     record {
       numbers = c.in_ok-numbers.numbers.items;
@@ -23,11 +23,13 @@ returns-clause-done g c =
             pass =
                 subst (λ (h : Holding). IsPassTold ids c.args.self.till h c.in_ok-numbers.numbers.items told.answers.items
                 told.booked.items) (sym c.take_in.ensures.till)
-                (subst (λ l. IsPassTold ids c.args.self.till after l told.answers.items told.booked.items)
+                (subst (λ s. IsPassTold s c.args.self.till after c.in_ok-numbers.numbers.items told.answers.items
+                told.booked.items) c.deref.ensures
+                (subst (λ l. IsPassTold c.deref.result.now c.args.self.till after l told.answers.items told.booked.items)
                 c.as_slice-2.ensures.value
-                (of_ok (λ (t : Told).
-                IsPassTold ids c.args.self.till after c.as_slice-2.result.now t.answers.items t.booked.items)
-                c.answer_with_workers-till.result.told told c.in_ok-told.was c.answer_with_workers-till.ensures.told));
+                (of_ok (λ (t : Told). IsPassTold c.deref.result.now c.args.self.till after c.as_slice-2.result.now
+                t.answers.items t.booked.items)
+                c.answer_with_workers-till.result.told told c.in_ok-told.was c.answer_with_workers-till.ensures.told)));
             told = c.in_ok-take_in.ensures.told;
             kept = c.in_ok-take_in.ensures.kept;
           });

@@ -19,8 +19,8 @@ loop-event-preserved g c =
     let old = run_state here.till here.receipts here.entries.items in
     let new = run_state after.till after.receipts after.entries.items in
     let mid = run_state c.use_up.new.self.till c.use_up.new.self.receipts c.use_up.new.self.entries.items in
-    let ids = here.station in
-    let step : (after.station ≡ ids) × IsDone ids before.place c.in-Some.event old new =
+    let ids = here.station.value in
+    let step : (after.station.value ≡ ids) × IsDone ids before.place c.in-Some.event old new =
     elim c.match-left.branch [
       | in-None-left w ↦
           rw w.shift-is (
@@ -43,7 +43,7 @@ loop-event-preserved g c =
       place = one_more before.yielded c.in-Some.event before.place before.invariant.place;
       station = step.0 ∙ before.invariant.station;
       done =
-          done_behind c.args.self.station before.yielded c.in-Some.event before.place (run_state opening_till [] []) old new
+          done_behind c.args.self.station.value before.yielded c.in-Some.event before.place (run_state opening_till [] []) old new
           before.invariant.place before.invariant.done
           (subst (λ l. IsDone l before.place c.in-Some.event old new) before.invariant.station step.1);
     }
@@ -53,9 +53,9 @@ returns-clause-played g c =
     let last = c.loop-event in
     let all = none_left last.yielded last.event-iterator.rest.items c.args.events.items
     (omega (arith, last.event-iterator.rest.ok.0, c.in-None.ensures.steps.0)) last.invariant.left in
-    finished_with c.args.self.station c.args.events.items last.shift.till last.shift.receipts last.shift.entries
+    finished_with c.args.self.station.value c.args.events.items last.shift.till last.shift.receipts last.shift.entries
     c.close.result
-    (subst (λ es. AreDone c.args.self.station 0 es (run_state opening_till [] [])
+    (subst (λ es. AreDone c.args.self.station.value 0 es (run_state opening_till [] [])
     (run_state last.shift.till last.shift.receipts last.shift.entries.items)) all last.invariant.done)
     c.close.ensures.entries
     (subst (λ ids. IfOk c.close.result (λ played. IsClosing ids (open_receipts last.shift.receipts)
@@ -66,9 +66,9 @@ returns-clause-apart g c =
     let last = c.loop-event in
     let all = none_left last.yielded last.event-iterator.rest.items c.args.events.items
     (omega (arith, last.event-iterator.rest.ok.0, c.in-None.ensures.steps.0)) last.invariant.left in
-    apart_with c.args.self.station c.args.events.items last.shift.till last.shift.receipts last.shift.entries.items
+    apart_with c.args.self.station.value c.args.events.items last.shift.till last.shift.receipts last.shift.entries.items
     c.close.result
-    (subst (λ es. AreDone c.args.self.station 0 es (run_state opening_till [] [])
+    (subst (λ es. AreDone c.args.self.station.value 0 es (run_state opening_till [] [])
     (run_state last.shift.till last.shift.receipts last.shift.entries.items)) all last.invariant.done)
     (subst (λ ids. IfErr c.close.result (λ fault. fault ≢ NoMemory
     → IsClosingFault ids (open_receipts last.shift.receipts) fault)) last.invariant.station

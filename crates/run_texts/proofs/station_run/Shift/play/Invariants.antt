@@ -6,7 +6,7 @@ abbrev pub invariant-loop-event : goal.invariant-loop-event
 invariant-loop-event g l = record {
   left : l.yielded ++ l.event-iterator.rest.items ≡ l.fn.events.items;
   place : l.place ≡ length l.yielded;
-  station : l.shift.station ≡ l.fn.self.station;
-  done : AreDone l.fn.self.station 0 l.yielded (run_state opening_till [] [])
+  station : l.shift.station.value ≡ l.fn.self.station.value;
+  done : AreDone l.fn.self.station.value 0 l.yielded (run_state opening_till [] [])
       (run_state l.shift.till l.shift.receipts l.shift.entries.items);
 }

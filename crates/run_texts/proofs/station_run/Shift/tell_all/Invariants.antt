@@ -6,7 +6,7 @@ abbrev pub invariant-loop-answer : goal.invariant-loop-answer
 invariant-loop-answer g l =
     (goal.iterator-loop-answer g).can_next l.answer-iterator
     × (goal.iterator-loop-answer g).is_finite l.answer-iterator
-    × (l.self.station ≡ l.fn.self.station)
+    × (l.self.station.value ≡ l.fn.self.station.value)
     × (l.self.workers ≡ l.fn.self.workers)
     × (l.self.till ≡ l.fn.self.till)
     × (l.self.receipts ≡ l.fn.self.receipts)
