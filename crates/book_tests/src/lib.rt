@@ -1,4 +1,5 @@
-//! Tests of times on air, sub-bands, rosters and books, in a crate of their own: a crate with tests is proved twice.
+//! Tests of times on air, sub-bands, rosters and books, in a crate of their own: a crate with tests is proved twice. Those of
+//! `growth` refuse each growth of a call in turn.
 #![tactic(auto)]
 
 #[cfg(test)]
@@ -11,6 +12,8 @@ mod book_steps;
 mod earliest;
 #[cfg(test)]
 mod filling;
+#[cfg(test)]
+mod growth;
 #[cfg(test)]
 mod growths;
 #[cfg(test)]

@@ -1,8 +1,11 @@
-//! Worked runs of tickets, of the ledger, of a desk and its settings, and of the whole server on one thread.
+//! Worked runs of tickets, of the ledger, of a desk and its settings, and of the whole server on one thread. Those of `growth`
+//! refuse each growth of a call in turn.
 #![tactic(auto)]
 
 #[cfg(test)]
 mod calls;
+#[cfg(test)]
+mod growth;
 #[cfg(test)]
 mod hearing;
 #[cfg(test)]

@@ -1,5 +1,6 @@
 //! Tests of what stands on no other part of the server: lines, words and numbers of texts, the cipher with its codes, frames,
-//! gatherings and receive windows.
+//! gatherings and receive windows. Those of `growth` refuse each growth of a call in turn; the call then answers so, and leaves
+//! all as it was, and the same call with memory answers as ever.
 #![tactic(auto)]
 
 #[cfg(test)]
@@ -16,6 +17,8 @@ mod frame_growth;
 mod frames;
 #[cfg(test)]
 mod gathering;
+#[cfg(test)]
+mod growth;
 #[cfg(test)]
 mod lines;
 #[cfg(test)]

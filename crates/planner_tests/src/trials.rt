@@ -24,8 +24,8 @@ pub(crate) fn booked(alloc: Global, asks: &[Ask]) -> Result<Live, Fail> {
 }
 
 /// Tries the asks on a copy of the book.
-pub(crate) fn tried<R: Roster, A: Allocator>(
-    arena: &Bump<Global>,
+pub(crate) fn tried<P: Allocator, R: Roster, A: Allocator>(
+    arena: &Bump<P>,
     alloc: Global,
     book: &GatewayBook<R>,
     asks: &[Ask],
@@ -58,8 +58,8 @@ pub(crate) fn answers_of<R: Roster>(
 }
 
 /// Looks for the earliest start of an ask, from its own to `last`, on a copy of the book after the asks.
-pub(crate) fn sought<R: Roster>(
-    arena: &Bump<Global>,
+pub(crate) fn sought<P: Allocator, R: Roster>(
+    arena: &Bump<P>,
     alloc: Global,
     book: &GatewayBook<R>,
     asks: &[Ask],

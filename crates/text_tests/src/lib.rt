@@ -1,10 +1,13 @@
-//! Tests of the texts of `airbook` and of a server that listens: of what no clause says and no worked case shows.
+//! Tests of the texts of `airbook` and of a server that listens: of what no clause says and no worked case shows. Those of
+//! `growth` refuse each growth of a text in turn.
 #![tactic(auto)]
 
 #[cfg(test)]
 mod datagrams;
 #[cfg(test)]
 mod failing_calls;
+#[cfg(test)]
+mod growth;
 #[cfg(test)]
 mod passes;
 #[cfg(test)]

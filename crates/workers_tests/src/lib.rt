@@ -1,4 +1,4 @@
-//! Tests of a station and its workers.
+//! Tests of a station and its workers. Those of `growth` refuse each growth of a call in turn, of tickets too.
 #![tactic(auto)]
 
 #[cfg(test)]
@@ -17,6 +17,8 @@ mod finishing;
 mod gate_tests;
 #[cfg(test)]
 mod gates;
+#[cfg(test)]
+mod growth;
 #[cfg(test)]
 mod looks;
 #[cfg(test)]

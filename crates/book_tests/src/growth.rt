@@ -1,0 +1,3 @@
+// Want of memory: bookings, and what is made of a book.
+
+mod books;

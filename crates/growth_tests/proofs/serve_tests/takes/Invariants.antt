@@ -1,4 +1,0 @@
-use Rattle.growth_tests.proofs.serve_tests.takes.Given as goal
-
-abbrev pub ghosts-is_refused : goal.ghosts-is_refused
-ghosts-is_refused g a = record { name = a.blank.name; parts = a.blank.parts }

@@ -1,4 +1,0 @@
-use Rattle.growth_tests.proofs.stations.each_is_refused.Given as goal
-
-abbrev pub ghosts-is_refused : goal.ghosts-is_refused
-ghosts-is_refused g a = record { name = a.blank.name; parts = a.blank.parts }

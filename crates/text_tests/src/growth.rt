@@ -1,0 +1,4 @@
+// Want of memory: texts of books, and of plans.
+
+mod plans;
+mod texts;

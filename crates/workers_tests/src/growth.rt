@@ -1,0 +1,10 @@
+// Want of memory: tickets, a station and its calls, and its workers.
+
+mod at_station;
+mod calls;
+mod cases;
+mod desk_cases;
+mod serve_tests;
+mod stations;
+mod tickets;
+mod works;

@@ -1,0 +1,159 @@
+// Work at stations whose growths are refused.
+ghost use Rattle.std.specs.Prelude.{◌≡◌, ◌<◌};
+
+use gateway_book::Totals;
+use refusing_alloc::{MOST_GROWTHS, Refuser, Refusing, same, was_refused};
+use server_core::{DeviceSetting, Heard1, Settings};
+use server_workers::{Blank, Ledger, PARTS, Station, Till};
+use std::alloc::{Allocator, Global};
+use std::marker::Brand;
+use std::sync::Wait;
+use std::test::Fail;
+use worked_inputs::{COPY, WorkedHasher, device, hasher, settings_of, uplink};
+
+/// Some work takes so many growths at a new station of gateways 1 and 2, which heard an uplink of each of so many devices; each
+/// is refused once.
+pub(crate) fn takes<R: Wait, W: AtWork>(
+    rt: &R,
+    memory: Global,
+    heard: u32,
+    work: &W,
+    growths: u64,
+) -> Result<(), Fail> {
+    let settings = settled(memory, heard.max(2))?;
+    each_is_refused(
+        rt,
+        memory,
+        &Refusing::new(memory),
+        &settings,
+        heard,
+        work,
+        growths,
+    )
+}
+
+fn each_is_refused<R: Wait, W: AtWork>(
+    rt: &R,
+    memory: Global,
+    alloc: &Refuser,
+    settings: &Settings<Global>,
+    heard: u32,
+    work: &W,
+    growths: u64,
+) -> Result<(), Fail> {
+    for number in 1..MOST_GROWTHS {
+        let blank = Blank::new(PARTS as u64);
+        if !is_refused::<Brand, _, _, _>(
+            rt, memory, alloc, alloc, settings, blank, heard, work, number,
+        )? {
+            return same(number - 1, growths);
+        }
+    }
+    Err(Fail::from("no end of growths"))
+}
+
+/// The settings of both gateways, and of so many devices, from address 1 on.
+pub(crate) fn settled(memory: Global, count: u32) -> Result<Settings<Global>, Fail> {
+    let mut devices: Vec<DeviceSetting> = Vec::new(memory);
+    for before in 0..count {
+        devices.push(device(before + 1))?;
+    }
+    settings_of(memory, &devices)
+}
+
+fn is_refused<B: Ledger, A: Allocator + Copy, R: Wait, W: AtWork>(
+    rt: &R,
+    memory: Global,
+    alloc: &Refuser,
+    own: A,
+    settings: &Settings<Global>,
+    blank: Blank,
+    heard: u32,
+    work: &W,
+    number: u64,
+) -> Result<bool, Fail>
+    requires name { blank.name ≡ B.name }
+    requires parts { blank.parts ≡ B.parts }
+    requires all { blank.parts ≡ PARTS }
+{
+    let (station, till) = Station::<B, _, _>::new(own, hasher(), settings, blank)?;
+    hears(rt, memory, &station, heard)?;
+    work.is_refused(rt, alloc, own, station, till, number)
+}
+
+/// A station hears a confirmed uplink of each of so many devices, by gateway `1 + addr mod 2`, until a million microseconds for
+/// each address, and closes it: those with the numbers from 1 on.
+pub(crate) fn hears<B: Ledger, A: Allocator + Copy, R: Wait>(
+    rt: &R,
+    memory: Global,
+    station: &Station<B, WorkedHasher, A>,
+    heard: u32,
+) -> Result<(), Fail> {
+    for before in 0..heard {
+        let addr = before + 1;
+        let copy = Heard1 {
+            gateway: 1 + (addr % 2) as u16,
+            at: 1_000_000 * addr as u64,
+            ..COPY
+        };
+        station.hear(rt, &uplink(memory, true, addr, 0)?, copy, 0)?;
+        same(station.pass(rt, 200_001), Some(addr as u64))?;
+    }
+    Ok(())
+}
+
+/// What the books of both gateways have counted.
+pub(crate) fn totals_at<B: Ledger, A: Allocator + Copy, R: Wait>(
+    rt: &R,
+    station: &Station<B, WorkedHasher, A>,
+) -> [Option<Totals>; 2] {
+    [station.totals(rt, 1, 0).ok(), station.totals(rt, 2, 0).ok()]
+}
+
+/// Refuses the growth of this number, and all after it, where a station of these settings is made: whether there was one.
+fn is_made_without<B: Ledger>(
+    alloc: &Refuser,
+    settings: &Settings<Global>,
+    blank: Blank,
+    number: u64,
+) -> Result<bool, Fail>
+    requires name { blank.name ≡ B.name }
+    requires parts { blank.parts ≡ B.parts }
+    requires all { blank.parts ≡ PARTS }
+{
+    alloc.refuse_from(number);
+    let is_starved = Station::<B, _, _>::new(alloc, hasher(), settings, blank).is_err();
+    was_refused(alloc, number, is_starved, true)
+}
+
+/// It takes eight growths.
+fn takes_eight(alloc: &Refuser, settings: &Settings<Global>) -> Result<(), Fail> {
+    for number in 1..=9 {
+        let blank = Blank::new(PARTS as u64);
+        let is_refused = is_made_without::<Brand>(alloc, settings, blank, number)?;
+        same((number, is_refused), (number, number <= 8))?;
+    }
+    Ok(())
+}
+
+#[test]
+fn a_station_is_made(rt: HostRuntime) -> Result<(), Fail> {
+    let settings = settled(rt.alloc(), 1)?;
+    takes_eight(&Refusing::new(rt.alloc()), &settings)
+}
+
+/// What is done at a station.
+pub(crate) trait AtWork {
+    /// Does it with the growth of this number refused: whether there was one. The station takes its memory from that allocator,
+    /// which stands behind a type parameter too, and the till has all parts of its ledger.
+    fn is_refused<B: Ledger, A: Allocator + Copy, R: Wait>(
+        &self,
+        rt: &R,
+        alloc: &Refuser,
+        own: A,
+        station: Station<B, WorkedHasher, A>,
+        till: Till<B>,
+        number: u64,
+    ) -> Result<bool, Fail>
+        requires { 16 < till.parts };
+}
