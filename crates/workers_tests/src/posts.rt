@@ -54,7 +54,11 @@ fn listed<B: Ledger>(alloc: Global, till: Till<B>) -> Result<Vec<Till<B>>, Fail>
 }
 
 /// The settings of these gateways and of the devices from address 1 on.
-fn settings_of(alloc: Global, gateways: &[u16], devices: u32) -> Result<Settings<Global>, Fail> {
+pub(crate) fn settings_of(
+    alloc: Global,
+    gateways: &[u16],
+    devices: u32,
+) -> Result<Settings<Global>, Fail> {
     let mut settings = Vec::new(alloc);
     for id in gateways {
         settings.push(GatewaySetting {

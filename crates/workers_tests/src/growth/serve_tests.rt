@@ -1,7 +1,9 @@
 // Workers who serve at a station.
 ghost use Rattle.std.specs.Prelude.{◌≡◌, ◌<◌};
 
-use crate::growth::stations::{hears, settled};
+use crate::growth::stations::hears;
+use crate::growth::works::finish;
+use crate::posts::settings_of;
 use answer_ticket::{Ending, Outcome, Receipt};
 use gateway_book::Totals;
 use refusing_alloc::{
@@ -81,7 +83,7 @@ fn ended<B: Ledger, A: Allocator + Copy>(
         return None;
     };
     tills.push_reserved(till);
-    match station.finish(memory, tills, &receipts) {
+    match finish(memory, station, tills, &receipts) {
         Ok(closing) => {
             let airtimes = airtimes(&receipts, &closing.totals);
             Some((counted, airtimes, closing.booked))
@@ -211,7 +213,7 @@ const TRIALS: [((u8, bool), u64); 4] = [
 
 #[test]
 fn workers_serve(rt: HostRuntime) -> Result<(), Fail> {
-    let settings = settled(rt.alloc(), 20)?;
+    let settings = settings_of(rt.alloc(), &[1, 2], 20)?;
     let alloc = &Refusing::new(rt.alloc());
     for (trials, growths) in TRIALS {
         takes(&rt, rt.alloc(), alloc, &settings, trials, growths)?;

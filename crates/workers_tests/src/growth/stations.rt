@@ -1,15 +1,16 @@
 // Work at stations whose growths are refused.
 ghost use Rattle.std.specs.Prelude.{◌≡◌, ◌<◌};
 
+use crate::posts::settings_of;
 use gateway_book::Totals;
 use refusing_alloc::{MOST_GROWTHS, Refuser, Refusing, same, was_refused};
-use server_core::{DeviceSetting, Heard1, Settings};
+use server_core::{Heard1, Settings};
 use server_workers::{Blank, Ledger, PARTS, Station, Till};
 use std::alloc::{Allocator, Global};
 use std::marker::Brand;
 use std::sync::Wait;
 use std::test::Fail;
-use worked_inputs::{COPY, WorkedHasher, device, hasher, settings_of, uplink};
+use worked_inputs::{COPY, WorkedHasher, hasher, uplink};
 
 /// Some work takes so many growths at a new station of gateways 1 and 2, which heard an uplink of each of so many devices; each
 /// is refused once.
@@ -20,7 +21,7 @@ pub(crate) fn takes<R: Wait, W: AtWork>(
     work: &W,
     growths: u64,
 ) -> Result<(), Fail> {
-    let settings = settled(memory, heard.max(2))?;
+    let settings = settings_of(memory, &[1, 2], heard.max(2))?;
     each_is_refused(
         rt,
         memory,
@@ -50,15 +51,6 @@ fn each_is_refused<R: Wait, W: AtWork>(
         }
     }
     Err(Fail::from("no end of growths"))
-}
-
-/// The settings of both gateways, and of so many devices, from address 1 on.
-pub(crate) fn settled(memory: Global, count: u32) -> Result<Settings<Global>, Fail> {
-    let mut devices: Vec<DeviceSetting> = Vec::new(memory);
-    for before in 0..count {
-        devices.push(device(before + 1))?;
-    }
-    settings_of(memory, &devices)
 }
 
 fn is_refused<B: Ledger, A: Allocator + Copy, R: Wait, W: AtWork>(
@@ -138,7 +130,7 @@ fn takes_eight(alloc: &Refuser, settings: &Settings<Global>) -> Result<(), Fail>
 
 #[test]
 fn a_station_is_made(rt: HostRuntime) -> Result<(), Fail> {
-    let settings = settled(rt.alloc(), 1)?;
+    let settings = settings_of(rt.alloc(), &[1, 2], 1)?;
     takes_eight(&Refusing::new(rt.alloc()), &settings)
 }
 

@@ -211,6 +211,16 @@ fn parts_of<B: Ledger>(tills: &[Till<B>]) -> Option<[u32; 2]> {
     }
 }
 
+/// Finishes a station. It says nothing of what comes of it: its callers compare what they see.
+pub(crate) fn finish<B: Ledger, A: Allocator + Copy>(
+    memory: A,
+    station: Station<B, WorkedHasher, A>,
+    tills: Vec<Till<B>, A>,
+    receipts: &[Receipt<A>],
+) -> Result<Closing<WorkedHasher, A>, FinishFault<B, WorkedHasher, A>> {
+    station.finish(memory, tills, receipts)
+}
+
 /// What was handed back, and what the station came to once it was finished, if it found memory.
 fn finished_again<B: Ledger, A: Allocator + Copy, R: Wait>(
     rt: &R,
@@ -222,7 +232,7 @@ fn finished_again<B: Ledger, A: Allocator + Copy, R: Wait>(
     let totals = totals_at(rt, &fault.station);
     let back = (is_told, totals, parts_of(&fault.tills));
     let FinishFault { station, tills, .. } = fault;
-    match station.finish(memory, tills, receipts) {
+    match finish(memory, station, tills, receipts) {
         Ok(closing) => (back, Some(came_to(&closing))),
         Err(_) => (back, None),
     }
@@ -240,7 +250,7 @@ fn is_finished_without<B: Ledger, A: Allocator + Copy, R: Wait>(
 ) -> Result<bool, Fail> {
     let before = (true, totals_at(rt, &station), Some([65_535, 1]));
     alloc.refuse(number);
-    match station.finish(memory, tills, receipts) {
+    match finish(memory, station, tills, receipts) {
         Ok(closing) => {
             let asked = asked_of(alloc);
             let told = (before, Some(came_to(&closing)));
