@@ -49,7 +49,7 @@ impl<B: Ledger, H: BuildHasher + Clone + Drop> Listener<B, H> {
         ensures opened { IfOk result
             (λ l. progress l.shift.till l.shift.receipts l.tally l.refused ≡ opened) }
     {
-        let shift = Shift::new(alloc, hasher, settings, workers, blank)?;
+        let shift = Shift::new(alloc, hasher, settings, workers, blank, 0)?;
         let tally = Tally {
             sent: 0,
             unanswered: 0,

@@ -29,14 +29,14 @@ impl Model for Receipts {
 }
 
 impl Receipts {
-    /// Nothing was booked.
-    pub(crate) fn new(alloc: Global) -> Self
-        ensures { result ≡ [] }
+    /// Nothing was booked; so many receipts are taken in without a growth.
+    pub(crate) fn with_room(alloc: Global, room: usize) -> Result<Self, NoMemory>
+        ensures { IfOk result (λ receipts. receipts ≡ []) }
     {
-        Receipts {
-            receipts: Vec::new(alloc),
-            are_cancelled: Vec::new(alloc),
-        }
+        Ok(Receipts {
+            receipts: Vec::with_capacity(alloc, room)?,
+            are_cancelled: Vec::with_capacity(alloc, room)?,
+        })
     }
 
     /// Takes in receipts.

@@ -72,21 +72,34 @@ where
         → IsPlayedApart settings.now.gateways events.items fault) }
     ensures fault { IfErr result IsPlayFault }
 {
-    match Shift::<B, S>::new(alloc, hasher, settings, workers, blank) {
+    match Shift::<B, S>::new(alloc, hasher, settings, workers, blank, heard(&events)) {
         Ok(shift) => shift.play(rt, alloc, events),
         Err(_) => Err(TextFault::NoMemory),
     }
 }
 
+/// How many copies of uplinks are heard: no more receipts come of them.
+fn heard(events: &[Event<Global>]) -> usize {
+    let mut count: usize = 0;
+    for event in events {
+        if matches!(event, Event::Hear { .. }) {
+            count = count.saturating_add(1);
+        }
+    }
+    count
+}
+
 impl<B: Ledger, S: BuildHasher + Clone + Drop> Shift<B, S> {
-    /// A station with these settings that has heard nothing, for 1 to 16 workers. Devices and uplinks are looked up through
-    /// this hasher and a clone of it. Err(NoMemory) where a growth was refused.
+    /// A station with these settings that has heard nothing, for 1 to 16 workers, and room for so many receipts; with more, their
+    /// list grows. Devices and uplinks are looked up through this hasher and a clone of it. Err(NoMemory) where a growth was
+    /// refused.
     pub fn new(
         alloc: Global,
         hasher: S,
         settings: &Settings<Global>,
         workers: u8,
         blank: Blank,
+        room: usize,
     ) -> Result<Self, NoMemory>
         requires name { blank.name ≡ B.name }
         requires parts { blank.parts ≡ B.parts }
@@ -100,7 +113,7 @@ impl<B: Ledger, S: BuildHasher + Clone + Drop> Shift<B, S> {
         Ok(Shift {
             station: Box::new(alloc, station)?,
             till,
-            receipts: Receipts::new(alloc),
+            receipts: Receipts::with_room(alloc, room)?,
             entries: Vec::new(alloc),
             workers,
         })
