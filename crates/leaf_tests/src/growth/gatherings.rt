@@ -48,18 +48,6 @@ static ROWS: [Row; 10] = [
 #[derive(Drop)]
 struct Hearing<S: BuildHasher, A: Allocator>(Gather<S, A>, Row);
 
-impl<S: BuildHasher, A: Allocator> Hearing<S, A> {
-    /// Another copy is the next.
-    fn turn_to(&mut self, row: Row) {
-        self.1 = row;
-    }
-
-    /// How many copies of the first uplink were heard.
-    fn count(&self) -> usize {
-        self.0.copies(1).len()
-    }
-}
-
 impl<S: BuildHasher, A: Allocator + Copy> Call for Hearing<S, A> {
     fn is_refused(&mut self, alloc: &Refuser, number: u64) -> Result<bool, Fail> {
         let (byte, gateway, wanted) = self.1;
@@ -67,36 +55,49 @@ impl<S: BuildHasher, A: Allocator + Copy> Call for Hearing<S, A> {
         let before = seen(&self.0, bytes, gateway);
         alloc.refuse(number);
         let heard = self.0.hear(bytes, copy(gateway, 5_000_000, 0, -100), 0);
-        let is_starved = heard == Err(HearFault::NoMemory);
         let is_as_before = seen(&self.0, bytes, gateway) == before;
-        let told = (heard == Ok(wanted), is_as_before);
-        equal_at(&(number, heard), &told, &(!is_starved, is_starved))?;
-        was_refused(alloc, number, is_starved, false)
+        is_heard(alloc, number, (heard, wanted), is_as_before)
     }
 }
 
-/// Each growth of these copies is refused once; those that open take one at least.
+/// Whether what was heard, beside what it is to be, is want of memory: where all is as it was before, and a growth was refused.
+fn is_heard(
+    alloc: &Refuser,
+    number: u64,
+    (heard, wanted): (Result<Heard, HearFault>, Heard),
+    is_as_before: bool,
+) -> Result<bool, Fail> {
+    let is_starved = heard == Err(HearFault::NoMemory);
+    let told = (heard == Ok(wanted), is_as_before);
+    equal_at(&(number, heard), &told, &(!is_starved, is_starved))?;
+    was_refused(alloc, number, is_starved, false)
+}
+
+/// Nothing was taken for a new list of gatherings. Then each growth of these copies is refused once; those that open take one at
+/// least.
 fn gathers<S: BuildHasher, A: Allocator + Copy>(
     alloc: &Refuser,
     hearing: &mut Hearing<S, A>,
 ) -> Result<(), Fail> {
+    same(alloc.asked(), 0)?;
     for row in &ROWS {
-        hearing.turn_to(*row);
+        hearing.1 = *row;
         let growths = growths_of(alloc, hearing)?;
         holds_at(row, growths > 0 || row.1 > 1)?;
     }
-    same(hearing.count(), 9)
+    same(hearing.0.copies(1).len(), 9)
 }
 
-/// Nothing is taken for a new list of gatherings.
+/// The same on a list that was just made.
 fn gathers_anew<S: BuildHasher + Drop, A: Allocator + Copy>(
     alloc: &Refuser,
     own: A,
     hasher: S,
 ) -> Result<(), Fail> {
-    let mut hearing = Hearing(Gather::new(own, hasher, AMPLE)?, ROWS[0]);
-    same(alloc.asked(), 0)?;
-    gathers(alloc, &mut hearing)
+    gathers(
+        alloc,
+        &mut Hearing(Gather::new(own, hasher, AMPLE)?, ROWS[0]),
+    )
 }
 
 #[test]
