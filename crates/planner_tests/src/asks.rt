@@ -43,23 +43,32 @@ pub(crate) fn asks_in_m(alloc: Global, rows: &[Row]) -> Result<Vec<Ask, Global>,
     Ok(asks)
 }
 
-/// The answer to such an ask.
-fn answer_to(row: &Row) -> Result<Answer, Fail> {
+/// The answer to such an ask, which is like this one but for its number and its start.
+fn answer_to(row: &Row, like: &Ask) -> Result<Answer, Fail> {
     let (number, start, refusal) = *row;
     match refusal {
         Some(refusal) => Ok(Err(refusal)),
         None => {
-            let made = Reservation::new(number, start, 868_100_000, DataRate::Dr5, 12);
+            let made = Reservation::new(number, start, like.freq_hz, like.rate, like.len);
             Ok(Ok(made.ok_or("the ask is fit")?))
         }
     }
 }
 
-/// The answers to them.
-pub(crate) fn answers_in_m(alloc: Global, rows: &[Row]) -> Result<Vec<Answer, Global>, Fail> {
+/// The answers to asks like this one.
+pub(crate) fn answers_like(
+    alloc: Global,
+    rows: &[Row],
+    like: &Ask,
+) -> Result<Vec<Answer, Global>, Fail> {
     let mut answers = Vec::new(alloc);
     for row in rows {
-        answers.push(answer_to(row)?)?;
+        answers.push(answer_to(row, like)?)?;
     }
     Ok(answers)
+}
+
+/// The answers to asks on 868.1 MHz at DR5.
+pub(crate) fn answers_in_m(alloc: Global, rows: &[Row]) -> Result<Vec<Answer, Global>, Fail> {
+    answers_like(alloc, rows, &ask_in_m(0, 0))
 }

@@ -14,12 +14,18 @@ pub(crate) const AMPLE_BYTES: usize = 1 << 20;
 
 pub(crate) type Live = GatewayBook<VecRoster<Global>>;
 
-/// A book that has booked these asks.
-pub(crate) fn booked(alloc: Global, asks: &[Ask]) -> Result<Live, Fail> {
-    let mut book = GatewayBook::new(VecRoster::new(alloc), 1, 4_096, 0)?;
+/// Books these asks.
+fn book_all<R: Roster>(book: &mut GatewayBook<R>, asks: &[Ask]) -> Result<(), Fail> {
     for ask in asks {
         holds(book.book(*ask).is_ok())?;
     }
+    Ok(())
+}
+
+/// A book that has booked these asks.
+pub(crate) fn booked(alloc: Global, asks: &[Ask]) -> Result<Live, Fail> {
+    let mut book = GatewayBook::new(VecRoster::new(alloc), 1, 4_096, 0)?;
+    book_all(&mut book, asks)?;
     Ok(book)
 }
 
