@@ -1,7 +1,7 @@
 // Rosters and books.
 ghost use Rattle.std.specs.Prelude.{◌≡◌, []};
 
-use gateway_book::{Ask, GatewayBook, Refusal, Totals};
+use gateway_book::{Ask, GatewayBook, NoMemory, Refusal, Totals};
 use radio_airtime::DataRate;
 use refusing_alloc::{Call, Refuser, Refusing, growths_of, same, was_refused};
 use resv_list::{Roster, VecRoster};
@@ -18,13 +18,6 @@ const ASK: Ask = Ask {
     len: 12,
 };
 
-/// An empty book.
-fn opened<R: Roster + Drop>(roster: R) -> Result<GatewayBook<R>, Fail>
-    requires { R.list roster ≡ [] }
-{
-    Ok(GatewayBook::new(roster, 1, 4_096, 0)?)
-}
-
 /// A booking at this moment, which leaves the book as it was where it is refused.
 #[derive(Drop)]
 struct Booking<R: Roster>(GatewayBook<R>, u64);
@@ -34,22 +27,32 @@ impl<R: Roster> Call for Booking<R> {
         let before = self.0.totals();
         alloc.refuse(number);
         let fault = self.0.book(ask_at(self.1)).err();
-        let is_starved = fault == Some(Refusal::NoMemory);
-        let more = if is_starved { 0 } else { 1 };
-        let wanted = Totals {
-            booked: before.booked.saturating_add(41_216 * more),
-            kept_airtime: before.kept_airtime.saturating_add(41_216 * more),
-            kept: before.kept.saturating_add(more as usize),
-            ..before
-        };
-        same((self.0.totals(), fault.is_some()), (wanted, is_starved))?;
-        was_refused(alloc, number, is_starved, false)
+        is_booked(alloc, number, fault, (before, self.0.totals()))
     }
 }
 
 /// The ask for that moment.
 fn ask_at(start: u64) -> Ask {
     Ask { start, ..ASK }
+}
+
+/// Whether a booking with this fault found no memory. The totals before and after it differ just where there is no fault.
+fn is_booked(
+    alloc: &Refuser,
+    number: u64,
+    fault: Option<Refusal>,
+    (before, after): (Totals, Totals),
+) -> Result<bool, Fail> {
+    let is_starved = fault == Some(Refusal::NoMemory);
+    let more = if is_starved { 0 } else { 1 };
+    let wanted = Totals {
+        booked: before.booked.saturating_add(41_216 * more),
+        kept_airtime: before.kept_airtime.saturating_add(41_216 * more),
+        kept: before.kept.saturating_add(more as usize),
+        ..before
+    };
+    same((after, fault.is_some()), (wanted, is_starved))?;
+    was_refused(alloc, number, is_starved, false)
 }
 
 /// Books one member after another, a second apart: each takes one growth, of so many at least, which is refused once.
@@ -66,10 +69,18 @@ fn each_takes_one<R: Roster>(
     Ok(())
 }
 
+/// So they do in a book over an empty roster.
+fn each_takes_one_over<R: Roster + Drop>(alloc: &Refuser, roster: R, least: u64) -> Result<(), Fail>
+    requires { R.list roster ≡ [] }
+{
+    let book = GatewayBook::new(roster, 1, 4_096, 0)?;
+    each_takes_one(alloc, &mut Booking(book, 0), least)
+}
+
 /// Over a tree each booking takes a growth, and over a vector one at most.
 fn bookings_take<A: Allocator + Copy>(alloc: &Refuser, own: A) -> Result<(), Fail> {
-    each_takes_one(alloc, &mut Booking(opened(TreeRoster::new(own))?, 0), 0)?;
-    each_takes_one(alloc, &mut Booking(opened(VecRoster::new(own))?, 0), 1)
+    each_takes_one_over(alloc, TreeRoster::new(own), 0)?;
+    each_takes_one_over(alloc, VecRoster::new(own), 1)
 }
 
 #[test]
@@ -78,19 +89,19 @@ fn a_booking(rt: HostRuntime) -> Result<(), Fail> {
     bookings_take(alloc, alloc)
 }
 
-/// The list of a book and a copy that is made of it, which both leave the book as it was.
+/// The list of a book and a copy that is made of it, which take this memory, and both leave the book as it was.
 #[derive(Drop)]
-struct Copying<R: Roster>(GatewayBook<R>);
+struct Copying<R: Roster, A: Allocator + Copy>(GatewayBook<R>, A);
 
-/// How many members the list has, and what the copy over an empty roster has counted; nothing where there is no memory.
+/// How many members the list has, and what the copy over an empty roster has counted.
 fn copied<R: Roster, A: Allocator, C: Roster + Drop>(
     book: &GatewayBook<R>,
-    alloc: A,
+    own: A,
     roster: C,
-) -> Option<(usize, Totals)>
+) -> Result<(usize, Totals), NoMemory>
     requires { C.list roster ≡ [] }
 {
-    let list = book.list(alloc).ok()?;
+    let list = book.list(own)?;
     let totals = book.totals();
     let copy = GatewayBook::trial(
         roster,
@@ -100,25 +111,38 @@ fn copied<R: Roster, A: Allocator, C: Roster + Drop>(
         totals.floor,
         totals.booked,
         &list,
-    );
-    Some((list.len(), copy.ok()?.totals()))
+    )?;
+    Ok((list.len(), copy.totals()))
 }
 
-impl<R: Roster> Call for Copying<R> {
+impl<R: Roster, A: Allocator + Copy> Call for Copying<R, A> {
     fn is_refused(&mut self, alloc: &Refuser, number: u64) -> Result<bool, Fail> {
         let before = self.0.totals();
         alloc.refuse(number);
-        let copied = copied(&self.0, alloc, TreeRoster::new(alloc));
-        let is_starved = copied.is_none();
-        let wanted = (!is_starved).then_some((before.kept, before));
-        same((copied, self.0.totals()), (wanted, before))?;
-        was_refused(alloc, number, is_starved, false)
+        let copied = copied(&self.0, self.1, TreeRoster::new(self.1)).ok();
+        is_copied(alloc, number, copied, (before, self.0.totals()))
     }
+}
+
+/// Whether a list and a copy found no memory. Else they have all members, and the totals of the book, which are as before.
+fn is_copied(
+    alloc: &Refuser,
+    number: u64,
+    copied: Option<(usize, Totals)>,
+    (before, after): (Totals, Totals),
+) -> Result<bool, Fail> {
+    let is_starved = copied.is_none();
+    let wanted = (!is_starved).then_some((before.kept, before));
+    same((copied, after), (wanted, before))?;
+    was_refused(alloc, number, is_starved, false)
 }
 
 /// Books one member after another, a second apart. With each the list takes one growth, and the copy one for each member; each is
 /// refused once.
-fn copies_take<R: Roster>(alloc: &Refuser, copying: &mut Copying<R>) -> Result<(), Fail> {
+fn copies_take<R: Roster, A: Allocator + Copy>(
+    alloc: &Refuser,
+    copying: &mut Copying<R, A>,
+) -> Result<(), Fail> {
     for members in 1..6 {
         copying.0.book(ask_at(members * 1_000_000))?;
         let growths = growths_of(alloc, copying)?;
@@ -127,8 +151,25 @@ fn copies_take<R: Roster>(alloc: &Refuser, copying: &mut Copying<R>) -> Result<(
     Ok(())
 }
 
+/// So they do of a book over an empty roster.
+fn copies_take_over<R: Roster + Drop, A: Allocator + Copy>(
+    alloc: &Refuser,
+    own: A,
+    roster: R,
+) -> Result<(), Fail>
+    requires { R.list roster ≡ [] }
+{
+    let book = GatewayBook::new(roster, 1, 4_096, 0)?;
+    copies_take(alloc, &mut Copying(book, own))
+}
+
+/// And over a tree.
+fn copies_of_a_tree_take<A: Allocator + Copy>(alloc: &Refuser, own: A) -> Result<(), Fail> {
+    copies_take_over(alloc, own, TreeRoster::new(own))
+}
+
 #[test]
 fn the_list_and_a_copy_of_a_book(rt: HostRuntime) -> Result<(), Fail> {
     let alloc = &Refusing::new(rt.alloc());
-    copies_take(alloc, &mut Copying(opened(TreeRoster::new(alloc))?))
+    copies_of_a_tree_take(alloc, alloc)
 }
