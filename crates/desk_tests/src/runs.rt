@@ -3,27 +3,32 @@
 use answer_ticket::Bytes;
 use gateway_book::Refusal;
 use rx_windows::{Candidate, Window};
-use server_core::{DataRate, DeskHeard, DeviceSetting, Event, Heard1, Line, Replay, Step, replay};
-use std::alloc::Global;
+use server_core::{
+    DataRate, DeskHeard, DeviceSetting, Entry, Event, Heard1, Line, Replay, Step, replay,
+};
+use std::alloc::{Allocator, Global};
 use std::test::Fail;
 use test_asserts::{equal, equal_at, holds};
 use worked_inputs::{ADDR, COPY, device, hasher, settings_of, uplink};
 
 /// What a line says.
 #[derive(Clone, Copy, Debug, PartialEq, Eq)]
-enum Told {
+pub(crate) enum Told {
+    Queued(u32, usize),
     Heard(DeskHeard),
     Send(u64, Candidate),
-    /// A frame that begins with these eight bytes.
-    Frame(u64, Option<[u8; 8]>),
+    /// A frame of so many bytes that begins with these eight.
+    Frame(u64, usize, Option<[u8; 8]>),
     Unanswered(u64, Refusal),
     Cancelled(u64, u64),
     NotCancelled(u64),
+    Floor(u16, u64),
+    Bad(u64),
     Other,
 }
 
 /// The place of an event, and what a line that answers it says.
-type Row = (usize, Told);
+pub(crate) type Row = (usize, Told);
 
 /// What the events come to at gateways 1 and 2 with these devices.
 fn replayed(
@@ -52,33 +57,36 @@ fn heard(
 }
 
 /// Compares the lines of a run, each with the place of its event.
-fn tells(replay: &Replay<Global>, lines: &[Row]) -> Result<(), Fail> {
-    equal(&replay.outcomes.len(), &lines.len())?;
-    for (place, (entry, line)) in replay.outcomes.iter().zip(lines).enumerate() {
+pub(crate) fn tells<A: Allocator>(outcomes: &[Entry<A>], lines: &[Row]) -> Result<(), Fail> {
+    equal(&outcomes.len(), &lines.len())?;
+    for (place, (entry, line)) in outcomes.iter().zip(lines).enumerate() {
         equal_at(&place, &(entry.event, what_is_told(&entry.line)), line)?;
     }
     Ok(())
 }
 
-fn what_is_told(line: &Line<Global>) -> Told {
+fn what_is_told<A: Allocator>(line: &Line<A>) -> Told {
     match line {
+        Line::Queued { addr, count } => Told::Queued(*addr, *count),
         Line::Heard(heard) => Told::Heard(*heard),
         Line::Send { number, candidate } => Told::Send(*number, *candidate),
-        Line::Frame { number, bytes } => Told::Frame(*number, begun(bytes)),
+        Line::Frame { number, bytes } => frame_told(*number, bytes.as_slice()),
         Line::Unanswered { number, refusal } => Told::Unanswered(*number, *refusal),
         Line::Cancelled { number, airtime } => Told::Cancelled(*number, *airtime),
         Line::NotCancelled { number, .. } => Told::NotCancelled(*number),
+        Line::Floor { gateway, floor } => Told::Floor(*gateway, *floor),
+        Line::Bad { line } => Told::Bad(*line),
         _ => Told::Other,
     }
 }
 
-/// How a frame begins.
-fn begun(bytes: &Bytes<Global>) -> Option<[u8; 8]> {
-    bytes.as_slice().first_chunk().copied()
+/// How long a frame is, and how it begins.
+fn frame_told(number: u64, bytes: &[u8]) -> Told {
+    Told::Frame(number, bytes.len(), bytes.first_chunk().copied())
 }
 
 /// The candidate in RX1 of gateway 1, for 12 bytes.
-const IN_RX1: Candidate = Candidate {
+pub(crate) const IN_RX1: Candidate = Candidate {
     gateway: 1,
     window: Window::Rx1,
     start: 6_000_000,
@@ -143,7 +151,7 @@ static HEARD_TWICE: [Row; 6] = [
     (3, Told::Send(1, IN_RX1_ELSEWHERE)),
     (
         3,
-        Told::Frame(1, Some([0x60, 0xda, 0x1b, 0x01, 0x26, 0x20, 0, 0])),
+        Told::Frame(1, 12, Some([0x60, 0xda, 0x1b, 0x01, 0x26, 0x20, 0, 0])),
     ),
     (4, Told::Cancelled(1, 41_216)),
     (5, Told::NotCancelled(2)),
@@ -152,7 +160,7 @@ static HEARD_TWICE: [Row; 6] = [
 #[test]
 fn answers_on_the_gateway_that_heard_better(rt: HostRuntime) -> Result<(), Fail> {
     let replay = heard_twice(rt.alloc())?;
-    tells(&replay, &HEARD_TWICE)?;
+    tells(&replay.outcomes, &HEARD_TWICE)?;
     Ok(())
 }
 
@@ -206,9 +214,15 @@ static HEARD_AT_ONCE: [Row; 8] = [
         }),
     ),
     (3, Told::Send(1, IN_RX1)),
-    (3, Told::Frame(1, Some([0x60, 0x0a, 0, 0, 0, 0x20, 0, 0]))),
+    (
+        3,
+        Told::Frame(1, 12, Some([0x60, 0x0a, 0, 0, 0, 0x20, 0, 0])),
+    ),
     (3, Told::Send(2, IN_RX2)),
-    (3, Told::Frame(2, Some([0x60, 0x0b, 0, 0, 0, 0x20, 0, 0]))),
+    (
+        3,
+        Told::Frame(2, 12, Some([0x60, 0x0b, 0, 0, 0, 0x20, 0, 0])),
+    ),
     (3, Told::Unanswered(3, Refusal::Taken { start: 7_000_000 })),
 ];
 
@@ -216,6 +230,6 @@ static HEARD_AT_ONCE: [Row; 8] = [
 fn answers_as_many_as_there_are_windows(rt: HostRuntime) -> Result<(), Fail> {
     let replay = heard_at_once(rt.alloc())?;
     equal(&replay.steps.len(), &18)?;
-    tells(&replay, &HEARD_AT_ONCE)?;
+    tells(&replay.outcomes, &HEARD_AT_ONCE)?;
     Ok(())
 }

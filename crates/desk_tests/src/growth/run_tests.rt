@@ -1,50 +1,51 @@
 // A run of events on one thread.
 
+use crate::runs::{IN_RX1, Row, Told, tells};
 use answer_ticket::Bytes;
 use refusing_alloc::{Call, Refuser, Refusing, growths_of, same, was_refused};
-use server_core::{DeskHeard, Entry, Event, Line, Settings, answer_events, replay};
+use rx_windows::Candidate;
+use server_core::{DeskHeard, Entry, Event, Settings, answer_events, replay};
 use std::alloc::{Allocator, Global};
 use std::test::Fail;
-use test_asserts::holds;
+use test_asserts::{equal, holds};
 use worked_inputs::{copy_at, device, hasher, settings_of, uplink};
 
 /// The address of the device.
 const ADDR: u32 = 1;
 
-/// What a line says: a word, and up to three numbers.
-type Answer = (&'static str, [u64; 3]);
-
-/// What is told by a line of this run.
-fn what_is_told<A: Allocator>(line: &Line<A>) -> Answer {
-    match line {
-        Line::Queued { addr, count } => ("queued", [*addr as u64, *count as u64, 0]),
-        Line::Heard(DeskHeard::Opened { n, repeat: false }) => ("opened", [*n, 0, 0]),
-        Line::Heard(DeskHeard::Joined { n, copies }) => ("joined", [*n, *copies as u64, 0]),
-        Line::Send { number, candidate } => {
-            ("send", [*number, candidate.gateway as u64, candidate.start])
-        }
-        Line::Frame { number, bytes } => ("frame", [*number, bytes.as_slice().len() as u64, 0]),
-        Line::Cancelled { number, airtime } => ("cancelled", [*number, *airtime, 0]),
-        Line::Floor { gateway, floor } => ("floor", [*gateway as u64, *floor, 0]),
-        Line::Bad { line } => ("bad", [*line, 0, 0]),
-        _ => ("other", [0; 3]),
-    }
-}
+/// The first uplink is answered with three bytes of payload, 16 bytes in all.
+const WITH_PAYLOAD: Candidate = Candidate {
+    len: 16,
+    carries: true,
+    ..IN_RX1
+};
 
 /// Two uplinks of a device, of which the first is answered with a payload on the gateway that heard it alone, and then
 /// cancelled: the place of each event, and what a line that answers it says.
-static LINES: [(usize, Answer); 11] = [
-    (0, ("queued", [ADDR as u64, 1, 0])),
-    (1, ("opened", [1, 0, 0])),
-    (2, ("send", [1, 1, 6_000_000])),
-    (2, ("frame", [1, 16, 0])),
-    (3, ("cancelled", [1, 46_336, 0])),
-    (4, ("floor", [2, 7, 0])),
-    (5, ("opened", [2, 0, 0])),
-    (6, ("joined", [2, 2, 0])),
-    (7, ("send", [2, 1, 6_000_000])),
-    (7, ("frame", [2, 12, 0])),
-    (8, ("bad", [9, 0, 0])),
+static LINES: [Row; 11] = [
+    (0, Told::Queued(ADDR, 1)),
+    (
+        1,
+        Told::Heard(DeskHeard::Opened {
+            n: 1,
+            repeat: false,
+        }),
+    ),
+    (2, Told::Send(1, WITH_PAYLOAD)),
+    (2, Told::Frame(1, 16, Some([0x60, 1, 0, 0, 0, 0x20, 0, 0]))),
+    (3, Told::Cancelled(1, 46_336)),
+    (4, Told::Floor(2, 7)),
+    (
+        5,
+        Told::Heard(DeskHeard::Opened {
+            n: 2,
+            repeat: false,
+        }),
+    ),
+    (6, Told::Heard(DeskHeard::Joined { n: 2, copies: 2 })),
+    (7, Told::Send(2, IN_RX1)),
+    (7, Told::Frame(2, 12, Some([0x60, 1, 0, 0, 0, 0x20, 1, 0]))),
+    (8, Told::Bad(9)),
 ];
 
 /// The event at this place, of those that these lines answer.
@@ -86,59 +87,48 @@ fn events<A: Allocator + Copy>(memory: Global, alloc: A) -> Result<Vec<Event<A>,
     Ok(events)
 }
 
-/// Compares the lines of a run, each with the place of its event, and counts its books.
-fn compare<A: Allocator>(outcomes: &[Entry<A>], books: usize) -> Result<bool, Fail> {
-    for (entry, line) in outcomes.iter().zip(&LINES) {
-        same((entry.event, what_is_told(&entry.line)), *line)?;
-    }
-    same((outcomes.len(), books), (LINES.len(), 2))?;
-    Ok(true)
-}
-
-/// Whether a run of the events finds memory; it answers as ever then, in 16 steps.
-fn is_whole<A: Allocator + Copy>(
-    alloc: A,
-    settings: &Settings<Global>,
-    events: &[Event<A>],
+/// Compares the lines of a run, and how many there are of all else.
+fn compare<A: Allocator>(
+    outcomes: &[Entry<A>],
+    counts: &[usize],
+    wanted: &[usize],
 ) -> Result<bool, Fail> {
-    match replay(alloc, hasher(), settings, events) {
-        Ok(replay) => {
-            same(replay.steps.len(), 16)?;
-            compare(&replay.outcomes, replay.books.len())
-        }
-        Err(_) => Ok(false),
-    }
+    tells(outcomes, &LINES)?;
+    equal(&counts, &wanted)?;
+    Ok(true)
 }
 
 /// A run of these events by these settings, with memory of which growths are refused.
 #[derive(Drop)]
 struct Run<'r, A: Allocator>(&'r Settings<Global>, &'r [Event<A>], A);
 
+impl<'r, A: Allocator + Copy> Run<'r, A> {
+    /// Whether it finds memory; it answers as ever then, with two books and in 16 steps.
+    fn is_whole(&self) -> Result<bool, Fail> {
+        match replay(self.2, hasher(), self.0, self.1) {
+            Ok(replay) => compare(
+                &replay.outcomes,
+                &[replay.books.len(), replay.steps.len()],
+                &[2, 16],
+            ),
+            Err(_) => Ok(false),
+        }
+    }
+}
+
 /// With the growth of this number refused, and all that follow it. With memory the run then answers as ever; and so it does
 /// where that growth alone is refused, if something asks for less then.
 impl<'r, A: Allocator + Copy> Call for Run<'r, A> {
     fn is_refused(&mut self, alloc: &Refuser, number: u64) -> Result<bool, Fail> {
         alloc.refuse_from(number);
-        let is_starved = !is_whole(self.2, self.0, self.1)?;
+        let is_starved = !self.is_whole()?;
         if was_refused(alloc, number, is_starved, true)? {
-            holds(is_whole(self.2, self.0, self.1)?)?;
+            holds(self.is_whole()?)?;
             alloc.refuse(number);
-            is_whole(self.2, self.0, self.1)?;
+            self.is_whole()?;
             alloc.grant();
         }
         Ok(is_starved)
-    }
-}
-
-/// Whether the events find memory for their answers, which are as ever then. They are used up.
-fn is_answered<A: Allocator + Copy>(
-    alloc: A,
-    settings: &Settings<Global>,
-    events: Vec<Event<A>, A>,
-) -> Result<bool, Fail> {
-    match answer_events(alloc, hasher(), settings, events) {
-        Ok(answers) => compare(&answers.outcomes, answers.books.len()),
-        Err(_) => Ok(false),
     }
 }
 
@@ -146,39 +136,45 @@ fn is_answered<A: Allocator + Copy>(
 #[derive(Drop)]
 struct Answered<'r, A: Allocator>(&'r Settings<Global>, Global, A);
 
+impl<'r, A: Allocator + Copy> Answered<'r, A> {
+    /// Whether they find memory with growths from this number on refused, or none where it is 0. They are as ever then, with two
+    /// books.
+    fn is_whole(&self, alloc: &Refuser, number: u64) -> Result<bool, Fail> {
+        let events = events(self.1, self.2)?;
+        alloc.refuse_from(number);
+        match answer_events(self.2, hasher(), self.0, events) {
+            Ok(answers) => compare(&answers.outcomes, &[answers.books.len()], &[2]),
+            Err(_) => Ok(false),
+        }
+    }
+}
+
 /// With the growth of this number refused, and all that follow it. With memory they are as ever.
 impl<'r, A: Allocator + Copy> Call for Answered<'r, A> {
     fn is_refused(&mut self, alloc: &Refuser, number: u64) -> Result<bool, Fail> {
-        let Answered(settings, memory, own) = self;
-        let given = events(*memory, *own)?;
-        alloc.refuse_from(number);
-        let is_starved = !is_answered(*own, settings, given)?;
+        let is_starved = !self.is_whole(alloc, number)?;
         if was_refused(alloc, number, is_starved, true)? {
-            let given = events(*memory, *own)?;
-            holds(is_answered(*own, settings, given)?)?;
+            holds(self.is_whole(alloc, 0)?)?;
         }
         Ok(is_starved)
     }
 }
 
-/// How many growths a run takes, and how many the answers to its events.
-fn growths_by<A: Allocator + Copy>(
+/// A run takes so many growths, and so many the answers to its events.
+fn are_refused<A: Allocator + Copy>(
     alloc: &Refuser,
     own: A,
     settings: &Settings<Global>,
     memory: Global,
-) -> Result<(u64, u64), Fail> {
-    let events = events(memory, own)?;
-    let replayed = growths_of(alloc, &mut Run(settings, &events, own))?;
-    Ok((
-        replayed,
-        growths_of(alloc, &mut Answered(settings, memory, own))?,
-    ))
+) -> Result<(), Fail> {
+    let replayed = growths_of(alloc, &mut Run(settings, &events(memory, own)?, own))?;
+    let answered = growths_of(alloc, &mut Answered(settings, memory, own))?;
+    same((replayed, answered), (42, 35))
 }
 
 #[test]
 fn a_run_is_replayed_and_events_are_answered(rt: HostRuntime) -> Result<(), Fail> {
     let settings = settings_of(rt.alloc(), &[device(ADDR)])?;
     let alloc = &Refusing::new(rt.alloc());
-    same(growths_by(alloc, alloc, &settings, rt.alloc())?, (42, 35))
+    are_refused(alloc, alloc, &settings, rt.alloc())
 }
