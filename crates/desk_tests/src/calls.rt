@@ -75,24 +75,39 @@ pub(crate) const OPENED_2: Answer = Answer::Heard(Ok(DeskHeard::Opened {
     repeat: false,
 }));
 
-/// Makes these calls of a new desk of the gateways 1 and 2 and of these devices, one after another, and compares each answer.
+/// Makes these calls of a desk, with a book of gateway 1, one after another, and compares each answer.
+fn call_all(
+    alloc: Global,
+    desk: &mut WorkedDesk,
+    book: &mut WorkedBook,
+    table: &[Row],
+) -> Result<(), Fail> {
+    for (place, (call, answer)) in table.iter().enumerate() {
+        equal_at(&place, &answer_to(alloc, desk, book, *call)?, answer)?;
+    }
+    Ok(())
+}
+
+/// A new desk of the gateways 1 and 2 and of these devices.
+fn opened(alloc: Global, limits: Limits, devices: &[DeviceSetting]) -> Result<WorkedDesk, Fail> {
+    let settings = settings_of(alloc, devices)?;
+    Ok(Desk::new(alloc, hasher(), &settings, limits)?)
+}
+
+/// Makes these calls of such a desk, and compares each answer.
 pub(crate) fn run(
     alloc: Global,
     limits: Limits,
     devices: &[DeviceSetting],
     table: &[Row],
 ) -> Result<(), Fail> {
-    let settings = settings_of(alloc, devices)?;
-    let mut desk = Desk::new(alloc, hasher(), &settings, limits)?;
     let mut book = book_of(alloc, 1)?;
-    for (place, (call, answer)) in table.iter().enumerate() {
-        equal_at(
-            &place,
-            &answer_to(alloc, &mut desk, &mut book, *call)?,
-            answer,
-        )?;
-    }
-    Ok(())
+    call_all(
+        alloc,
+        &mut opened(alloc, limits, devices)?,
+        &mut book,
+        table,
+    )
 }
 
 /// The same with one device, and room for more than a run comes to.
@@ -224,10 +239,14 @@ fn settle_stray(alloc: Global, desk: &mut WorkedDesk) -> Result<Answer, Fail> {
     })
 }
 
-/// What is left of a ticket for number 1 that another desk gave.
+/// What is left of a ticket for number 1 of a desk that has heard nothing.
+fn first_stub(alloc: Global, desk: &mut WorkedDesk) -> Result<Stub, Fail> {
+    hear(alloc, desk, true, ADDR, 0)?;
+    passed(desk, 200_001);
+    Ok(given_up(taken(desk, 1)?))
+}
+
+/// The same of another desk.
 fn stub_of_another(alloc: Global) -> Result<Stub, Fail> {
-    let mut other = desk_of(alloc, AMPLE, DEVICE)?;
-    hear(alloc, &mut other, true, ADDR, 0)?;
-    passed(&mut other, 200_001);
-    Ok(given_up(taken(&mut other, 1)?))
+    first_stub(alloc, &mut desk_of(alloc, AMPLE, DEVICE)?)
 }

@@ -109,35 +109,54 @@ fn answered(
     (17, Some(1), Outcome { number: 17, result })
 }
 
-#[test]
-fn lists_are_as_given(rt: HostRuntime) -> Result<(), Fail> {
-    let job = job(rt.alloc())?;
+/// A job has its one copy.
+fn has_its_copy(job: &Job<Global>) -> Result<(), Fail> {
     let copies = job.copies.as_slice();
     equal(&copies.len(), &1)?;
-    equal(&copies[0].at, &5_000_000)?;
-    let bytes = Bytes::new([1, 2, 3].to_vec(rt.alloc())?);
-    equal(&bytes.as_slice(), &[1, 2, 3].as_slice())?;
-    Ok(())
+    equal(&copies[0].at, &5_000_000)
+}
+
+/// Bytes are those that were given.
+fn has_its_bytes(bytes: &Bytes<Global>) -> Result<(), Fail> {
+    equal(&bytes.as_slice(), &[1, 2, 3].as_slice())
+}
+
+#[test]
+fn lists_are_as_given(rt: HostRuntime) -> Result<(), Fail> {
+    has_its_bytes(&Bytes::new([1, 2, 3].to_vec(rt.alloc())?))?;
+    has_its_copy(&job(rt.alloc())?)
+}
+
+/// The receipt of an answer in RX1, which carries the payload.
+fn is_in_rx1(receipt: &Receipt<Global>) -> Result<(), Fail> {
+    let wanted = (17, 1, Window::Rx1, 6_000_000, DataRate::Dr5, 113, 113);
+    equal(&receipt_told(receipt), &wanted)?;
+    let head = [0x60, 0xda, 0x1b, 0x01, 0x26, 0x20, 0, 0, 9];
+    holds(begins_with(receipt, &head))
+}
+
+/// A book that keeps what this receipt tells, and nothing else.
+fn keeps_alone(alloc: Global, book: &WorkedBook, receipt: &Receipt<Global>) -> Result<(), Fail> {
+    let members = book.list(alloc)?;
+    equal(&members.as_slice(), &[receipt.reservation].as_slice())
+}
+
+/// A ticket is booked in RX1.
+fn is_booked_in_rx1(alloc: Global, book: &mut WorkedBook) -> Result<(), Fail> {
+    let ticket = ticket(alloc)?;
+    let shown = told(&ticket);
+    let (stub, receipt) = booked(tried_on(ticket, book)).ok_or("it is booked")?;
+    equal(
+        &(ended(stub), shown),
+        &(answered(Window::Rx1, 6_000_000, 189_696, true), (17, 1, 0)),
+    )?;
+    is_in_rx1(&receipt)?;
+    keeps_alone(alloc, book, &receipt)
 }
 
 #[test]
 fn first_window_carries_the_payload(rt: HostRuntime) -> Result<(), Fail> {
-    let mut book = book_of(rt.alloc(), 1)?;
-    let ticket = ticket(rt.alloc())?;
-    let shown = told(&ticket);
-    let (stub, receipt) = booked(tried_on(ticket, &mut book)).ok_or("it is booked")?;
-    equal(
-        &ended(stub),
-        &answered(Window::Rx1, 6_000_000, 189_696, true),
-    )?;
-    equal(&shown, &(17, 1, 0))?;
-    let wanted = (17, 1, Window::Rx1, 6_000_000, DataRate::Dr5, 113, 113);
-    equal(&receipt_told(&receipt), &wanted)?;
-    let head = [0x60, 0xda, 0x1b, 0x01, 0x26, 0x20, 0, 0, 9];
-    holds(begins_with(&receipt, &head))?;
-    let members = book.list(rt.alloc())?;
-    equal(&members.as_slice(), &[receipt.reservation].as_slice())?;
-    Ok(())
+    is_booked_in_rx1(rt.alloc(), &mut book_of(rt.alloc(), 1)?)
 }
 
 /// Books what leaves no room for RX1.
@@ -152,25 +171,36 @@ fn fill_rx1(book: &mut WorkedBook) -> Result<(), Refusal> {
     Ok(())
 }
 
-#[test]
-fn second_window_leaves_the_payload_waiting(rt: HostRuntime) -> Result<(), Fail> {
-    let mut book = book_of(rt.alloc(), 1)?;
-    fill_rx1(&mut book)?;
-    let first = ticket(rt.alloc())?;
-    let (ticket, refusal) = next_refused(tried_on(first, &mut book)).ok_or("RX2 follows")?;
+/// The receipt of an answer in RX2, where the payload goes on waiting.
+fn is_in_rx2(receipt: &Receipt<Global>) -> Result<(), Fail> {
+    let wanted = (17, 1, Window::Rx2, 7_000_000, DataRate::Dr0, 12, 12);
+    equal(&receipt_told(receipt), &wanted)?;
+    let head = [0x60, 0xda, 0x1b, 0x01, 0x26, 0x30, 0, 0];
+    holds(begins_with(receipt, &head))
+}
+
+/// A ticket that was refused in RX1 is booked in RX2.
+fn is_booked_in_rx2(alloc: Global, book: &mut WorkedBook) -> Result<(), Fail> {
+    let first = ticket(alloc)?;
+    let (ticket, refusal) = next_refused(tried_on(first, book)).ok_or("RX2 follows")?;
     let shown = told(&ticket);
-    let (stub, receipt) = booked(tried_on(ticket, &mut book)).ok_or("it is booked")?;
+    let (stub, receipt) = booked(tried_on(ticket, book)).ok_or("it is booked")?;
     equal(
         &ended(stub),
         &answered(Window::Rx2, 7_000_000, 991_232, false),
     )?;
-    equal(&refusal, &Refusal::Taken { start: 6_000_000 })?;
-    equal(&shown, &(17, 1, 0))?;
-    let wanted = (17, 1, Window::Rx2, 7_000_000, DataRate::Dr0, 12, 12);
-    equal(&receipt_told(&receipt), &wanted)?;
-    let head = [0x60, 0xda, 0x1b, 0x01, 0x26, 0x30, 0, 0];
-    holds(begins_with(&receipt, &head))?;
-    Ok(())
+    equal(
+        &(refusal, shown),
+        &(Refusal::Taken { start: 6_000_000 }, (17, 1, 0)),
+    )?;
+    is_in_rx2(&receipt)
+}
+
+#[test]
+fn second_window_leaves_the_payload_waiting(rt: HostRuntime) -> Result<(), Fail> {
+    let mut book = book_of(rt.alloc(), 1)?;
+    fill_rx1(&mut book)?;
+    is_booked_in_rx2(rt.alloc(), &mut book)
 }
 
 #[test]
