@@ -88,6 +88,11 @@ fn call_all(
     Ok(())
 }
 
+/// The same with a new book.
+fn call_all_beside_book(alloc: Global, desk: &mut WorkedDesk, table: &[Row]) -> Result<(), Fail> {
+    call_all(alloc, desk, &mut book_of(alloc, 1)?, table)
+}
+
 /// A new desk of the gateways 1 and 2 and of these devices.
 fn opened(alloc: Global, limits: Limits, devices: &[DeviceSetting]) -> Result<WorkedDesk, Fail> {
     let settings = settings_of(alloc, devices)?;
@@ -101,13 +106,7 @@ pub(crate) fn run(
     devices: &[DeviceSetting],
     table: &[Row],
 ) -> Result<(), Fail> {
-    let mut book = book_of(alloc, 1)?;
-    call_all(
-        alloc,
-        &mut opened(alloc, limits, devices)?,
-        &mut book,
-        table,
-    )
+    call_all_beside_book(alloc, &mut opened(alloc, limits, devices)?, table)
 }
 
 /// The same with one device, and room for more than a run comes to.

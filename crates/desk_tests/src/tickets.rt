@@ -203,29 +203,35 @@ fn second_window_leaves_the_payload_waiting(rt: HostRuntime) -> Result<(), Fail>
     is_booked_in_rx2(rt.alloc(), &mut book)
 }
 
-#[test]
-fn book_of_another_gateway_is_not_asked(rt: HostRuntime) -> Result<(), Fail> {
-    let mut book = book_of(rt.alloc(), 2)?;
-    let first = ticket(rt.alloc())?;
-    let ticket = handed_back(tried_on(first, &mut book)).ok_or("it is handed back")?;
+/// A ticket is handed back, and the book of another gateway keeps nothing.
+fn is_handed_back(alloc: Global, book: &mut WorkedBook) -> Result<(), Fail> {
+    let first = ticket(alloc)?;
+    let ticket = handed_back(tried_on(first, book)).ok_or("it is handed back")?;
     let shown = told(&ticket);
     let _ = ended(ticket.give_up());
     equal(&shown, &(17, 1, 0))?;
-    equal(&book.totals().kept, &0)?;
-    Ok(())
+    equal(&book.totals().kept, &0)
+}
+
+#[test]
+fn book_of_another_gateway_is_not_asked(rt: HostRuntime) -> Result<(), Fail> {
+    is_handed_back(rt.alloc(), &mut book_of(rt.alloc(), 2)?)
+}
+
+/// A ticket is refused in both windows, which have passed.
+fn is_refused_twice(alloc: Global, book: &mut WorkedBook) -> Result<(), Fail> {
+    book.tick(7_000_001);
+    let first = ticket(alloc)?;
+    let (ticket, refusal) = next_refused(tried_on(first, book)).ok_or("RX2 follows")?;
+    let (stub, last) = last_refused(tried_on(ticket, book)).ok_or("RX2 is the last")?;
+    let result = Ending::Unanswered(Refusal::Passed);
+    equal(&ended(stub), &(17, None, Outcome { number: 17, result }))?;
+    equal(&[refusal, last], &[Refusal::Passed, Refusal::Passed])
 }
 
 #[test]
 fn book_that_refuses_both_windows(rt: HostRuntime) -> Result<(), Fail> {
-    let mut book = book_of(rt.alloc(), 1)?;
-    book.tick(7_000_001);
-    let first = ticket(rt.alloc())?;
-    let (ticket, refusal) = next_refused(tried_on(first, &mut book)).ok_or("RX2 follows")?;
-    let (stub, last) = last_refused(tried_on(ticket, &mut book)).ok_or("RX2 is the last")?;
-    let result = Ending::Unanswered(Refusal::Passed);
-    equal(&ended(stub), &(17, None, Outcome { number: 17, result }))?;
-    equal(&[refusal, last], &[Refusal::Passed, Refusal::Passed])?;
-    Ok(())
+    is_refused_twice(rt.alloc(), &mut book_of(rt.alloc(), 1)?)
 }
 
 #[test]
