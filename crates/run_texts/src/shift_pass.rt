@@ -13,6 +13,9 @@ use std::hash::BuildHasher;
 use std::sync::Wait;
 use std::thread::Threads;
 
+/// For how many numbers there is room before their list grows.
+const NUMBERS_AT_ONCE: usize = 64;
+
 impl<B: Ledger + Send + Sync, S: BuildHasher + Drop + Send + Sync> Shift<B, S>
 where
     S::Hasher: Send + Sync,
@@ -82,7 +85,7 @@ where
     fn closed<R: Wait>(&self, rt: &R, alloc: Global, now: u64) -> Result<Vec<u64>, NoMemory>
         ensures { IfOk result (λ numbers. WereClosed now numbers.items) }
     {
-        let mut numbers = Vec::new(alloc);
+        let mut numbers = Vec::with_capacity(alloc, NUMBERS_AT_ONCE)?;
         for _ in rt.forever() {
             let Some(number) = self.station.pass(rt, now) else {
                 break;
