@@ -1,10 +1,11 @@
 -- What the calling thread files, number by number.
 use Rattle.std.proofs.Common.{◌≡◌, ℕ, ◌++◌, List, [], ◌∷◌, Some, Vec, subst, sym}
-use Rattle.std.proofs.Common.{ap, ◌∙◌, append_assoc, append-nil}
+use Rattle.std.proofs.Common.{ap, ◌∙◌, append_assoc, append-nil, refl, length, ◌==◌, Bool, true, map, arith}
 use Rattle.std.specs.Global.{Global}
 use Rattle.std.specs.List.{flat_map}
 use Rattle.std.specs.List.Sorted.{IsPermutation}
 use Rattle.std.proofs.Math.Logic.{∥∥₁_map}
+use Rattle.std.proofs.lemmas.Bool.Decides.{nat_tests}
 use Rattle.std.proofs.lemmas.List.Elements.{All-nil}
 use Rattle.std.proofs.lemmas.List.Sorted.{IsPermutation-refl}
 use Rattle.std.proofs.lemmas.Grind.{flat_map-append}
@@ -22,8 +23,12 @@ use Rattle.server_workers.specs.Turns.{IsOneOf}
 use Rattle.server_workers.specs.Working as working
 use Rattle.server_workers.specs.Working.{receipts_of, outcomes_of, strays_of}
 use Rattle.server_workers.proofs.TurnLemmas.{handed_on}
+use Rattle.run_texts.specs.declared.pass_answers.Answer.{Answer}
 use Rattle.run_texts.specs.declared.pass_ends.Ends.{Ends}
-use Rattle.run_texts.specs.PassEnds.{AreNone, AreServed, WereEnded, TakenUp, IsFiled, HasFiled, refused_of}
+use Rattle.run_texts.specs.Bookings.{booking_of}
+use Rattle.run_texts.specs.PassEnds.{AreNone, AreByNumber, AreServed, WereEnded, TakenUp, IsFiled, HasFiled, HasFiledInOrder}
+use Rattle.run_texts.specs.PassEnds.{refused_of, left_by}
+use Rattle.run_texts.specs.PassAnswers.{answer_in, IsPassToldFrom}
 
 -- a list that has got more, one turn after others
 more : {X : Type 0} (f : TakenUp → List X) (turns : List TakenUp) (t : TakenUp) (old mid new : List X)
@@ -55,6 +60,52 @@ filed_more ids numbers n turn first till last old mid new so_far handled filed =
             all.strays filed.strays;
       },
     )
+
+-- no number was taken up
+pub none_filed : (ids : List ℕ) (till : Holding) (e : Ends) → HasFiledInOrder ids [] till till e e
+none_filed ids till e = (
+  e,
+  (
+    [],
+    refl,
+    refl,
+    record {
+      receipts = sym (append-nil e.receipts.items);
+      outcomes = sym (append-nil e.outcomes.items);
+      refused = sym (append-nil e.refused.items);
+      strays = sym (append-nil e.strays.items);
+    },
+  ),
+  record {
+    receipts = IsPermutation-refl e.receipts.items;
+    outcomes = IsPermutation-refl e.outcomes.items;
+    refused = IsPermutation-refl e.refused.items;
+    strays = IsPermutation-refl e.strays.items;
+  },
+)
+
+-- a list that is empty
+pub is_none : (l : List ℕ) (t : Bool) → t ≡ (length l == 0) → t ≡ true → l ≡ []
+is_none [] t e f = refl
+is_none (n ∷ l) t e f =
+    let none : length (n ∷ l) ≡ 0 = grind (arith, nat_tests, e, f) in
+    absurd (omega (arith, none))
+
+-- what is told of a pass once what the workers left was taken up
+pub told_in_order : (ids : List ℕ) (before after : Holding) (workers all : Ends) (numbers left : List ℕ) (answers : List Answer)
+    (booked : List (Receipt Global)) → HasFiledInOrder ids left before after workers all → left ≡ left_by workers numbers
+    → AreByNumber all → answers ≡ map (answer_in all) numbers → map booking_of booked ≡ map booking_of all.receipts.items
+    → IsPassToldFrom ids before after workers numbers answers booked
+told_in_order ids before after workers all numbers left answers booked filed same sorted told receipts =
+    record {
+      finished = filed.0;
+      all = all;
+      rest = subst (λ l. HasFiled ids l before after workers filed.0) same filed.1;
+      reordered = filed.2;
+      sorted = sorted;
+      told = told;
+      receipts = receipts;
+    }
 
 -- what workers served is how they ended it
 pub served_ended : {B : Type 0} (numbers : List ℕ) (served : Served B Global) (e : Ends) → IsServed numbers served

@@ -1,4 +1,4 @@
-use Rattle.std.specs.Prelude.{ℕ, ◌≡◌, ◌+◌, ◌≤◌, ◌==◌, Bool, List, [], ◌∷◌, map, find, Option, None, Some}
+use Rattle.std.specs.Prelude.{ℕ, ◌≡◌, ◌≢◌, ◌+◌, ◌≤◌, ◌==◌, Bool, true, false, List, [], ◌∷◌, map, find, Option, None, Some}
 use Rattle.std.specs.Global.{Global}
 use Rattle.std.specs.Option.{option_map_or}
 use Rattle.std.specs.List.{flat_map}
@@ -16,6 +16,7 @@ use Rattle.run_texts.specs.declared.pass_answers.Answer.{Answer}
 use Rattle.run_texts.specs.declared.pass_ends.End.{End}
 use Rattle.run_texts.specs.declared.pass_ends.End.TheVariants as ends
 use Rattle.run_texts.specs.declared.pass_ends.Ends.{Ends}
+use Rattle.run_texts.specs.Bookings.{booking_of}
 use Rattle.run_texts.specs.PassEnds.{AreNone, AreByNumber, IsReordered, HasFiled, WereEnded, end_of, left_by}
 
 -- What a run with workers answers to the uplinks that one `pass` closed (docs/FORMATS.md, "airbook run").
@@ -64,8 +65,27 @@ answer_to receipts n ends.Stray = line_alone n (lines.Stray n)
 abbrev pub answer_in : Ends → ℕ → Answer
 answer_in e n = option_map_or (answer_to e.receipts.items n) (end_of e n) (line_alone n (lines.Stray n))
 
+-- a receipt that was told: where frames are moved it has none any more
+abbrev pub told_receipt : Bool → Receipt Global → Receipt Global
+told_receipt true r = (booking_of r).receipt
+told_receipt false r = r
+
+-- number n was told: the receipts are as before but for their frames, and by each other number the same is found, by n too where
+-- frames are not moved
+pub record AreTold (is_moved : Bool) (n : ℕ) (old new : List (Receipt Global)) : Type 0 where
+  pub same : map booking_of new ≡ map booking_of old
+  pub found : (m : ℕ) → (is_moved ≡ true → m ≢ n)
+      → find (λ (r : Receipt Global). r.number == m) new ≡ find (λ (r : Receipt Global). r.number == m) old
+
+-- the same of all ends: each other number still has the same answer
+pub record IsToldOf (is_moved : Bool) (n : ℕ) (old new : Ends) : Type 0 where
+  pub by_number : AreByNumber new
+  pub same : map booking_of new.receipts.items ≡ map booking_of old.receipts.items
+  pub answer : (m : ℕ) → (is_moved ≡ true → m ≢ n) → answer_in new m ≡ answer_in old m
+
 -- one answer for each of these numbers, in their order: by how the workers ended it, and where none of them did, by how the
--- calling thread, which took up just those at a station of these gateways, did; and the receipts of all that was booked
+-- calling thread, which took up just those at a station of these gateways, did; and the receipts of all that was booked, but for
+-- their frames, which the answers have
 pub record IsPassToldFrom (ids : List ℕ) (before after : Holding) (workers : Ends) (numbers : List ℕ) (answers : List Answer)
     (booked : List (Receipt Global)) : Type 0 where
   pub finished : Ends
@@ -74,7 +94,7 @@ pub record IsPassToldFrom (ids : List ℕ) (before after : Holding) (workers : E
   pub reordered : IsReordered finished all
   pub sorted : AreByNumber all
   pub told : answers ≡ map (answer_in all) numbers
-  pub receipts : booked ≡ all.receipts.items
+  pub receipts : map booking_of booked ≡ map booking_of all.receipts.items
 
 -- the till with the airtime of what workers settled
 abbrev pub raised : Holding → Ends → Holding

@@ -2,14 +2,16 @@
 ghost use Rattle.std.specs.Prelude.{◌≡◌, IfOk};
 ghost use Rattle.std.specs.List.Sorted.{IsNonDecreasingBy};
 ghost use Rattle.run_texts.specs.PassAnswers.{line_alone, refused_answer, sent_answer, booked_answer, answer_to};
+ghost use Rattle.run_texts.specs.PassAnswers.{told_receipt, AreTold};
 
-use crate::numbered::with_number;
+use crate::numbered::place_of;
 use crate::pass_ends::End;
 use answer_ticket::{Bytes, Ending, Receipt};
 use gateway_book::Refusal;
 use rx_windows::Candidate;
 use server_core::{Line, NoMemory, TakeFault};
 use std::alloc::Global;
+use std::mem::replace;
 
 /// The answer to the uplink with this number: a line, and its frame where one is to be sent.
 #[derive(Drop)]
@@ -19,20 +21,23 @@ pub struct Answer {
     pub frame: Option<Bytes<Global>>,
 }
 
-/// The answer to an uplink that ended so, where these receipts are by number; one is looked for at the likely place first.
+/// The answer to an uplink that ended so, where these receipts are by number; one is looked for at the likely place first. A
+/// frame is moved out of its receipt, or copied.
 pub(crate) fn answer_to(
     alloc: Global,
     number: u64,
     end: End,
-    receipts: &[Receipt<Global>],
+    receipts: &mut [Receipt<Global>],
     likely: &mut usize,
+    is_moved: bool,
 ) -> Result<Answer, NoMemory>
-    requires { IsNonDecreasingBy (λ r. r.number) receipts.now }
-    ensures { IfOk result (λ answer. answer ≡ answer_to receipts.now number end) }
+    requires { IsNonDecreasingBy (λ r. r.number) receipts.old }
+    ensures answer { IfOk result (λ answer. answer ≡ answer_to receipts.old number end) }
+    ensures told { AreTold is_moved number receipts.old receipts.new }
 {
     match end {
         End::Settled(Ending::Answered { carried, .. }) => {
-            booked(alloc, number, carried, receipts, likely)
+            booked(alloc, number, carried, receipts, likely, is_moved)
         }
         End::Settled(Ending::Unanswered(refusal)) => Ok(unanswered(number, refusal)),
         End::Settled(Ending::GivenUp) => Ok(unanswered(number, Refusal::NoMemory)),
@@ -46,16 +51,19 @@ fn booked(
     alloc: Global,
     number: u64,
     carried: bool,
-    receipts: &[Receipt<Global>],
+    receipts: &mut [Receipt<Global>],
     likely: &mut usize,
+    is_moved: bool,
 ) -> Result<Answer, NoMemory>
-    requires { IsNonDecreasingBy (λ r. r.number) receipts.now }
-    ensures { IfOk result (λ answer. answer ≡ booked_answer receipts.now number carried) }
+    requires { IsNonDecreasingBy (λ r. r.number) receipts.old }
+    ensures answer { IfOk result (λ answer. answer ≡ booked_answer receipts.old number carried) }
+    ensures told { AreTold is_moved number receipts.old receipts.new }
 {
-    match with_number(receipts, likely, number) {
-        Some(receipt) => sent(alloc, number, carried, receipt),
-        None => Ok(line_alone(number, Line::Stray { number })),
-    }
+    let Some(at) = place_of(receipts, *likely, number) else {
+        return Ok(line_alone(number, Line::Stray { number }));
+    };
+    *likely = at.saturating_add(1);
+    sent(alloc, number, carried, &mut receipts[at], is_moved)
 }
 
 /// The answer that a receipt names, with its frame.
@@ -63,9 +71,11 @@ fn sent(
     alloc: Global,
     number: u64,
     carries: bool,
-    receipt: &Receipt<Global>,
+    receipt: &mut Receipt<Global>,
+    is_moved: bool,
 ) -> Result<Answer, NoMemory>
-    ensures { IfOk result (λ answer. answer ≡ sent_answer number carries receipt.now) }
+    ensures answer { IfOk result (λ answer. answer ≡ sent_answer number carries receipt.old) }
+    ensures told { receipt.new ≡ told_receipt is_moved receipt.old }
 {
     let candidate = Candidate {
         gateway: receipt.gateway,
@@ -76,13 +86,29 @@ fn sent(
         len: receipt.reservation.len,
         carries,
     };
-    let mut frame = Vec::new(alloc);
-    frame.extend_from_slice(receipt.frame.as_slice())?;
+    let frame = frame_of(alloc, receipt, is_moved)?;
     Ok(Answer {
         number,
         line: Line::Send { number, candidate },
-        frame: Some(Bytes::new(frame)),
+        frame: Some(frame),
     })
+}
+
+/// The frame of a receipt, moved out of it, or copied.
+fn frame_of(
+    alloc: Global,
+    receipt: &mut Receipt<Global>,
+    is_moved: bool,
+) -> Result<Bytes<Global>, NoMemory>
+    ensures frame { IfOk result (λ frame. frame ≡ receipt.old.frame) }
+    ensures told { receipt.new ≡ told_receipt is_moved receipt.old }
+{
+    if is_moved {
+        return Ok(replace(&mut receipt.frame, Bytes::new(Vec::new(alloc))));
+    }
+    let mut frame = Vec::new(alloc);
+    frame.extend_from_slice(receipt.frame.as_slice())?;
+    Ok(Bytes::new(frame))
 }
 
 /// The answer where every candidate was refused.

@@ -2,7 +2,7 @@
 ghost use Rattle.std.specs.Prelude.{◌≡◌, ◌+◌, ◌≤◌, ◌↔◌, Ok, IfOk, IfErr, OnOk, IsErrAnd};
 ghost use Rattle.server_workers.specs.Serving.{IsOutside, IsSortedByNumber};
 ghost use Rattle.server_workers.specs.Works.{outcomes_airtime};
-ghost use Rattle.run_texts.specs.PassEnds.{AreNone, AreByNumber, AreServed, HasFiled, WereEnded};
+ghost use Rattle.run_texts.specs.PassEnds.{AreNone, AreByNumber, AreServed, HasFiled, HasFiledInOrder, WereEnded};
 ghost use Rattle.run_texts.specs.PassAnswers.{IsPassTold, IsPassToldFrom, IsPassToldAlone};
 
 use crate::pass_answers::Answer;
@@ -31,7 +31,8 @@ pub struct Answered<B: Ledger> {
     pub told: Result<Told, NoMemory>,
 }
 
-/// What is told of the uplinks that one `pass` closed, and the receipts of what was booked for them.
+/// What is told of the uplinks that one `pass` closed, and the receipts of what was booked for them, whose frames may have been
+/// moved into the answers.
 #[derive(Drop)]
 pub struct Told {
     pub answers: Vec<Answer>,
@@ -170,8 +171,7 @@ fn told_of<B: Ledger, S: BuildHasher, R: Wait>(
 {
     let mut ends = ends;
     let left = ends.left_of(alloc, numbers)?;
-    finish(rt, station, left.as_slice(), till, &mut ends)?;
-    ends.sort();
+    take_up(rt, station, left.as_slice(), till, &mut ends)?;
     let answers = ends.answers(alloc, numbers)?;
     Ok(Told {
         answers,
@@ -179,7 +179,29 @@ fn told_of<B: Ledger, S: BuildHasher, R: Wait>(
     })
 }
 
-/// Takes up the uplinks with these numbers on the calling thread, each once, and files what becomes of them.
+/// Takes up the uplinks with these numbers on the calling thread, each once, and files what becomes of them by number. Mostly
+/// there are none, and what is by number stays as it is.
+fn take_up<B: Ledger, S: BuildHasher, R: Wait>(
+    rt: &R,
+    station: &Station<B, S>,
+    numbers: &[u64],
+    till: &mut Till<B>,
+    ends: &mut Ends,
+) -> Result<(), NoMemory>
+    requires { AreByNumber ends.old }
+    ensures parts { till.new.parts ≡ till.old.parts }
+    ensures filed { OnOk result (HasFiledInOrder station.now numbers.now till.old till.new ends.old ends.new) }
+    ensures sorted { OnOk result (AreByNumber ends.new) }
+{
+    if numbers.is_empty() {
+        return Ok(());
+    }
+    finish(rt, station, numbers, till, ends)?;
+    ends.sort();
+    Ok(())
+}
+
+/// The same, and files what becomes of them behind what there was.
 fn finish<B: Ledger, S: BuildHasher, R: Wait>(
     rt: &R,
     station: &Station<B, S>,
