@@ -48,6 +48,11 @@ const ANSWERED_HERE: &[u8] =
     b"send 1 1 RX1 6000000 868100000 5 12\nframe 1 600a00000020000087c940f9\nsend 2 1 RX2 7000000 869525000 0 12\n\
       frame 2 600b0000002000000b784269\nunanswered 3 Taken\nanswered 2 unanswered 1 silent 0\n";
 
+/// The answer to the first of them, twice.
+const TOLD_TWICE: &[u8] =
+    b"send 1 1 RX1 6000000 868100000 5 12\nframe 1 600a00000020000087c940f9\nsend 1 1 RX1 6000000 868100000 5 12\n\
+      frame 1 600a00000020000087c940f9\nanswered 2 unanswered 0 silent 0\n";
+
 /// What is told of an answer that was given up, of two that got no ticket, and of a stray.
 const RARE: &[u8] =
     b"unanswered 1 NoMemory\nno 2 NoMemory\nsilent 3\nno 4 Stray\nanswered 0 unanswered 1 silent 1\n";
@@ -181,6 +186,22 @@ fn answered<B: Ledger + Send + Sync, R: Threads + Wait + Sync>(
     Ok((ran, text))
 }
 
+/// What is told of an uplink whose number stands twice.
+fn told_twice<B: Ledger + Send + Sync, R: Threads + Wait + Sync>(
+    rt: &R,
+    alloc: Global,
+    blank: Blank,
+) -> Result<Text, Fail>
+    requires name { blank.name ≡ B.name }
+    requires parts { blank.parts ≡ B.parts }
+    requires all { blank.parts ≡ PARTS }
+{
+    let (station, till) = station_that_heard::<B, R>(rt, alloc, AT_ONCE, blank)?;
+    let answered = answer_with_workers(rt, alloc, &station, &[1, 1], till, 1);
+    let (text, _) = pass_text(alloc, answered.told)?;
+    Ok(text)
+}
+
 #[test]
 fn what_is_skipped_is_answered_once_more(rt: HostRuntime) -> Result<(), Fail> {
     let (before, after) = held::<Brand, _>(&rt, rt.alloc(), Blank::new(PARTS as u64))?;
@@ -200,6 +221,14 @@ fn calling_thread_answers_where_nobody_works(rt: HostRuntime) -> Result<(), Fail
     equal(&ran, &Err(ServeCause::Workers))?;
     holds(!refused)?;
     equal(&text.as_slice(), &ANSWERED_HERE)?;
+    Ok(())
+}
+
+#[test]
+fn number_that_stands_twice_has_its_answer_twice(rt: HostRuntime) -> Result<(), Fail> {
+    let (refused, text) = told_twice::<Brand, _>(&rt, rt.alloc(), Blank::new(PARTS as u64))?;
+    holds(!refused)?;
+    equal(&text.as_slice(), &TOLD_TWICE)?;
     Ok(())
 }
 
