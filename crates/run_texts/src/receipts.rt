@@ -1,5 +1,6 @@
 // What was booked in a run with workers, by number.
-ghost use Rattle.std.specs.Prelude.{◌≡◌, ◌<◌, [], length, slice_get, OnOk, IfOk, IfSome, Some};
+ghost use Rattle.std.specs.Prelude.{◌≡◌, ◌<◌, ◌≤◌, [], length, insert, slice_get, vec_len, vec_capacity};
+ghost use Rattle.std.specs.Prelude.{IsOk, OnOk, OnErr, IfOk, IfSome, Some};
 ghost use Rattle.std.specs.Option.{option_and_then, option_map};
 ghost use Rattle.run_texts.specs.Bookings.{bookings_in, booking_of, booked_for, HasOneMore, HasMore, IsMarkedAt, open_receipts};
 
@@ -59,8 +60,8 @@ impl Receipts {
     {
         self.are_cancelled.reserve(1)?;
         let at = end_of_lesser(&self.receipts, self.receipts.len(), receipt.number);
-        self.receipts.insert(at, without_frame(alloc, receipt))?;
-        let has_room = self.are_cancelled.insert(at, false).is_ok();
+        put(&mut self.receipts, at, without_frame(alloc, receipt))?;
+        let has_room = put(&mut self.are_cancelled, at, false).is_ok();
         prove!(has_room); // It was reserved.
         Ok(())
     }
@@ -102,6 +103,19 @@ impl Receipts {
         }
         open_receipts(alloc, receipts, are_cancelled)
     }
+}
+
+/// Puts an item at this place, which is mostly behind all others, where it is pushed.
+fn put<T: Drop>(items: &mut Vec<T>, at: usize, item: T) -> Result<(), NoMemory>
+    requires { at ≤ vec_len items.old }
+    ensures put { OnOk result (items.new.items ≡ insert items.old.items at item) }
+    ensures kept { OnErr result (items.new.items ≡ items.old.items) }
+    ensures succeeds { vec_len items.old < vec_capacity items.old → IsOk result }
+{
+    if at < items.len() {
+        return Ok(items.insert(at, item)?);
+    }
+    Ok(items.push(item)?)
 }
 
 /// Those of these receipts that are not cancelled.

@@ -11,8 +11,8 @@ invariant_of-self-2 c =
     let flags = c.self.inside.are_cancelled.items in
     let at = c.end_of_lesser-at.result in
     let r = (booking_of c.args.receipt).receipt in
-    let more : c.insert.new.self.items ≡ insert receipts at r = search rules in
-    let flagged : c.insert-2.new.self.items ≡ insert flags at false = search rules in
+    let more : c.put.new.items.items ≡ insert receipts at r = search rules in
+    let flagged : c.put-2.new.items.items ≡ insert flags at false = search rules in
     rw (more, flagged)
     (one_more_is_flagged receipts flags r false at c.self.invariant
     (subst (λ l. IsEndOfLesser number_of r.number l at) c.deref.ensures.value c.end_of_lesser-at.ensures))
@@ -23,8 +23,8 @@ returns c =
     let flags = c.self.inside.are_cancelled.items in
     let at = c.end_of_lesser-at.result in
     let r = (booking_of c.args.receipt).receipt in
-    let more : c.insert.new.self.items ≡ insert receipts at r = search rules in
-    let flagged : c.insert-2.new.self.items ≡ insert flags at false = search rules in (
+    let more : c.put.new.items.items ≡ insert receipts at r = search rules in
+    let flagged : c.put-2.new.items.items ≡ insert flags at false = search rules in (
       at,
       rw (more, flagged)
           (bookings-insert receipts flags at r false c.self.invariant.same_length
