@@ -1,11 +1,10 @@
 // Workers who serve at a station.
 ghost use Rattle.std.specs.Prelude.{◌≡◌, ◌<◌};
 
-use crate::growth::stations::hears;
-use crate::growth::works::finish;
+use crate::growth::stations::opened;
+use crate::growth::works::{Came, finish};
 use crate::posts::settings_of;
 use answer_ticket::{Ending, Outcome, Receipt};
-use gateway_book::Totals;
 use refusing_alloc::{
     MOST_GROWTHS, Refused, Refuser, Refusing, asked_of, is_as_asked, refuse, same,
 };
@@ -18,7 +17,7 @@ use std::marker::Brand;
 use std::sync::Wait;
 use std::test::Fail;
 use std::thread::Threads;
-use worked_inputs::{WorkedHasher, hasher};
+use worked_inputs::WorkedHasher;
 
 /// How many workers serve, and which growths are refused.
 type Trial = (u8, Refused);
@@ -54,42 +53,32 @@ fn counted(outcomes: &[Outcome], skipped: &[u64]) -> Counted {
     (told, outcomes.len().saturating_add(skipped.len()), answered)
 }
 
-/// What some receipts are on air for, and what some gateways have booked.
-fn airtimes<A: Allocator>(receipts: &[Receipt<A>], totals: &[(u16, Totals)]) -> (u64, u64) {
+/// What some receipts are on air for.
+fn airtime_of<A: Allocator>(receipts: &[Receipt<A>]) -> u64 {
     let mut airtime = 0u64;
     for receipt in receipts {
         airtime = airtime.saturating_add(receipt.reservation.airtime());
     }
-    let mut booked = 0u64;
-    for (_, totals) in totals {
-        booked = booked.saturating_add(totals.booked);
-    }
-    (airtime, booked)
+    airtime
 }
 
-/// What those who served came to: what became of the numbers, what their receipts and the gateways' totals are on air for, and
-/// what was booked.
-type Ended = (Counted, (u64, u64), u64);
+/// What those who served came to: what became of the numbers, what their receipts are on air for, and what the station came to, if
+/// it could be finished.
+type Ended = (Counted, u64, Option<Came>);
 
 /// Finishes a station with the till of those who served and with their receipts, which account for all that was booked.
 fn ended<B: Ledger, A: Allocator + Copy>(
     memory: A,
     station: Station<B, WorkedHasher, A>,
     served: Served<B, A>,
-) -> Option<Ended> {
+) -> Ended {
     let counted = counted(&served.outcomes, &served.skipped);
-    let Served { till, receipts, .. } = served;
-    let Ok(mut tills) = Vec::with_capacity(memory, 1) else {
-        return None;
-    };
-    tills.push_reserved(till);
-    match finish(memory, station, tills, &receipts) {
-        Ok(closing) => {
-            let airtimes = airtimes(&receipts, &closing.totals);
-            Some((counted, airtimes, closing.booked))
-        }
-        Err(_) => None,
-    }
+    let airtime = airtime_of(&served.receipts);
+    let mut tills = Vec::new(memory);
+    // A till that found no room is missing when the station is finished.
+    let _ = tills.push(served.till);
+    let came = finish(memory, station, tills, &served.receipts).ok();
+    (counted, airtime, came)
 }
 
 /// Whether those who could not serve were told so, with all parts of the till that was handed back, and what one worker then
@@ -107,7 +96,7 @@ where
     let ServeFault { cause, till } = fault;
     let is_told = (till.parts(), cause) == (PARTS, ServeCause::NoMemory);
     match serve(rt, memory, &station, &NUMBERS, till, 1, &NoGate) {
-        Ok(served) => (is_told, ended(memory, station, served)),
+        Ok(served) => (is_told, Some(ended(memory, station, served))),
         Err(_) => (false, None),
     }
 }
@@ -130,7 +119,12 @@ where
     match serve(rt, own, &station, &NUMBERS, till, trial.0, &NoGate) {
         Ok(served) => {
             let asked = asked_of(alloc);
-            is_accounted_for(trial, asked, true, (true, ended(own, station, served)))
+            is_accounted_for(
+                trial,
+                asked,
+                true,
+                (true, Some(ended(own, station, served))),
+            )
         }
         Err(fault) => {
             let asked = asked_of(alloc);
@@ -148,10 +142,11 @@ fn is_accounted_for(
     (is_told, ended): (bool, Option<Ended>),
 ) -> Result<bool, Fail> {
     let (_, (number, and_after)) = trial;
-    let ((told, count, answered), airtimes, booked) = ended.ok_or("all is accounted for")?;
+    let ((told, count, answered), airtime, came) = ended.ok_or("somebody serves")?;
+    let (booked, totals, ..) = came.ok_or("all is accounted for")?;
     same(
-        (is_told, told, count, airtimes),
-        (true, ALL, 20, (booked, booked)),
+        (is_told, told, count, airtime, totals),
+        (true, ALL, 20, booked, booked),
     )?;
     let least = match (could_serve, and_after) {
         (false, _) => 20,
@@ -178,8 +173,7 @@ where
     requires parts { blank.parts ≡ B.parts }
     requires all { blank.parts ≡ PARTS }
 {
-    let (station, till) = Station::<B, _, _>::new(own, hasher(), settings, blank)?;
-    hears(rt, memory, &station, 20)?;
+    let (station, till) = opened::<B, _, _>(rt, memory, own, settings, blank, 20)?;
     is_served(rt, alloc, own, station, till, trial)
 }
 

@@ -1,5 +1,5 @@
 // Work at stations whose growths are refused.
-ghost use Rattle.std.specs.Prelude.{◌≡◌, ◌<◌};
+ghost use Rattle.std.specs.Prelude.{◌≡◌, ◌<◌, IfOk};
 
 use crate::posts::settings_of;
 use gateway_book::Totals;
@@ -22,30 +22,11 @@ pub(crate) fn takes<R: Wait, W: AtWork>(
     growths: u64,
 ) -> Result<(), Fail> {
     let settings = settings_of(memory, &[1, 2], heard.max(2))?;
-    each_is_refused(
-        rt,
-        memory,
-        &Refusing::new(memory),
-        &settings,
-        heard,
-        work,
-        growths,
-    )
-}
-
-fn each_is_refused<R: Wait, W: AtWork>(
-    rt: &R,
-    memory: Global,
-    alloc: &Refuser,
-    settings: &Settings<Global>,
-    heard: u32,
-    work: &W,
-    growths: u64,
-) -> Result<(), Fail> {
+    let alloc = &Refusing::new(memory);
     for number in 1..MOST_GROWTHS {
         let blank = Blank::new(PARTS as u64);
         if !is_refused::<Brand, _, _, _>(
-            rt, memory, alloc, alloc, settings, blank, heard, work, number,
+            rt, memory, alloc, alloc, &settings, blank, heard, work, number,
         )? {
             return same(number - 1, growths);
         }
@@ -68,14 +49,32 @@ fn is_refused<B: Ledger, A: Allocator + Copy, R: Wait, W: AtWork>(
     requires parts { blank.parts ≡ B.parts }
     requires all { blank.parts ≡ PARTS }
 {
-    let (station, till) = Station::<B, _, _>::new(own, hasher(), settings, blank)?;
-    hears(rt, memory, &station, heard)?;
+    let (station, till) = opened::<B, _, _>(rt, memory, own, settings, blank, heard)?;
     work.is_refused(rt, alloc, own, station, till, number)
+}
+
+/// A new station of these settings that heard an uplink of each of so many devices, and the till with all parts of its ledger.
+pub(crate) fn opened<B: Ledger, A: Allocator + Copy, R: Wait>(
+    rt: &R,
+    memory: Global,
+    own: A,
+    settings: &Settings<Global>,
+    blank: Blank,
+    heard: u32,
+) -> Result<(Station<B, WorkedHasher, A>, Till<B>), Fail>
+    requires name { blank.name ≡ B.name }
+    requires parts { blank.parts ≡ B.parts }
+    requires all { blank.parts ≡ PARTS }
+    ensures { IfOk result (λ made. 16 < made.1.parts) }
+{
+    let made = Station::<B, _, _>::new(own, hasher(), settings, blank)?;
+    hears(rt, memory, &made.0, heard)?;
+    Ok(made)
 }
 
 /// A station hears a confirmed uplink of each of so many devices, by gateway `1 + addr mod 2`, until a million microseconds for
 /// each address, and closes it: those with the numbers from 1 on.
-pub(crate) fn hears<B: Ledger, A: Allocator + Copy, R: Wait>(
+fn hears<B: Ledger, A: Allocator + Copy, R: Wait>(
     rt: &R,
     memory: Global,
     station: &Station<B, WorkedHasher, A>,
@@ -103,8 +102,9 @@ pub(crate) fn totals_at<B: Ledger, A: Allocator + Copy, R: Wait>(
 }
 
 /// Refuses the growth of this number, and all after it, where a station of these settings is made: whether there was one.
-fn is_made_without<B: Ledger>(
+fn is_made_without<B: Ledger, A: Allocator + Copy>(
     alloc: &Refuser,
+    own: A,
     settings: &Settings<Global>,
     blank: Blank,
     number: u64,
@@ -114,24 +114,21 @@ fn is_made_without<B: Ledger>(
     requires all { blank.parts ≡ PARTS }
 {
     alloc.refuse_from(number);
-    let is_starved = Station::<B, _, _>::new(alloc, hasher(), settings, blank).is_err();
+    let is_starved = Station::<B, _, _>::new(own, hasher(), settings, blank).is_err();
     was_refused(alloc, number, is_starved, true)
 }
 
 /// It takes eight growths.
-fn takes_eight(alloc: &Refuser, settings: &Settings<Global>) -> Result<(), Fail> {
-    for number in 1..=9 {
-        let blank = Blank::new(PARTS as u64);
-        let is_refused = is_made_without::<Brand>(alloc, settings, blank, number)?;
-        same((number, is_refused), (number, number <= 8))?;
-    }
-    Ok(())
-}
-
 #[test]
 fn a_station_is_made(rt: HostRuntime) -> Result<(), Fail> {
     let settings = settings_of(rt.alloc(), &[1, 2], 1)?;
-    takes_eight(&Refusing::new(rt.alloc()), &settings)
+    let alloc = &Refusing::new(rt.alloc());
+    for number in 1..=9 {
+        let blank = Blank::new(PARTS as u64);
+        let is_refused = is_made_without::<Brand, _>(alloc, alloc, &settings, blank, number)?;
+        same((number, is_refused), (number, number <= 8))?;
+    }
+    Ok(())
 }
 
 /// What is done at a station.

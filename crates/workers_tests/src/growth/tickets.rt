@@ -122,9 +122,14 @@ struct Trying;
 
 impl Call for Trying {
     fn is_refused(&mut self, alloc: &Refuser, number: u64) -> Result<bool, Fail> {
-        let mut book = GatewayBook::new(TreeRoster::new(alloc), 1, 4_096, 0)?;
-        is_tried_without(alloc, alloc, &mut book, number)
+        is_tried_anew(alloc, alloc, number)
     }
+}
+
+/// Makes a ticket and tries it on the empty book of its gateway with the growth of this number refused: whether there was one.
+fn is_tried_anew<A: Allocator + Copy>(alloc: &Refuser, own: A, number: u64) -> Result<bool, Fail> {
+    let mut book = GatewayBook::new(TreeRoster::new(own), 1, 4_096, 0)?;
+    is_tried_without(alloc, own, &mut book, number)
 }
 
 /// It takes a growth to make a ticket, and two to try it: the frame's, and the book's.

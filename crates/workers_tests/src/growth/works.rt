@@ -142,17 +142,42 @@ fn a_worker_starts(rt: HostRuntime) -> Result<(), Fail> {
     takes(&rt, rt.alloc(), 0, &Starts, 5)
 }
 
-/// Answers an uplink: the receipt, if it is booked.
-fn receipt_by<B: Ledger, A: Allocator + Copy, R: Wait>(
+/// Answers an uplink, and files its receipt if it is booked.
+fn file<B: Ledger, A: Allocator + Copy, R: Wait>(
     rt: &R,
     station: &Station<B, WorkedHasher, A>,
     till: &mut Till<B>,
     number: u64,
-) -> Option<Receipt<A>> {
+    receipts: &mut Vec<Receipt<A>, A>,
+) -> Result<(), Fail> {
     match station.answer(rt, &NoGate, number, till, &mut 0) {
-        Handled::Settled(_, receipt) => receipt,
-        _ => None,
+        Handled::Settled(_, Some(receipt)) => Ok(receipts.push(receipt)?),
+        _ => Ok(()),
     }
+}
+
+/// Answers two uplinks, each with another till.
+fn file_both<B: Ledger, A: Allocator + Copy, R: Wait>(
+    rt: &R,
+    station: &Station<B, WorkedHasher, A>,
+    till: &mut Till<B>,
+    other: &mut Till<B>,
+    receipts: &mut Vec<Receipt<A>, A>,
+) -> Result<(), Fail> {
+    file(rt, station, till, 1, receipts)?;
+    file(rt, station, other, 2, receipts)
+}
+
+/// Two tills as a list.
+fn listed<B: Ledger, A: Allocator>(
+    memory: A,
+    till: Till<B>,
+    other: Till<B>,
+) -> Result<Vec<Till<B>, A>, Fail> {
+    let mut tills = Vec::new(memory);
+    tills.push(till)?;
+    tills.push(other)?;
+    Ok(tills)
 }
 
 /// Two tills, and the receipts of what was counted with them.
@@ -167,33 +192,28 @@ fn answered<B: Ledger, A: Allocator + Copy, R: Wait>(
 ) -> Result<Counted<B, A>, Fail>
     requires { 16 < till.parts }
 {
-    let mut tills = Vec::with_capacity(memory, 2)?;
-    let mut receipts = Vec::with_capacity(memory, 2)?;
     let mut till = till;
     let mut other = till.split();
-    let first = receipt_by(rt, station, &mut till, 1);
-    match (first, receipt_by(rt, station, &mut other, 2)) {
-        (Some(first), Some(second)) => {
-            receipts.push_reserved(first);
-            receipts.push_reserved(second);
-            tills.push_reserved(till);
-            tills.push_reserved(other);
-            Ok((tills, receipts))
-        }
-        _ => Err(Fail::from("both are booked")),
-    }
+    let mut receipts = Vec::new(memory);
+    file_both(rt, station, &mut till, &mut other, &mut receipts)?;
+    Ok((listed(memory, till, other)?, receipts))
 }
 
-/// What a station came to: the airtime that was booked, how many totals and books there are, and what the desk says of both
-/// gateways.
-type Came = (u64, [usize; 2], [Option<u64>; 2]);
+/// What a station came to: the airtime that was booked, and that of all totals; how many totals and books there are; and what the
+/// desk says of both gateways.
+pub(crate) type Came = (u64, u64, [usize; 2], [Option<u64>; 2]);
 
-const CAME: Came = (82_432, [2, 2], [Some(41_216), Some(41_216)]);
+const CAME: Came = (82_432, 82_432, [2, 2], [Some(41_216), Some(41_216)]);
 
 fn came_to<A: Allocator + Copy>(closing: &Closing<WorkedHasher, A>) -> Came {
+    let mut booked = 0u64;
+    for (_, totals) in &closing.totals {
+        booked = booked.saturating_add(totals.booked);
+    }
     let desk = &closing.desk;
     (
         closing.booked,
+        booked,
         [closing.totals.len(), closing.books.len()],
         [desk.answered(1), desk.answered(2)],
     )
@@ -211,14 +231,17 @@ fn parts_of<B: Ledger>(tills: &[Till<B>]) -> Option<[u32; 2]> {
     }
 }
 
-/// Finishes a station. It says nothing of what comes of it: its callers compare what they see.
+/// Finishes a station: what it came to.
 pub(crate) fn finish<B: Ledger, A: Allocator + Copy>(
     memory: A,
     station: Station<B, WorkedHasher, A>,
     tills: Vec<Till<B>, A>,
     receipts: &[Receipt<A>],
-) -> Result<Closing<WorkedHasher, A>, FinishFault<B, WorkedHasher, A>> {
-    station.finish(memory, tills, receipts)
+) -> Result<Came, FinishFault<B, WorkedHasher, A>> {
+    match station.finish(memory, tills, receipts) {
+        Ok(closing) => Ok(came_to(&closing)),
+        Err(fault) => Err(fault),
+    }
 }
 
 /// What was handed back, and what the station came to once it was finished, if it found memory.
@@ -231,11 +254,8 @@ fn finished_again<B: Ledger, A: Allocator + Copy, R: Wait>(
     let is_told = fault.cause == FinishCause::NoMemory;
     let totals = totals_at(rt, &fault.station);
     let back = (is_told, totals, parts_of(&fault.tills));
-    let FinishFault { station, tills, .. } = fault;
-    match finish(memory, station, tills, receipts) {
-        Ok(closing) => (back, Some(came_to(&closing))),
-        Err(_) => (back, None),
-    }
+    let came = finish(memory, fault.station, fault.tills, receipts).ok();
+    (back, came)
 }
 
 /// Finishes a station with the growth of this number refused, and once more if there was one, which is told.
@@ -250,18 +270,13 @@ fn is_finished_without<B: Ledger, A: Allocator + Copy, R: Wait>(
 ) -> Result<bool, Fail> {
     let before = (true, totals_at(rt, &station), Some([65_535, 1]));
     alloc.refuse(number);
-    match finish(memory, station, tills, receipts) {
-        Ok(closing) => {
-            let asked = asked_of(alloc);
-            let told = (before, Some(came_to(&closing)));
-            is_closed((asked, number), false, told, before)
-        }
-        Err(fault) => {
-            let asked = asked_of(alloc);
-            let told = finished_again(rt, memory, receipts, fault);
-            is_closed((asked, number), true, told, before)
-        }
-    }
+    let finished = finish(memory, station, tills, receipts);
+    let asked = asked_of(alloc);
+    let (is_starved, told) = match finished {
+        Ok(came) => (false, (before, Some(came))),
+        Err(fault) => (true, finished_again(rt, memory, receipts, fault)),
+    };
+    is_closed((asked, number), is_starved, told, before)
 }
 
 /// Whether a station wasn't finished at once, where so many growths were asked for, by the number of the one that was refused;
