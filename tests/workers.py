@@ -41,7 +41,8 @@ def hear(device, gateway, at, counter=0):
 
 def apart():
     """Each device is heard once, by one gateway, and is answered in RX1. After that four are heard whose RX1 begins in the gap
-    behind a transmission, so that they are answered in RX2; and what was booked is cancelled, in part, and retired."""
+    behind a transmission, so that they are answered in RX2; and what was booked is cancelled, in part, and retired. A line that
+    is none stands at the end, behind most of the text, and is named by its number."""
     lines = [f"queue {addr(device)} 9 0102" for device in range(0, DEVICES, 3)]
     lines += [hear(device, 1 + device % GATEWAYS, 200_000 * (device // GATEWAYS)) for device in range(DEVICES)]
     lines += [f"pass {LONG_AGO + 1_000_000}"]
@@ -50,7 +51,7 @@ def apart():
     lines += [f"pass {LONG_AGO + 1_000_000}"]
     lines += [f"cancel {number}" for number in [*range(1, DEVICES + GATEWAYS + 2, 7), 1]]
     lines += [f"tick {gateway} {LONG_AGO + 3_620_000_000 + gateway}" for gateway in range(1, GATEWAYS + 2)]
-    return settings(GATEWAYS, DEVICES) + "\n".join(lines) + "\n"
+    return settings(GATEWAYS, DEVICES) + "\n".join([*lines, "hear"]) + "\n"
 
 
 def crammed():

@@ -4,6 +4,7 @@ pub mod GatewayLemmas
 pub mod ReplayLemmas
 pub mod KeyLemmas
 pub mod HalfLemmas
+pub mod CutLemmas
 pub mod EventLemmas
 pub mod InputLemmas
 pub mod Worked

@@ -1,8 +1,10 @@
 -- The text of a replay.
-use Rattle.std.proofs.Common.{◌≡◌, ℕ, Bool, false, ◌||◌, List, [], ◌∷◌, ◌++◌, map, Some, codes, refl, sym, ap, ◌∙◌, append_assoc}
+use Rattle.std.proofs.Common.{◌≡◌, ℕ, Bool, false, ◌||◌, List, [], ◌∷◌, ◌++◌, map, Some, Vec, codes, refl, sym, ap}
+use Rattle.std.proofs.Common.{◌∙◌, append_assoc}
 use Rattle.std.specs.List.{flat_map, list_any}
 use Rattle.std.proofs.Math.Bool.{or-false}
 use Rattle.std.proofs.lemmas.List.{map-append}
+use Rattle.std.proofs.lemmas.List.Concat.{flat_map-append}
 use Rattle.std.proofs.lemmas.List.Folds.{list_any-append}
 use Rattle.text_lines.specs.Line.{text_of, text_of-append}
 use Rattle.server_core.specs.declared.entry.Entry.{Entry}
@@ -11,7 +13,8 @@ use Rattle.text_words.specs.Words.{is_refusal, spaced, has_refusal}
 use Rattle.run_lines.specs.EntryLine.{line_text}
 use Rattle.run_lines.specs.declared.tally.Tally.{Tally}
 use Rattle.run_lines.specs.Tally.{tally_of, tally_text}
-use Rattle.run_lines.specs.ReplayText.{by_id, gateway_lines, entry_lines, report_of, report_lines, replay_lines}
+use Rattle.run_lines.specs.ReplayText.{by_id, gateway_lines, bytes_of, entry_lines, report_of, report_lines}
+use Rattle.run_lines.specs.ReplayText.{replay_lines}
 use Rattle.text_words.specs.Busiest.{busiest-refuses_nothing}
 use Rattle.run_lines.proofs.GatewayLemmas.{gateways_text}
 
@@ -22,6 +25,9 @@ entries_text entries = text_of (entry_lines entries)
 pub entries-append : {A : Type 0} (xs ys : List (Entry A)) → entries_text (xs ++ ys) ≡ entries_text xs ++ entries_text ys
 entries-append xs ys =
     ap text_of (map-append (λ e. line_text e.line) xs ys) ∙ text_of-append (entry_lines xs) (entry_lines ys)
+
+pub bytes-append : {A : Type 0} (xs ys : List (Vec ℕ A)) → bytes_of (xs ++ ys) ≡ bytes_of xs ++ bytes_of ys
+bytes-append xs ys = flat_map-append (λ text. text.items) xs ys
 
 -- the last line is put together word by word
 pub tally-parts : (a u s : List ℕ) → (((((codes "answered" ++ (32 ∷ a)) ++ (32 ∷ codes "unanswered")) ++ (32 ∷ u))

@@ -1,4 +1,4 @@
-use Rattle.std.specs.Prelude.{ℕ, ◌+◌, ◌-◌, nat_le, if◌then◌else◌, List, [], ◌∷◌, ◌++◌, length, map, Some, codes, decimal}
+use Rattle.std.specs.Prelude.{ℕ, ◌+◌, ◌-◌, nat_le, if◌then◌else◌, List, [], ◌∷◌, ◌++◌, length, map, Some, Vec, codes, decimal}
 use Rattle.std.specs.List.{flat_map}
 use Rattle.resv_list.specs.Reservations.{net}
 use Rattle.gateway_book.specs.Step.{State}
@@ -63,3 +63,7 @@ report_lines entries gateways = report_of (tally_of entries) gateways
 -- all lines
 abbrev pub replay_lines : {A : Type 0} → List (Entry A) → List Gateway → List (List ℕ)
 replay_lines entries gateways = entry_lines entries ++ report_lines entries gateways
+
+-- the bytes of some texts, one behind another
+abbrev pub bytes_of : {A : Type 0} → List (Vec ℕ A) → List ℕ
+bytes_of texts = flat_map (λ text. text.items) texts

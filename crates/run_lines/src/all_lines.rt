@@ -7,7 +7,7 @@ ghost use Rattle.text_lines.specs.Line.{text_of};
 ghost use Rattle.text_lines.specs.Writing.{WritesFront};
 ghost use Rattle.text_words.specs.Words.{has_refusal};
 ghost use Rattle.server_core.specs.Entries.{gateway_of};
-ghost use Rattle.run_lines.specs.ReplayText.{entry_lines, replay_lines};
+ghost use Rattle.run_lines.specs.ReplayText.{bytes_of, entry_lines, replay_lines};
 
 use crate::part_text::{write_entries, write_report};
 use crate::replay_text::{has_refused, write_lines};
@@ -43,20 +43,20 @@ pub fn write_lines_by_threads<R: Threads + Sync, B: Roster, W: ByteOut>(
     if threads < 2 {
         return write_lines(entries, books, writer);
     }
-    let Ok(text) = text_between(rt, alloc, entries, threads) else {
+    let Ok(texts) = texts_between(rt, alloc, entries, threads) else {
         return write_lines(entries, books, writer);
     };
-    write_made(text.as_slice(), entries, books, writer)
+    write_made(texts.as_slice(), entries, books, writer)
 }
 
-/// The same, where the text of the answers is made.
+/// The same, where the text of the answers is made, in parts.
 fn write_made<B: Roster, W: ByteOut>(
-    text: &[u8],
+    texts: &[Vec<u8>],
     entries: &[Entry<Global>],
     books: &[GatewayBook<B>],
     writer: &mut W,
 ) -> Result<bool, CallFailed>
-    requires { text.now ≡ text_of (entry_lines entries.now) }
+    requires { bytes_of texts.now ≡ text_of (entry_lines entries.now) }
     ensures ok { OnOk result (Appends (W.taken writer.old) (W.taken writer.new)
         (text_of (replay_lines entries.now (map gateway_of books.now)))) }
     ensures told { IfOk result (λ refused. refused ≡ has_refusal (replay_lines entries.now (map gateway_of books.now))) }
@@ -64,7 +64,7 @@ fn write_made<B: Roster, W: ByteOut>(
         (text_of (replay_lines entries.now (map gateway_of books.now)))) }
     ensures failed { CountsFailure (W.failed_calls writer.old) (W.failed_calls writer.new) result }
 {
-    match write_all(writer, text) {
+    match write_texts(texts, writer) {
         Err(failed) => return Err(failed),
         Ok(()) => {}
     }
@@ -74,15 +74,30 @@ fn write_made<B: Roster, W: ByteOut>(
     }
 }
 
-/// The text of some entries, made by at most so many threads: half of them for each half of the entries.
+/// Writes some texts, one behind another. After an Err a front of them was written.
+fn write_texts<W: ByteOut>(texts: &[Vec<u8>], writer: &mut W) -> Result<(), CallFailed>
+    ensures ok { OnOk result (Appends (W.taken writer.old) (W.taken writer.new) (bytes_of texts.now)) }
+    ensures err { OnErr result (WritesFront (W.taken writer.old) (W.taken writer.new) (bytes_of texts.now)) }
+    ensures failed { CountsFailure (W.failed_calls writer.old) (W.failed_calls writer.new) result }
+{
+    for text in texts {
+        match write_all(writer, text.as_slice()) {
+            Err(failed) => return Err(failed),
+            Ok(()) => {}
+        }
+    }
+    Ok(())
+}
+
+/// The text of some entries in parts, made by at most so many threads: half of them for each half of the entries.
 #[cycle(halves_of_text)]
-fn text_between<R: Threads + Sync>(
+fn texts_between<R: Threads + Sync>(
     rt: &R,
     alloc: Global,
     entries: &[Entry<Global>],
     threads: u8,
-) -> Result<Vec<u8>, NoMemory>
-    ensures { IfOk result (λ text. text.items ≡ text_of (entry_lines entries.now)) }
+) -> Result<Vec<Vec<u8>>, NoMemory>
+    ensures { IfOk result (λ texts. bytes_of texts.items ≡ text_of (entry_lines entries.now)) }
 {
     if threads < 2 || entries.len() < ENTRIES_EACH {
         return text_alone(alloc, entries);
@@ -90,34 +105,38 @@ fn text_between<R: Threads + Sync>(
     let (front, back) = entries.split_at(entries.len() / 2);
     let some = threads / 2;
     let others = threads - some;
-    let first_text = move || -> Result<Vec<u8>, NoMemory>
+    let first_texts = move || -> Result<Vec<Vec<u8>>, NoMemory>
         requires { IsSync R.row }
-        ensures { IfOk result (λ text. text.items ≡ text_of (entry_lines front.entry.now)) }
-    { text_between(rt, alloc, front, some) };
-    let second_text = move || -> Result<Vec<u8>, NoMemory>
+        ensures { IfOk result (λ texts. bytes_of texts.items ≡ text_of (entry_lines front.entry.now)) }
+    { texts_between(rt, alloc, front, some) };
+    let second_texts = move || -> Result<Vec<Vec<u8>>, NoMemory>
         requires { IsSync R.row }
-        ensures { IfOk result (λ text. text.items ≡ text_of (entry_lines back.entry.now)) }
-    { text_between(rt, alloc, back, others) };
-    let (first, second) = join(rt, first_text, second_text);
+        ensures { IfOk result (λ texts. bytes_of texts.items ≡ text_of (entry_lines back.entry.now)) }
+    { texts_between(rt, alloc, back, others) };
+    let (first, second) = join(rt, first_texts, second_texts);
     joined(first?, second?)
 }
 
-/// The text of some entries.
-fn text_alone(alloc: Global, entries: &[Entry<Global>]) -> Result<Vec<u8>, NoMemory>
-    ensures { IfOk result (λ text. text.items ≡ text_of (entry_lines entries.now)) }
+/// The text of some entries, as one part.
+fn text_alone(alloc: Global, entries: &[Entry<Global>]) -> Result<Vec<Vec<u8>>, NoMemory>
+    ensures { IfOk result (λ texts. bytes_of texts.items ≡ text_of (entry_lines entries.now)) }
 {
     let mut writer = MemoryOut::new(alloc);
     match write_entries(entries, &mut writer) {
-        Ok(_) => Ok(writer.bytes),
-        Err(_) => Err(AllocError),
+        Ok(_) => {}
+        Err(_) => return Err(AllocError),
     }
+    let mut texts = Vec::new(alloc);
+    texts.push(writer.bytes)?;
+    Ok(texts)
 }
 
-/// This text, and what follows it.
-fn joined(first: Vec<u8>, second: Vec<u8>) -> Result<Vec<u8>, NoMemory>
-    ensures { IfOk result (λ text. text.items ≡ first.items ++ second.items) }
+/// These texts, and those that follow them.
+fn joined(first: Vec<Vec<u8>>, second: Vec<Vec<u8>>) -> Result<Vec<Vec<u8>>, NoMemory>
+    ensures { IfOk result (λ texts. texts.items ≡ first.items ++ second.items) }
 {
-    let mut text = first;
-    text.extend_from_slice(second.as_slice())?;
-    Ok(text)
+    let mut texts = first;
+    let mut second = second;
+    texts.append(&mut second)?;
+    Ok(texts)
 }

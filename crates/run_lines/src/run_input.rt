@@ -13,7 +13,7 @@ use text_lines::{ByteIn, INPUT_LIMIT, READ_SIZE};
 use text_words::TextFault;
 
 /// The place of the first line feed, if there is one.
-fn feed_at(bytes: &[u8]) -> Option<usize>
+pub(crate) fn feed_at(bytes: &[u8]) -> Option<usize>
     ensures none { IfNone result (NoFeedBefore (length bytes.now) bytes.now) }
     ensures before { IfSome result (λ end. NoFeedBefore end bytes.now) }
     ensures within { IfSome result (λ end. end < length bytes.now) }

@@ -12,7 +12,7 @@ returns-in-Err-clause-err g c =
     let gateways = map gateway_of c.args.books.now in
     let entries = c.args.entries.now in
     rw (replay-parts entries gateways)
-    (WritesFront-more (g.W.ByteOut.taken c.args.writer.now) (g.W.ByteOut.taken c.write_all.new.writer) (entries_text entries)
+    (WritesFront-more (g.W.ByteOut.taken c.args.writer.now) (g.W.ByteOut.taken c.write_texts.new.writer) (entries_text entries)
     (text_of (report_of (tally_of entries) gateways)) (rw c.requires at c.in-Err.ensures.err))
 
 pub returns-in-Err-write_report-clause-err : goal.returns-in-Err-write_report-clause-err
@@ -20,7 +20,7 @@ returns-in-Err-write_report-clause-err g c =
     let gateways = map gateway_of c.args.books.now in
     let entries = c.args.entries.now in
     let before = g.W.ByteOut.taken c.args.writer.now in
-    let mid = g.W.ByteOut.taken c.write_all.new.writer in
+    let mid = g.W.ByteOut.taken c.write_texts.new.writer in
     let report : List ℕ = text_of (report_of (tally_of entries) gateways) in
     rw (replay-parts entries gateways)
     (WritesFront-after before mid (g.W.ByteOut.taken c.write_report.new.writer) (entries_text entries ++ report) report
@@ -33,7 +33,7 @@ returns-in-Ok-write_report-clause-ok g c =
     let gateways = map gateway_of c.args.books.now in
     let entries = c.args.entries.now in
     let before = g.W.ByteOut.taken c.args.writer.now in
-    let mid = g.W.ByteOut.taken c.write_all.new.writer in
+    let mid = g.W.ByteOut.taken c.write_texts.new.writer in
     let report : List ℕ = text_of (report_of (tally_of entries) gateways) in
     rw (replay-parts entries gateways)
     (Appends-after before mid (g.W.ByteOut.taken c.write_report.new.writer) (entries_text entries ++ report) report
