@@ -7,11 +7,11 @@ use bumpalo::Bump;
 use gateway_book::{Ask, GatewayBook, Refusal};
 use radio_airtime::DataRate;
 use radio_bands::Band;
-use refusing_alloc::{Call, Refuser, Refusing, growths_of, same, was_refused};
+use refusing_alloc::{Call, Refuser, Refusing, growths_of, was_refused};
 use resv_list::Roster;
 use std::alloc::{Allocator, Global};
 use std::test::Fail;
-use test_asserts::{equal, holds};
+use test_asserts::{equal, holds, holds_at};
 
 /// Twelve bytes on 863.5 MHz at DR0: 991,232 microseconds on air, of which three fill an hour of the sub-band.
 const ASK: Ask = Ask {
@@ -77,14 +77,15 @@ const HOUR_FULL: Refusal = Refusal::DutyFull {
     spent: 2_973_696,
 };
 
-/// A book and memory for its list, whose asks are tried with no growth of theirs granted from one on, and what they are answered.
+/// A book and memory for its list, whose asks are tried with no growth of theirs granted from one on; what they are answered, and
+/// their memory.
 #[derive(Drop)]
-struct Trying<'b, R: Roster>(&'b GatewayBook<R>, Global, &'b [Answer]);
+struct Trying<'b, R: Roster, A: Allocator>(&'b GatewayBook<R>, Global, &'b [Answer], A);
 
 /// Whether a trial in this arena finds no memory.
-fn is_starved<P: Allocator, A: Allocator, R: Roster>(
-    arena: &Bump<P>,
-    trying: &Trying<'_, R>,
+fn is_starved<R: Roster, A: Allocator>(
+    arena: &Bump<A>,
+    trying: &Trying<'_, R, A>,
     out: &mut Vec<Answer, A>,
 ) -> bool {
     tried(arena, trying.1, trying.0, &ASKS, out).is_err()
@@ -95,22 +96,26 @@ fn begin<A: Allocator>(out: &mut Vec<Answer, A>) -> Result<(), Fail> {
     Ok(out.push(Err(Refusal::Full))?)
 }
 
-/// That one is still alone, and with memory the same call is not refused.
-fn is_tried_again<P: Allocator, A: Allocator, R: Roster>(
-    arena: &Bump<P>,
-    trying: &Trying<'_, R>,
+/// Whether that one is still alone.
+fn is_as_begun(out: &[Answer]) -> bool {
+    out == [Err(Refusal::Full)].as_slice()
+}
+
+/// So it is, and with memory the same call is not refused.
+fn is_tried_again<R: Roster, A: Allocator>(
+    arena: &Bump<A>,
+    trying: &Trying<'_, R, A>,
     out: &mut Vec<Answer, A>,
-) -> Result<(), Fail> {
-    equal(&out.as_slice(), &[Err(Refusal::Full)].as_slice())?;
-    holds(!is_starved(arena, trying, out))
+) -> bool {
+    is_as_begun(out.as_slice()) && !is_starved(arena, trying, out)
 }
 
 /// A trial in this arena, with one answer that was there before. Where it is refused that one stays alone, and with memory the
 /// same call answers as ever.
-fn is_tried_in<P: Allocator, A: Allocator, R: Roster>(
-    arena: &Bump<P>,
+fn is_tried_in<R: Roster, A: Allocator>(
+    arena: &Bump<A>,
     alloc: &Refuser,
-    trying: &Trying<'_, R>,
+    trying: &Trying<'_, R, A>,
     out: &mut Vec<Answer, A>,
     number: u64,
 ) -> Result<bool, Fail> {
@@ -118,38 +123,45 @@ fn is_tried_in<P: Allocator, A: Allocator, R: Roster>(
     alloc.refuse_from(number);
     let is_refused = is_starved(arena, trying, out);
     if was_refused(alloc, number, is_refused, true)? {
-        is_tried_again(arena, trying, out)?;
+        holds(is_tried_again(arena, trying, out))?;
     }
     equal(&out.as_slice(), &trying.2)?;
     Ok(is_refused)
 }
 
-impl<'b, R: Roster> Call for Trying<'b, R> {
+impl<'b, R: Roster, A: Allocator + Copy> Call for Trying<'b, R, A> {
     fn is_refused(&mut self, alloc: &Refuser, number: u64) -> Result<bool, Fail> {
-        is_tried_in(&Bump::new(alloc), alloc, self, &mut Vec::new(alloc), number)
+        is_tried_in(
+            &Bump::new(self.3),
+            alloc,
+            self,
+            &mut Vec::new(self.3),
+            number,
+        )
     }
 }
 
-/// A book and memory for its list, on a copy of which the earliest start of one ask more is looked for, after the asks.
+/// A book and memory for its list, on a copy of which the earliest start of one ask more is looked for, after the asks;
+/// and memory for the copy.
 #[derive(Drop)]
-struct Seeking<'b, R: Roster>(&'b GatewayBook<R>, Global);
+struct Seeking<'b, R: Roster, A: Allocator>(&'b GatewayBook<R>, Global, A);
 
 /// The earliest start after them: as the first of the three that were accepted leaves the hour.
 const EARLIEST: Option<u64> = Some(7_201_000_000);
 
 /// What a search in this arena finds; nothing where there is no memory.
-fn earliest_in<P: Allocator, R: Roster>(
-    arena: &Bump<P>,
-    seeking: &Seeking<'_, R>,
+fn earliest_in<R: Roster, A: Allocator>(
+    arena: &Bump<A>,
+    seeking: &Seeking<'_, R, A>,
 ) -> Option<Option<u64>> {
     sought(arena, seeking.1, seeking.0, &ASKS, ASK, u64::MAX).ok()
 }
 
 /// A search in this arena; where it is refused, the same call answers with memory as ever.
-fn is_sought_in<P: Allocator, R: Roster>(
-    arena: &Bump<P>,
+fn is_sought_in<R: Roster, A: Allocator>(
+    arena: &Bump<A>,
     alloc: &Refuser,
-    seeking: &Seeking<'_, R>,
+    seeking: &Seeking<'_, R, A>,
     number: u64,
 ) -> Result<bool, Fail> {
     alloc.refuse_from(number);
@@ -158,39 +170,42 @@ fn is_sought_in<P: Allocator, R: Roster>(
     if was_refused(alloc, number, is_refused, true)? {
         found = earliest_in(arena, seeking);
     }
-    same(found, Some(EARLIEST))?;
+    equal(&found, &Some(EARLIEST))?;
     Ok(is_refused)
 }
 
-impl<'b, R: Roster> Call for Seeking<'b, R> {
+impl<'b, R: Roster, A: Allocator + Copy> Call for Seeking<'b, R, A> {
     fn is_refused(&mut self, alloc: &Refuser, number: u64) -> Result<bool, Fail> {
-        is_sought_in(&Bump::new(alloc), alloc, self, number)
+        is_sought_in(&Bump::new(self.2), alloc, self, number)
     }
 }
 
-/// A trial and a search on copies of a book leave it as it was. The copy takes a growth at least, and so does what is booked on
-/// it, or the list of answers.
-fn growths_on<R: Roster>(
+/// A call on a copy takes two growths at least: the copy takes one, and so does what is booked on it, or the list of answers.
+fn takes_two<C: Call>(alloc: &Refuser, call: &mut C) -> Result<(), Fail> {
+    match growths_of(alloc, call) {
+        Ok(growths) => holds_at(&growths, growths >= 2),
+        Err(fail) => Err(fail),
+    }
+}
+
+/// A trial and a search on copies of a book leave it as it was.
+fn growths_on<R: Roster, A: Allocator + Copy>(
     alloc: &Refuser,
+    own: A,
     book: &GatewayBook<R>,
     memory: Global,
     answers: &[Answer],
 ) -> Result<(), Fail> {
     let before = book.totals();
-    let tried = growths_of(alloc, &mut Trying(book, memory, answers))?;
-    let sought = growths_of(alloc, &mut Seeking(book, memory))?;
-    same(book.totals(), before)?;
-    same((tried >= 2, sought >= 2), (true, true))
+    takes_two(alloc, &mut Trying(book, memory, answers, own))?;
+    takes_two(alloc, &mut Seeking(book, memory, own))?;
+    equal(&book.totals(), &before)
 }
 
 #[test]
 fn each_growth_on_a_copy_is_refused(rt: HostRuntime) -> Result<(), Fail> {
-    let book = live(rt.alloc())?;
     let answers = answers_like(rt.alloc(), &ROWS, &ASK)?;
-    growths_on(
-        &Refusing::new(rt.alloc()),
-        &book,
-        rt.alloc(),
-        answers.as_slice(),
-    )
+    let book = live(rt.alloc())?;
+    let alloc = &Refusing::new(rt.alloc());
+    growths_on(alloc, alloc, &book, rt.alloc(), answers.as_slice())
 }
