@@ -51,6 +51,33 @@ fn a_worker_leaves_once_per_try(rt: HostRuntime) -> Result<(), Fail> {
     tells(&rt, rt.alloc(), 2, &CROWDED)
 }
 
+/// A third device finds both windows taken.
+static FULL: [Row; 9] = [
+    (Step::Hear(Heard::Of(1, 0)), OPENED_1),
+    (Step::Hear(Heard::Of(2, 0)), OPENED_2),
+    (Step::Hear(Heard::Of(3, 0)), OPENED_3),
+    (Step::Ask(Ask::Pass(200_001)), "Some(1)"),
+    (Step::Ask(Ask::Pass(200_001)), "Some(2)"),
+    (Step::Ask(Ask::Pass(200_001)), "Some(3)"),
+    (
+        Step::Answer(1, Answer::Freely),
+        "(Some(Answered { gateway: 1, window: Rx1, start: 6000000, airtime: 41216, carried: false }), 0)",
+    ),
+    (
+        Step::Answer(2, Answer::Freely),
+        "(Some(Answered { gateway: 1, window: Rx2, start: 7000000, airtime: 991232, carried: false }), 0)",
+    ),
+    (
+        Step::Answer(3, Answer::Logged),
+        "((Some(Unanswered(Taken { start: 7000000 })), 0), 1616)",
+    ),
+];
+
+#[test]
+fn a_worker_leaves_after_the_last_refusal(rt: HostRuntime) -> Result<(), Fail> {
+    tells(&rt, rt.alloc(), 3, &FULL)
+}
+
 /// A payload of three bytes goes with the answer.
 static LADEN: [Row; 4] = [
     (Step::Ask(Ask::Queue(1, &[7, 8, 9])), "Ok(1)"),
