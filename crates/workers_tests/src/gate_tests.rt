@@ -20,6 +20,27 @@ fn one_who_is_never_let_in_goes_on(rt: HostRuntime) -> Result<(), Fail> {
     tells(&rt, rt.alloc(), 1, &SHUT_OUT)
 }
 
+/// One of two devices finds RX1 taken, and is tried twice: the gate is asked ten million times for each try.
+static SHUT_OUT_TWICE: [Row; 6] = [
+    (Step::Hear(Heard::Of(1, 0)), OPENED_1),
+    (Step::Hear(Heard::Of(2, 0)), OPENED_2),
+    (Step::Ask(Ask::Pass(200_001)), "Some(1)"),
+    (Step::Ask(Ask::Pass(200_001)), "Some(2)"),
+    (
+        Step::Answer(1, Answer::Freely),
+        "(Some(Answered { gateway: 1, window: Rx1, start: 6000000, airtime: 41216, carried: false }), 0)",
+    ),
+    (
+        Step::Answer(2, Answer::ShutOut),
+        "((Some(Answered { gateway: 1, window: Rx2, start: 7000000, airtime: 991232, carried: false }), 2), [20000000, 0])",
+    ),
+];
+
+#[test]
+fn each_try_asks_the_gate_ten_million_times(rt: HostRuntime) -> Result<(), Fail> {
+    tells(&rt, rt.alloc(), 2, &SHUT_OUT_TWICE)
+}
+
 static AUDITED: [Row; 2] = [
     (Step::Hear(Heard::All(1)), "1"),
     (Step::Answer(1, Answer::Audited), "41216"),
