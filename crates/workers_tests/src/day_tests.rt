@@ -73,6 +73,7 @@ static ENDED: [Sight; 2] = [
 #[test]
 fn two_workers_answer_500_uplinks(rt: HostRuntime) -> Result<(), Fail> {
     let day = Plan {
+        gateways: &[2, 1],
         devices: 500,
         before: &ANSWERED,
         steps: &ASKED,

@@ -98,6 +98,7 @@ static ENDINGS: [Ending; 8] = [
 fn is_finished_once_all_is_accounted_for(rt: HostRuntime) -> Result<(), Fail> {
     for (steps, tries, sights) in ENDINGS.iter() {
         let plan = Plan {
+            gateways: &[2, 1],
             devices: 2,
             before: &HEARD,
             steps,

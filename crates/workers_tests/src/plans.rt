@@ -12,9 +12,10 @@ use std::sync::Wait;
 use std::test::Fail;
 use std::thread::Threads;
 
-/// What is done at a station of the gateways 1 and 2.
+/// What is done at a station.
 #[derive(Clone, Copy)]
 pub(crate) struct Plan<'a> {
+    pub(crate) gateways: &'a [u16],
     /// It has the devices from address 1 on, so many of them.
     pub(crate) devices: u32,
     /// What comes before the steps.
@@ -28,7 +29,7 @@ pub(crate) struct Plan<'a> {
     pub(crate) changes: &'a [(usize, Sight)],
 }
 
-/// Compares what the steps tell, at a station that isn't finished.
+/// Compares what the steps tell, at a station of the gateways 1 and 2 that isn't finished.
 pub(crate) fn tells<R: Threads + Wait + Sync>(
     rt: &R,
     alloc: Global,
@@ -36,6 +37,7 @@ pub(crate) fn tells<R: Threads + Wait + Sync>(
     steps: &[Row],
 ) -> Result<(), Fail> {
     let plan = Plan {
+        gateways: &[2, 1],
         devices,
         before: &[],
         steps,
@@ -67,7 +69,7 @@ fn run<B: Ledger + Send + Sync, R: Threads + Wait + Sync>(
     requires parts { blank.parts ≡ B.parts }
     requires all { blank.parts ≡ PARTS }
 {
-    let mut post = opened::<B, R>(rt, alloc, &[2, 1], plan.devices, blank)?;
+    let mut post = opened::<B, R>(rt, alloc, plan.gateways, plan.devices, blank)?;
     take_steps(&mut post, plan.before)?;
     take_steps(&mut post, plan.steps)?;
     let closing = finished(alloc, post, plan.tries)?;

@@ -16,7 +16,7 @@ use std::thread::Threads;
 pub(crate) enum Shift {
     /// So many workers, at the numbers from the one to the other.
     Crew(u64, u64, u8),
-    /// So many workers who meet, at the numbers from the one to the other.
+    /// So many workers, 2 or 3, who meet at as many gateways, at the numbers from the one to the other.
     Meeting(u64, u64, u8),
     /// So many workers whom no gate lets in, at the numbers from the one to the other.
     ShutOut(u64, u64, u8),
@@ -47,9 +47,9 @@ impl<B: Ledger + Send + Sync, R: Threads + Wait + Sync> Post<'_, B, R> {
         told
     }
 
-    /// Workers meet: what they tell, whether they were inside at once, and how many left each gateway.
+    /// Workers meet: what they tell, whether all were inside at once, and how many left each gateway.
     fn meet(&mut self, first: u64, last: u64, workers: u8) -> Result<String, Fail> {
-        let meeting = Meeting::new();
+        let meeting = Meeting::new(workers);
         let told = self.serve(first, last, workers, &meeting)?;
         let met = meeting.told();
         Ok(format!(in self.alloc; "{told} {met:?}")?)

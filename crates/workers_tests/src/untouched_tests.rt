@@ -137,6 +137,7 @@ static CALLS: [Call; 10] = [
 fn calls_once<R: Threads + Wait + Sync>(rt: &R, alloc: Global, call: &Call) -> Result<(), Fail> {
     let (step, changes) = *call;
     let plan = Plan {
+        gateways: &[2, 1],
         devices: 5,
         before: &BUSY,
         steps: &[step],

@@ -1,7 +1,7 @@
-// Workers at a station of two gateways.
+// Workers at a station of two gateways, and at one of three.
 
-use crate::asks::{Ask, Heard, OPENED_1, OPENED_2};
-use crate::plans::tells;
+use crate::asks::{Ask, Heard, OPENED_1, OPENED_2, OPENED_3};
+use crate::plans::{Plan, runs, tells};
 use crate::shifts::Shift;
 use crate::steps::{Row, Step};
 use std::test::Fail;
@@ -114,11 +114,39 @@ static MET: [Row; 2] = [
     (Step::Hear(Heard::All(2)), "2"),
     (
         Step::Work(Shift::Meeting(1, 2, 2)),
-        "(2, [2, 2], ([], 0, 0), 0, true) [1, 1, 1]",
+        "(2, [2, 2], ([], 0, 0), 0, true) [1, 1, 1, 0]",
     ),
 ];
 
 #[test]
 fn two_workers_are_at_two_gateways_at_once(rt: HostRuntime) -> Result<(), Fail> {
     tells(&rt, rt.alloc(), 2, &MET)
+}
+
+/// Each waits until all three are inside, which takes a thread for each.
+static ALL_MET: [Row; 7] = [
+    (Step::Hear(Heard::Of(1, 0)), OPENED_1),
+    (Step::Hear(Heard::By(2, 2, 0)), OPENED_2),
+    (Step::Hear(Heard::By(3, 3, 0)), OPENED_3),
+    (Step::Ask(Ask::Pass(200_001)), "Some(1)"),
+    (Step::Ask(Ask::Pass(200_001)), "Some(2)"),
+    (Step::Ask(Ask::Pass(200_001)), "Some(3)"),
+    (
+        Step::Work(Shift::Meeting(1, 3, 3)),
+        "(3, [3, 3], ([], 0, 0), 0, true) [1, 1, 1, 1]",
+    ),
+];
+
+#[test]
+fn three_workers_are_at_three_gateways_at_once(rt: HostRuntime) -> Result<(), Fail> {
+    let plan = Plan {
+        gateways: &[2, 3, 1],
+        devices: 3,
+        before: &[],
+        steps: &ALL_MET,
+        tries: &[],
+        sights: &[],
+        changes: &[],
+    };
+    runs(&rt, rt.alloc(), &plan)
 }
