@@ -2,6 +2,7 @@
 
 use crate::asks::{Ask, Heard, OPENED_5};
 use crate::busy::{BUSY, SEEN};
+use crate::finishing::Try;
 use crate::looks::{AtDesk, Look, Sight};
 use crate::plans::{Plan, runs};
 use crate::steps::{Row, Step};
@@ -13,6 +14,21 @@ use std::thread::Threads;
 
 /// A call, and what is seen then in place of the sights with these places.
 type Call = (Row, &'static [(usize, Sight)]);
+
+/// The answer to number 1 is cancelled.
+const CANCELLED: Call = (
+    (Step::Ask(Ask::Cancel(0)), "Ok(41216)"),
+    &[
+        (16, (Look::Kept(0, 0), "None")),
+        (
+            19,
+            (
+                Look::Totals(0),
+                "Totals { booked: 41216, cancelled: 41216, retired: 0, kept_airtime: 0, kept: 0, floor: 3 }",
+            ),
+        ),
+    ],
+);
 
 static CALLS: [Call; 10] = [
     (
@@ -101,19 +117,7 @@ static CALLS: [Call; 10] = [
             (24, (Look::Booked, "1073664")),
         ],
     ),
-    (
-        (Step::Ask(Ask::Cancel(0)), "Ok(41216)"),
-        &[
-            (16, (Look::Kept(0, 0), "None")),
-            (
-                19,
-                (
-                    Look::Totals(0),
-                    "Totals { booked: 41216, cancelled: 41216, retired: 0, kept_airtime: 0, kept: 0, floor: 3 }",
-                ),
-            ),
-        ],
-    ),
+    CANCELLED,
     (
         (Step::Ask(Ask::Tick(1, 7)), "Some(7)"),
         &[(
@@ -133,15 +137,20 @@ static CALLS: [Call; 10] = [
     ),
 ];
 
-/// A busy station is called once, and finished.
-fn calls_once<R: Threads + Wait + Sync>(rt: &R, alloc: Global, call: &Call) -> Result<(), Fail> {
+/// A busy station is called once, and finished in so many tries.
+fn calls_once<R: Threads + Wait + Sync>(
+    rt: &R,
+    alloc: Global,
+    call: &Call,
+    tries: &[Try],
+) -> Result<(), Fail> {
     let (step, changes) = *call;
     let plan = Plan {
         gateways: &[2, 1],
         devices: 5,
         before: &BUSY,
         steps: &[step],
-        tries: &[(1, 0, "None")],
+        tries,
         sights: &SEEN,
         changes,
     };
@@ -151,7 +160,19 @@ fn calls_once<R: Threads + Wait + Sync>(rt: &R, alloc: Global, call: &Call) -> R
 #[test]
 fn each_call_takes_its_own_step_alone(rt: HostRuntime) -> Result<(), Fail> {
     for call in CALLS.iter() {
-        calls_once(&rt, rt.alloc(), call)?;
+        calls_once(&rt, rt.alloc(), call, &[(1, 0, "None")])?;
     }
     Ok(())
+}
+
+/// It isn't finished without its till, nor with the receipt of what was cancelled.
+static REFUSED_TWICE: [Try; 3] = [
+    (0, 0, "Some(TillMissing)"),
+    (1, 2, "Some(Lost { number: 1 })"),
+    (1, 0, "None"),
+];
+
+#[test]
+fn a_refused_finish_takes_no_step(rt: HostRuntime) -> Result<(), Fail> {
+    calls_once(&rt, rt.alloc(), &CANCELLED, &REFUSED_TWICE)
 }
