@@ -1,6 +1,7 @@
-// What is done at a station: a ticket is tried, a worker starts, and the station is finished.
+// What is done at a station: a ticket is tried, an uplink is answered, a worker starts, and the station is finished.
 ghost use Rattle.std.specs.Prelude.{◌≡◌, ◌<◌};
 
+use crate::gates::Log;
 use crate::growth::stations::{AtWork, takes, totals_at};
 use crate::growth::tickets::{Gone, booked_in, is_wanted, shown_by};
 use answer_ticket::{Receipt, Ticket, Tried};
@@ -72,6 +73,56 @@ impl AtWork for Tries {
 #[test]
 fn a_ticket_is_tried(rt: HostRuntime) -> Result<(), Fail> {
     takes(&rt, rt.alloc(), 2, &Tries, 2)
+}
+
+/// An uplink is answered with the growth of this number refused, at a gate that notes who goes where: who has a ticket goes to
+/// gateway 1 and leaves it, whether the try found memory or not.
+fn is_answered_without<B: Ledger, A: Allocator + Copy, R: Wait>(
+    rt: &R,
+    alloc: &Refuser,
+    station: &Station<B, WorkedHasher, A>,
+    till: &mut Till<B>,
+    number: u64,
+) -> Result<bool, Fail> {
+    let log = Log::new();
+    alloc.refuse(number);
+    let handled = station.answer(rt, &log, 2, till, &mut 0);
+    let asked = asked_of(alloc);
+    let (is_starved, calls) = gone(&handled);
+    same(log.calls(), calls)?;
+    is_as_asked(asked, number, is_starved, false)
+}
+
+/// Whether an uplink wasn't booked, and who went where for it.
+fn gone<A: Allocator>(handled: &Handled<A>) -> (bool, u64) {
+    match handled {
+        Handled::NotTaken(_) => (true, 0),
+        Handled::Settled(_, receipt) | Handled::Stray(_, receipt) => (receipt.is_none(), 16),
+    }
+}
+
+/// An uplink is answered.
+#[derive(Drop)]
+struct Answers;
+
+impl AtWork for Answers {
+    fn is_refused<B: Ledger, A: Allocator + Copy, R: Wait>(
+        &self,
+        rt: &R,
+        alloc: &Refuser,
+        _own: A,
+        station: Station<B, WorkedHasher, A>,
+        till: Till<B>,
+        number: u64,
+    ) -> Result<bool, Fail> {
+        let mut till = till;
+        is_answered_without(rt, alloc, &station, &mut till, number)
+    }
+}
+
+#[test]
+fn a_worker_leaves_where_a_try_finds_no_memory(rt: HostRuntime) -> Result<(), Fail> {
+    takes(&rt, rt.alloc(), 2, &Answers, 4)
 }
 
 /// How many parts a share has that was handed back, and a worker's that starts with it, if it finds memory.
