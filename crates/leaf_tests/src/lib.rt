@@ -22,6 +22,8 @@ mod growth;
 #[cfg(test)]
 mod lines;
 #[cfg(test)]
+mod std_calls;
+#[cfg(test)]
 mod windows;
 #[cfg(test)]
 mod words;
