@@ -12,8 +12,8 @@ demo:
 	@cd crates/airbook && rt try -- run < ../../examples/two-gateways.txt
 
 # The gate, then what must not compile, and then the cases, random runs and saved books beside plain models, growths that are
-# refused, workers beside one thread and a server that listens, on the program that the gate has proved and built. Where one fails,
-# what comes after it is not run.
+# refused, workers beside one thread, inputs of as many bytes as there may be and a server that listens, on the program that the
+# gate has proved and built. Where one fails, what comes after it is not run.
 test:
 	rt ci
 	python3 tests/misuse.py
@@ -23,6 +23,7 @@ test:
 	python3 tests/refused_growths.py $(PROGRAM)
 	python3 tests/refused_books.py $(PROGRAM)
 	python3 tests/workers.py $(PROGRAM)
+	python3 tests/limits.py $(PROGRAM)
 	python3 tests/listen.py $(PROGRAM)
 
 # The edits in mutants/, which the gate leaves out: before a release. On a clone of what is committed.

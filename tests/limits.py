@@ -1,0 +1,138 @@
+#!/usr/bin/env python3
+"""Gives a program inputs of as many bytes as one may have, and of one more, and compares what it writes and how it ends.
+
+Usage: limits.py PROGRAM
+
+The bytes are those of docs/FORMATS.md, 2^28. An input has a front and then lines that are cheap to answer: comments, which have
+no answer, or lines of 1,026 bytes, each of which is `bad N Syntax`. It is made while it is written, block by block. With one byte
+more the program ends with TooMuch, and has written a front of the answers, of which only the last ones may be missing. Every
+program that is started ends within a minute, or is stopped. A failing trial has a line; the last line is 'limits: N passed, M
+failed'. The status is 0 where none failed, 1 where one did, 2 where nothing could be run.
+"""
+import contextlib
+import pathlib
+import socket
+import subprocess
+import sys
+import tempfile
+import threading
+
+sys.dont_write_bytecode = True
+from listen import NO_REPORT, SETTINGS
+
+SECONDS = 60
+LIMIT = 1 << 28
+BLOCK = 1 << 20
+COMMENT = b"#" * 1_023 + b"\n"
+LONG = b"x" * 1_026 + b"\n"
+# The answers that may be lost: what is gathered before it is written, and as much again for the lines of the last read.
+LOST = 2 * 4_096
+
+SAVED = b"airbook 2\ngateway 1 4096 0 0\nr 1 10000000 868100000 5 12\nend 1\n"
+EMPTY_BOOK = b"booked 0\ncancelled 0\nretired 0\nkept 0 0\nfloor 0\n"
+PLAN = b"book 1 10000000 868100000 5 12\nplan\nbook 2 10041216 868100000 5 12\n"
+PLANNED = b"ok 1 10000000 10041216\nif ok 2 10041216 10082432\n"
+KEPT_ONE = b"booked 41216\ncancelled 0\nretired 0\nkept 1 41216\nfloor 0\nbusiest M 10000000 41216\n"
+SERVED = SETTINGS.encode() + b"---\n"
+NO_SENDS = "".join(line + "\n" for line in NO_REPORT).encode()
+
+
+def blocks(front, line, size):
+    """An input of this size, block by block."""
+    yield front
+    block, left = line * (BLOCK // len(line)), size - len(front)
+    while left > 0:
+        yield block[:left]
+        left -= len(block)
+
+
+def bad_lines(front):
+    """The answers to the long lines that fill an input up to the limit; a part of one, at the end, has its answer, too."""
+    count = -(-(LIMIT - len(front)) // len(LONG))
+    return b"".join(b"bad %d Syntax\n" % number for number in range(1, count + 1))
+
+
+def feed(pipe, given):
+    """Writes all of this to a pipe, as long as somebody reads it."""
+    with contextlib.suppress(BrokenPipeError), pipe:
+        for block in given:
+            pipe.write(block)
+
+
+def ended(program, words, given):
+    """How a program ends that is given this: its status, standard output and standard error."""
+    pipes = {"stdin": subprocess.PIPE, "stdout": subprocess.PIPE}
+    with tempfile.TemporaryFile() as errors, subprocess.Popen([program, *words], stderr=errors, **pipes) as child:
+        alarm = threading.Timer(SECONDS, child.kill)
+        feeder = threading.Thread(target=feed, args=(child.stdin, given))
+        alarm.start()
+        feeder.start()
+        written = child.stdout.read()
+        feeder.join()
+        status = child.wait()
+        alarm.cancel()
+        errors.seek(0)
+        return status, written, errors.read()
+
+
+def is_front(written, answers):
+    """Whether this is all of the answers but the last ones at most."""
+    return answers.startswith(written) and len(answers) - len(written) <= LOST
+
+
+def fault_of(program, words, front, line, answers, at_the_end, stops):
+    """What is wrong with how inputs of both sizes are answered; None where nothing is.
+
+    Answers are what is written while lines are read, and then comes what is written at the end. Where a run stops before that its
+    faults are named, one for each size; an input that is served has none."""
+    for size, name in zip((LIMIT, LIMIT + 1), stops):
+        status, written, errors = ended(program, words, blocks(front, line, size))
+        refused = 1 if b"bad " in answers + at_the_end else 0
+        if name is None:
+            is_wanted = (status, written, errors) == (refused, answers + at_the_end, b"")
+        else:
+            is_wanted = (status, errors) == (2, f"airbook: {name}\n".encode()) and is_front(written, answers)
+        if not is_wanted:
+            wanted = f"status {refused}" if name is None else name
+            return f"{size} bytes, wanted {wanted}: status {status}, {len(written)} bytes that end {written[-60:]}, {errors}"
+    return None
+
+
+def rows(port):
+    """The arguments, the front and the lines of the input, the answers, what is written at the end, and the faults."""
+    long_run = bad_lines(SERVED) + NO_SENDS
+    listen = ["listen", "--port", str(port), "--turns", "1"]
+    too_much = [None, "TooMuch"]
+    return [
+        (["book"], b"", LONG, bad_lines(b""), EMPTY_BOOK, too_much),
+        (["book", "--resume", "--save"], SAVED, COMMENT, b"", SAVED, too_much),
+        (["book", "--resume"], b"airbook 3\n", COMMENT, b"", b"", ["Version", "Version"]),
+        (["plan"], PLAN, COMMENT, PLANNED, KEPT_ONE, too_much),
+        (["run"], SERVED, LONG, b"", long_run, too_much),
+        (["run", "--workers", "2"], SERVED, COMMENT, b"", NO_SENDS, too_much),
+        (["run"], b"gateway = [\n---\n", COMMENT, b"", b"", ["NotToml", "TooMuch"]),
+        # The settings are accepted, and then another has the port.
+        (listen, SETTINGS.encode(), COMMENT, b"", b"", ["Bind", "TooMuch"]),
+    ]
+
+
+def main():
+    if len(sys.argv) != 2 or not pathlib.Path(sys.argv[1]).is_file():
+        print(__doc__.strip(), file=sys.stderr)
+        return 2
+    program = str(pathlib.Path(sys.argv[1]).resolve())
+    failed = 0
+    with socket.socket(type=socket.SOCK_DGRAM) as other:
+        other.bind(("127.0.0.1", 0))
+        trials = rows(other.getsockname()[1])
+        for words, *row in trials:
+            fault = fault_of(program, words, *row)
+            if fault:
+                failed += 1
+                print(f"failed: {' '.join(words)}: {fault}", flush=True)
+    print(f"limits: {len(trials) - failed} passed, {failed} failed")
+    return 1 if failed else 0
+
+
+if __name__ == "__main__":
+    sys.exit(main())
