@@ -2,7 +2,7 @@ use Rattle.std.specs.Prelude.{◌≡◌, ◌<◌, ◌≤◌, ℕ, Bool, true, fa
 use Rattle.std.specs.Prelude.{⊤}
 use Rattle.std.specs.Option.{option_map}
 use Rattle.text_lines.specs.Promise.{AnswersWhole, AnswersInPart, AnswersSoFar}
-use Rattle.text_lines.specs.declared.ahead.TheConstants.{INPUT_LIMIT}
+use Rattle.text_lines.specs.Ahead.{most_input}
 use Rattle.gateway_book.specs.Answer.{Rules}
 use Rattle.gateway_book.specs.Loading.{loaded, HasMembers}
 use Rattle.gateway_book.specs.declared.loading.LoadFault.{LoadFault}
@@ -32,8 +32,8 @@ module _ (resume saves : Bool) (rules : Rules) where
 -- the input's length, where it is known: at most 2^28 bytes on `Ok`, and more where `TooMuch` is answered
 abbrev pub KeepsLimit : Option (List ℕ) → Result Bool TextFault → Type 0
 KeepsLimit None result = ⊤
-KeepsLimit (Some bytes) (Ok _) = length bytes ≤ INPUT_LIMIT
-KeepsLimit (Some bytes) (Err TooMuch) = INPUT_LIMIT < length bytes
+KeepsLimit (Some bytes) (Ok _) = length bytes ≤ most_input
+KeepsLimit (Some bytes) (Err TooMuch) = most_input < length bytes
 KeepsLimit (Some bytes) (Err _) = ⊤
 
 -- what a book may be opened with

@@ -2,7 +2,7 @@ use Rattle.std.specs.Prelude.{ℕ, ◌≢◌, ◌<◌, ◌≤◌, ⊤, length, s
 use Rattle.std.specs.Prelude.{if◌then◌else◌, List, [], ◌∷◌, codes}
 use Rattle.std.specs.List.{concat}
 use Rattle.std.specs.Str.{bytes_eq}
-use Rattle.text_lines.specs.declared.ahead.TheConstants.{INPUT_LIMIT}
+use Rattle.text_lines.specs.Ahead.{most_input}
 use Rattle.text_words.specs.declared.fault.TextFault.{TextFault}
 use Rattle.text_words.specs.declared.fault.TextFault.TheVariants.{Read, Write, TooMuch, Settings, NoMemory}
 
@@ -49,10 +49,10 @@ event_part bytes = concat (after_rule (raw_lines bytes))
 -- whole of it was read
 abbrev pub KeepsInputLimit : {T : Type 0} → Option (List ℕ) → Result T TextFault → Type 0
 KeepsInputLimit None result = ⊤
-KeepsInputLimit (Some bytes) (Ok _) = length bytes ≤ INPUT_LIMIT
-KeepsInputLimit (Some bytes) (Err TooMuch) = INPUT_LIMIT < length bytes
-KeepsInputLimit (Some bytes) (Err Write) = length bytes ≤ INPUT_LIMIT
-KeepsInputLimit (Some bytes) (Err (Settings name)) = length bytes ≤ INPUT_LIMIT
+KeepsInputLimit (Some bytes) (Ok _) = length bytes ≤ most_input
+KeepsInputLimit (Some bytes) (Err TooMuch) = most_input < length bytes
+KeepsInputLimit (Some bytes) (Err Write) = length bytes ≤ most_input
+KeepsInputLimit (Some bytes) (Err (Settings name)) = length bytes ≤ most_input
 KeepsInputLimit (Some bytes) (Err _) = ⊤
 
 -- why not all bytes of an input were read

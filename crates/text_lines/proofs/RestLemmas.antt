@@ -6,27 +6,27 @@ use Rattle.std.specs.Prelude.{IfOk, OnErr}
 use Rattle.std.specs.Io.{ReadsAtMost}
 use Rattle.std.specs.Io.KnownBytes.{Consumes, ReadConsumes}
 use Rattle.text_lines.specs.Rest.{IsRest, gone_of}
-use Rattle.text_lines.specs.declared.ahead.TheConstants.{INPUT_LIMIT}
+use Rattle.text_lines.specs.Ahead.{most_input}
 
 -- the bytes before the rest are those that are gone
 gone_front : (bytes front rest : List ℕ) → bytes ≡ front ++ rest → gone_of bytes (Some rest) ≡ length front
 gone_front bytes front rest e = omega (arith, ap length e, length-append front rest)
 
 parted : (bytes front rest : List ℕ) (taken : ℕ) → bytes ≡ front ++ rest
-    → min taken (INPUT_LIMIT + 1) ≡ min (length front) (INPUT_LIMIT + 1) → IsRest bytes (Some rest) taken
+    → min taken (most_input + 1) ≡ min (length front) (most_input + 1) → IsRest bytes (Some rest) taken
 parted bytes front rest taken e counted =
     let n : gone_of bytes (Some rest) ≡ length front = gone_front bytes front rest e in
     record {
       known = refl;
       ends = e ∙ ap (λ l. l ++ rest) (sym (ap (λ k. take k bytes) n ∙ ap (take (length front)) e
           ∙ take-append_seam front rest));
-      counted = counted ∙ ap (λ k. min k (INPUT_LIMIT + 1)) (sym n);
+      counted = counted ∙ ap (λ k. min k (most_input + 1)) (sym n);
     }
 
 -- some bytes were given; how many is counted, unless more than 2^28 were before
 pub IsRest-given : (bytes : List ℕ) (left left_after : Option (List ℕ)) (taken taken_after : ℕ) (given : List ℕ)
     → IsRest bytes left taken → Consumes left left_after given
-    → min taken_after (INPUT_LIMIT + 1) ≡ min (taken + length given) (INPUT_LIMIT + 1)
+    → min taken_after (most_input + 1) ≡ min (taken + length given) (most_input + 1)
     → IsRest bytes left_after taken_after
 IsRest-given bytes None left_after taken taken_after given rest consumed counted = absurd (cc (rest.known))
 IsRest-given bytes (Some x) None taken taken_after given rest consumed counted = absurd consumed
@@ -41,7 +41,7 @@ IsRest-given bytes (Some x) (Some y) taken taken_after given rest consumed count
 -- one read more
 pub IsRest-read : {E : Type 0} (bytes : List ℕ) (left left_after : Option (List ℕ)) (taken taken_after : ℕ) (into : List ℕ)
     (result : Result ℕ E) → IsRest bytes left taken → ReadsAtMost result into → ReadConsumes left left_after result into
-    → IfOk result (λ count. min taken_after (INPUT_LIMIT + 1) ≡ min (taken + count) (INPUT_LIMIT + 1))
+    → IfOk result (λ count. min taken_after (most_input + 1) ≡ min (taken + count) (most_input + 1))
     → OnErr result (taken_after ≡ taken) → IsRest bytes left_after taken_after
 IsRest-read bytes left left_after taken taken_after into (Ok count) rest bound read counted none =
     let n : length (take count into) ≡ count = sym bound.1 in

@@ -2,6 +2,10 @@
 use Rattle.std.specs.Prelude.{◌≡◌, ℕ, ◌+◌, ◌≤◌, List, length, Option}
 use Rattle.std.specs.Io.KnownBytes.{Consumes, prepend_known}
 
+-- the most bytes that an input may have: 2^28
+abbrev pub most_input : ℕ
+most_input = 268435456
+
 -- `pending` was read and is not yet taken; `taken` is how many bytes were taken before it
 pub record Ahead : Type 0 where
   pub pending : List ℕ

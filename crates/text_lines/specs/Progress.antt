@@ -5,7 +5,7 @@ use Rattle.std.specs.Str.Lines.{lines}
 use Rattle.text_lines.specs.Line.{text_of}
 use Rattle.text_lines.specs.Turns.{Turns, has_refusal, reached, answers}
 use Rattle.text_lines.specs.Writing.{WritesAllBut, WritesFront}
-use Rattle.text_lines.specs.declared.ahead.TheConstants.{INPUT_LIMIT}
+use Rattle.text_lines.specs.Ahead.{most_input}
 
 -- from `s` on, the line of this number was answered by this text; `refused` says whether a line of it begins with `no` or `bad`
 pub record IsAnswer {S : Type 0} (turns : Turns S) (s : S) (Now : S → Type 0) (number : ℕ) (line text : List ℕ)
@@ -55,7 +55,7 @@ module _ {S : Type 0} (turns : Turns S) (Old : S → Type 0) where
 -- all these bytes were read, behind so many that were taken before, and this holds of their lines
 pub record IsWholly (taken : ℕ) (bytes : List ℕ) (left_after : Option (List ℕ)) (Holds : List (List ℕ) → Type 0) : Type 0 where
   pub consumed : Consumes (Some bytes) left_after bytes
-  pub within : taken + length bytes ≤ INPUT_LIMIT
+  pub within : taken + length bytes ≤ most_input
   pub holds : Holds (lines bytes)
 
 -- this holds of the first lines of these bytes, which are also the first of the bytes that were read

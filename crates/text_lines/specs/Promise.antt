@@ -8,7 +8,7 @@ use Rattle.text_lines.specs.Calls.{CountsWhere}
 use Rattle.text_lines.specs.Line.{text_of}
 use Rattle.text_lines.specs.Turns.{has_refusal}
 use Rattle.text_lines.specs.Writing.{WritesFront, WritesAllBut-refl}
-use Rattle.text_lines.specs.declared.ahead.TheConstants.{INPUT_LIMIT}
+use Rattle.text_lines.specs.Ahead.{most_input}
 use Rattle.text_lines.specs.declared.answering.LineFault.{LineFault}
 use Rattle.text_lines.specs.declared.answering.LineFault.TheVariants.{Read, Write, TooMuch}
 
@@ -78,15 +78,15 @@ module _ (output : List ℕ → List (List ℕ) → List (List ℕ)) where
 -- where `TooMuch` is answered
 abbrev pub KeepsLimitFrom : ℕ → Option (List ℕ) → Result Bool LineFault → Type 0
 KeepsLimitFrom taken None result = ⊤
-KeepsLimitFrom taken (Some bytes) (Ok _) = taken + length bytes ≤ INPUT_LIMIT
-KeepsLimitFrom taken (Some bytes) (Err TooMuch) = INPUT_LIMIT < taken + length bytes
+KeepsLimitFrom taken (Some bytes) (Ok _) = taken + length bytes ≤ most_input
+KeepsLimitFrom taken (Some bytes) (Err TooMuch) = most_input < taken + length bytes
 KeepsLimitFrom taken (Some bytes) (Err _) = ⊤
 
 -- the input's length, where it is known: at most 2^28 bytes on `Ok`, and more where `TooMuch` is answered
 abbrev pub KeepsLimit : Option (List ℕ) → Result Bool LineFault → Type 0
 KeepsLimit None result = ⊤
-KeepsLimit (Some bytes) (Ok _) = length bytes ≤ INPUT_LIMIT
-KeepsLimit (Some bytes) (Err TooMuch) = INPUT_LIMIT < length bytes
+KeepsLimit (Some bytes) (Ok _) = length bytes ≤ most_input
+KeepsLimit (Some bytes) (Err TooMuch) = most_input < length bytes
 KeepsLimit (Some bytes) (Err _) = ⊤
 
 abbrev pub is_read : LineFault → Bool

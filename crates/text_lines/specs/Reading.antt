@@ -1,14 +1,13 @@
 -- What a reader ahead gives, in terms of the bytes that its caller has not yet taken.
 use Rattle.std.specs.Prelude.{◌≡◌, ℕ, ◌<◌, ◌≤◌, List, [], ◌∷◌, ◌++◌, length, take, ⊤, Option, None, Some, Result, Ok, Err}
 use Rattle.std.specs.Str.Lines.{lines}
-use Rattle.text_lines.specs.Ahead.{Ahead, read_count}
+use Rattle.text_lines.specs.Ahead.{Ahead, read_count, most_input}
 use Rattle.text_lines.specs.Calls.{next_count}
 use Rattle.text_lines.specs.Line.{HasNoLineFeed, kept}
 use Rattle.text_lines.specs.declared.ahead.InFault.{InFault}
 use Rattle.text_lines.specs.declared.ahead.InFault.TheVariants.{Read, TooMuch}
 use Rattle.text_lines.specs.declared.ahead.NextLine.{NextLine}
 use Rattle.text_lines.specs.declared.ahead.NextLine.TheVariants.{Whole, Last, End}
-use Rattle.text_lines.specs.declared.ahead.TheConstants.{INPUT_LIMIT}
 use Rattle.text_lines.specs.declared.held_line.TheConstants.{KEPT_LIMIT}
 
 -- `Read` comes exactly where a call of the reader failed
@@ -21,13 +20,13 @@ CountsRead old new (Err TooMuch) = new ≡ old
 abbrev pub IsTooMuchOnlyPast : {T : Type 0} → Ahead → Result T InFault → Type 0
 IsTooMuchOnlyPast ahead (Ok _) = ⊤
 IsTooMuchOnlyPast ahead (Err Read) = ⊤
-IsTooMuchOnlyPast ahead (Err TooMuch) = INPUT_LIMIT < read_count ahead
+IsTooMuchOnlyPast ahead (Err TooMuch) = most_input < read_count ahead
 
 -- where the input has ended, at most 2^28 bytes were taken, which is all
 abbrev pub IsEndWithin : Ahead → NextLine → Type 0
 IsEndWithin ahead Whole = ⊤
-IsEndWithin ahead Last = (ahead.pending ≡ []) × (ahead.taken ≤ INPUT_LIMIT)
-IsEndWithin ahead End = (ahead.pending ≡ []) × (ahead.taken ≤ INPUT_LIMIT)
+IsEndWithin ahead Last = (ahead.pending ≡ []) × (ahead.taken ≤ most_input)
+IsEndWithin ahead End = (ahead.pending ≡ []) × (ahead.taken ≤ most_input)
 
 -- where a line was found, at least one byte was taken
 abbrev pub AdvancesAt : NextLine → Ahead → Ahead → Type 0

@@ -1,6 +1,6 @@
 -- What is left of an input whose bytes are known.
 use Rattle.std.specs.Prelude.{◌≡◌, ℕ, ◌+◌, ◌-◌, min, List, [], ◌++◌, length, take, Option, None, Some}
-use Rattle.text_lines.specs.declared.ahead.TheConstants.{INPUT_LIMIT}
+use Rattle.text_lines.specs.Ahead.{most_input}
 
 -- the bytes that are left, or none where they are not known
 abbrev pub rest_of : Option (List ℕ) → List ℕ
@@ -15,4 +15,4 @@ gone_of bytes left = length bytes - length (rest_of left)
 pub record IsRest (bytes : List ℕ) (left : Option (List ℕ)) (taken : ℕ) : Type 0 where
   pub known : left ≡ Some (rest_of left)
   pub ends : bytes ≡ take (gone_of bytes left) bytes ++ rest_of left
-  pub counted : min taken (INPUT_LIMIT + 1) ≡ min (gone_of bytes left) (INPUT_LIMIT + 1)
+  pub counted : min taken (most_input + 1) ≡ min (gone_of bytes left) (most_input + 1)

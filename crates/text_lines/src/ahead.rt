@@ -153,7 +153,7 @@ impl ReadAhead {
     }
 
     /// Takes the next byte of the input, reading on where all that was read has been taken. None: the input has
-    /// ended.
+    /// ended. `Read`: a call of the reader failed; `TooMuch`: more than 2^28 bytes were read. No byte is taken then.
     pub fn next_byte<R: ByteIn>(&mut self, reader: &mut R) -> Result<Option<u8>, InFault>
         ensures byte { IfOk result (λ byte. Consumes (unread self.old (R.left reader.old))
             (unread self.new (R.left reader.new)) (option_to_list byte)) }
@@ -177,7 +177,8 @@ impl ReadAhead {
     }
 
     /// Takes the bytes up to the next line feed, and that, and holds the front of them in `part`, at most 1,026 bytes
-    /// and the line feed left out. A carriage return stays.
+    /// and the line feed left out. A carriage return stays. `Read`, `TooMuch`: as of `next_byte`; what was taken by then stays
+    /// in `part`.
     pub fn next_part<R: ByteIn>(
         &mut self,
         reader: &mut R,
@@ -205,7 +206,8 @@ impl ReadAhead {
     }
 
     /// Takes the next line with its end, and holds in `line` what is kept of it: all, unless it is too long. The end
-    /// is a line feed with the carriage return before it, if there is one, or the end of the input.
+    /// is a line feed with the carriage return before it, if there is one, or the end of the input. `Read`, `TooMuch`: as of
+    /// `next_byte`; what was taken by then stays in `line`.
     pub fn next_line<R: ByteIn>(
         &mut self,
         reader: &mut R,

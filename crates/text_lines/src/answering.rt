@@ -102,6 +102,7 @@ fn answer_lines<T: LineAnswerer, R: ByteIn, W: ByteOut>(
     ensures write { CountsWrites (W.failed_calls writer.old) (W.failed_calls writer.new) result }
 {
     let mut line = HeldLine::new();
+    let mut text = TextLine::new();
     let mut refused = false;
     for number in 1..INPUT_LIMIT + 2 {
         let found = match input.next_line(reader, &mut line) {
@@ -112,7 +113,7 @@ fn answer_lines<T: LineAnswerer, R: ByteIn, W: ByteOut>(
         if let NextLine::End = found {
             return Ok(refused);
         }
-        match answer_line(answerer, number, line.as_slice(), output, writer) {
+        match answer_line(answerer, number, line.as_slice(), &mut text, output, writer) {
             Err(_) => return Err(LineFault::Write),
             Ok(is_refusal) => refused |= is_refusal,
         }
@@ -123,11 +124,12 @@ fn answer_lines<T: LineAnswerer, R: ByteIn, W: ByteOut>(
     Err(LineFault::TooMuch)
 }
 
-/// Answers line `number`, and says whether the answer begins with `no` or `bad`.
+/// Answers line `number`, and says whether the answer begins with `no` or `bad`. The answer is made in `text`, whatever that had.
 fn answer_line<T: LineAnswerer, W: ByteOut>(
     answerer: &mut T,
     number: u64,
     line: &[u8],
+    text: &mut TextLine,
     output: &mut WriteBehind,
     writer: &mut W,
 ) -> Result<bool, CallFailed>
@@ -135,8 +137,8 @@ fn answer_line<T: LineAnswerer, W: ByteOut>(
         (W.taken writer.old) (W.taken writer.new) result }
     ensures failed { CountsFailure (W.failed_calls writer.old) (W.failed_calls writer.new) result }
 {
-    let mut text = TextLine::new();
-    let is_refusal = answerer.answer(number, line, &mut text);
+    text.clear();
+    let is_refusal = answerer.answer(number, line, text);
     match output.put(writer, text.as_slice()) {
         Err(failed) => Err(failed),
         Ok(()) => Ok(is_refusal),

@@ -1,16 +1,16 @@
-// A line of output, in a buffer of fixed size.
+// A line of output, or a few of them, in a buffer of fixed size.
 ghost use Rattle.std.specs.Prelude.{◌≡◌, ℕ, ◌+◌, ◌≤◌, List, [], ◌∷◌, ◌++◌, length, take, decimal};
 
 use itoa::Buffer;
 use std::marker::Model;
 
-/// The most bytes of a line of output.
+/// The most bytes of a `TextLine`: no line of output has so many, and no report of a book.
 pub const TEXT_LIMIT: usize = 1024;
 
 /// The most digits that `number` adds.
 pub const NUMBER_DIGITS: usize = 20;
 
-/// A text that is put together piece by piece, of at most 1,024 bytes.
+/// A text of one line or of a few, which is put together piece by piece, of at most 1,024 bytes.
 #[derive(Debug, Drop)]
 pub struct TextLine {
     bytes: [u8; TEXT_LIMIT],
