@@ -25,6 +25,7 @@ pub mod PairLaws
 pub mod ForgottenSteps
 pub mod StandingLaws
 pub mod WorkedRefusals
+pub mod WorkedLaws
 pub mod SavedText
 pub mod SavedWords
 pub mod SavedReading
@@ -37,3 +38,4 @@ pub mod Rejoining
 pub mod SavedAgain
 pub mod SavedSpelling
 pub mod SavedWas
+pub mod MaySave

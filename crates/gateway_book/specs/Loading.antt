@@ -6,7 +6,7 @@ use Rattle.std.specs.List.{slice_split, join_with_byte}
 use Rattle.radio_airtime.specs.declared.data_rate.DataRate.{DataRate}
 use Rattle.radio_bands.specs.Band.{hour}
 use Rattle.resv_list.specs.declared.reservation.Reservation.{Reservation}
-use Rattle.resv_list.specs.Reservations.{net}
+use Rattle.resv_list.specs.Reservations.{net, IsByStart}
 use Rattle.text_lines.specs.Number.{number_below}
 use Rattle.text_lines.specs.Words.{is_named, spaced}
 use Rattle.gateway_book.specs.declared.ask.Ask.{Ask}
@@ -16,7 +16,7 @@ use Rattle.gateway_book.specs.declared.saved_line.SavedGateway.{SavedGateway}
 use Rattle.gateway_book.specs.declared.loading.LoadFault.{LoadFault}
 use Rattle.gateway_book.specs.declared.loading.LoadFault.TheVariants.{Read, Syntax, Version, Unlawful, NoMemory}
 use Rattle.gateway_book.specs.Answer.{no_band, too_long, past_end, taken, duty_full, first_some}
-use Rattle.gateway_book.specs.Book.{Book, IsBookList}
+use Rattle.gateway_book.specs.Book.{Book, IsSound, IsBookList}
 use Rattle.gateway_book.specs.Opening.{open_fault}
 use Rattle.radio_airtime.specs.DataRate.{known_rate}
 use Rattle.gateway_book.specs.Saved.{Saved, saved_of, end_words, text_in}
@@ -206,6 +206,17 @@ pub record IsSavable (s : Saved) : Type 0 where
   pub floor : s.floor < 2 ^ 64
   pub members : All (λ r. (r.number < 2 ^ 64) × (r.freq_hz < 2 ^ 32) × (r.len < 2 ^ 8)) s.list
   pub list : IsBookList s.rules s.floor (net s.list) s.list
+
+-- the numbers of a book and of its members are of their types, and its members stand by start, as every book's in memory do
+pub record IsHeld (b : Book) : Type 0 where
+  pub id : b.id < 2 ^ 16
+  pub floor : b.floor < 2 ^ 64
+  pub members : All (λ r. (r.number < 2 ^ 64) × (r.freq_hz < 2 ^ 32) × (r.len < 2 ^ 8)) b.list
+  pub by_start : IsByStart b.list
+
+-- the law: every book may be saved
+abbrev pub BooksMayBeSaved : Type 0
+BooksMayBeSaved = (b : Book) → IsSound b → IsHeld b → IsSavable (saved_of b)
 
 -- the versions that are read; the first tells no gap
 abbrev pub IsVersion : ℕ → Saved → Type 0

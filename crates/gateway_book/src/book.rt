@@ -279,7 +279,7 @@ impl<R: Roster> GatewayBook<R> {
         busiest_hour(&self.roster, band)
     }
 
-    /// What the book keeps, by start.
+    /// What the book keeps, by start. Err(NoMemory) where the one growth of the list was refused.
     pub fn list<A: Allocator>(&self, alloc: A) -> Result<Vec<Reservation, A>, NoMemory>
         ensures members { IfOk result (λ members. members.items ≡ self.now.list) }
         ensures lawful { IsLawful self.now.rules.gap self.now.list }

@@ -3,7 +3,7 @@ ghost use Rattle.gateway_book.specs.Laws.{FewHoursSuffice, DutyRowIsExact, Busie
 ghost use Rattle.gateway_book.specs.Earliest.{EarliestCandidates};
 ghost use Rattle.gateway_book.specs.EarliestValue.{EarliestIsExact};
 ghost use Rattle.gateway_book.specs.Forgetting.{ForgettingIsUnseen};
-ghost use Rattle.gateway_book.specs.Loading.{SavedIsReadAgain, LoadedWasSaved};
+ghost use Rattle.gateway_book.specs.Loading.{BooksMayBeSaved, SavedIsReadAgain, LoadedWasSaved};
 
 /// Members at different places of a list by start are disjoint, with a gap between them, exactly where each begins no earlier
 /// than the one before it ends and the gap passes.
@@ -65,6 +65,11 @@ pub fn law_earliest_candidates()
 /// and so every list of these; what each keeps afterwards is the same; and a lawful list stays lawful.
 pub fn law_forgetting()
     ensures { ForgettingIsUnseen }
+{}
+
+/// Every book may be saved, up to the greatest floor that there is.
+pub fn law_books_may_be_saved()
+    ensures { BooksMayBeSaved }
 {}
 
 /// What is saved of a book is read again, whatever bytes follow the text: the same gateway, floor and list.

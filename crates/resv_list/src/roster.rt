@@ -126,7 +126,8 @@ pub trait Roster {
         ensures airtime { result.airtime ≡ net (members_before start (list self.old)) }
         ensures left { list self.new ≡ members_from start (list self.old) };
 
-    /// Puts one more in its place; on an `Err` it is handed back, and the roster is as it was.
+    /// Puts one more in its place; on an `Err` it is handed back, and the roster is as it was. `Full`: there are 65,536;
+    /// `NoMemory`: a growth was refused.
     fn insert(&mut self, reservation: Reservation) -> Result<(), (RosterFault, Reservation)>
         requires { IsFree reservation.start (list self.old) }
         ensures placed { OnOk result (list self.new ≡ place reservation (list self.old)) }
