@@ -8,7 +8,8 @@ pub fn law_ok_where_accepted()
     ensures { OkWhereAccepted }
 {}
 
-/// Each line of the input that is not passed over has one line that answers it, and no other line has.
+/// Each line of `airbook book` that is not passed over has one line that answers it, and no other line has. (A line `plan` of
+/// `airbook plan` has none.)
 pub fn law_one_answer_a_line()
     ensures { OneAnswerALine }
 {}

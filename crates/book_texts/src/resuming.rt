@@ -85,11 +85,11 @@ fn load_lent<A: Allocator + Clone, R: ByteIn>(reader: R, alloc: A) -> (R, Loaded
     ensures read { CountsWhere is_read (R.failed_calls reader) (R.failed_calls result.0) result.1.0 }
     ensures place { R.place result.0 ≡ R.place reader }
 {
-    load_counted::<A, R, Brand>(reader, alloc)
+    load_buffered::<A, R, Brand>(reader, alloc)
 }
 
 /// The same of an input that a mark stands for.
-fn load_counted<A: Allocator + Clone, R: ByteIn, I: Origin>(
+fn load_buffered<A: Allocator + Clone, R: ByteIn, I: Origin>(
     reader: R,
     alloc: A,
 ) -> (R, LoadedAhead<A>)

@@ -1,7 +1,7 @@
 // The answers to the uplinks that one `pass` closed.
 ghost use Rattle.std.specs.Prelude.{◌≡◌, IfOk};
 ghost use Rattle.std.specs.List.Sorted.{IsNonDecreasingBy};
-ghost use Rattle.run_texts.specs.PassAnswers.{line_alone, refused_answer, sent_answer, booked_answer, answer_to};
+ghost use Rattle.run_texts.specs.PassAnswers.{line_alone, sent_answer, booked_answer, answer_to};
 ghost use Rattle.run_texts.specs.PassAnswers.{told_receipt, AreTold};
 
 use crate::numbered::place_of;
@@ -9,15 +9,18 @@ use crate::pass_ends::End;
 use answer_ticket::{Bytes, Ending, Receipt};
 use gateway_book::Refusal;
 use rx_windows::Candidate;
-use server_core::{Line, NoMemory, TakeFault};
+use server_core::{Line, NoMemory, refused_line};
 use std::alloc::Global;
 use std::mem::replace;
 
-/// The answer to the uplink with this number: a line, and its frame where one is to be sent.
+/// The answer to an uplink.
 #[derive(Drop)]
 pub struct Answer {
+    /// The number of the uplink's gathering.
     pub number: u64,
+    /// How it ended.
     pub line: Line<Global>,
+    /// The bytes of PHYPayload that the gateway is to send, where there are any; they are told in a line of their own.
     pub frame: Option<Bytes<Global>>,
 }
 
@@ -41,7 +44,7 @@ pub(crate) fn answer_to(
         }
         End::Settled(Ending::Unanswered(refusal)) => Ok(unanswered(number, refusal)),
         End::Settled(Ending::GivenUp) => Ok(unanswered(number, Refusal::NoMemory)),
-        End::Refused(fault) => Ok(not_taken(number, fault)),
+        End::Refused(fault) => Ok(line_alone(number, refused_line(number, fault))),
         End::Stray => Ok(line_alone(number, Line::Stray { number })),
     }
 }
@@ -116,17 +119,6 @@ fn unanswered(number: u64, refusal: Refusal) -> Answer
     ensures { result ≡ line_alone number (Line.Unanswered number refusal) }
 {
     line_alone(number, Line::Unanswered { number, refusal })
-}
-
-/// The answer where no ticket was given.
-fn not_taken(number: u64, fault: TakeFault) -> Answer
-    ensures { result ≡ refused_answer number fault }
-{
-    let line = match fault {
-        TakeFault::Silent => Line::Silent { number },
-        fault => Line::NotTaken { number, fault },
-    };
-    line_alone(number, line)
 }
 
 /// An answer without a frame.

@@ -16,7 +16,9 @@ impl<B: Ledger + Send + Sync, S: BuildHasher + Drop + Send + Sync> Shift<B, S>
 where
     S::Hasher: Send + Sync,
 {
-    /// Compares the books with what was answered, and with the receipts of what was not cancelled.
+    /// Compares the books with what was answered, and with the receipts of what was not cancelled. `Settings`: they don't go
+    /// together, by the name of the station's cause (Apart, Doubled or Lost). `NoMemory`: a growth was refused. The shift is gone
+    /// then, and the lines that it had told.
     pub fn close(self, alloc: Global) -> Result<Played, TextFault>
         ensures entries { IfOk result (λ played. played.entries ≡ self.entries) }
         ensures books { IfOk result (λ played. IsClosing self.station.value (open_receipts self.receipts)

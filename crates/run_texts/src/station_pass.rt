@@ -35,7 +35,9 @@ pub struct Answered<B: Ledger> {
 /// moved into the answers.
 #[derive(Drop)]
 pub struct Told {
+    /// One for each number, in rising order.
     pub answers: Vec<Answer>,
+    /// By number; a frame that was moved is empty here.
     pub booked: Vec<Receipt<Global>>,
 }
 
@@ -48,7 +50,9 @@ struct Shared<B: Ledger> {
 }
 
 /// Answers the uplinks with these numbers by as many of so many workers as there is work for. What they did not end, and all
-/// where none could work, the calling thread takes up once more.
+/// where none could work, the calling thread takes up once more. The till comes with all parts of the ledger, and comes back so.
+/// `told` is Err(NoMemory) where a growth was refused: what was answered by then is settled and booked, and its lines and
+/// receipts are lost.
 pub fn answer_with_workers<
     B: Ledger + Send + Sync,
     S: BuildHasher + Send + Sync,
@@ -196,13 +200,13 @@ fn take_up<B: Ledger, S: BuildHasher, R: Wait>(
     if numbers.is_empty() {
         return Ok(());
     }
-    finish(rt, station, numbers, till, ends)?;
+    answer_each(rt, station, numbers, till, ends)?;
     ends.sort();
     Ok(())
 }
 
 /// The same, and files what becomes of them behind what there was.
-fn finish<B: Ledger, S: BuildHasher, R: Wait>(
+fn answer_each<B: Ledger, S: BuildHasher, R: Wait>(
     rt: &R,
     station: &Station<B, S>,
     numbers: &[u64],

@@ -22,12 +22,15 @@ use std::sync::Wait;
 use std::thread::Threads;
 use text_words::TextFault;
 
-/// What a run left: the lines that answer its events, and what each gateway's book has counted, beside the gateway's number,
-/// and the books in the same order.
+/// What a run left: the lines that answer its events, what each gateway's book has counted, beside the gateway's number, and the
+/// books.
 #[derive(Drop)]
 pub struct Played {
+    /// The lines, each with the place of its event, counted from 0.
     pub entries: Vec<Entry<Global>>,
+    /// By the gateways' numbers.
     pub totals: Vec<(u16, Totals)>,
+    /// In the same order.
     pub books: Vec<Book<Global>>,
 }
 

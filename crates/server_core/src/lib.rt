@@ -21,7 +21,7 @@ pub use laws::{
     law_book_calls_are_steps, law_desk_calls_are_steps, law_every_interleaving,
     law_every_run_keeps_headline, law_others_leave_alone,
 };
-pub use lines::{cancelled_line, heard_line, queued_line};
+pub use lines::{cancelled_line, heard_line, queued_line, refused_line};
 pub use replayed::{Answers, Replay};
 pub use replaying::{answer_events, replay};
 pub use server::USUAL_LIMITS;

@@ -42,7 +42,17 @@ pub fn heard_line<A: Allocator>(answer: Result<DeskHeard, DeskFault>) -> Result<
     }
 }
 
-/// The line for an uplink for which no ticket was given.
+/// The line for an uplink for which no ticket was given, for whatever reason. Takes no memory.
+pub fn refused_line<A: Allocator>(number: u64, fault: TakeFault) -> Line<A>
+    ensures { result ≡ not_taken number fault }
+{
+    match fault {
+        TakeFault::Silent => Line::Silent { number },
+        fault => Line::NotTaken { number, fault },
+    }
+}
+
+/// The same, where a growth that was refused stops the run.
 pub(crate) fn not_taken_line<A: Allocator>(
     number: u64,
     fault: TakeFault,
@@ -53,8 +63,7 @@ pub(crate) fn not_taken_line<A: Allocator>(
 {
     match fault {
         TakeFault::NoMemory => Err(AllocError),
-        TakeFault::Silent => Ok(Line::Silent { number }),
-        fault => Ok(Line::NotTaken { number, fault }),
+        fault => Ok(refused_line(number, fault)),
     }
 }
 

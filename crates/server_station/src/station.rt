@@ -25,8 +25,8 @@ use std::marker::Model;
 use std::sync::{Mutex, MutexGuard, Wait};
 
 /// A server for several threads: the desk with the ledger's tally behind one lock, and each gateway's book behind its own.
-/// Each call takes one of these locks, and waits for it, but for `new` and `finish`. Seen as the numbers of its gateways; its
-/// type keeps that they rise, so that no two are the same.
+/// Each call waits for one of these locks, but for `new` and `finish`; `answer` waits for several, one after another, and holds
+/// none from one to the next. Seen as the numbers of its gateways; its type keeps that they rise, so that no two are the same.
 #[derive(Drop)]
 pub struct Station<B: Ledger, S: BuildHasher, A: Allocator + Copy = Global> {
     pub(crate) office: Mutex<Office<B, S, A>>,

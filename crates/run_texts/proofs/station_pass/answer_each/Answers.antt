@@ -2,7 +2,7 @@ use Rattle.std.proofs.Common.{rules, subst, sym, take, get_or, ◌∙◌}
 use Rattle.std.proofs.lemmas.List.{take_more}
 use Rattle.run_texts.specs.PassEnds.{HasFiled}
 use Rattle.run_texts.proofs.TurnLemmas.{filed_more, handled_parts}
-use Rattle.run_texts.proofs.station_pass.finish.Goals as goal
+use Rattle.run_texts.proofs.station_pass.answer_each.Goals as goal
 
 pub loop-number-preserved : goal.loop-number-preserved
 loop-number-preserved g c =

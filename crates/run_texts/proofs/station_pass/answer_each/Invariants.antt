@@ -1,6 +1,6 @@
 use Rattle.std.proofs.Common.{◌≡◌, take}
 use Rattle.run_texts.specs.PassEnds.{HasFiled}
-use Rattle.run_texts.proofs.station_pass.finish.Given as goal
+use Rattle.run_texts.proofs.station_pass.answer_each.Given as goal
 
 abbrev pub invariant-loop-number : goal.invariant-loop-number
 invariant-loop-number g l = record {
