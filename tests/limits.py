@@ -6,7 +6,7 @@ Usage: limits.py PROGRAM
 The bytes are those of docs/FORMATS.md, 2^28. An input has a front and then lines that are cheap to answer: comments, which have
 no answer, or lines of 1,026 bytes, each of which is `bad N Syntax`. It is made while it is written, block by block. With one byte
 more the program ends with TooMuch, and has written a front of the answers, of which only the last ones may be missing. Every
-program that is started ends within a minute, or is stopped. A failing trial has a line; the last line is 'limits: N passed, M
+program that is started ends within a minute, or is stopped. A failing trial has a line; the last line is 'N passed, M
 failed'. The status is 0 where none failed, 1 where one did, 2 where nothing could be run.
 """
 import contextlib
@@ -130,7 +130,7 @@ def main():
             if fault:
                 failed += 1
                 print(f"failed: {' '.join(words)}: {fault}", flush=True)
-    print(f"limits: {len(trials) - failed} passed, {failed} failed")
+    print(f"{len(trials) - failed} passed, {failed} failed")
     return 1 if failed else 0
 
 
