@@ -16,6 +16,7 @@ use std::alloc::Allocator;
 
 /// How many workers a crew has, how many of them began, how many items their lists have together, and how many tries went on
 /// at a gate that didn't let them in. It is made only in this file, by counting them where the lists are put together.
+/// Clauses speak of it, and no code reads it.
 #[derive(Clone, Copy)]
 pub(crate) struct Counts {
     hired: usize,

@@ -36,7 +36,7 @@ pub struct Worked<B: Ledger, A: Allocator = Global> {
     pub strays: Vec<u64, A>,
     /// How many tries went on although the gate didn't let them in; it stays at its greatest value.
     pub overrun: u64,
-    /// Why it stopped, if it did.
+    /// Why it stopped, if it did; no code reads it, but clauses speak of it.
     pub(crate) stopped: Option<Stopped>,
     ghost one_part: { till.parts ≡ 1 },
     ghost counted: { till.amount ≡ outcomes_airtime outcomes.items },
