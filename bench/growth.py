@@ -41,6 +41,9 @@ def begun(crate, folder, is_whole):
     if not is_whole:
         root = folder / "src" / "lib.rt"
         root.write_text(root.read_text().replace(MODULE, ""))
+        (folder / "src" / "growth.rt").unlink()
+        for part in ("src", "proofs"):
+            shutil.rmtree(folder / part / "growth", ignore_errors=True)
     words = prover.check(crate, "src/lib.rt", prover.crates()[crate])
     return subprocess.Popen([*words, "--test"], cwd=folder, stdout=subprocess.PIPE, stderr=subprocess.STDOUT, text=True)
 
