@@ -26,8 +26,8 @@ use text_words::TextFault;
 /// answers whether a line of the output begins with `no` or `bad`.
 ///
 /// `Settings`: no book can be opened with this cap or gap, by the name BadCap or BadGap, and nothing was read then. `Read`,
-/// `TooMuch` and `Write` as of `book_text`; `NoMemory` never comes. Want of memory refuses one booking, by a line of the output; where the book can't be copied
-/// for want of it, each booking of the plan, and each question for the earliest start.
+/// `TooMuch` and `Write` as of `book_text`; `NoMemory` never comes. Want of memory refuses one booking, by a line of the output;
+/// where the book can't be copied for want of it, each booking of the plan, and each question for the earliest start.
 pub fn plan_text<A: Allocator + Clone + Copy, R: ByteIn, W: ByteOut>(
     alloc: A,
     cap: u32,
