@@ -12,8 +12,8 @@ demo:
 	@cd crates/airbook && rt try -- run < ../../examples/two-gateways.txt
 
 # The gate, then what must not compile, and then the cases, random runs and saved books beside plain models, growths that are
-# refused, workers beside one thread, inputs of as many bytes as there may be and a server that listens, on the program that the
-# gate has proved and built. Where one fails, what comes after it is not run.
+# refused, workers beside one thread, inputs of as many bytes and uplinks as there may be and a server that listens, on the
+# program that the gate has proved and built. Where one fails, what comes after it is not run.
 test:
 	rt ci
 	python3 tests/misuse.py

@@ -8,7 +8,8 @@ A case is a folder cases/NAME with
     stdin    the standard input
     from     the path of a file of the repository that is the standard input; with neither it is the null device
     stdout   what standard output must be, byte for byte; none: it is not compared
-    stderr   the same of standard error
+    stderr   the same of standard error; none: with status 0 or 1 nothing may stand there, and with 2 what the library says
+             that reads the arguments, which names no fault of the program's own
     status   the exit status that is wanted; none: 0
     also     more arguments, one set a line: with each set the case is run again, and the same is wanted
     broken   what is wrong with the streams, a word a line: 'input' is a folder, so that the first read fails;
@@ -45,6 +46,15 @@ def differences(name, want, got):
         return []
     shown = list(difflib.unified_diff(lines_of(want), lines_of(got), "wanted " + name, "written " + name, lineterm=""))
     return shown or [f"{name} differs in its line ends: wanted {want[-40:]!r}, written {got[-40:]!r}"]
+
+
+def unasked(status, errors):
+    """What is wrong with a standard error that no file of the case has."""
+    if status != 2:
+        return [] if not errors else ["standard error, where nothing is wanted:"] + lines_of(errors)
+    if errors and not any(line.startswith("airbook: ") for line in lines_of(errors)):
+        return []
+    return ["standard error, where the library's words are wanted alone:"] + lines_of(errors)
 
 
 def words_in(path):
@@ -99,7 +109,10 @@ def faults_of(program, case, more, folder):
     except subprocess.TimeoutExpired:
         return [f"it did not end within {SECONDS} seconds"]
     faults = [] if ran.stdout is None else differences("stdout", wanted(case, "stdout"), ran.stdout)
-    faults += differences("stderr", wanted(case, "stderr"), ran.stderr)
+    if (case / "stderr").is_file():
+        faults += differences("stderr", wanted(case, "stderr"), ran.stderr)
+    else:
+        faults += unasked(ran.returncode, ran.stderr)
     if ran.returncode != status:
         faults.append(f"wanted status {status}, ended with {ran.returncode}")
         if ran.stderr:

@@ -1,15 +1,18 @@
 #!/usr/bin/env python3
-"""Gives a program inputs of as many bytes as one may have, and of one more, and compares what it writes and how it ends.
+"""Gives a program inputs of as many bytes as one may have, and of one more, and as many uplinks as a server gathers, and one
+more, and compares what it writes and how it ends.
 
 Usage: limits.py PROGRAM
 
 The bytes are those of docs/FORMATS.md, 2^28. An input has a front and then lines that are cheap to answer: comments, which have
 no answer, or lines of 1,026 bytes, each of which is `bad N Syntax`. It is made while it is written, block by block. With one byte
-more the program ends with TooMuch, and has written a front of the answers, of which only the last ones may be missing. Every
-program that is started ends within a minute, or is stopped. A failing trial has a line; the last line is 'N passed, M
-failed'. The status is 0 where none failed, 1 where one did, 2 where nothing could be run.
+more the program ends with TooMuch, and has written a front of the answers, of which only the last ones may be missing. The
+uplinks are those of docs/FORMATS.md too, a million, of one device and unconfirmed, so that none is answered; the one more is
+Crowded. Every program that is started ends within a minute, or is stopped. A failing trial has a line; the last line is 'N
+passed, M failed'. The status is 0 where none failed, 1 where one did, 2 where nothing could be run.
 """
 import contextlib
+import functools
 import pathlib
 import socket
 import subprocess
@@ -22,6 +25,9 @@ from listen import NO_REPORT, SETTINGS
 
 SECONDS = 60
 LIMIT = 1 << 28
+UPLINKS = 1_000_000
+# Fewer than may be gathered at a time, and how far two such rounds are apart, in microseconds.
+ROUND, APART = 4_000, 1_000_000
 BLOCK = 1 << 20
 COMMENT = b"#" * 1_023 + b"\n"
 LONG = b"x" * 1_026 + b"\n"
@@ -98,6 +104,34 @@ def fault_of(program, words, front, line, answers, at_the_end, stops):
     return None
 
 
+def uplinks():
+    """The input with so many uplinks and one more, round by round, each closed before the next one."""
+    yield SERVED
+    for first in range(0, UPLINKS, ROUND):
+        now = first // ROUND * APART
+        heard = (f"hear 1 0 868100000 5 0 -100 {now} @u:26011bda:{first + i}\n" for i in range(ROUND))
+        yield "".join(heard).encode() + b"pass %d\n" % (now + 200_001)
+    yield b"hear 1 0 868100000 5 0 -100 0 @u:26011bda:%d\n" % UPLINKS
+
+
+def gathered():
+    """What is answered to them."""
+    answers = []
+    for first in range(1, UPLINKS + 1, ROUND):
+        numbers = range(first, first + ROUND)
+        answers += [f"opened {number}\n" for number in numbers] + [f"silent {number}\n" for number in numbers]
+    silent = NO_SENDS.replace(b"silent 0", b"silent %d" % UPLINKS)
+    return "".join(answers).encode() + b"no hear Crowded\n" + silent
+
+
+def fault_of_uplinks(program, words):
+    """What is wrong with how a million uplinks and one more are answered; None where nothing is."""
+    status, written, errors = ended(program, words, uplinks())
+    if (status, written, errors) == (1, gathered(), b""):
+        return None
+    return f"{UPLINKS + 1} uplinks: status {status}, {len(written)} bytes that end {written[-160:]}, {errors}"
+
+
 def rows(port):
     """The arguments, the front and the lines of the input, the answers, what is written at the end, and the faults."""
     long_run = bad_lines(SERVED) + NO_SENDS
@@ -124,9 +158,11 @@ def main():
     failed = 0
     with socket.socket(type=socket.SOCK_DGRAM) as other:
         other.bind(("127.0.0.1", 0))
-        trials = rows(other.getsockname()[1])
-        for words, *row in trials:
-            fault = fault_of(program, words, *row)
+        port = other.getsockname()[1]
+        trials = [(words, functools.partial(fault_of, program, words, *row)) for words, *row in rows(port)]
+        trials += [(words, functools.partial(fault_of_uplinks, program, words)) for words in (["run"], ["run", "--workers", "1"])]
+        for words, trial in trials:
+            fault = trial()
             if fault:
                 failed += 1
                 print(f"failed: {' '.join(words)}: {fault}", flush=True)

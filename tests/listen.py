@@ -4,8 +4,9 @@
 Usage: listen.py PROGRAM [DATAGRAMS [SEED]]     (5,000, 1: how many random datagrams)
 
 Each datagram is sent once the answers to those before it were read, so none is lost. What the random ones are answered is found
-here, as docs/FORMATS.md says. Every program that is started ends within a minute, or is stopped. A failing trial has a line; the
-last line is 'N passed, M failed'. The status is 0 where none failed, 1 where one did, 2 where nothing could be run.
+here, as docs/FORMATS.md says. Where workers are asked for, threads have to be started, which a library counts that is loaded
+before the C library. Every program that is started ends within a minute, or is stopped. A failing trial has a line; the last
+line is 'N passed, M failed'. The status is 0 where none failed, 1 where one did, 2 where nothing could be run.
 """
 import os
 import pathlib
@@ -14,10 +15,18 @@ import select
 import socket
 import subprocess
 import sys
+import tempfile
 import time
 
+sys.dont_write_bytecode = True
+import lorawan
+from preloaded import COUNTING, Counter, library_of
+
 SECONDS = 60
-KEYS = 'nwkskey = "2b7e151628aed2a6abf7158809cf4f3c"\nappskey = "000102030405060708090a0b0c0d0e0f"\n'
+# As many uplinks as several workers share out.
+SHARED = 64
+SESSION = "2b7e151628aed2a6abf7158809cf4f3c", "000102030405060708090a0b0c0d0e0f"
+KEYS = f'nwkskey = "{SESSION[0]}"\nappskey = "{SESSION[1]}"\n'
 SETTINGS = f'[[gateway]]\nid = 1\n[[gateway]]\nid = 2\n[[device]]\naddr = "26011bda"\n{KEYS}'
 UPLINK = "80da1b012600070009c89141"
 NO_REPORT = [f"gateway {g} booked 0 cancelled 0 retired 0 kept 0" for g in (1, 2)] + ["answered 0 unanswered 0 silent 0"]
@@ -30,21 +39,22 @@ def free_port():
 
 
 def is_bound(port):
+    """Whether a socket has this port of 127.0.0.1, and not of every address of the machine."""
     with open("/proc/net/udp") as sockets:
-        return any(line.split()[1].endswith(f":{port:04X}") for line in list(sockets)[1:])
+        return any(line.split()[1] == f"0100007F:{port:04X}" for line in list(sockets)[1:])
 
 
 class Server:
     """A program that listens, and the end that sends to it."""
 
-    def __init__(self, program, turns, more=(), settings=SETTINGS):
+    def __init__(self, program, turns, more=(), settings=SETTINGS, options={}):
         self.port = free_port()
         self.ends = time.monotonic() + SECONDS
         self.read = b""
         self.sender = socket.socket(type=socket.SOCK_DGRAM)
         words = [program, "listen", "--port", str(self.port), "--turns", str(turns), *more]
         pipes = {"stdin": subprocess.PIPE, "stdout": subprocess.PIPE, "stderr": subprocess.PIPE}
-        self.child = subprocess.Popen(words, **pipes)
+        self.child = subprocess.Popen(words, **pipes, **options)
         self.child.stdin.write(settings.encode())
         self.child.stdin.close()
 
@@ -89,9 +99,9 @@ class Server:
         return lines, status, self.child.stderr.read().decode("utf-8", "backslashreplace")
 
 
-def exchange(program, turns, wanted_rest, wanted_status, more=()):
+def exchange(program, turns, wanted_rest, wanted_status, more=(), options={}):
     """Sends each datagram once its turn has come. What differs from what is wanted, if anything."""
-    with Server(program, len(turns), more) as server:
+    with Server(program, len(turns), more, options=options) as server:
         for turn, (datagram, answer) in enumerate(turns, 1):
             server.send(datagram)
             got = server.lines(len(answer))
@@ -118,6 +128,29 @@ def worked(program):
         "answered 1 unanswered 0 silent 0",
     ]
     return exchange(program, turns, report, 0) or exchange(program, turns, report, 0, ["--workers", "16"])
+
+
+def silent_uplinks():
+    """As many as are shared out, to which no answer is owed."""
+    keys = [bytes.fromhex(key) for key in SESSION]
+    return [lorawan.uplink(False, 0x26011BDA, counter, keys).hex() for counter in range(SHARED)]
+
+
+def threads_started(program):
+    """Two workers are two threads where they have enough to do, one is the thread that listens; hashes are keyed at random."""
+    heard = [f"hear 1 0 868100000 5 0 -100 0 {uplink}".encode() for uplink in silent_uplinks()]
+    turns = [(line, [f"opened {number}"]) for number, line in enumerate(heard, 1)]
+    turns += [(b"pass 200001", [f"silent {number}" for number in range(1, SHARED + 1)])]
+    report = [*NO_REPORT[:-1], f"answered 0 unanswered 0 silent {SHARED}"]
+    with tempfile.TemporaryDirectory() as folder:
+        library = library_of(COUNTING, pathlib.Path(folder))
+        for workers, threads in ((1, 0), (2, 2)):
+            counter = Counter(library)
+            fault = exchange(program, turns, report, 0, ["--workers", str(workers)], counter.options)
+            calls = counter.calls()
+            if fault or calls.threads != threads or not calls.random:
+                return f"{workers} workers: {fault or calls}"
+    return None
 
 
 class Expected:
@@ -233,6 +266,7 @@ def main():
     datagrams, seed = (int(word) for word in (sys.argv[2:] + ["5000", "1"][len(sys.argv) - 2:])[:2])
     trials = [
         ("worked turns", lambda: worked(program)),
+        ("threads", lambda: threads_started(program)),
         (f"{datagrams} random datagrams", lambda: at_random(program, datagrams, seed)),
         ("a port that is taken", lambda: port_taken(program)),
         ("settings that are not TOML", lambda: refused(program, "gateway = [", "NotToml")),

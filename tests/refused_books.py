@@ -19,7 +19,8 @@ import tempfile
 
 sys.dont_write_bytecode = True
 from cases import TOP
-from refused_growths import ALL, MOST, run_on, shim_in
+from preloaded import library_of
+from refused_growths import ALL, MOST, REFUSING, run_on
 
 BOOKINGS = b"book 1 10000000 868100000 5 12\nbook 2 10041216 868100000 5 12\n"
 SAVED = b"airbook 1\ngateway 1 4096 0\nr 1 10000000 868100000 5 12\nend 1\nbook 2 10041216 868100000 5 12\n"
@@ -111,7 +112,7 @@ def main(words):
     failed = 0
     with tempfile.TemporaryDirectory() as made:
         folder = pathlib.Path(made)
-        library = shim_in(folder)
+        library = library_of(REFUSING, folder)
         for row in ROWS:
             faults = faults_of(program, library, folder, row)
             failed += bool(faults)

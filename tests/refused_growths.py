@@ -27,6 +27,7 @@ import time
 sys.dont_write_bytecode = True
 from cases import CASES as FOLDER, TOP, input_of, words_in
 from listen import SETTINGS, UPLINK, free_port, is_bound
+from preloaded import library_of
 
 CASES = [
     ("run_two_gateways", ""), ("run_two_gateways", "--workers 1"), ("run_two_gateways", "--workers 2"),
@@ -43,7 +44,7 @@ Ended = collections.namedtuple("Ended", "status out err")
 SECONDS = 20
 MOST = 20_000
 ALL = 1 << 62
-SHIM = r"""
+REFUSING = r"""
 #define _GNU_SOURCE
 #include <dlfcn.h>
 #include <errno.h>
@@ -98,15 +99,6 @@ int posix_memalign(void **made, size_t align, size_t size) {
     return refused(__builtin_return_address(0)) ? ENOMEM : real(made, align, size);
 }
 """
-
-
-def shim_in(folder):
-    """The library that refuses."""
-    source, library = folder / "shim.c", folder / "shim.so"
-    source.write_text(SHIM)
-    compiler = os.environ.get("CC", "cc").split()
-    subprocess.run([*compiler, "-O1", "-shared", "-fPIC", "-o", library, source, "-ldl"], check=True)
-    return library
 
 
 def opened(name, more, folder):
@@ -201,7 +193,7 @@ def main(words):
     wrong = 0
     with tempfile.TemporaryDirectory() as made:
         folder = pathlib.Path(made)
-        library = shim_in(folder)
+        library = library_of(REFUSING, folder)
         for case in chosen:
             growths, answers, otherwise = refuse_each(program, library, folder, case)
             wrong += otherwise

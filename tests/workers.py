@@ -4,15 +4,18 @@
 Usage: workers.py PROGRAM
 
 With workers which gateway and window an answer gets may depend on the schedule; here no two answers stand in each other's way,
-so all have to write the same. A failing trial has a line; the last line is 'N passed, M failed'. The status is 0 where none
-failed, 1 where one did, 2 where nothing could be run.
+so all have to write the same. That workers are threads is counted by a library that is loaded before the C library. A failing
+trial has a line; the last line is 'N passed, M failed'. The status is 0 where none failed, 1 where one did, 2 where nothing
+could be run.
 """
 import pathlib
 import subprocess
 import sys
+import tempfile
 
 sys.dont_write_bytecode = True
 from listen import tell
+from preloaded import COUNTING, Counter, library_of
 
 SECONDS = 120
 DEVICES = 1_000
@@ -68,9 +71,9 @@ def crowded():
     return settings(1, 1) + "\n".join(hear(0, 1, 0, counter) for counter in range(OPEN_AT_MOST + 2)) + "\n"
 
 
-def written(program, text, workers):
+def written(program, text, workers, options={}):
     words = [program, "run", "--workers", str(workers)]
-    ran = subprocess.run(words, input=text.encode(), capture_output=True, timeout=SECONDS)
+    ran = subprocess.run(words, input=text.encode(), capture_output=True, timeout=SECONDS, **options)
     return ran.returncode, ran.stdout.decode().splitlines(), ran.stderr.decode()
 
 
@@ -90,6 +93,21 @@ def alike(program, text, is_wanted):
         got = written(program, text, workers)
         if got != wanted:
             return f"{workers} workers: status {got[0]}, {first_difference(wanted[1], got[1])}, {got[2]!r}"
+    return None
+
+
+def threads_started(program):
+    """With no worker and with one all is done by the thread that runs; two or more are threads, and so are those who make events
+    of the lines. Hashes are keyed at random in each run."""
+    with tempfile.TemporaryDirectory() as folder:
+        library = library_of(COUNTING, pathlib.Path(folder))
+        for workers in (0, 1, 2, 4):
+            counter = Counter(library)
+            status, _, errors = written(program, apart(), workers, counter.options)
+            calls = counter.calls()
+            is_shared_out = calls.threads >= workers if workers > 1 else calls.threads == 0
+            if errors or status != 1 or not is_shared_out or not calls.random:
+                return f"{workers} workers: status {status}, {errors!r}, {calls}"
     return None
 
 
@@ -124,7 +142,7 @@ def main():
         (f"{ROUNDS * DEVICES} uplinks of one gateway", lambda: alike(program, crammed(), is_full)),
         (f"{OPEN_AT_MOST + 2} uplinks at a time", lambda: alike(program, crowded(), is_crowded)),
     ]
-    return tell(trials)
+    return tell(trials + [("threads", lambda: threads_started(program))])
 
 
 if __name__ == "__main__":

@@ -44,7 +44,8 @@ const LAST_END: u64 = 2_305_843_009_213_693_952;
 /// A book's steps, by what they show, with its cap and its gap.
 type Worked = (&'static str, u32, u32, &'static [Step]);
 
-static WORKED: [Worked; 13] = [
+static WORKED: [Worked; 14] = [
+    ("nothing is booked", 65_536, 0, NOTHING),
     ("the hour after", 65_536, 0, HOUR_AFTER),
     ("an hour between", 65_536, 0, HOUR_BETWEEN),
     ("the hour before", 65_536, 0, HOUR_BEFORE),
@@ -68,6 +69,13 @@ static WORKED: [Worked; 13] = [
         100_000,
         GAP_AT_THE_END,
     ),
+];
+
+const NOTHING: &[Step] = &[
+    Step::Busiest(Band::K, None),
+    Step::Busiest(Band::M, None),
+    Step::Busiest(Band::Q, None),
+    Step::Totals([0; 6]),
 ];
 
 const HOUR_AFTER: &[Step] = &[
@@ -137,6 +145,7 @@ const OUT_OF_SIGHT: &[Step] = &[
     Step::InK(2_000_000, Ok(2_991_232)),
     Step::Tick(3_600_000_000),
     Step::InK(3_600_000_000, Ok(3_600_991_232)),
+    Step::Totals([3_964_928, 0, 0, 3_964_928, 4, 3_600_000_000]),
     Step::Busiest(Band::K, Some((0, 2_973_696))),
     Step::Tick(3_600_000_001),
     Step::Busiest(Band::K, Some((1_000_000, 2_973_696))),

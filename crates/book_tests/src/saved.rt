@@ -13,7 +13,7 @@ const FIRST: &[u8; 89] =
     b"airbook 1\ngateway 1 4096 0\nr 1 10000000 868100000 5 12\nr 2 10041216 868100000 5 12\nend 2\n";
 
 /// The same in the second version.
-const SECOND: &[u8; 91] =
+pub(crate) const SECOND: &[u8; 91] =
     b"airbook 2\ngateway 1 4096 0 0\nr 1 10000000 868100000 5 12\nr 2 10041216 868100000 5 12\nend 2\n";
 
 /// The book of a text, over an empty roster.

@@ -1,8 +1,10 @@
 // Copies of uplinks at a desk, and how many uplinks it has room for: of those that are gathered at one time, and of all.
 
 use crate::calls::{Answer, Call, OPENED_1, OPENED_2, Row, run};
+use server_core::USUAL_LIMITS;
 use server_desk::{DeskFault, DeviceSetting, Limits};
 use std::test::Fail;
+use test_asserts::equal;
 use worked_inputs::DEVICE;
 
 /// One uplink at a time.
@@ -54,4 +56,14 @@ static TWO_IN_ALL: [Row; 7] = [
 #[test]
 fn a_desk_has_room_as_its_limits_say(rt: HostRuntime) -> Result<(), Fail> {
     run(rt.alloc(), SCARCE, &THREE_DEVICES, &TWO_IN_ALL)
+}
+
+#[test]
+fn a_server_has_room_for_a_million_uplinks() -> Result<(), Fail> {
+    let Limits {
+        max_open,
+        max_ever,
+        max_copies,
+    } = USUAL_LIMITS;
+    equal(&(max_open, max_ever, max_copies), &(4_096, 1_000_000, 64))
 }

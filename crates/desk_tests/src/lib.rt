@@ -1,7 +1,9 @@
-//! Worked runs of tickets, of the ledger, of a desk and its settings, and of the whole server on one thread. Those of `growth`
-//! refuse each growth of a call in turn.
+//! Worked runs of tickets, of the ledger, of a desk and its settings, of the whole server on one thread, and of the comparison of
+//! its books. Those of `growth` refuse each growth of a call in turn.
 #![tactic(auto)]
 
+#[cfg(test)]
+mod audits;
 #[cfg(test)]
 mod calls;
 #[cfg(test)]

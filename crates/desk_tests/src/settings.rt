@@ -66,11 +66,18 @@ const SLOW: GatewaySetting = GatewaySetting {
     gap: 100_001,
 };
 
-static GATEWAYS: [(&[GatewaySetting], &str); 6] = [
+/// The first again, with a cap out of range.
+const WIDE_AGAIN: GatewaySetting = GatewaySetting {
+    cap: 65_537,
+    ..GATEWAY
+};
+
+static GATEWAYS: [(&[GatewaySetting], &str); 7] = [
     (&[ZERO; 65], "Count"),
     (&[], "Count"),
     (&[GATEWAY, ZERO, GATEWAY], "Range"),
     (&[GATEWAY, GATEWAY, WIDE], "DoubleGateway"),
+    (&[GATEWAY, WIDE_AGAIN], "Range"),
     (&[WIDE], "Range"),
     (&[SLOW], "Range"),
 ];
@@ -98,12 +105,18 @@ const BETWEEN: DeviceSetting = DeviceSetting {
     ..DEVICE
 };
 
-static DEVICES: [(&[DeviceSetting], &str); 6] = [
+/// It would listen at once.
+const AT_ONCE: DeviceSetting = DeviceSetting { delay: 0, ..DEVICE };
+
+/// As many as there may be are looked at, one by one, and one more are not.
+static DEVICES: [(&[DeviceSetting], &str); 8] = [
     (&[LATE], "Range"),
+    (&[AT_ONCE], "Range"),
     (&[SPENT], "Range"),
     (&[BETWEEN], "NoBand"),
     (&[DEVICE, BETWEEN, LATE], "NoBand"),
     (&[DEVICE, DEVICE], "DoubleDevice"),
+    (&[DEVICE; 1_024], "DoubleDevice"),
     (&[DEVICE; 1_025], "Count"),
 ];
 

@@ -1,8 +1,9 @@
 // Tickets as a desk gives them.
 
-use crate::calls::{Answer, Call, OPENED_1, OPENED_2, Row, run_amply};
-use server_desk::TakeFault;
+use crate::calls::{Answer, Call, OPENED_1, OPENED_2, Row, run, run_amply};
+use server_desk::{DeviceSetting, TakeFault};
 use std::test::Fail;
+use worked_inputs::{AMPLE, DEVICE};
 
 const CLOSED_1: Answer = Answer::Passed(Some(1));
 
@@ -55,6 +56,45 @@ static ONE_AT_A_TIME: [Row; 9] = [
 #[test]
 fn answers_one_uplink_of_a_device_at_a_time(rt: HostRuntime) -> Result<(), Fail> {
     run_amply(rt.alloc(), &ONE_AT_A_TIME)
+}
+
+/// A ticket of its device is out, but nothing is owed to it.
+static SILENT_FIRST: [Row; 6] = [
+    (Call::HearConfirmed(0), OPENED_1),
+    (Call::Hear(1), OPENED_2),
+    (Call::Pass(200_001), CLOSED_1),
+    (Call::Pass(200_001), CLOSED_2),
+    (Call::TakeBeside(1, 2), Answer::NotGiven(TakeFault::Silent)),
+    (Call::Take(2), Answer::NotGiven(TakeFault::Silent)),
+];
+
+#[test]
+fn owes_nothing_to_a_silent_uplink_whose_device_has_a_ticket_out(
+    rt: HostRuntime,
+) -> Result<(), Fail> {
+    run_amply(rt.alloc(), &SILENT_FIRST)
+}
+
+/// It has one downlink counter left.
+const LAST_COUNTER: DeviceSetting = DeviceSetting {
+    down: 4_294_967_295,
+    ..DEVICE
+};
+
+/// The one counter is given; while that ticket is out the device is engaged, and then it has none.
+static ENGAGED_FIRST: [Row; 7] = [
+    (Call::HearConfirmed(0), OPENED_1),
+    (Call::HearConfirmed(1), OPENED_2),
+    (Call::Pass(200_001), CLOSED_1),
+    (Call::Pass(200_001), CLOSED_2),
+    (Call::TakeBeside(1, 2), Answer::NotGiven(TakeFault::Engaged)),
+    (Call::Take(1), Answer::NotGiven(TakeFault::Taken)),
+    (Call::Take(2), Answer::NotGiven(TakeFault::CounterSpent)),
+];
+
+#[test]
+fn a_device_whose_last_counter_is_out_is_engaged(rt: HostRuntime) -> Result<(), Fail> {
+    run(rt.alloc(), AMPLE, &[LAST_COUNTER], &ENGAGED_FIRST)
 }
 
 static STRAY: [Row; 4] = [

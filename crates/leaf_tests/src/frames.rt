@@ -126,8 +126,9 @@ fn an_empty_uplink(rt: HostRuntime) -> Result<(), Fail> {
 }
 
 /// The port of a payload, the size of options and of the payload, and how long the uplink is.
-static UPLINKS: [(u8, usize, usize, Result<usize, UpFault>); 7] = [
+static UPLINKS: [(u8, usize, usize, Result<usize, UpFault>); 8] = [
     (224, 0, 0, Err(UpFault::Port)),
+    (224, 16, 0, Err(UpFault::Port)),
     (0, 0, 0, Ok(13)),
     (1, 16, 0, Err(UpFault::Long)),
     (1, 0, 242, Ok(255)),
@@ -242,8 +243,11 @@ fn has_mic(bytes: &[u8], counter: u32) -> bool {
     read_uplink(bytes).is_ok() && check_mic(bytes, &keys().nwk, counter)
 }
 
-/// Bytes, and why they are no uplink: twelve with one option more than they hold, and one less, among them.
-static NO_UPLINKS: [(&[u8], FrameFault); 5] = [
+/// Bytes, and why they are no uplink: twelve with one option more than they hold, and one less, among them. How many there are is
+/// looked at before what they say.
+static NO_UPLINKS: [(&[u8], FrameFault); 7] = [
+    (&[0; 11], FrameFault::Short),
+    (&[0; 256], FrameFault::Long),
     (&[0x40, 0, 0, 0, 0, 1, 0, 0, 0, 0, 0], FrameFault::Short),
     (&[0x40; 256], FrameFault::Long),
     (

@@ -9,6 +9,8 @@ mod failing_calls;
 #[cfg(test)]
 mod growth;
 #[cfg(test)]
+mod loopback;
+#[cfg(test)]
 mod passes;
 #[cfg(test)]
 mod settings;

@@ -119,10 +119,11 @@ fn faults_of_gateways_are_named(rt: HostRuntime) -> Result<(), Fail> {
 }
 
 /// Lines behind a gateway and a device, and the fault of them all.
-static OF_DEVICES: [(&str, &str); 10] = [
+static OF_DEVICES: [(&str, &str); 11] = [
     ("rx2_dr = 7\n", "Kind"),
     ("up = 4294967296\n", "Kind"),
     ("delay = 256\n", "Kind"),
+    ("delay = 0\n", "Range"),
     ("delay = 16\n", "Range"),
     ("down = 4294967297\n", "Range"),
     ("down = -1\n", "Kind"),

@@ -1,6 +1,6 @@
 // Worked turns: which datagrams are answered, and by which lines; and what is left where a call of the writer fails.
 use crate::datagrams::Datagrams;
-use airbook_text::{Settings, TURN_LIMIT, TextFault, listen_text, read_settings};
+use airbook_text::{Settings, TextFault, listen_text, read_settings};
 use std::alloc::Global;
 use std::hash::{BuildHasherDefault, FoldHasher};
 use std::sync::Wait;
@@ -9,11 +9,12 @@ use std::thread::Threads;
 use test_asserts::{equal, equal_at, holds_at};
 use text_lines::MemoryOut;
 
-const SETTINGS: &str = "[[gateway]]\nid = 1\n[[gateway]]\nid = 2\n[[device]]\naddr = \"26011bda\"\n\
+pub(crate) const SETTINGS: &str =
+    "[[gateway]]\nid = 1\n[[gateway]]\nid = 2\n[[device]]\naddr = \"26011bda\"\n\
      nwkskey = \"2b7e151628aed2a6abf7158809cf4f3c\"\nappskey = \"000102030405060708090a0b0c0d0e0f\"\n";
 
 /// A confirmed uplink that two gateways hear, one that is to be made, and a receive that fails.
-static TURNS: [Option<&[u8]>; 6] = [
+pub(crate) static TURNS: [Option<&[u8]>; 6] = [
     Some(b"hear 1 5000000 868100000 5 55 -90 1000 80da1b012600070009c89141"),
     Some(b"hear 2 9000000 868100000 5 55 -80 1100 80da1b012600070009c89141\n"),
     Some(b"pass 201000"),
@@ -101,7 +102,7 @@ static REFUSED: [(u8, u32, &str); 4] = [
     (0, 6, "Workers"),
     (17, 0, "Workers"),
     (1, 0, "Turns"),
-    (16, TURN_LIMIT + 1, "Turns"),
+    (16, 1_000_001, "Turns"),
 ];
 
 #[test]
@@ -113,6 +114,14 @@ fn workers_and_turns_are_refused_before_anything_is_received(rt: HostRuntime) ->
         equal(&none.output.len(), &0)?;
     }
     Ok(())
+}
+
+/// As many turns as there may be are begun: the first answer can't be written.
+#[test]
+fn a_million_turns_are_not_refused(rt: HostRuntime) -> Result<(), Fail> {
+    let begun = listened(&rt, rt.alloc(), &TURNS, 16, 1_000_000, 1)?;
+    equal(&begun.answered, &Err(TextFault::Write))?;
+    equal(&begun.receives, &1)
 }
 
 /// What is answered to one datagram, its report left out.

@@ -1,7 +1,8 @@
 // Rosters and books.
 ghost use Rattle.std.specs.Prelude.{◌≡◌, []};
 
-use gateway_book::{Ask, GatewayBook, NoMemory, Refusal, Totals};
+use crate::saved::{SECOND, loaded};
+use gateway_book::{Ask, GatewayBook, LoadFault, NoMemory, Refusal, Totals};
 use radio_airtime::DataRate;
 use refusing_alloc::{Call, Refuser, Refusing, growths_of, same, was_refused};
 use resv_list::{Roster, VecRoster};
@@ -55,16 +56,26 @@ fn is_booked(
     was_refused(alloc, number, is_starved, false)
 }
 
-/// Books one member after another, a second apart: each takes one growth, of so many at least, which is refused once.
+/// Books one member behind so many, a second apart: it takes one growth, of so many at least, which is refused once.
+fn takes_one<R: Roster>(
+    alloc: &Refuser,
+    booking: &mut Booking<R>,
+    least: u64,
+    members: u64,
+) -> Result<(), Fail> {
+    booking.1 = members.saturating_mul(1_000_000);
+    let growths = growths_of(alloc, booking)?;
+    same((members, growths.max(least)), (members, 1))
+}
+
+/// Books one member after another: each takes one.
 fn each_takes_one<R: Roster>(
     alloc: &Refuser,
     booking: &mut Booking<R>,
     least: u64,
 ) -> Result<(), Fail> {
     for members in 0..9 {
-        booking.1 = members * 1_000_000;
-        let growths = growths_of(alloc, booking)?;
-        same((members, growths.max(least)), (members, 1))?;
+        takes_one(alloc, booking, least, members)?;
     }
     Ok(())
 }
@@ -137,16 +148,25 @@ fn is_copied(
     was_refused(alloc, number, is_starved, false)
 }
 
-/// Books one member after another, a second apart. With each the list takes one growth, and the copy one for each member; each is
-/// refused once.
+/// Books the member of this number, a second behind the one before. Then the list takes one growth, and the copy one for each
+/// member; each is refused once.
+fn copy_takes<R: Roster, A: Allocator + Copy>(
+    alloc: &Refuser,
+    copying: &mut Copying<R, A>,
+    members: u64,
+) -> Result<(), Fail> {
+    copying.0.book(ask_at(members.saturating_mul(1_000_000)))?;
+    let growths = growths_of(alloc, copying)?;
+    same((members, growths), (members, members.saturating_add(1)))
+}
+
+/// Books one member after another.
 fn copies_take<R: Roster, A: Allocator + Copy>(
     alloc: &Refuser,
     copying: &mut Copying<R, A>,
 ) -> Result<(), Fail> {
     for members in 1..6 {
-        copying.0.book(ask_at(members * 1_000_000))?;
-        let growths = growths_of(alloc, copying)?;
-        same((members, growths), (members, 1 + members))?;
+        copy_takes(alloc, copying, members)?;
     }
     Ok(())
 }
@@ -172,4 +192,53 @@ fn copies_of_a_tree_take<A: Allocator + Copy>(alloc: &Refuser, own: A) -> Result
 fn the_list_and_a_copy_of_a_book(rt: HostRuntime) -> Result<(), Fail> {
     let alloc = &Refusing::new(rt.alloc());
     copies_of_a_tree_take(alloc, alloc)
+}
+
+/// A saved book of two transmissions is loaded on this memory, over a tree or over a vector.
+#[derive(Drop)]
+struct Loading<A: Allocator + Copy>(A, bool);
+
+/// What the book of that text has booked, and how many it keeps, over an empty roster.
+fn kept_in<R: Roster + Drop>(roster: R) -> Result<(u64, usize), LoadFault>
+    requires { R.list roster ≡ [] }
+{
+    let totals = loaded(SECOND, roster)?.totals();
+    Ok((totals.booked, totals.kept))
+}
+
+impl<A: Allocator + Copy> Call for Loading<A> {
+    fn is_refused(&mut self, alloc: &Refuser, number: u64) -> Result<bool, Fail> {
+        alloc.refuse(number);
+        let kept = if self.1 {
+            kept_in(TreeRoster::new(self.0))
+        } else {
+            kept_in(VecRoster::new(self.0))
+        };
+        is_loaded(alloc, number, kept)
+    }
+}
+
+/// Whether a load found no memory, which is the one fault that it may tell.
+fn is_loaded(
+    alloc: &Refuser,
+    number: u64,
+    kept: Result<(u64, usize), LoadFault>,
+) -> Result<bool, Fail> {
+    let is_starved = kept == Err(LoadFault::NoMemory);
+    if !is_starved {
+        same(kept, Ok((82_432, 2)))?;
+    }
+    was_refused(alloc, number, is_starved, false)
+}
+
+/// Over a tree each member takes a growth, and over a vector the first one alone.
+fn loads_take<A: Allocator + Copy>(alloc: &Refuser, own: A) -> Result<(), Fail> {
+    same(growths_of(alloc, &mut Loading(own, true))?, 2)?;
+    same(growths_of(alloc, &mut Loading(own, false))?, 1)
+}
+
+#[test]
+fn a_saved_book(rt: HostRuntime) -> Result<(), Fail> {
+    let alloc = &Refusing::new(rt.alloc());
+    loads_take(alloc, alloc)
 }

@@ -25,9 +25,9 @@ const ASK: Ask = Ask {
 /// A book whose three members fill an hour of the sub-band.
 fn live(memory: Global) -> Result<Live, Fail> {
     let asks = [
-        ask_in_k(1, 1_000_000),
-        ask_in_k(2, 2_000_000),
-        ask_in_k(3, 3_000_000),
+        ask_in_k(1, 0),
+        ask_in_k(2, 1_000_000),
+        ask_in_k(3, 2_000_000),
     ];
     booked(memory, &asks)
 }
@@ -35,28 +35,28 @@ fn live(memory: Global) -> Result<Live, Fail> {
 /// Asks within the hour that is full, and behind it.
 static ASKS: [Ask; 5] = [
     Ask {
+        number: 6,
+        start: 3_599_999_999,
+        ..ASK
+    },
+    Ask {
         number: 4,
-        start: 3_600_999_999,
+        start: 3_600_000_000,
         ..ASK
     },
     Ask {
         number: 5,
-        start: 3_601_000_000,
-        ..ASK
-    },
-    Ask {
-        number: 6,
-        start: 1_000_000,
+        start: 0,
         ..ASK
     },
     Ask {
         number: 7,
-        start: 3_602_000_000,
+        start: 3_601_000_000,
         ..ASK
     },
     Ask {
         number: 8,
-        start: 3_603_000_000,
+        start: 3_602_000_000,
         ..ASK
     },
 ];
@@ -64,16 +64,16 @@ static ASKS: [Ask; 5] = [
 /// What the live book would answer to them, behind an answer that was there before.
 static ROWS: [Row; 6] = [
     (0, 0, Some(Refusal::Full)),
-    (4, 3_600_999_999, Some(HOUR_FULL)),
-    (5, 3_601_000_000, None),
-    (6, 1_000_000, Some(Refusal::Taken { start: 1_000_000 })),
-    (7, 3_602_000_000, None),
-    (8, 3_603_000_000, None),
+    (6, 3_599_999_999, Some(HOUR_FULL)),
+    (4, 3_600_000_000, None),
+    (5, 0, Some(Refusal::Taken { start: 0 })),
+    (7, 3_601_000_000, None),
+    (8, 3_602_000_000, None),
 ];
 
 const HOUR_FULL: Refusal = Refusal::DutyFull {
     band: Band::K,
-    from: 1_000_000,
+    from: 0,
     spent: 2_973_696,
 };
 
@@ -141,20 +141,20 @@ impl<'b, R: Roster, A: Allocator + Copy> Call for Trying<'b, R, A> {
     }
 }
 
-/// A book and memory for its list, on a copy of which the earliest start of one ask more is looked for, after the asks;
-/// and memory for the copy.
+/// A book and memory for its list, on a copy of which the earliest start of one ask more is looked for, after the first two of
+/// the asks; and memory for the copy.
 #[derive(Drop)]
 struct Seeking<'b, R: Roster, A: Allocator>(&'b GatewayBook<R>, Global, A);
 
-/// The earliest start after them: as the first of the three that were accepted leaves the hour.
-const EARLIEST: Option<u64> = Some(7_201_000_000);
+/// The earliest start after them: as the second member leaves the hour.
+const EARLIEST: Option<u64> = Some(3_601_000_000);
 
 /// What a search in this arena finds; nothing where there is no memory.
 fn earliest_in<R: Roster, A: Allocator>(
     arena: &Bump<A>,
     seeking: &Seeking<'_, R, A>,
 ) -> Option<Option<u64>> {
-    sought(arena, seeking.1, seeking.0, &ASKS, ASK, u64::MAX).ok()
+    sought(arena, seeking.1, seeking.0, &ASKS[..2], ASK, u64::MAX).ok()
 }
 
 /// A search in this arena; where it is refused, the same call answers with memory as ever.

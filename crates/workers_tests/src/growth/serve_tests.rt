@@ -1,8 +1,8 @@
 // Workers who serve at a station.
 ghost use Rattle.std.specs.Prelude.{◌≡◌, ◌<◌};
 
+use crate::growth::ends::{Came, finish};
 use crate::growth::stations::opened;
-use crate::growth::works::{Came, finish};
 use crate::posts::settings_of;
 use answer_ticket::{Ending, Outcome, Receipt};
 use refusing_alloc::{
@@ -62,8 +62,8 @@ fn airtime_of<A: Allocator>(receipts: &[Receipt<A>]) -> u64 {
     airtime
 }
 
-/// What those who served came to: what became of the numbers, what their receipts are on air for, and what the station came to, if
-/// it could be finished.
+/// What those who served came to: what became of the numbers, what their receipts are on air for, and what the station came to,
+/// if it could be finished.
 type Ended = (Counted, u64, Option<Came>);
 
 /// Finishes a station with the till of those who served and with their receipts, which account for all that was booked.

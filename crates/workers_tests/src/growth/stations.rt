@@ -72,8 +72,24 @@ pub(crate) fn opened<B: Ledger, A: Allocator + Copy, R: Wait>(
     Ok(made)
 }
 
-/// A station hears a confirmed uplink of each of so many devices, by gateway `1 + addr mod 2`, until a million microseconds for
-/// each address, and closes it: those with the numbers from 1 on.
+/// A station hears a confirmed uplink of the device with this address, by gateway `1 + addr mod 2`, until a million microseconds
+/// for each address, and closes it: that with the address as its number.
+fn hears_one<B: Ledger, A: Allocator + Copy, R: Wait>(
+    rt: &R,
+    memory: Global,
+    station: &Station<B, WorkedHasher, A>,
+    addr: u32,
+) -> Result<(), Fail> {
+    let copy = Heard1 {
+        gateway: 1 + (addr % 2) as u16,
+        at: 1_000_000 * addr as u64,
+        ..COPY
+    };
+    station.hear(rt, &uplink(memory, true, addr, 0)?, copy, 0)?;
+    same(station.pass(rt, 200_001), Some(addr as u64))
+}
+
+/// The same of each of so many devices.
 fn hears<B: Ledger, A: Allocator + Copy, R: Wait>(
     rt: &R,
     memory: Global,
@@ -81,14 +97,7 @@ fn hears<B: Ledger, A: Allocator + Copy, R: Wait>(
     heard: u32,
 ) -> Result<(), Fail> {
     for before in 0..heard {
-        let addr = before + 1;
-        let copy = Heard1 {
-            gateway: 1 + (addr % 2) as u16,
-            at: 1_000_000 * addr as u64,
-            ..COPY
-        };
-        station.hear(rt, &uplink(memory, true, addr, 0)?, copy, 0)?;
-        same(station.pass(rt, 200_001), Some(addr as u64))?;
+        hears_one(rt, memory, station, before + 1)?;
     }
     Ok(())
 }

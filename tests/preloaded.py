@@ -1,0 +1,58 @@
+"""Libraries that are loaded before the C library, to refuse or to count what a program asks of it.
+
+For the scripts of this repository, on Linux. A C compiler makes them, `cc` or that of CC.
+"""
+import collections
+import os
+import subprocess
+
+Calls = collections.namedtuple("Calls", "threads random")
+COUNTING = r"""
+#define _GNU_SOURCE
+#include <dlfcn.h>
+#include <pthread.h>
+#include <stdlib.h>
+#include <unistd.h>
+
+static void told(const char *call) {
+    if (write(atoi(getenv("CALLS_TOLD")), call, 1)) {}
+}
+
+int pthread_create(pthread_t *thread, const pthread_attr_t *attributes, void *(*start)(void *), void *given) {
+    int (*real)(pthread_t *, const pthread_attr_t *, void *(*)(void *), void *);
+    real = (int (*)(pthread_t *, const pthread_attr_t *, void *(*)(void *), void *))dlsym(RTLD_NEXT, "pthread_create");
+    told("t");
+    return real(thread, attributes, start, given);
+}
+
+int getentropy(void *bytes, size_t count) {
+    int (*real)(void *, size_t) = (int (*)(void *, size_t))dlsym(RTLD_NEXT, "getentropy");
+    told("r");
+    return real(bytes, count);
+}
+"""
+
+
+def library_of(text, folder):
+    """The library of this text in C, in this folder."""
+    source, library = folder / "shim.c", folder / "shim.so"
+    source.write_text(text)
+    compiler = os.environ.get("CC", "cc").split()
+    subprocess.run([*compiler, "-O1", "-shared", "-fPIC", "-o", library, source, "-ldl"], check=True)
+    return library
+
+
+class Counter:
+    """Counts how many threads a program starts, and how often it asks the system for random bytes: the program is started with
+    the options, over a library of COUNTING, and what it called is told once it has ended."""
+
+    def __init__(self, library):
+        self.read, self.write = os.pipe()
+        environment = {**os.environ, "LD_PRELOAD": str(library), "CALLS_TOLD": str(self.write)}
+        self.options = {"env": environment, "pass_fds": [self.write]}
+
+    def calls(self):
+        os.close(self.write)
+        with open(self.read, "rb") as told:
+            letters = told.read()
+        return Calls(letters.count(b"t"), letters.count(b"r"))
