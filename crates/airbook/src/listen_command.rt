@@ -1,4 +1,5 @@
 // The arguments of `listen`.
+use airbook_text::TURN_LIMIT;
 use clap::{Arg, Command, value_parser};
 use std::alloc::{AllocError, Global};
 
@@ -41,7 +42,7 @@ fn turns<'a>(alloc: Global) -> Arg<'a> {
         .long("turns")
         .value_name("T")
         .required(true)
-        .value_parser(value_parser!(u32).range(1..=1000000))
+        .value_parser(value_parser!(u32).range(1..=i64::from(TURN_LIMIT)))
 }
 
 /// How many workers answer.

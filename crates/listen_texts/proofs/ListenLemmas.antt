@@ -14,8 +14,8 @@ use Rattle.server_core.specs.declared.event.Event.{Event}
 use Rattle.run_lines.specs.Datagram.{datagram_event}
 use Rattle.run_lines.specs.ReplayText.{entry_lines}
 use Rattle.run_texts.specs.WorkersRun.{run_state, IsDone}
-use Rattle.run_lines.specs.declared.tally.Tally.{Tally}
-use Rattle.run_lines.specs.Tally.{tally_of, tally_sum, tally_of-append, IsTallyUpTo}
+use Rattle.run_lines.specs.declared.uplink_counts.UplinkCounts.{UplinkCounts}
+use Rattle.run_lines.specs.UplinkCounts.{counts_of, counts_sum, counts_of-append, AreCountsUpTo}
 use Rattle.std.proofs.Math.Bool.{or-false}
 use Rattle.listen_texts.specs.Receives.{datagram_room, Received, Seen, AreMade}
 use Rattle.listen_texts.specs.Turns.{Account, empty_account, Said, nothing, said_both, HasAnswer, IsAnswered, IsTurn, AreTurns}
@@ -31,8 +31,8 @@ pub record HasListened (ids : List ℕ) (devices : List DeviceSetting) (turns : 
   pub made : AreMade datagram_room turns seen seen_now received
   pub said : Said
   pub turned : AreTurns ids devices 1 received empty_account now.account said
-  pub tally : now.tally ≡ tally_of said.entries
-  pub small : IsTallyUpTo (turns * 2 ^ 64) now.tally
+  pub counts : now.counts ≡ counts_of said.entries
+  pub small : AreCountsUpTo (turns * 2 ^ 64) now.counts
   pub refused : now.refused ≡ has_refusal said.lines
   pub written : Appends before after (text_of said.lines)
 
@@ -44,26 +44,26 @@ listened_none ids devices seen a =
       made = made_none datagram_room seen;
       said = nothing;
       turned = (refl, refl);
-      tally = refl;
+      counts = refl;
       small = record { sent = omega arith; unanswered = omega arith; silent = omega arith };
       refused = refl;
       written = Appends-from_all a a [] (WritesAllBut-refl a []);
     }
 
 -- there is room for one turn more
-pub tally_has_room : (turns most : ℕ) (t : Tally) → IsTallyUpTo (turns * 2 ^ 64) t → turns < most → most ≤ 1000000
-    → IsTallyUpTo (2 ^ 126) t
-tally_has_room turns most t small less limit =
+pub counts_have_room : (turns most : ℕ) (t : UplinkCounts) → AreCountsUpTo (turns * 2 ^ 64) t → turns < most → most ≤ 1000000
+    → AreCountsUpTo (2 ^ 126) t
+counts_have_room turns most t small less limit =
     record {
       sent = omega (arith, small.sent);
       unanswered = omega (arith, small.unanswered);
       silent = omega (arith, small.silent);
     }
 
-small_more : (turns : ℕ) (t u v : Tally) → IsTallyUpTo (turns * 2 ^ 64) t → IsTallyUpTo (2 ^ 64) u → v ≡ tally_sum t u
-    → IsTallyUpTo ((turns + 1) * 2 ^ 64) v
+small_more : (turns : ℕ) (t u v : UplinkCounts) → AreCountsUpTo (turns * 2 ^ 64) t → AreCountsUpTo (2 ^ 64) u → v ≡ counts_sum t u
+    → AreCountsUpTo ((turns + 1) * 2 ^ 64) v
 small_more turns t u v a b e =
-    subst (IsTallyUpTo ((turns + 1) * 2 ^ 64)) (sym e)
+    subst (AreCountsUpTo ((turns + 1) * 2 ^ 64)) (sym e)
     (record {
       sent = omega (arith, a.sent, b.sent);
       unanswered = omega (arith, a.unanswered, b.unanswered);
@@ -90,9 +90,9 @@ module _ (ids : List ℕ) (devices : List DeviceSetting) (turns : ℕ) (s0 s1 : 
         made = made_more datagram_room turns s0 s1 s2 so_far.received turned.0 so_far.made turned.1;
         said = said_both so_far.said more;
         turned = next_turns turned.0 u.account more turned.2.1;
-        tally = step.tally ∙ ap (λ k. tally_sum k (tally_of more.entries)) so_far.tally
-            ∙ tally_of-append so_far.said.entries more.entries;
-        small = small_more turns t.tally (tally_of more.entries) u.tally so_far.small step.small step.tally;
+        counts = step.counts ∙ ap (λ k. counts_sum k (counts_of more.entries)) so_far.counts
+            ∙ counts_of-append so_far.said.entries more.entries;
+        small = small_more turns t.counts (counts_of more.entries) u.counts so_far.small step.small step.counts;
         refused = refused_both so_far.said.lines more.lines t.refused u.refused so_far.refused step.refused;
         written = appends_both a b c so_far.said.lines more.lines so_far.written step.written;
       }
@@ -109,7 +109,7 @@ module _ (ids : List ℕ) (devices : List DeviceSetting) (turns : ℕ) (s0 s1 : 
           said = so_far.said;
           report = report;
           turns = so_far.turned;
-          reported = subst (λ k. IsReport ids t.account k report) so_far.tally reports.1;
+          reported = subst (λ k. IsReport ids t.account k report) so_far.counts reports.1;
           written = appends_both a b c so_far.said.lines report so_far.written reports.3;
           told = refused_both so_far.said.lines report t.refused refused so_far.refused
               (same ∙ sym (or-false t.refused) ∙ ap (λ k. t.refused || k) (sym reports.2));
@@ -118,7 +118,7 @@ module _ (ids : List ℕ) (devices : List DeviceSetting) (turns : ℕ) (s0 s1 : 
 
   -- all turns, and the report in part
   pub listened_all_in_part : (c : Option (List ℕ)) (fault : TextFault)
-      → ReportsInPart ids t.account t.tally b c fault → HearsInPart turns ids devices s0 s1 a c fault
+      → ReportsInPart ids t.account t.counts b c fault → HearsInPart turns ids devices s0 s1 a c fault
   listened_all_in_part c fault stopped =
       inr (record {
         received = so_far.received;
@@ -128,7 +128,7 @@ module _ (ids : List ℕ) (devices : List DeviceSetting) (turns : ℕ) (s0 s1 : 
         turned = so_far.turned;
         between = b;
         written = so_far.written;
-        stopped = subst (λ k. ReportsInPart ids t.account k b c fault) so_far.tally stopped;
+        stopped = subst (λ k. ReportsInPart ids t.account k b c fault) so_far.counts stopped;
       })
 
   -- one turn more in part, of so many that are left
@@ -159,27 +159,27 @@ module _ (ids : List ℕ) (devices : List DeviceSetting) (turns : ℕ) (s0 s1 : 
   listened_closed same c (Err fault) e told reports = tt
 
   pub listened_closed_in_part : (same : List ℕ) (c : Option (List ℕ)) (r : Result Bool TextFault) → same ≡ ids
-      → IfErr r (ReportsInPart same t.account t.tally b c) → IfErr r (HearsInPart turns ids devices s0 s1 a c)
+      → IfErr r (ReportsInPart same t.account t.counts b c) → IfErr r (HearsInPart turns ids devices s0 s1 a c)
   listened_closed_in_part same c (Ok refused) e reports = tt
   listened_closed_in_part same c (Err fault) e reports =
-      listened_all_in_part c fault (subst (λ l. ReportsInPart l t.account t.tally b c fault) e reports)
+      listened_all_in_part c fault (subst (λ l. ReportsInPart l t.account t.counts b c fault) e reports)
 
-abbrev tally_at : ℕ → ℕ → ℕ → Tally
-tally_at sent unanswered silent = record { sent = sent; unanswered = unanswered; silent = silent }
+abbrev counts_at : ℕ → ℕ → ℕ → UplinkCounts
+counts_at sent unanswered silent = record { sent = sent; unanswered = unanswered; silent = silent }
 
-tally_unchanged : (t : Tally) → t ≡ tally_sum t (tally_of {A = Global} [])
-tally_unchanged t =
+counts_unchanged : (t : UplinkCounts) → t ≡ counts_sum t (counts_of {A = Global} [])
+counts_unchanged t =
     let a : t.sent ≡ t.sent + 0 = omega arith in
     let b : t.unanswered ≡ t.unanswered + 0 = omega arith in
     let c : t.silent ≡ t.silent + 0 = omega arith in
-    ap (λ x. tally_at x t.unanswered t.silent) a ∙ ap (λ x. tally_at (t.sent + 0) x t.silent) b
-    ∙ ap (λ x. tally_at (t.sent + 0) (t.unanswered + 0) x) c
+    ap (λ x. counts_at x t.unanswered t.silent) a ∙ ap (λ x. counts_at (t.sent + 0) x t.silent) b
+    ∙ ap (λ x. counts_at (t.sent + 0) (t.unanswered + 0) x) c
 
 -- nothing was said
 said_nothing : (s : Progress) (a : Option (List ℕ)) → HasSaid nothing s s a a
 said_nothing s a =
     record {
-      tally = tally_unchanged s.tally;
+      counts = counts_unchanged s.counts;
       small = record { sent = omega arith; unanswered = omega arith; silent = omega arith };
       refused = sym (or-false s.refused);
       written = Appends-from_all a a [] (WritesAllBut-refl a []);

@@ -12,8 +12,8 @@ use Rattle.server_station.specs.Stations.{AreInOrder}
 use Rattle.text_words.specs.declared.fault.TextFault.{TextFault}
 use Rattle.text_words.specs.declared.fault.TextFault.TheVariants.{Write, Settings, NoMemory}
 use Rattle.text_words.specs.Words.{has_refusal}
-use Rattle.run_lines.specs.declared.tally.Tally.{Tally}
-use Rattle.run_lines.specs.Tally.{tally_of}
+use Rattle.run_lines.specs.declared.uplink_counts.UplinkCounts.{UplinkCounts}
+use Rattle.run_lines.specs.UplinkCounts.{counts_of}
 use Rattle.run_lines.specs.ReplayText.{report_of}
 use Rattle.run_texts.specs.Bookings.{open_receipts}
 use Rattle.run_texts.specs.RunOutput.{IsFinishName}
@@ -25,12 +25,12 @@ use Rattle.listen_texts.specs.Turns.{Account, Said, empty_account, HasAnswer, Is
 
 -- the report of just the books that a station of these gateways was closed with, after so much was settled and booked, and of
 -- how many uplinks were answered
-pub record IsReport (ids : List ℕ) (account : Account) (tally : Tally) (report : List (List ℕ)) : Type 0 where
+pub record IsReport (ids : List ℕ) (account : Account) (counts : UplinkCounts) (report : List (List ℕ)) : Type 0 where
   pub totals : List (ℕ × Totals)
   pub books : List Book
   pub closing : IsClosing ids (open_receipts account.bookings) totals books
   pub booked : booked_by books ≡ account.till.amount
-  pub lines : report ≡ report_of tally (map gateway_of books)
+  pub lines : report ≡ report_of counts (map gateway_of books)
 
 -- at a station of these gateways, with these devices, the writer took the answers to what was received, turn by turn, and the
 -- report; `refused` says whether a line of them begins with `no` or `bad`
@@ -40,7 +40,7 @@ pub record IsHeard (ids : List ℕ) (devices : List DeviceSetting) (received : L
   pub said : Said
   pub report : List (List ℕ)
   pub turns : AreTurns ids devices 1 received empty_account account said
-  pub reported : IsReport ids account (tally_of said.entries) report
+  pub reported : IsReport ids account (counts_of said.entries) report
   pub written : Appends before after (text_of (said.lines ++ report))
   pub told : refused ≡ has_refusal (said.lines ++ report)
 
@@ -64,13 +64,13 @@ SaysInPart IsSaid before after other = ⊥
 
 -- what was written of the report: a front of it where a call of the writer failed, and nothing where a growth was refused, or
 -- where the books don't go with what was booked, as the fault's name says
-abbrev pub ReportsInPart : List ℕ → Account → Tally → Option (List ℕ) → Option (List ℕ) → TextFault → Type 0
-ReportsInPart ids account tally before after Write =
-    (report : List (List ℕ)) × IsReport ids account tally report × WritesFront before after (text_of report)
-ReportsInPart ids account tally before after NoMemory = after ≡ before
-ReportsInPart ids account tally before after (Settings name) =
+abbrev pub ReportsInPart : List ℕ → Account → UplinkCounts → Option (List ℕ) → Option (List ℕ) → TextFault → Type 0
+ReportsInPart ids account counts before after Write =
+    (report : List (List ℕ)) × IsReport ids account counts report × WritesFront before after (text_of report)
+ReportsInPart ids account counts before after NoMemory = after ≡ before
+ReportsInPart ids account counts before after (Settings name) =
     (after ≡ before) × IsClosingFault ids (open_receipts account.bookings) (Settings name)
-ReportsInPart ids account tally before after other = ⊥
+ReportsInPart ids account counts before after other = ⊥
 
 -- a server with these gateways and devices stopped in one of so many turns: all answers of the turns before were written, and its
 -- own in part; what it received then has an answer, and a growth was refused only where it is a datagram
@@ -100,7 +100,7 @@ pub record StopsAtReport (turns : ℕ) (ids : List ℕ) (devices : List DeviceSe
   pub turned : AreTurns ids devices 1 received empty_account account said
   pub between : Option (List ℕ)
   pub written : Appends before between (text_of said.lines)
-  pub stopped : ReportsInPart ids account (tally_of said.entries) between after fault
+  pub stopped : ReportsInPart ids account (counts_of said.entries) between after fault
 
 -- it stopped in a turn or after all of them
 abbrev pub HearsInPart : ℕ → List ℕ → List DeviceSetting → Seen → Seen → Option (List ℕ) → Option (List ℕ) → TextFault → Type 0

@@ -5,8 +5,8 @@ use Rattle.text_lines.specs.Line.{text_of}
 use Rattle.text_words.specs.declared.fault.TextFault.{TextFault}
 use Rattle.text_words.specs.declared.fault.TextFault.TheVariants.{NoMemory}
 use Rattle.text_words.specs.Words.{has_refusal}
-use Rattle.run_lines.specs.declared.tally.Tally.{Tally}
-use Rattle.run_lines.specs.Tally.{tally_of, tally_sum, IsTallyUpTo}
+use Rattle.run_lines.specs.declared.uplink_counts.UplinkCounts.{UplinkCounts}
+use Rattle.run_lines.specs.UplinkCounts.{counts_of, counts_sum, AreCountsUpTo}
 use Rattle.run_texts.specs.Bookings.{Booking}
 use Rattle.run_texts.specs.WorkersRun.{opening_till}
 use Rattle.listen_texts.specs.Receives.{datagram_room, Received, Seen, AreMade}
@@ -18,20 +18,20 @@ use Rattle.listen_texts.specs.Listening.{IsReport, SaysInPart}
 -- what it has come to: what was settled and booked, how many uplinks were answered, and whether a line began with `no` or `bad`
 pub record Progress : Type 0 where
   pub account : Account
-  pub tally : Tally
+  pub counts : UplinkCounts
   pub refused : Bool
 
-abbrev pub progress : Holding → List Booking → Tally → Bool → Progress
-progress till bookings tally refused = record { account = account_of till bookings; tally = tally; refused = refused }
+abbrev pub progress : Holding → List Booking → UplinkCounts → Bool → Progress
+progress till bookings counts refused = record { account = account_of till bookings; counts = counts; refused = refused }
 
 -- where nothing has happened
 abbrev pub opened : Progress
-opened = progress opening_till [] (tally_of {A = Unit {0}} []) false
+opened = progress opening_till [] (counts_of {A = Unit {0}} []) false
 
 -- this was said: it was counted, and written
 pub record HasSaid (said : Said) (old new : Progress) (before after : Option (List ℕ)) : Type 0 where
-  pub tally : new.tally ≡ tally_sum old.tally (tally_of said.entries)
-  pub small : IsTallyUpTo (2 ^ 64) (tally_of said.entries)
+  pub counts : new.counts ≡ counts_sum old.counts (counts_of said.entries)
+  pub small : AreCountsUpTo (2 ^ 64) (counts_of said.entries)
   pub refused : new.refused ≡ old.refused || has_refusal said.lines
   pub written : Appends before after (text_of said.lines)
 
@@ -42,7 +42,7 @@ Says IsSaid old new before after = (said : Said) × IsSaid new.account said × H
 -- the report was written
 abbrev pub Reports : List ℕ → Progress → Option (List ℕ) → Option (List ℕ) → Type 0
 Reports ids s before after =
-    (report : List (List ℕ)) × IsReport ids s.account s.tally report × (has_refusal report ≡ false)
+    (report : List (List ℕ)) × IsReport ids s.account s.counts report × (has_refusal report ≡ false)
     × Appends before after (text_of report)
 
 -- one receive was made, and what is to be said to what it gave was

@@ -2,7 +2,7 @@
 ghost use Rattle.std.specs.Prelude.{◌≡◌, ◌^◌, ◌||◌, [], Some, None, IfOk, IfErr};
 ghost use Rattle.text_words.specs.Fault.{CountsWrites};
 ghost use Rattle.server_station.specs.Stations.{AreInOrder};
-ghost use Rattle.run_lines.specs.Tally.{IsTallyUpTo};
+ghost use Rattle.run_lines.specs.UplinkCounts.{AreCountsUpTo};
 ghost use Rattle.run_texts.specs.PassAnswers.{IsStaffed};
 ghost use Rattle.listen_texts.specs.Turns.{account_of, HasAnswer, IsAnswered, IsTurn};
 ghost use Rattle.listen_texts.specs.Listening.{Hears, HearsInPart, SaysInPart, ReportsInPart, IsWithinLimit, IsListenFault};
@@ -10,7 +10,7 @@ ghost use Rattle.listen_texts.specs.Steps.{progress, opened, Says, Turns, TurnsI
 
 use crate::source::Source;
 use crate::unread::write_unread;
-use run_lines::{DATAGRAM_ROOM, Tally, datagram_event, write_entries, write_report};
+use run_lines::{DATAGRAM_ROOM, UplinkCounts, datagram_event, write_entries, write_report};
 use run_texts::Shift;
 use server_core::{DeviceSetting, Event, NoMemory, Settings};
 use server_workers::{Blank, Ledger, PARTS};
@@ -26,7 +26,7 @@ use text_words::TextFault;
 #[derive(Drop)]
 pub(crate) struct Listener<B: Ledger, H: BuildHasher> {
     shift: Shift<B, H>,
-    tally: Tally,
+    counts: UplinkCounts,
     refused: bool,
     ghost written: { shift.entries.items ≡ [] },
 }
@@ -47,17 +47,17 @@ impl<B: Ledger, H: BuildHasher + Clone + Drop> Listener<B, H> {
         ensures gateways { IfOk result (λ l. AreInOrder settings.now.gateways l.shift.station.value) }
         ensures workers { IfOk result (λ l. l.shift.workers ≡ workers) }
         ensures opened { IfOk result
-            (λ l. progress l.shift.till l.shift.receipts l.tally l.refused ≡ opened) }
+            (λ l. progress l.shift.till l.shift.receipts l.counts l.refused ≡ opened) }
     {
         let shift = Shift::new(alloc, hasher, settings, workers, blank, 0)?;
-        let tally = Tally {
+        let counts = UplinkCounts {
             sent: 0,
             unanswered: 0,
             silent: 0,
         };
         Ok(Listener {
             shift,
-            tally,
+            counts,
             refused: false,
         })
     }
@@ -77,12 +77,12 @@ where
         turns: u32,
         writer: &mut W,
     ) -> Result<bool, TextFault>
-        requires opened { progress self.shift.till self.shift.receipts self.tally self.refused ≡ opened }
+        requires opened { progress self.shift.till self.shift.receipts self.counts self.refused ≡ opened }
         requires turns { IsWithinLimit turns }
         ensures ok { IfOk result (Hears turns self.shift.station.value devices.now (S.seen source.old) (S.seen source.new)
             (W.taken writer.old) (W.taken writer.new)) }
-        ensures front { IfErr result (HearsInPart turns self.shift.station.value devices.now (S.seen source.old) (S.seen source.new)
-            (W.taken writer.old) (W.taken writer.new)) }
+        ensures front { IfErr result (HearsInPart turns self.shift.station.value devices.now (S.seen source.old)
+            (S.seen source.new) (W.taken writer.old) (W.taken writer.new)) }
         ensures fault { IfErr result IsListenFault }
         ensures write { CountsWrites (W.failed_calls writer.old) (W.failed_calls writer.new) result }
     {
@@ -106,15 +106,15 @@ where
         source: &mut S,
         writer: &mut W,
     ) -> Result<Self, TextFault>
-        requires room { IsTallyUpTo (2 ^ 126) self.tally }
+        requires room { AreCountsUpTo (2 ^ 126) self.counts }
         ensures station { IfOk result (λ l. l.shift.station.value ≡ self.shift.station.value) }
         ensures workers { IfOk result (λ l. l.shift.workers ≡ self.shift.workers) }
         ensures ok { IfOk result (λ l. Turns
             (λ r. IsTurn self.shift.station.value devices.now turn r
             (account_of self.shift.till self.shift.receipts))
             (S.seen source.old) (S.seen source.new)
-            (progress self.shift.till self.shift.receipts self.tally self.refused)
-            (progress l.shift.till l.shift.receipts l.tally l.refused)
+            (progress self.shift.till self.shift.receipts self.counts self.refused)
+            (progress l.shift.till l.shift.receipts l.counts l.refused)
             (W.taken writer.old) (W.taken writer.new)) }
         ensures front { IfErr result (TurnsInPart (HasAnswer devices.now turn)
             (λ r. IsTurn self.shift.station.value devices.now turn r
@@ -136,8 +136,8 @@ where
         ensures workers { IfOk result (λ l. l.shift.workers ≡ self.shift.workers) }
         ensures ok { IfOk result (λ l. Says (IsTurn [] [] turn None
             (account_of self.shift.till self.shift.receipts))
-            (progress self.shift.till self.shift.receipts self.tally self.refused)
-            (progress l.shift.till l.shift.receipts l.tally l.refused)
+            (progress self.shift.till self.shift.receipts self.counts self.refused)
+            (progress l.shift.till l.shift.receipts l.counts l.refused)
             (W.taken writer.old) (W.taken writer.new)) }
         ensures front { IfErr result (SaysInPart (IsTurn [] [] turn None
             (account_of self.shift.till self.shift.receipts))
@@ -147,14 +147,14 @@ where
     {
         let Listener {
             shift,
-            tally,
+            counts,
             refused: _,
         } = self;
         match write_unread(turn as u64, writer) {
             Err(_) => Err(TextFault::Write),
             Ok(()) => Ok(Listener {
                 shift,
-                tally,
+                counts,
                 refused: true,
             }),
         }
@@ -170,14 +170,14 @@ where
         datagram: &[u8],
         writer: &mut W,
     ) -> Result<Self, TextFault>
-        requires room { IsTallyUpTo (2 ^ 126) self.tally }
+        requires room { AreCountsUpTo (2 ^ 126) self.counts }
         ensures station { IfOk result (λ l. l.shift.station.value ≡ self.shift.station.value) }
         ensures workers { IfOk result (λ l. l.shift.workers ≡ self.shift.workers) }
         ensures ok { IfOk result (λ l. Says
             (IsTurn self.shift.station.value devices.now turn (Some datagram.now)
             (account_of self.shift.till self.shift.receipts))
-            (progress self.shift.till self.shift.receipts self.tally self.refused)
-            (progress l.shift.till l.shift.receipts l.tally l.refused)
+            (progress self.shift.till self.shift.receipts self.counts self.refused)
+            (progress l.shift.till l.shift.receipts l.counts l.refused)
             (W.taken writer.old) (W.taken writer.new)) }
         ensures front { IfErr result (SaysInPart
             (IsTurn self.shift.station.value devices.now turn (Some datagram.now)
@@ -203,14 +203,14 @@ where
         event: &Event<Global>,
         writer: &mut W,
     ) -> Result<Self, TextFault>
-        requires room { IsTallyUpTo (2 ^ 126) self.tally }
+        requires room { AreCountsUpTo (2 ^ 126) self.counts }
         ensures station { IfOk result (λ l. l.shift.station.value ≡ self.shift.station.value) }
         ensures workers { IfOk result (λ l. l.shift.workers ≡ self.shift.workers) }
         ensures ok { IfOk result (λ l. Says
             (IsAnswered self.shift.station.value turn (Some event.now)
             (account_of self.shift.till self.shift.receipts))
-            (progress self.shift.till self.shift.receipts self.tally self.refused)
-            (progress l.shift.till l.shift.receipts l.tally l.refused)
+            (progress self.shift.till self.shift.receipts self.counts self.refused)
+            (progress l.shift.till l.shift.receipts l.counts l.refused)
             (W.taken writer.old) (W.taken writer.new)) }
         ensures front { IfErr result (SaysInPart
             (IsAnswered self.shift.station.value turn (Some event.now)
@@ -221,7 +221,7 @@ where
     {
         let Listener {
             shift,
-            mut tally,
+            mut counts,
             refused,
         } = self;
         let Ok(mut shift) = shift.answer(rt, alloc, turn as usize, event) else {
@@ -231,10 +231,10 @@ where
         match write_entries(entries.as_slice(), writer) {
             Err(_) => Err(TextFault::Write),
             Ok(bad) => {
-                tally.add(&Tally::of(entries.as_slice()));
+                counts.add(&UplinkCounts::of(entries.as_slice()));
                 Ok(Listener {
                     shift,
-                    tally,
+                    counts,
                     refused: either(refused, bad),
                 })
             }
@@ -245,24 +245,24 @@ where
     fn close<W: ByteOut>(self, alloc: Global, writer: &mut W) -> Result<bool, TextFault>
         ensures told { IfOk result (λ refused. refused ≡ self.refused) }
         ensures ok { IfOk result (λ _. Reports self.shift.station.value
-            (progress self.shift.till self.shift.receipts self.tally self.refused)
+            (progress self.shift.till self.shift.receipts self.counts self.refused)
             (W.taken writer.old) (W.taken writer.new)) }
         ensures front { IfErr result (ReportsInPart self.shift.station.value
-            (account_of self.shift.till self.shift.receipts) self.tally
+            (account_of self.shift.till self.shift.receipts) self.counts
             (W.taken writer.old) (W.taken writer.new)) }
         ensures fault { IfErr result IsListenFault }
         ensures write { CountsWrites (W.failed_calls writer.old) (W.failed_calls writer.new) result }
     {
         let Listener {
             shift,
-            tally,
+            counts,
             refused,
         } = self;
         let played = match shift.close(alloc) {
             Err(fault) => return Err(fault),
             Ok(played) => played,
         };
-        match write_report(&tally, played.books.as_slice(), writer) {
+        match write_report(&counts, played.books.as_slice(), writer) {
             Err(_) => Err(TextFault::Write),
             Ok(()) => Ok(refused),
         }

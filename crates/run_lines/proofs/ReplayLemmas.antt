@@ -11,8 +11,8 @@ use Rattle.server_core.specs.declared.entry.Entry.{Entry}
 use Rattle.server_core.specs.World.{Gateway}
 use Rattle.text_words.specs.Words.{is_refusal, spaced, has_refusal}
 use Rattle.run_lines.specs.EntryLine.{line_text}
-use Rattle.run_lines.specs.declared.tally.Tally.{Tally}
-use Rattle.run_lines.specs.Tally.{tally_of, tally_text}
+use Rattle.run_lines.specs.declared.uplink_counts.UplinkCounts.{UplinkCounts}
+use Rattle.run_lines.specs.UplinkCounts.{counts_of, counts_text}
 use Rattle.run_lines.specs.ReplayText.{by_id, gateway_lines, bytes_of, entry_lines, report_of, report_lines}
 use Rattle.run_lines.specs.ReplayText.{replay_lines}
 use Rattle.text_words.specs.Busiest.{busiest-refuses_nothing}
@@ -30,20 +30,20 @@ pub bytes-append : {A : Type 0} (xs ys : List (Vec ℕ A)) → bytes_of (xs ++ y
 bytes-append xs ys = flat_map-append (λ text. text.items) xs ys
 
 -- the last line is put together word by word
-pub tally-parts : (a u s : List ℕ) → (((((codes "answered" ++ (32 ∷ a)) ++ (32 ∷ codes "unanswered")) ++ (32 ∷ u))
+pub counts-parts : (a u s : List ℕ) → (((((codes "answered" ++ (32 ∷ a)) ++ (32 ∷ codes "unanswered")) ++ (32 ∷ u))
     ++ (32 ∷ codes "silent")) ++ (32 ∷ s)) ++ (10 ∷ []) ≡ spaced
     (codes "answered" ∷ a ∷ codes "unanswered" ∷ u ∷ codes "silent" ∷ s ∷ []) ++ (10 ∷ [])
-tally-parts a u s = simp append_assoc
+counts-parts a u s = simp append_assoc
 
 -- the text of a report is that of the gateways and of the last line
-pub report-parts : (tally : Tally) (gateways : List Gateway)
-    → text_of (report_of tally gateways) ≡ gateways_text (by_id gateways) ++ text_of (tally_text tally ∷ [])
-report-parts tally gateways = text_of-append (flat_map gateway_lines (by_id gateways)) (tally_text tally ∷ [])
+pub report-parts : (counts : UplinkCounts) (gateways : List Gateway)
+    → text_of (report_of counts gateways) ≡ gateways_text (by_id gateways) ++ text_of (counts_text counts ∷ [])
+report-parts counts gateways = text_of-append (flat_map gateway_lines (by_id gateways)) (counts_text counts ∷ [])
 
 -- the whole text is that of the answers and of the report
 pub replay-parts : {A : Type 0} (entries : List (Entry A)) (gateways : List Gateway)
-    → text_of (replay_lines entries gateways) ≡ entries_text entries ++ text_of (report_of (tally_of entries) gateways)
-replay-parts entries gateways = text_of-append (entry_lines entries) (report_of (tally_of entries) gateways)
+    → text_of (replay_lines entries gateways) ≡ entries_text entries ++ text_of (report_of (counts_of entries) gateways)
+replay-parts entries gateways = text_of-append (entry_lines entries) (report_of (counts_of entries) gateways)
 
 list_any-map : {X Y : Type 0} (test : Y → Bool) (f : X → Y) (xs : List X)
     → list_any test (map f xs) ≡ list_any (λ x. test (f x)) xs
@@ -63,8 +63,8 @@ report_refuses_nothing (g ∷ gateways) last h =
     ∙ ap (λ t. t || has_refusal (flat_map gateway_lines gateways ++ last)) (gateway_refuses_nothing g)
     ∙ report_refuses_nothing gateways last h
 
-pub plain_report : (tally : Tally) (gateways : List Gateway) → has_refusal (report_of tally gateways) ≡ false
-plain_report tally gateways = report_refuses_nothing (by_id gateways) (tally_text tally ∷ []) refl
+pub plain_report : (counts : UplinkCounts) (gateways : List Gateway) → has_refusal (report_of counts gateways) ≡ false
+plain_report counts gateways = report_refuses_nothing (by_id gateways) (counts_text counts ∷ []) refl
 
 pub refuses-entries_alone : {A : Type 0} (entries : List (Entry A))
     → list_any (λ e. is_refusal (line_text e.line)) entries ≡ has_refusal (entry_lines entries)
@@ -74,7 +74,7 @@ pub refuses-entries : {A : Type 0} (entries : List (Entry A)) (gateways : List G
     → list_any (λ e. is_refusal (line_text e.line)) entries ≡ has_refusal (replay_lines entries gateways)
 refuses-entries entries gateways = sym (
     list_any-append is_refusal (entry_lines entries) (report_lines entries gateways)
-    ∙ ap (λ t. has_refusal (entry_lines entries) || t) (plain_report (tally_of entries) gateways)
+    ∙ ap (λ t. has_refusal (entry_lines entries) || t) (plain_report (counts_of entries) gateways)
     ∙ or-false (has_refusal (entry_lines entries))
     ∙ list_any-map is_refusal (λ e. line_text e.line) entries
     )

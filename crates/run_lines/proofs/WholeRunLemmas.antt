@@ -33,7 +33,7 @@ use Rattle.text_words.specs.Busiest.{gateway_words, hour_lines, busiest_lines, a
 use Rattle.run_lines.specs.EntryName.{queue_name, frame_name, hear_name, take_name}
 use Rattle.run_lines.specs.EntryLine.{addr_digits, hex_digits, heard_words, candidate_words, line_words, line_text}
 use Rattle.run_lines.specs.ReplayText.{counts_line, totals_at, gateway_lines, entry_lines, report_lines}
-use Rattle.run_lines.specs.Tally.{tally_of, tally_text}
+use Rattle.run_lines.specs.UplinkCounts.{counts_of, counts_text}
 use Rattle.run_lines.specs.ReplayText.{replay_lines, by_id}
 use Rattle.run_lines.specs.WholeLines.{LinesAreWhole}
 use Rattle.run_lines.proofs.WholeLineLemmas.{is_whole, AreWhole, no_feeds, next, lines_append, lines_map, lines_of_each, joined}
@@ -188,11 +188,11 @@ whole_at_gateway g =
     next (counts_line g.id (totals_at g.state)) (all_busiest_lines (Some g.id) g.state.list) (whole_counts g)
     (whole_busiest (Some g.id) g.state.list)
 
--- the three counts of a tally, whatever they are
-whole_tally : (answered unanswered silent : ℕ)
+-- the three counts, whatever they are
+whole_uplink_counts : (answered unanswered silent : ℕ)
     → is_whole (spaced (codes "answered" ∷ decimal answered ∷ codes "unanswered" ∷ decimal unanswered ∷ codes "silent"
     ∷ decimal silent ∷ [])) ≡ true
-whole_tally answered unanswered silent =
+whole_uplink_counts answered unanswered silent =
     let words : AreWhole (codes "answered" ∷ decimal answered ∷ codes "unanswered" ∷ decimal unanswered ∷ codes "silent"
     ∷ decimal silent ∷ []) =
     next (codes "answered") _ refl (counted answered _ (next (codes "unanswered") _ refl (counted unanswered _
@@ -204,6 +204,6 @@ lines_are_whole entries gateways =
     let all : AreWhole (replay_lines entries gateways) =
     lines_append (entry_lines entries) (report_lines entries gateways)
     (lines_map (λ e. line_text e.line) (λ e. joined (line_words e.line) (whole_words e.line)) entries)
-    (lines_append _ (tally_text (tally_of entries) ∷ []) (lines_of_each gateway_lines whole_at_gateway (by_id gateways))
-    (next (tally_text (tally_of entries)) [] (whole_tally _ _ _) none)) in
+    (lines_append _ (counts_text (counts_of entries) ∷ []) (lines_of_each gateway_lines whole_at_gateway (by_id gateways))
+    (next (counts_text (counts_of entries)) [] (whole_uplink_counts _ _ _) none)) in
     no_feeds (replay_lines entries gateways) all.test

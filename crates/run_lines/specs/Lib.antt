@@ -1,6 +1,6 @@
 pub mod EntryName
 pub mod EntryLine
-pub mod Tally
+pub mod UplinkCounts
 pub mod ReplayText
 pub mod RunWords
 pub mod KeyRing

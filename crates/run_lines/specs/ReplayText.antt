@@ -8,8 +8,8 @@ use Rattle.server_core.specs.World.{Gateway}
 use Rattle.text_words.specs.Words.{spaced}
 use Rattle.run_lines.specs.EntryLine.{line_text}
 use Rattle.text_words.specs.Busiest.{all_busiest_lines}
-use Rattle.run_lines.specs.declared.tally.Tally.{Tally}
-use Rattle.run_lines.specs.Tally.{tally_of, tally_text}
+use Rattle.run_lines.specs.declared.uplink_counts.UplinkCounts.{UplinkCounts}
+use Rattle.run_lines.specs.UplinkCounts.{counts_of, counts_text}
 
 -- The lines of a replay: an answer's lines for each event, and then a report.
 
@@ -54,11 +54,11 @@ abbrev pub entry_lines : {A : Type 0} → List (Entry A) → List (List ℕ)
 entry_lines entries = map (λ e. line_text e.line) entries
 
 -- the report at the end
-abbrev pub report_of : Tally → List Gateway → List (List ℕ)
-report_of tally gateways = flat_map gateway_lines (by_id gateways) ++ tally_text tally ∷ []
+abbrev pub report_of : UplinkCounts → List Gateway → List (List ℕ)
+report_of counts gateways = flat_map gateway_lines (by_id gateways) ++ counts_text counts ∷ []
 
 abbrev pub report_lines : {A : Type 0} → List (Entry A) → List Gateway → List (List ℕ)
-report_lines entries gateways = report_of (tally_of entries) gateways
+report_lines entries gateways = report_of (counts_of entries) gateways
 
 -- all lines
 abbrev pub replay_lines : {A : Type 0} → List (Entry A) → List Gateway → List (List ℕ)

@@ -7,9 +7,8 @@ ghost use Rattle.run_lines.specs.RunEvents.{events_from, events_of};
 use crate::key_ring::KeyRing;
 use crate::run_events::append_event;
 use crate::run_input::{feed_at, next_line};
-use crate::run_words::NoMemory;
 use memchr::memchr_iter;
-use server_core::{DeviceSetting, Event};
+use server_core::{DeviceSetting, Event, NoMemory};
 use std::alloc::Global;
 use std::thread::{Threads, join};
 

@@ -11,11 +11,10 @@ ghost use Rattle.run_lines.specs.ReplayText.{bytes_of, entry_lines, replay_lines
 
 use crate::part_text::{write_entries, write_report};
 use crate::replay_text::{has_refused, write_lines};
-use crate::run_words::NoMemory;
-use crate::tally::Tally;
+use crate::uplink_counts::UplinkCounts;
 use gateway_book::GatewayBook;
 use resv_list::Roster;
-use server_core::Entry;
+use server_core::{Entry, NoMemory};
 use std::alloc::{AllocError, Global};
 use std::thread::{Threads, join};
 use text_lines::{ByteOut, CallFailed, MemoryOut, write_all};
@@ -68,7 +67,7 @@ fn write_made<B: Roster, W: ByteOut>(
         Err(failed) => return Err(failed),
         Ok(()) => {}
     }
-    match write_report(&Tally::of(entries), books, writer) {
+    match write_report(&UplinkCounts::of(entries), books, writer) {
         Err(failed) => Err(failed),
         Ok(()) => Ok(has_refused(entries)),
     }

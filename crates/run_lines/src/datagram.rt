@@ -8,8 +8,7 @@ ghost use Rattle.run_lines.specs.Datagram.{asks_for_uplink, sent_event, datagram
 use crate::key_ring::KeyRing;
 use crate::run_events::line_event;
 use crate::run_input::next_line;
-use crate::run_words::NoMemory;
-use server_core::{DeviceSetting, Event};
+use server_core::{DeviceSetting, Event, NoMemory};
 use std::alloc::Global;
 use text_lines::{first_word, is_passed_over};
 

@@ -4,11 +4,11 @@ ghost use Rattle.std.specs.Option.{ForSome};
 ghost use Rattle.run_lines.specs.RunWords.{keys_for, bare_uplink};
 ghost use Rattle.run_lines.specs.KeyRing.{KeepsKeys};
 
-use crate::run_words::{NoMemory, bare_uplink};
+use crate::run_words::bare_uplink;
 use answer_ticket::Bytes;
 use indexmap::IndexMap;
 use lora_frame::Keys;
-use server_core::{DeviceSetting, keys_of};
+use server_core::{DeviceSetting, NoMemory, keys_of};
 use std::alloc::Global;
 use std::hash::{BuildHasherDefault, FoldHasher};
 

@@ -14,7 +14,7 @@ mod replay_text;
 mod run_events;
 mod run_input;
 mod run_words;
-mod tally;
+mod uplink_counts;
 
 pub use all_events::events_by_threads;
 pub use all_lines::write_lines_by_threads;
@@ -23,4 +23,4 @@ pub use laws::law_lines_are_whole;
 pub use part_text::{write_entries, write_report};
 pub use replay_text::write_lines;
 pub use run_input::{parts_of, read_all};
-pub use tally::Tally;
+pub use uplink_counts::UplinkCounts;

@@ -9,7 +9,7 @@ ghost use Rattle.server_core.specs.Entries.{gateway_of};
 ghost use Rattle.run_lines.specs.ReplayText.{entry_lines, report_of};
 
 use crate::replay_text::{has_refused, put_entries, put_report};
-use crate::tally::Tally;
+use crate::uplink_counts::UplinkCounts;
 use gateway_book::GatewayBook;
 use resv_list::Roster;
 use server_core::Entry;
@@ -38,22 +38,22 @@ pub fn write_entries<A: Allocator, W: ByteOut>(
     }
 }
 
-/// Writes the report of the gateways' books and of a tally, of which no line begins with `no` or `bad`. After an Err a front
+/// Writes the report of the gateways' books and of some counts, of which no line begins with `no` or `bad`. After an Err a front
 /// of it was written.
 pub fn write_report<B: Roster, W: ByteOut>(
-    tally: &Tally,
+    counts: &UplinkCounts,
     books: &[GatewayBook<B>],
     writer: &mut W,
 ) -> Result<(), CallFailed>
     ensures ok { OnOk result (Appends (W.taken writer.old) (W.taken writer.new)
-        (text_of (report_of tally.now (map gateway_of books.now)))) }
-    ensures plain { has_refusal (report_of tally.now (map gateway_of books.now)) ≡ false }
+        (text_of (report_of counts.now (map gateway_of books.now)))) }
+    ensures plain { has_refusal (report_of counts.now (map gateway_of books.now)) ≡ false }
     ensures err { OnErr result (WritesFront (W.taken writer.old) (W.taken writer.new)
-        (text_of (report_of tally.now (map gateway_of books.now)))) }
+        (text_of (report_of counts.now (map gateway_of books.now)))) }
     ensures failed { CountsFailure (W.failed_calls writer.old) (W.failed_calls writer.new) result }
 {
     let mut output = WriteBehind::new();
-    match put_report(tally, books, &mut output, writer) {
+    match put_report(counts, books, &mut output, writer) {
         Err(failed) => return Err(failed),
         Ok(()) => {}
     }

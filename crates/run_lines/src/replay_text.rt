@@ -13,7 +13,7 @@ ghost use Rattle.run_lines.specs.ReplayText.{entry_lines, report_of, replay_line
 
 use crate::entry_line::{is_refused, put_line};
 use crate::gateway_report::put_gateways;
-use crate::tally::{Tally, put_tally};
+use crate::uplink_counts::{UplinkCounts, put_uplink_counts};
 use gateway_book::GatewayBook;
 use resv_list::Roster;
 use server_core::Entry;
@@ -67,26 +67,26 @@ fn put_lines<A: Allocator, B: Roster, W: ByteOut>(
 {
     match put_entries(entries, output, writer) {
         Err(failed) => Err(failed),
-        Ok(()) => put_report(&Tally::of(entries), books, output, writer),
+        Ok(()) => put_report(&UplinkCounts::of(entries), books, output, writer),
     }
 }
 
-/// Writes the report of the gateways' books and of a tally behind what is gathered.
+/// Writes the report of the gateways' books and of some counts behind what is gathered.
 pub(crate) fn put_report<B: Roster, W: ByteOut>(
-    tally: &Tally,
+    counts: &UplinkCounts,
     books: &[GatewayBook<B>],
     output: &mut WriteBehind,
     writer: &mut W,
 ) -> Result<(), CallFailed>
     ensures ok { OnOk result (WritesAllBut (W.taken writer.old) (W.taken writer.new)
-        (output.old ++ text_of (report_of tally.now (map gateway_of books.now))) output.new) }
+        (output.old ++ text_of (report_of counts.now (map gateway_of books.now))) output.new) }
     ensures err { OnErr result (WritesFront (W.taken writer.old) (W.taken writer.new)
-        (output.old ++ text_of (report_of tally.now (map gateway_of books.now)))) }
+        (output.old ++ text_of (report_of counts.now (map gateway_of books.now)))) }
     ensures failed { CountsFailure (W.failed_calls writer.old) (W.failed_calls writer.new) result }
 {
     match put_gateways(books, output, writer) {
         Err(failed) => Err(failed),
-        Ok(()) => put_tally(tally, output, writer),
+        Ok(()) => put_uplink_counts(counts, output, writer),
     }
 }
 

@@ -7,8 +7,8 @@ ghost use Rattle.run_lines.specs.RunEvents.{queue_event, heard_with, number_of, 
 ghost use Rattle.run_lines.specs.RunEvents.{cancel_event, worded_event, line_event};
 
 use crate::key_ring::KeyRing;
-use crate::run_words::{NoMemory, addr_word, hex_word, uplink_word};
-use server_core::{Event, Heard1};
+use crate::run_words::{addr_word, hex_word, uplink_word};
+use server_core::{Event, Heard1, NoMemory};
 use std::alloc::Global;
 use text_lines::{
     Words, is_passed_over, is_too_long, is_word, number_i16, number_u8, number_u16, number_u32,
@@ -104,10 +104,7 @@ fn hear_with(
 ) -> Result<Option<Event<Global>>, NoMemory>
     ensures { IfOk result (λ event. event ≡ hear_with heard arrived (uplink_word ring.now.devices.now uplink.now)) }
 {
-    let Some(heard) = heard else {
-        return Ok(None);
-    };
-    let Some(arrived) = arrived else {
+    let (Some(heard), Some(arrived)) = (heard, arrived) else {
         return Ok(None);
     };
     match uplink_word(alloc, ring, uplink)? {

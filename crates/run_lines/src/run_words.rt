@@ -9,11 +9,9 @@ use crate::key_ring::KeyRing;
 use answer_ticket::Bytes;
 use hex::{FromHex, FromHexError};
 use lora_frame::{Keys, Up, uplink_bytes, uplink_header};
+use server_core::NoMemory;
 use std::alloc::{AllocError, Global};
 use text_lines::number_u32;
-
-/// There was no memory for what a line says.
-pub(crate) type NoMemory = AllocError;
 
 /// ADDR: an address of 8 hexadecimal digits, the most significant first.
 pub(crate) fn addr_word(word: &[u8]) -> Option<u32>

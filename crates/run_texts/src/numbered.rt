@@ -69,7 +69,7 @@ pub(crate) fn with_number<'i, T: Numbered>(
     }
 }
 
-/// Its place.
+/// The place of the first item with this number, which is looked for at the likely place first.
 pub(crate) fn place_of<T: Numbered>(items: &[T], likely: usize, number: u64) -> Option<usize>
     requires { IsNonDecreasingBy T.number_of items.now }
     ensures first { IfSome result (IsEndOfLesser T.number_of number items.now) }

@@ -35,7 +35,7 @@ pub struct Answered<B: Ledger> {
 /// moved into the answers.
 #[derive(Drop)]
 pub struct Told {
-    /// One for each number, in rising order.
+    /// One for each number, in the order of the numbers that were given.
     pub answers: Vec<Answer>,
     /// By number; a frame that was moved is empty here.
     pub booked: Vec<Receipt<Global>>,

@@ -28,7 +28,7 @@ use text_words::TextFault;
 pub struct Played {
     /// The lines, each with the place of its event, counted from 0.
     pub entries: Vec<Entry<Global>>,
-    /// By the gateways' numbers.
+    /// By the gateways' numbers; for the clauses alone, which speak of them.
     pub totals: Vec<(u16, Totals)>,
     /// In the same order.
     pub books: Vec<Book<Global>>,
@@ -137,7 +137,8 @@ where
         requires { HasOpened (run_state self.till self.receipts self.entries.items) }
         ensures played { IfOk result (λ played. IsFinished self.station.value events.items played.entries.items
             played.totals.items played.books.items) }
-        ensures apart { IfErr result (λ fault. fault ≢ TextFault.NoMemory → IsFinishedApart self.station.value events.items fault) }
+        ensures apart { IfErr result
+            (λ fault. fault ≢ TextFault.NoMemory → IsFinishedApart self.station.value events.items fault) }
         ensures fault { IfErr result IsPlayFault }
     {
         let mut shift = self;

@@ -7,7 +7,7 @@ pub returns-in-Err-clause-err : goal.returns-in-Err-clause-err
 returns-in-Err-clause-err g c = rw (c.new-output.ensures) at c.in-Err.ensures.err
 
 pub returns-in-Err-clause-plain : goal.returns-in-Err-clause-plain
-returns-in-Err-clause-plain g c = plain_report c.args.tally.now (map gateway_of c.args.books.now)
+returns-in-Err-clause-plain g c = plain_report c.args.counts.now (map gateway_of c.args.books.now)
 
 pub returns-clause-plain : goal.returns-clause-plain
-returns-clause-plain g c = plain_report c.args.tally.now (map gateway_of c.args.books.now)
+returns-clause-plain g c = plain_report c.args.counts.now (map gateway_of c.args.books.now)

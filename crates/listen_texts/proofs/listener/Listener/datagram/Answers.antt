@@ -6,7 +6,7 @@ use Rattle.listen_texts.proofs.listener.Listener.datagram.Goals as goal
 pub returns-in-Ok-None-clause-ok : goal.returns-in-Ok-None-clause-ok
 returns-in-Ok-None-clause-ok g c =
     nothing_asked c.args.self.shift.station.value c.args.devices.now c.args.turn c.args.datagram.now _
-    (progress c.args.self.shift.till c.args.self.shift.receipts c.args.self.tally c.args.self.refused)
+    (progress c.args.self.shift.till c.args.self.shift.receipts c.args.self.counts c.args.self.refused)
     (g.W.ByteOut.taken c.args.writer.now) c.in-Ok-None.ensures.event c.in-Ok-None.field-0-is
 
 pub returns-in-Ok-Some-clause-front : goal.returns-in-Ok-Some-clause-front

@@ -6,7 +6,7 @@ use Rattle.text_words.specs.Words.{has_refusal}
 use Rattle.server_core.specs.declared.entry.Entry.{Entry}
 use Rattle.run_lines.specs.ReplayText.{entry_lines}
 use Rattle.air_ledger.specs.Tills.{Holding}
-use Rattle.run_lines.specs.Tally.{tally_of, tally_sum, IsTallyUpTo}
+use Rattle.run_lines.specs.UplinkCounts.{counts_of, counts_sum, AreCountsUpTo}
 use Rattle.run_texts.specs.WorkersRun.{run_state, IsDone}
 use Rattle.run_texts.specs.declared.receipts.Receipts.{Receipts}
 use Rattle.listen_texts.specs.Turns.{account_of}
@@ -31,8 +31,8 @@ pub returns-in-Ok-write_entries-clause-ok : goal.returns-in-Ok-write_entries-cla
 returns-in-Ok-write_entries-clause-ok g c =
     let entries : List (Entry Global) = c.take_lines-entries.result.items in
     let wrote = c.in-Ok-write_entries.ensures in
-    let counted : c.of.result ≡ tally_of entries =
-    c.of.ensures.tally ∙ ap (λ l. tally_of {A = Global} l) c.as_slice-in-Ok-write_entries.ensures.value in
+    let counted : c.of.result ≡ counts_of entries =
+    c.of.ensures.counts ∙ ap (λ l. counts_of {A = Global} l) c.as_slice-in-Ok-write_entries.ensures.value in
     let old = c.args.self.shift in
     let new = c.in-Ok.shift in
     let last = c.take_lines-entries.new.self in (
@@ -48,8 +48,8 @@ returns-in-Ok-write_entries-clause-ok g c =
           c.in-Ok.ensures.done))
           c.take_lines-entries.ensures.taken,
       record {
-        tally = c.add.ensures ∙ ap (tally_sum c.args.self.tally) counted;
-        small = subst (IsTallyUpTo (2 ^ 64)) counted c.of.ensures.small;
+        counts = c.add.ensures ∙ ap (counts_sum c.args.self.counts) counted;
+        small = subst (AreCountsUpTo (2 ^ 64)) counted c.of.ensures.small;
         refused = c.either.ensures ∙ ap (λ t. c.args.self.refused || t)
             (wrote.told ∙ ap (λ l. has_refusal (entry_lines l)) c.as_slice.ensures.value);
         written = subst (λ l. Appends (g.W.ByteOut.taken c.args.writer.now) (g.W.ByteOut.taken c.write_entries.new.writer)

@@ -2,7 +2,7 @@ use Rattle.std.proofs.Common.{rules, arith, sym, subst, ◌∙◌, ◌≡◌, �
 use Rattle.listen_texts.specs.Turns.{HasAnswer, IsTurn}
 use Rattle.listen_texts.specs.Turns.{account_of}
 use Rattle.listen_texts.specs.Steps.{progress, Turns, TurnsInPart}
-use Rattle.listen_texts.proofs.ListenLemmas.{HasListened, listened_none, listened_more, listened_more_in_part, tally_has_room}
+use Rattle.listen_texts.proofs.ListenLemmas.{HasListened, listened_none, listened_more, listened_more_in_part, counts_have_room}
 use Rattle.listen_texts.proofs.ListenLemmas.{listened_closed, listened_closed_in_part}
 use Rattle.listen_texts.proofs.listener.Listener.listen.Goals as goal
 
@@ -19,7 +19,7 @@ loop-turn-init g c =
 
 pub turn-requires-clause-room : goal.turn-requires-clause-room
 turn-requires-clause-room g c κs met =
-    tally_has_room c.loop-turn.turn c.args.turns c.loop-turn.listener.tally c.loop-turn.invariant.so_far.small
+    counts_have_room c.loop-turn.turn c.args.turns c.loop-turn.listener.counts c.loop-turn.invariant.so_far.small
     c.loop-turn-test.true c.requires.turns.1
 
 pub loop-turn-preserved : goal.loop-turn-preserved
@@ -27,17 +27,17 @@ loop-turn-preserved g c =
     let l = c.loop-turn in
     let was = l.listener in
     let is = c.in-Ok.listener in
-    let now = progress is.shift.till is.shift.receipts is.tally is.refused in
+    let now = progress is.shift.till is.shift.receipts is.counts is.refused in
     record {
       station = c.in-Ok.ensures.station ∙ l.invariant.station;
       so_far = listened_more c.args.self.shift.station.value c.args.devices.now l.turn (g.S.Source.seen c.args.source.now)
-          (g.S.Source.seen l.source) (progress was.shift.till was.shift.receipts was.tally was.refused)
+          (g.S.Source.seen l.source) (progress was.shift.till was.shift.receipts was.counts was.refused)
           (g.W.ByteOut.taken c.args.writer.now) (g.W.ByteOut.taken l.writer) l.invariant.so_far
           (g.S.Source.seen c.turn.new.source) now (g.W.ByteOut.taken c.turn.new.writer)
           (subst (λ ids. Turns (λ r. IsTurn ids c.args.devices.now (l.turn + 1) r
           (account_of was.shift.till was.shift.receipts))
           (g.S.Source.seen l.source) (g.S.Source.seen c.turn.new.source)
-          (progress was.shift.till was.shift.receipts was.tally was.refused) now (g.W.ByteOut.taken l.writer)
+          (progress was.shift.till was.shift.receipts was.counts was.refused) now (g.W.ByteOut.taken l.writer)
           (g.W.ByteOut.taken c.turn.new.writer)) l.invariant.station c.in-Ok.ensures.ok);
       calls = search rules;
     }
@@ -47,7 +47,7 @@ returns-in-Err-clause-front g c =
     let l = c.loop-turn in
     let was = l.listener in
     listened_more_in_part c.args.self.shift.station.value c.args.devices.now l.turn (g.S.Source.seen c.args.source.now)
-    (g.S.Source.seen l.source) (progress was.shift.till was.shift.receipts was.tally was.refused)
+    (g.S.Source.seen l.source) (progress was.shift.till was.shift.receipts was.counts was.refused)
     (g.W.ByteOut.taken c.args.writer.now) (g.W.ByteOut.taken l.writer) l.invariant.so_far c.args.turns
     (g.S.Source.seen c.turn.new.source) (g.W.ByteOut.taken c.turn.new.writer) c.in-Err.fault c.loop-turn-test.true
     (subst (λ ids. TurnsInPart (HasAnswer c.args.devices.now (l.turn + 1))
@@ -62,10 +62,10 @@ returns-clause-ok g c =
     let ids = c.args.self.shift.station.value in
     let all : l.turn ≡ c.args.turns = omega arith in
     let so_far = subst (λ n. HasListened ids c.args.devices.now n (g.S.Source.seen c.args.source.now)
-    (g.S.Source.seen l.source) (progress was.shift.till was.shift.receipts was.tally was.refused)
+    (g.S.Source.seen l.source) (progress was.shift.till was.shift.receipts was.counts was.refused)
     (g.W.ByteOut.taken c.args.writer.now) (g.W.ByteOut.taken l.writer)) all l.invariant.so_far in
     listened_closed ids c.args.devices.now c.args.turns (g.S.Source.seen c.args.source.now) (g.S.Source.seen l.source)
-    (progress was.shift.till was.shift.receipts was.tally was.refused) (g.W.ByteOut.taken c.args.writer.now)
+    (progress was.shift.till was.shift.receipts was.counts was.refused) (g.W.ByteOut.taken c.args.writer.now)
     (g.W.ByteOut.taken l.writer) so_far was.shift.station.value (g.W.ByteOut.taken c.close.new.writer)
     c.close.result l.invariant.station c.close.ensures.told c.close.ensures.ok
 
@@ -76,9 +76,9 @@ returns-clause-front g c =
     let ids = c.args.self.shift.station.value in
     let all : l.turn ≡ c.args.turns = omega arith in
     let so_far = subst (λ n. HasListened ids c.args.devices.now n (g.S.Source.seen c.args.source.now)
-    (g.S.Source.seen l.source) (progress was.shift.till was.shift.receipts was.tally was.refused)
+    (g.S.Source.seen l.source) (progress was.shift.till was.shift.receipts was.counts was.refused)
     (g.W.ByteOut.taken c.args.writer.now) (g.W.ByteOut.taken l.writer)) all l.invariant.so_far in
     listened_closed_in_part ids c.args.devices.now c.args.turns (g.S.Source.seen c.args.source.now)
-    (g.S.Source.seen l.source) (progress was.shift.till was.shift.receipts was.tally was.refused)
+    (g.S.Source.seen l.source) (progress was.shift.till was.shift.receipts was.counts was.refused)
     (g.W.ByteOut.taken c.args.writer.now) (g.W.ByteOut.taken l.writer) so_far was.shift.station.value
     (g.W.ByteOut.taken c.close.new.writer) c.close.result l.invariant.station c.close.ensures.front

@@ -6,7 +6,7 @@ use Rattle.server_core.specs.declared.entry.Entry.{Entry}
 use Rattle.server_core.specs.declared.entry.Line.{Line}
 use Rattle.server_core.specs.declared.entry.Line.TheVariants.{Send, Unanswered, Silent}
 use Rattle.text_words.specs.Words.{spaced}
-use Rattle.run_lines.specs.declared.tally.Tally.{Tally}
+use Rattle.run_lines.specs.declared.uplink_counts.UplinkCounts.{UplinkCounts}
 
 -- How many uplinks were answered, as the last line of a report tells it (docs/FORMATS.md, "airbook run").
 
@@ -24,8 +24,8 @@ is_silent (Silent number) = true
 is_silent line = false
 
 -- how many uplinks were answered, were not, and were owed no answer
-abbrev pub tally_of : {A : Type 0} → List (Entry A) → Tally
-tally_of entries =
+abbrev pub counts_of : {A : Type 0} → List (Entry A) → UplinkCounts
+counts_of entries =
     record {
       sent = count_by (λ e. is_sent e.line) entries;
       unanswered = count_by (λ e. is_unanswered e.line) entries;
@@ -33,26 +33,26 @@ tally_of entries =
     }
 
 -- two tallies together
-abbrev pub tally_sum : Tally → Tally → Tally
-tally_sum t u =
+abbrev pub counts_sum : UplinkCounts → UplinkCounts → UplinkCounts
+counts_sum t u =
     record { sent = t.sent + u.sent; unanswered = t.unanswered + u.unanswered; silent = t.silent + u.silent }
 
 -- the last line of a report
-abbrev pub tally_text : Tally → List ℕ
-tally_text t =
+abbrev pub counts_text : UplinkCounts → List ℕ
+counts_text t =
     spaced (codes "answered" ∷ decimal t.sent
     ∷ codes "unanswered" ∷ decimal t.unanswered
     ∷ codes "silent" ∷ decimal t.silent ∷ [])
 
 -- no count is above this
-pub record IsTallyUpTo (most : ℕ) (t : Tally) : Type 0 where
+pub record AreCountsUpTo (most : ℕ) (t : UplinkCounts) : Type 0 where
   pub sent : t.sent ≤ most
   pub unanswered : t.unanswered ≤ most
   pub silent : t.silent ≤ most
 
 -- what is counted in some lines and in others is counted in both
-pub tally_of-append : {A : Type 0} (xs ys : List (Entry A)) → tally_sum (tally_of xs) (tally_of ys) ≡ tally_of (xs ++ ys)
-tally_of-append {A = A} xs ys =
+pub counts_of-append : {A : Type 0} (xs ys : List (Entry A)) → counts_sum (counts_of xs) (counts_of ys) ≡ counts_of (xs ++ ys)
+counts_of-append {A = A} xs ys =
     let s = sym (sum_by-append (λ (e : Entry A). cond (is_sent e.line) 1 0) xs ys) in
     let u = sym (sum_by-append (λ (e : Entry A). cond (is_unanswered e.line) 1 0) xs ys) in
     let n = sym (sum_by-append (λ (e : Entry A). cond (is_silent e.line) 1 0) xs ys) in

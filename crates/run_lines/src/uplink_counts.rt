@@ -4,7 +4,7 @@ ghost use Rattle.std.specs.List.{count_by};
 ghost use Rattle.text_lines.specs.Calls.{CountsFailure};
 ghost use Rattle.text_lines.specs.Line.{text_of};
 ghost use Rattle.text_lines.specs.Writing.{WritesAllBut, WritesFront};
-ghost use Rattle.run_lines.specs.Tally.{is_sent, is_unanswered, is_silent, tally_of, tally_sum, tally_text, IsTallyUpTo};
+ghost use Rattle.run_lines.specs.UplinkCounts.{is_sent, is_unanswered, is_silent, counts_of, counts_sum, counts_text, AreCountsUpTo};
 
 use itoa::Buffer;
 use server_core::{Entry, Line};
@@ -15,7 +15,7 @@ use text_words::add_word;
 /// How many uplinks were answered, how many were not, though an answer was owed, and how many were owed none. In 128 bits,
 /// since the lines of a million turns are not counted ahead.
 #[derive(Clone, Copy, Debug, PartialEq, Eq)]
-pub struct Tally {
+pub struct UplinkCounts {
     /// Those that were answered by a transmission.
     pub sent: u128,
     /// Those to which an answer was owed, and none was booked.
@@ -24,24 +24,24 @@ pub struct Tally {
     pub silent: u128,
 }
 
-impl Tally {
+impl UplinkCounts {
     /// Counts the uplinks of some lines.
     pub fn of<A: Allocator>(entries: &[Entry<A>]) -> Self
-        ensures tally { result ≡ tally_of entries.now }
-        ensures small { IsTallyUpTo (2 ^ 64) result }
+        ensures counts { result ≡ counts_of entries.now }
+        ensures small { AreCountsUpTo (2 ^ 64) result }
     {
-        Tally {
+        UplinkCounts {
             sent: sent(entries) as u128,
             unanswered: unanswered(entries) as u128,
             silent: silent(entries) as u128,
         }
     }
 
-    /// Counts those of another tally too; each count of the two is at most 2^126.
-    pub fn add(&mut self, more: &Tally)
-        requires counted { IsTallyUpTo (2 ^ 126) self.old }
-        requires more { IsTallyUpTo (2 ^ 126) more.now }
-        ensures { self.new ≡ tally_sum self.old more.now }
+    /// Counts those of other counts too; each count of the two is at most 2^126.
+    pub fn add(&mut self, more: &UplinkCounts)
+        requires counted { AreCountsUpTo (2 ^ 126) self.old }
+        requires more { AreCountsUpTo (2 ^ 126) more.now }
+        ensures { self.new ≡ counts_sum self.old more.now }
     {
         self.sent += more.sent;
         self.unanswered += more.unanswered;
@@ -50,33 +50,33 @@ impl Tally {
 }
 
 /// Writes the last line behind what is gathered.
-pub(crate) fn put_tally<W: ByteOut>(
-    tally: &Tally,
+pub(crate) fn put_uplink_counts<W: ByteOut>(
+    counts: &UplinkCounts,
     output: &mut WriteBehind,
     writer: &mut W,
 ) -> Result<(), CallFailed>
     ensures ok { OnOk result (WritesAllBut (W.taken writer.old) (W.taken writer.new)
-        (output.old ++ text_of (tally_text tally.now ∷ [])) output.new) }
+        (output.old ++ text_of (counts_text counts.now ∷ [])) output.new) }
     ensures err { OnErr result (WritesFront (W.taken writer.old) (W.taken writer.new)
-        (output.old ++ text_of (tally_text tally.now ∷ []))) }
+        (output.old ++ text_of (counts_text counts.now ∷ []))) }
     ensures failed { CountsFailure (W.failed_calls writer.old) (W.failed_calls writer.new) result }
 {
     let mut text = TextLine::new();
-    write_tally(tally, &mut text);
+    write_uplink_counts(counts, &mut text);
     output.put(writer, text.as_slice())
 }
 
 /// Makes `text` the last line, with its end.
-fn write_tally(tally: &Tally, text: &mut TextLine)
-    ensures { text.new ≡ tally_text tally.now ++ (10 ∷ []) }
+fn write_uplink_counts(counts: &UplinkCounts, text: &mut TextLine)
+    ensures { text.new ≡ counts_text counts.now ++ (10 ∷ []) }
 {
     text.clear();
     text.text(b"answered");
-    add_count(text, tally.sent);
+    add_count(text, counts.sent);
     add_word(text, b"unanswered");
-    add_count(text, tally.unanswered);
+    add_count(text, counts.unanswered);
     add_word(text, b"silent");
-    add_count(text, tally.silent);
+    add_count(text, counts.silent);
     text.text(b"\n");
 }
 

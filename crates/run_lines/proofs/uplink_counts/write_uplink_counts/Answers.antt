@@ -1,6 +1,6 @@
 use Rattle.std.proofs.Common.{decimal}
-use Rattle.run_lines.proofs.ReplayLemmas.{tally-parts}
-use Rattle.run_lines.proofs.tally.write_tally.Goals as goal
+use Rattle.run_lines.proofs.ReplayLemmas.{counts-parts}
+use Rattle.run_lines.proofs.uplink_counts.write_uplink_counts.Goals as goal
 
 pub returns : goal.returns
 returns c =
@@ -14,4 +14,4 @@ returns c =
       c.text.ensures.text,
       c.clear.ensures,
     )
-    (tally-parts (decimal c.args.tally.now.sent) (decimal c.args.tally.now.unanswered) (decimal c.args.tally.now.silent))
+    (counts-parts (decimal c.args.counts.now.sent) (decimal c.args.counts.now.unanswered) (decimal c.args.counts.now.silent))
