@@ -56,19 +56,27 @@ pub fn program<'a>(alloc: Global) -> Result<Command<'a>, AllocError> {
 
 /// The arguments of `toa`.
 fn toa<'a>(alloc: Global) -> Result<Command<'a>, AllocError> {
-    let rate = Arg::new(alloc, "DR")
-        .help("Data rate, 0 to 6")
-        .required(true)
-        .value_parser(value_parser!(u8));
-    let len = Arg::new(alloc, "LEN")
-        .help("Length of the PHYPayload in bytes, 0 to 255")
-        .required(true)
-        .value_parser(value_parser!(u8));
     Command::new(alloc, "toa")
         .about("Writes the time on air of a frame, in microseconds")
         .after_help("Example:\n  $ airbook toa 5 12\n  41216")
-        .arg(rate)?
-        .arg(len)
+        .arg(rate(alloc))?
+        .arg(len(alloc))
+}
+
+/// The data rate of a frame.
+fn rate<'a>(alloc: Global) -> Arg<'a> {
+    Arg::new(alloc, "DR")
+        .help("Data rate, 0 to 6")
+        .required(true)
+        .value_parser(value_parser!(u8))
+}
+
+/// How long a frame is.
+fn len<'a>(alloc: Global) -> Arg<'a> {
+    Arg::new(alloc, "LEN")
+        .help("Length of the PHYPayload in bytes, 0 to 255")
+        .required(true)
+        .value_parser(value_parser!(u8))
 }
 
 /// The arguments of `book`.
@@ -152,16 +160,20 @@ fn save<'a>(alloc: Global) -> Arg<'a> {
         .action(ArgAction::SetTrue)
 }
 
-/// The arguments of `run`.
-fn run<'a>(alloc: Global) -> Result<Command<'a>, AllocError> {
-    let workers = Arg::new(alloc, "workers")
+/// How many workers a run has.
+fn workers<'a>(alloc: Global) -> Arg<'a> {
+    Arg::new(alloc, "workers")
         .help(
             "At most how many workers answer the uplinks that one pass closes, 0 to 16; with 0 one thread does all",
         )
         .long("workers")
         .value_name("N")
         .default_value("0")
-        .value_parser(value_parser!(u8).range(0..=16));
+        .value_parser(value_parser!(u8).range(0..=16))
+}
+
+/// The arguments of `run`.
+fn run<'a>(alloc: Global) -> Result<Command<'a>, AllocError> {
     Command::new(alloc, "run")
         .about(
             "Answers the uplinks that gateways heard. Standard input: the settings in TOML, a line ---, and then \
@@ -180,7 +192,7 @@ fn run<'a>(alloc: Global) -> Result<Command<'a>, AllocError> {
              \n  gateway 2 booked 41216 cancelled 0 retired 0 kept 1\n  busiest 2 M 10000000 41216\
              \n  answered 1 unanswered 0 silent 0\n  $ airbook run --workers 2 < examples/two-gateways.txt",
         )
-        .arg(workers)
+        .arg(workers(alloc))
 }
 
 /// The task that the arguments name.
