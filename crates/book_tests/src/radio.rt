@@ -7,7 +7,7 @@ use std::test::Fail;
 use test_asserts::{equal, equal_at};
 
 /// The shortest downlink at each rate, and the longest and the shortest frames, with their microseconds on air.
-static TIMES_ON_AIR: [(DataRate, u8, u64); 10] = [
+static TIMES_ON_AIR: [(DataRate, u8, u64); 12] = [
     (DataRate::Dr0, 12, 991_232),
     (DataRate::Dr1, 12, 577_536),
     (DataRate::Dr2, 12, 288_768),
@@ -16,6 +16,8 @@ static TIMES_ON_AIR: [(DataRate, u8, u64); 10] = [
     (DataRate::Dr5, 12, 41_216),
     (DataRate::Dr6, 12, 20_608),
     (DataRate::Dr0, 64, 2_793_472),
+    (DataRate::Dr0, 255, 9_019_392),
+    (DataRate::Dr3, 255, 1_250_304),
     (DataRate::Dr5, 255, 394_496),
     (DataRate::Dr5, 0, 20_736),
 ];

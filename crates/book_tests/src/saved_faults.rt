@@ -16,7 +16,7 @@ const FIRST_LINE: LoadFault = LoadFault::Syntax { line: 1 };
 const GATEWAY_LINE: LoadFault = LoadFault::Syntax { line: 2 };
 
 /// Texts that are no saved book, and why. The last two have an hour of a sub-band that is nearly full.
-static FAULTS: [(&[u8], LoadFault); 19] = [
+static FAULTS: [(&[u8], LoadFault); 20] = [
     (b"airbook 9\n", LoadFault::Version),
     (
         b"airbook 3\ngateway 1 4096 0 0\nend 0\n",
@@ -43,6 +43,10 @@ static FAULTS: [(&[u8], LoadFault); 19] = [
     (
         b"airbook 2\ngateway 1 4096 0 0\nr 1 0 868100000 7 12\nend 1\n",
         LoadFault::Syntax { line: 3 },
+    ),
+    (
+        b"airbook 2\ngateway 1 4096 0 0\nr 1 0 4294967295 5 12\nend 1\n",
+        LoadFault::Unlawful { line: 3 },
     ),
     (
         b"airbook 2\ngateway 1 4096 3600000001 0\nr 1 0 868100000 5 12\nend 1\n",

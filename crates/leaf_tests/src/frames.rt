@@ -126,7 +126,8 @@ fn an_empty_uplink(rt: HostRuntime) -> Result<(), Fail> {
 }
 
 /// The port of a payload, the size of options and of the payload, and how long the uplink is.
-static UPLINKS: [(u8, usize, usize, Result<usize, UpFault>); 8] = [
+static UPLINKS: [(u8, usize, usize, Result<usize, UpFault>); 9] = [
+    (223, 0, 0, Ok(13)),
     (224, 0, 0, Err(UpFault::Port)),
     (224, 16, 0, Err(UpFault::Port)),
     (0, 0, 0, Ok(13)),
@@ -212,6 +213,66 @@ fn is_up(alloc: Global, port: u8, wanted: &[u8]) -> Result<bool, UpFault> {
     let body = Some(Body { port, payload });
     let full = Up { body, ..empty_up() };
     Ok(up(alloc, &full)?.as_slice() == wanted)
+}
+
+/// ADR, ADRACKReq and ACK of an uplink, and its FCtrl.
+static CONTROLS: [((bool, bool, bool), u8); 4] = [
+    ((true, false, false), 0x80),
+    ((false, true, false), 0x40),
+    ((false, false, true), 0x20),
+    ((true, true, true), 0xe0),
+];
+
+/// FCtrl of an uplink with these bits, and the bits that are read of it.
+fn controlled(
+    alloc: Global,
+    (adr, adr_ack_req, ack): (bool, bool, bool),
+) -> Result<(u8, (bool, bool, bool)), Fail> {
+    let asking = Up {
+        adr,
+        adr_ack_req,
+        ack,
+        ..empty_up()
+    };
+    let frame = up(alloc, &asking)?;
+    let uplink = read(frame.as_slice())?;
+    let control = frame.as_slice().get(5).ok_or("it has no FCtrl")?;
+    Ok((*control, (uplink.adr, uplink.adr_ack_req, uplink.ack)))
+}
+
+#[test]
+fn bits_of_control_are_written_and_read(rt: HostRuntime) -> Result<(), Fail> {
+    for (bits, control) in &CONTROLS {
+        equal_at(bits, &controlled(rt.alloc(), *bits)?, &(*control, *bits))?;
+    }
+    Ok(())
+}
+
+/// An uplink with counter 66,051, ADR and ACK, three bytes of FOpts, and the bytes 1 to 20 on port 7, as the model in
+/// `tests/lorawan.py` makes it.
+const WHOLE: [u8; 36] = [
+    0x40, 0xda, 0x1b, 0x01, 0x26, 0xa3, 0x03, 0x02, 0x02, 0x03, 0x05, 0x07, 0xe9, 0xbe, 0x6b, 0xf8,
+    0xeb, 0xc0, 0xef, 0xc9, 0x7c, 0x45, 0xa8, 0x60, 0x72, 0x40, 0xb4, 0x45, 0x54, 0x13, 0xb8, 0xfb,
+    0xbf, 0xef, 0xb1, 0x55,
+];
+
+#[test]
+fn an_uplink_with_all_its_parts(rt: HostRuntime) -> Result<(), Fail> {
+    let whole = Up {
+        confirmed: false,
+        counter: 66_051,
+        adr: true,
+        ack: true,
+        options: &[2, 3, 5],
+        body: Some(Body {
+            port: 7,
+            payload: &[
+                1, 2, 3, 4, 5, 6, 7, 8, 9, 10, 11, 12, 13, 14, 15, 16, 17, 18, 19, 20,
+            ],
+        }),
+        ..empty_up()
+    };
+    holds(up(rt.alloc(), &whole)?.as_slice() == WHOLE.as_slice())
 }
 
 #[test]

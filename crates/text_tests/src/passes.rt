@@ -4,9 +4,10 @@ ghost use Rattle.std.specs.Prelude.{◌≡◌, IfOk};
 
 use airbook_text::{Settings, read_settings};
 use answer_ticket::{Ending, Outcome};
+use gateway_book::Refusal;
 use run_lines::{events_by_threads, write_lines};
 use run_texts::{Answer, Answered, Ends, Told, answer_with_workers};
-use server_core::{Book, Entry, Event, Line, NoMemory, TakeFault};
+use server_core::{Book, DeskFault, Entry, Event, Line, NoMemory, TakeFault};
 use server_workers::{Blank, Ledger, PARTS, ServeCause, Station, Till};
 use std::alloc::Global;
 use std::hash::{BuildHasherDefault, FoldHasher};
@@ -55,7 +56,8 @@ const TOLD_TWICE: &[u8] =
 
 /// What is told of an answer that was given up, of two that got no ticket, and of a stray.
 const RARE: &[u8] =
-    b"unanswered 1 NoMemory\nno 2 NoMemory\nsilent 3\nno 4 Stray\nanswered 0 unanswered 1 silent 1\n";
+    b"unanswered 1 NoMemory\nno 2 NoMemory\nsilent 3\nno 4 Stray\nno 5 NotReady\nno 6 Taken\nunanswered 7 TotalsFull\n\
+      answered 0 unanswered 2 silent 1\n";
 
 /// Whether a line begins with `no`, and the text.
 type Text = (bool, Vec<u8>);
@@ -118,9 +120,14 @@ fn text_of(alloc: Global, answers: Vec<Answer>) -> Result<Text, Fail> {
             entries.push(Entry { event: 0, line })?;
         }
     }
+    written(alloc, entries.as_slice())
+}
+
+/// The text of some entries, and of their counts.
+fn written(alloc: Global, entries: &[Entry<Global>]) -> Result<Text, Fail> {
     let books: Vec<Book<Global>> = Vec::new(alloc);
     let mut writer = MemoryOut::new(alloc);
-    let refused = write_lines(entries.as_slice(), books.as_slice(), &mut writer)?;
+    let refused = write_lines(entries, books.as_slice(), &mut writer)?;
     Ok((refused, writer.bytes))
 }
 
@@ -251,20 +258,44 @@ fn as_many_workers_start_as_there_is_work_for(rt: HostRuntime) -> Result<(), Fai
     Ok(())
 }
 
+/// How seven uplinks ended, of which no run tells some so.
+fn rare_ends(alloc: Global) -> Result<Ends, Fail> {
+    let mut ends = Ends::none(alloc);
+    ends.strays.push(4)?;
+    for refused in [
+        (6, TakeFault::Taken),
+        (5, TakeFault::NotReady),
+        (3, TakeFault::Silent),
+        (2, TakeFault::NoMemory),
+    ] {
+        ends.refused.push(refused)?;
+    }
+    for (number, result) in [
+        (7, Ending::Unanswered(Refusal::TotalsFull)),
+        (1, Ending::GivenUp),
+    ] {
+        ends.outcomes.push(Outcome { number, result })?;
+    }
+    ends.sort();
+    Ok(ends)
+}
+
 #[test]
 fn rare_answers_are_told(rt: HostRuntime) -> Result<(), Fail> {
-    let mut ends = Ends::none(rt.alloc());
-    ends.strays.push(4)?;
-    ends.refused.push((3, TakeFault::Silent))?;
-    ends.refused.push((2, TakeFault::NoMemory))?;
-    ends.outcomes.push(Outcome {
-        number: 1,
-        result: Ending::GivenUp,
-    })?;
-    ends.sort();
-    let answers = ends.answers(rt.alloc(), &[1, 2, 3, 4])?;
+    let answers = rare_ends(rt.alloc())?.answers(rt.alloc(), &[1, 2, 3, 4, 5, 6, 7])?;
     let (refused, text) = text_of(rt.alloc(), answers)?;
     holds(refused)?;
-    equal(&text.as_slice(), &RARE)?;
-    Ok(())
+    equal(&text.as_slice(), &RARE)
+}
+
+/// No run hears as many copies of an uplink by as many gateways as a desk has no room for.
+#[test]
+fn a_copy_that_is_one_too_many_is_told(rt: HostRuntime) -> Result<(), Fail> {
+    let line = Line::NotHeard(DeskFault::TooManyCopies);
+    let (refused, text) = written(rt.alloc(), &[Entry { event: 0, line }])?;
+    holds(refused)?;
+    equal(
+        &text.as_slice(),
+        &b"no hear TooManyCopies\nanswered 0 unanswered 0 silent 0\n".as_slice(),
+    )
 }
