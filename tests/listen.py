@@ -47,14 +47,14 @@ def is_bound(port):
 class Server:
     """A program that listens, and the end that sends to it."""
 
-    def __init__(self, program, turns, more=(), settings=SETTINGS, options={}):
+    def __init__(self, program, turns, more=(), settings=SETTINGS, options=None):
         self.port = free_port()
         self.ends = time.monotonic() + SECONDS
         self.read = b""
         self.sender = socket.socket(type=socket.SOCK_DGRAM)
         words = [program, "listen", "--port", str(self.port), "--turns", str(turns), *more]
         pipes = {"stdin": subprocess.PIPE, "stdout": subprocess.PIPE, "stderr": subprocess.PIPE}
-        self.child = subprocess.Popen(words, **pipes, **options)
+        self.child = subprocess.Popen(words, **pipes, **(options or {}))
         self.child.stdin.write(settings.encode())
         self.child.stdin.close()
 
@@ -99,7 +99,7 @@ class Server:
         return lines, status, self.child.stderr.read().decode("utf-8", "backslashreplace")
 
 
-def exchange(program, turns, wanted_rest, wanted_status, more=(), options={}):
+def exchange(program, turns, wanted_rest, wanted_status, more=(), options=None):
     """Sends each datagram once its turn has come. What differs from what is wanted, if anything."""
     with Server(program, len(turns), more, options=options) as server:
         for turn, (datagram, answer) in enumerate(turns, 1):

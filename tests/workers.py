@@ -71,9 +71,9 @@ def crowded():
     return settings(1, 1) + "\n".join(hear(0, 1, 0, counter) for counter in range(OPEN_AT_MOST + 2)) + "\n"
 
 
-def written(program, text, workers, options={}):
+def written(program, text, workers, options=None):
     words = [program, "run", "--workers", str(workers)]
-    ran = subprocess.run(words, input=text.encode(), capture_output=True, timeout=SECONDS, **options)
+    ran = subprocess.run(words, input=text.encode(), capture_output=True, timeout=SECONDS, **(options or {}))
     return ran.returncode, ran.stdout.decode().splitlines(), ran.stderr.decode()
 
 
