@@ -48,12 +48,13 @@ def spoiled(chance, rows):
     gateway, device = (next(said for kind, said in rows if kind == one) for one in ("gateway", "device"))
     table, key, value, name = chance.choice([
         (gateway, "id", None, "Missing"), (device, "addr", None, "Missing"), (device, "appskey", None, "Missing"),
-        (gateway, "id", '"1"', "Kind"), (gateway, "cap", 1 << 32, "Kind"), (gateway, "gap", -1, "Kind"),
-        (device, "addr", '"2601"', "Kind"), (device, "rx2_dr", 7, "Kind"), (device, "up", COUNTERS, "Kind"),
-        (device, "delay", 256, "Kind"), (gateway, "id", 0, "Range"), (gateway, "cap", 0, "Range"),
-        (gateway, "gap", 100_001, "Range"), (device, "delay", 16, "Range"), (device, "offset", 6, "Range"),
-        (device, "down", COUNTERS + 1, "Range"), (device, "rx2_freq", 865_000_000, "NoBand"),
-        (gateway, "id", "twice", "DoubleGateway"), (device, "addr", "twice", "DoubleDevice"), (gateway, "id", "[", "NotToml"),
+        (device, "nwkskey", None, "Missing"), (device, "addr", 26_011_000, "Kind"), (gateway, "id", '"1"', "Kind"),
+        (gateway, "cap", 1 << 32, "Kind"), (gateway, "gap", -1, "Kind"), (device, "addr", '"2601"', "Kind"),
+        (device, "rx2_dr", 7, "Kind"), (device, "up", COUNTERS, "Kind"), (device, "delay", 256, "Kind"),
+        (gateway, "id", 0, "Range"), (gateway, "cap", 0, "Range"), (gateway, "gap", 100_001, "Range"),
+        (device, "delay", 16, "Range"), (device, "offset", 6, "Range"), (device, "down", COUNTERS + 1, "Range"),
+        (device, "rx2_freq", 865_000_000, "NoBand"), (gateway, "id", "twice", "DoubleGateway"),
+        (device, "addr", "twice", "DoubleDevice"), (gateway, "id", "[", "NotToml"),
     ])
     if value == "twice":
         rows.append(("gateway" if table is gateway else "device", dict(table)))

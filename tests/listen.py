@@ -4,9 +4,10 @@
 Usage: listen.py PROGRAM [DATAGRAMS [SEED]]     (5,000, 1: how many random datagrams)
 
 Each datagram is sent once the answers to those before it were read, so none is lost. What the random ones are answered is found
-here, as docs/FORMATS.md says. Where workers are asked for, threads have to be started, which a library counts that is loaded
-before the C library. Every program that is started ends within a minute, or is stopped. A failing trial has a line; the last
-line is 'N passed, M failed'. The status is 0 where none failed, 1 where one did, 2 where nothing could be run.
+here, as docs/FORMATS.md says. Libraries that are loaded before the C library count the threads, of which there have to be some
+where workers are asked for, and refuse threads, random bytes and one receive. Every program that is started ends within a
+minute, or is stopped. A failing trial has a line; the last line is 'N passed, M failed'. The status is 0 where none failed, 1
+where one did, 2 where nothing could be run.
 """
 import os
 import pathlib
@@ -20,9 +21,10 @@ import time
 
 sys.dont_write_bytecode = True
 import lorawan
-from preloaded import COUNTING, Counter, library_of
+from preloaded import COUNTING, FAILING_RECEIVE, NO_RANDOM_BYTES, NO_THREADS, Counter, library_of, over
 
 SECONDS = 60
+EXAMPLE = pathlib.Path(__file__).resolve().parent.parent / "examples" / "settings.toml"
 # As many uplinks as several workers share out.
 SHARED = 64
 SESSION = "2b7e151628aed2a6abf7158809cf4f3c", "000102030405060708090a0b0c0d0e0f"
@@ -136,21 +138,50 @@ def silent_uplinks():
     return [lorawan.uplink(False, 0x26011BDA, counter, keys).hex() for counter in range(SHARED)]
 
 
-def threads_started(program):
-    """Two workers are two threads where they have enough to do, one is the thread that listens; hashes are keyed at random."""
+def shared_out(program, workers, options):
+    """As many uplinks as are shared out are heard and closed. What differs from what is wanted, if anything."""
     heard = [f"hear 1 0 868100000 5 0 -100 0 {uplink}".encode() for uplink in silent_uplinks()]
     turns = [(line, [f"opened {number}"]) for number, line in enumerate(heard, 1)]
     turns += [(b"pass 200001", [f"silent {number}" for number in range(1, SHARED + 1)])]
     report = [*NO_REPORT[:-1], f"answered 0 unanswered 0 silent {SHARED}"]
+    return exchange(program, turns, report, 0, ["--workers", str(workers)], options)
+
+
+def threads_started(program):
+    """Two workers are two threads where they have enough to do, one is the thread that listens; hashes are keyed at random."""
     with tempfile.TemporaryDirectory() as folder:
         library = library_of(COUNTING, pathlib.Path(folder))
         for workers, threads in ((1, 0), (2, 2)):
             counter = Counter(library)
-            fault = exchange(program, turns, report, 0, ["--workers", str(workers)], counter.options)
+            fault = shared_out(program, workers, counter.options)
             calls = counter.calls()
             if fault or calls.threads != threads or not calls.random:
                 return f"{workers} workers: {fault or calls}"
     return None
+
+
+def threads_refused(program):
+    """Where no thread can be started, the one that listens answers all."""
+    with over(NO_THREADS) as options:
+        return shared_out(program, 2, options)
+
+
+def receive_failed(program):
+    """A receive that fails takes a turn, which is answered, and a warning goes to standard error; the next one is as ever."""
+    with over(FAILING_RECEIVE) as options, Server(program, 2, options=options) as server:
+        first = server.lines(1)
+        server.send(b"tick 1 5")
+        lines, status, errors = server.rest()
+    is_warned = errors.count("\n") == 1 and "nothing was received" in errors
+    if first == ["bad 1 Read"] and lines == ["floor 1 5", *NO_REPORT] and status == 1 and is_warned:
+        return None
+    return f"{first}, then {lines}, status {status}, {errors!r}"
+
+
+def no_random_bytes(program):
+    """Hashes can't be keyed."""
+    with over(NO_RANDOM_BYTES) as options:
+        return refused(program, SETTINGS, "Read", options)
 
 
 class Expected:
@@ -208,6 +239,7 @@ class Expected:
             "tick 1 5\ntick 2 5", "hear 1 5000000 868100000 5 0 -100 0 @c:26011bda:7",
             "hear 1 5000000 868100000 5 0 -100 0 ", "cancel @", "---", "plan",
             "cancel 1" + " " * 1017, "#" * 1025, " " * 1026, "#" * 1027, "tick 1 5" + " " * 1020, "#" * 3000,
+            "tick 1 5".ljust(1024) + "\r\ntick 2 5",
         ]
         return self.chance.choice(texts).encode(), [f"bad {turn} Syntax"]
 
@@ -227,9 +259,17 @@ def at_random(program, datagrams, seed):
     return exchange(program, [expected.turn(turn) for turn in range(1, datagrams + 1)], NO_REPORT, 1)
 
 
-def refused(program, settings, name):
-    """Settings that are refused."""
-    with Server(program, 1, settings=settings) as server:
+def example(program):
+    """The example of README.md and of the help."""
+    with Server(program, 1, settings=EXAMPLE.read_text()) as server:
+        server.send(b"tick 1 5")
+        got = server.rest()
+    return None if got == (["floor 1 5", *NO_REPORT], 0, "") else f"got {got}"
+
+
+def refused(program, settings, name, options=None):
+    """A program that doesn't begin to listen, for a fault of this name."""
+    with Server(program, 1, settings=settings, options=options) as server:
         got = server.rest()
     return None if got == ([], 2, f"airbook: {name}\n") else f"wanted {name}, got {got}"
 
@@ -265,8 +305,12 @@ def main():
     program = str(pathlib.Path(sys.argv[1]).resolve())
     datagrams, seed = (int(word) for word in (sys.argv[2:] + ["5000", "1"][len(sys.argv) - 2:])[:2])
     trials = [
+        ("the example", lambda: example(program)),
         ("worked turns", lambda: worked(program)),
         ("threads", lambda: threads_started(program)),
+        ("no threads", lambda: threads_refused(program)),
+        ("a receive that fails", lambda: receive_failed(program)),
+        ("no random bytes", lambda: no_random_bytes(program)),
         (f"{datagrams} random datagrams", lambda: at_random(program, datagrams, seed)),
         ("a port that is taken", lambda: port_taken(program)),
         ("settings that are not TOML", lambda: refused(program, "gateway = [", "NotToml")),

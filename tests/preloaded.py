@@ -3,8 +3,11 @@
 For the scripts of this repository, on Linux. A C compiler makes them, `cc` or that of CC.
 """
 import collections
+import contextlib
 import os
+import pathlib
 import subprocess
+import tempfile
 
 Calls = collections.namedtuple("Calls", "threads random")
 COUNTING = r"""
@@ -32,6 +35,43 @@ int getentropy(void *bytes, size_t count) {
 }
 """
 
+# The first receive fails, as where the other end has closed its port.
+FAILING_RECEIVE = r"""
+#define _GNU_SOURCE
+#include <dlfcn.h>
+#include <errno.h>
+#include <sys/socket.h>
+
+ssize_t recv(int from, void *into, size_t count, int flags) {
+    static int failed;
+    ssize_t (*real)(int, void *, size_t, int) = (ssize_t (*)(int, void *, size_t, int))dlsym(RTLD_NEXT, "recv");
+    if (!failed++) {
+        errno = ECONNREFUSED;
+        return -1;
+    }
+    return real(from, into, count, flags);
+}
+"""
+# No thread can be started, as where there are too many.
+NO_THREADS = r"""
+#include <errno.h>
+#include <pthread.h>
+
+int pthread_create(pthread_t *thread, const pthread_attr_t *attributes, void *(*start)(void *), void *given) {
+    return EAGAIN;
+}
+"""
+# The system has no random bytes.
+NO_RANDOM_BYTES = r"""
+#include <errno.h>
+#include <stddef.h>
+
+int getentropy(void *bytes, size_t count) {
+    errno = EIO;
+    return -1;
+}
+"""
+
 
 def library_of(text, folder):
     """The library of this text in C, in this folder."""
@@ -40,6 +80,13 @@ def library_of(text, folder):
     compiler = os.environ.get("CC", "cc").split()
     subprocess.run([*compiler, "-O1", "-shared", "-fPIC", "-o", library, source, "-ldl"], check=True)
     return library
+
+
+@contextlib.contextmanager
+def over(text):
+    """How a program is started over the library of this text in C."""
+    with tempfile.TemporaryDirectory() as folder:
+        yield {"env": {**os.environ, "LD_PRELOAD": str(library_of(text, pathlib.Path(folder)))}}
 
 
 class Counter:

@@ -4,9 +4,9 @@
 Usage: workers.py PROGRAM
 
 With workers which gateway and window an answer gets may depend on the schedule; here no two answers stand in each other's way,
-so all have to write the same. That workers are threads is counted by a library that is loaded before the C library. A failing
-trial has a line; the last line is 'N passed, M failed'. The status is 0 where none failed, 1 where one did, 2 where nothing
-could be run.
+so all have to write the same. Libraries that are loaded before the C library count threads, and refuse them and random bytes. A
+failing trial has a line; the last line is 'N passed, M failed'. The status is 0 where none failed, 1 where one did, 2 where
+nothing could be run.
 """
 import pathlib
 import subprocess
@@ -15,13 +15,15 @@ import tempfile
 
 sys.dont_write_bytecode = True
 from listen import tell
-from preloaded import COUNTING, Counter, library_of
+from preloaded import COUNTING, NO_RANDOM_BYTES, NO_THREADS, Counter, library_of, over
 
 SECONDS = 120
 DEVICES = 1_000
 GATEWAYS = 4
 OPEN_AT_MOST = 4_096
 ROUNDS = 5
+# So many uplinks want 16 workers, one and one more for each 32 of them.
+ONCE = 480
 # So far apart, in microseconds, a gateway may answer for days.
 SPACE = 5_000_000
 KEYS = 'nwkskey = "2b7e151628aed2a6abf7158809cf4f3c"\nappskey = "000102030405060708090a0b0c0d0e0f"\n'
@@ -55,6 +57,12 @@ def apart():
     lines += [f"cancel {number}" for number in [*range(1, DEVICES + GATEWAYS + 2, 7), 1]]
     lines += [f"tick {gateway} {LONG_AGO + 3_620_000_000 + gateway}" for gateway in range(1, GATEWAYS + 2)]
     return settings(GATEWAYS, DEVICES) + "\n".join([*lines, "hear"]) + "\n"
+
+
+def one_pass():
+    """Uplinks to which no answer is owed, all closed by one `pass`; one thread makes the events, and the lines of the answers."""
+    lines = [hear(device, 1, 0).replace("@c", "@u") for device in range(ONCE)] + [f"pass {LONG_AGO + 1_000_000}"]
+    return settings(1, ONCE) + "\n".join(lines) + "\n"
 
 
 def crammed():
@@ -111,6 +119,40 @@ def threads_started(program):
     return None
 
 
+def threads_of_a_pass(program):
+    """As many threads start for one `pass` as workers were asked for, where there is work for them."""
+    with tempfile.TemporaryDirectory() as folder:
+        library = library_of(COUNTING, pathlib.Path(folder))
+        for workers in (2, 4, 16):
+            counter = Counter(library)
+            status, _, errors = written(program, one_pass(), workers, counter.options)
+            calls = counter.calls()
+            if errors or status or calls.threads != workers:
+                return f"{workers} workers: status {status}, {errors!r}, {calls}"
+    return None
+
+
+def threads_refused(program):
+    """Where no thread can be started, one does it all."""
+    wanted = written(program, apart(), 0)
+    with over(NO_THREADS) as options:
+        for workers in (1, 2, 4, 16):
+            got = written(program, apart(), workers, options)
+            if got != wanted:
+                return f"{workers} workers: status {got[0]}, {first_difference(wanted[1], got[1])}, {got[2]!r}"
+    return None
+
+
+def no_random_bytes(program):
+    """Hashes can't be keyed."""
+    with over(NO_RANDOM_BYTES) as options:
+        for workers in (0, 1, 2):
+            got = written(program, apart(), workers, options)
+            if got != (2, [], "airbook: Read\n"):
+                return f"{workers} workers: {got}"
+    return None
+
+
 def windows(wanted):
     """The windows in which uplinks are answered."""
     return [line.split()[3] for line in wanted[1] if line.startswith("send ")]
@@ -142,7 +184,13 @@ def main():
         (f"{ROUNDS * DEVICES} uplinks of one gateway", lambda: alike(program, crammed(), is_full)),
         (f"{OPEN_AT_MOST + 2} uplinks at a time", lambda: alike(program, crowded(), is_crowded)),
     ]
-    return tell(trials + [("threads", lambda: threads_started(program))])
+    trials += [
+        ("threads", lambda: threads_started(program)),
+        ("threads of one pass", lambda: threads_of_a_pass(program)),
+        ("no threads", lambda: threads_refused(program)),
+        ("no random bytes", lambda: no_random_bytes(program)),
+    ]
+    return tell(trials)
 
 
 if __name__ == "__main__":

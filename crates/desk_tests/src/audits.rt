@@ -1,81 +1,126 @@
-// Books at the end of a run beside a desk: what a book keeps twice under one number is told.
+// Books at the end of a run beside a desk: what is amiss is told, the first of it where there is more.
 
+use answer_ticket::Receipt;
 use book_audit::{FinishCause, compare};
 use gateway_book::Ask;
 use radio_airtime::DataRate;
 use server_desk::Heard1;
 use std::alloc::Global;
 use std::test::Fail;
-use test_asserts::equal;
+use test_asserts::equal_at;
 use worked_inputs::{
-    ADDR, AMPLE, COPY, DEVICE, WorkedBook, WorkedDesk, answered, book_of, booked, desk_of, heard,
-    passed, settled, taken, tried_on, uplink,
+    ADDR, AMPLE, COPY, DEVICE, WorkedBook, WorkedDesk, book_of, booked, desk_of, heard, passed,
+    settled, taken, tried_on, uplink,
 };
 
-/// Gateway 1 hears this uplink, the counter tells how many seconds after the first, and answers it.
+/// This gateway hears an uplink, the counter tells how many seconds after the first, and answers it on an empty book.
 fn answer(
     alloc: Global,
     desk: &mut WorkedDesk,
-    book: &mut WorkedBook,
+    gateway: u16,
     counter: u32,
-) -> Result<(), Fail> {
+) -> Result<Receipt<Global>, Fail> {
     let copy = Heard1 {
+        gateway,
         at: COPY.at.saturating_add(1_000_000 * counter as u64),
         ..COPY
     };
     heard(desk, &uplink(alloc, true, ADDR, counter)?, copy, 0)?;
     let number = passed(desk, 200_001).ok_or("it is due")?;
-    let (stub, _) = booked(tried_on(taken(desk, number)?, book)).ok_or("it is booked")?;
+    let mut book = book_of(alloc, gateway)?;
+    let (stub, receipt) = booked(tried_on(taken(desk, number)?, &mut book)).ok_or("it is booked")?;
     settled(desk, stub).ok_or("it is settled")?;
-    Ok(())
+    Ok(receipt)
 }
 
-/// A desk whose gateway 1 answered two uplinks with 41,216 microseconds each.
-fn desk_of_two(alloc: Global) -> Result<WorkedDesk, Fail> {
+/// A desk whose gateways answered an uplink each, one after another, with 41,216 microseconds, and the receipts.
+fn desk_that_answered(
+    alloc: Global,
+    gateways: &[u16],
+) -> Result<(WorkedDesk, Vec<Receipt<Global>>), Fail> {
     let mut desk = desk_of(alloc, AMPLE, DEVICE)?;
-    let mut book = book_of(alloc, 1)?;
-    answer(alloc, &mut desk, &mut book, 0)?;
-    answer(alloc, &mut desk, &mut book, 1)?;
-    equal(&answered(&desk, 1), &Some(82_432))?;
-    Ok(desk)
+    let mut receipts = Vec::new(alloc);
+    for (counter, gateway) in gateways.iter().enumerate() {
+        receipts.push(answer(alloc, &mut desk, *gateway, counter as u32)?)?;
+    }
+    Ok((desk, receipts))
 }
 
-/// The books of gateway 1 alone, which keeps number 1 and this one, with as much airtime.
-fn shelf_of(alloc: Global, number: u64) -> Result<Vec<(u16, WorkedBook)>, Fail> {
-    let first = Ask {
-        number: 1,
-        start: 0,
-        freq_hz: 868_100_000,
-        rate: DataRate::Dr5,
-        len: 12,
-    };
-    let second = Ask {
-        number,
-        start: 1_000_000,
-        ..first
-    };
-    let mut book = book_of(alloc, 1)?;
-    book.book(first)?;
-    book.book(second)?;
+/// A gateway's book that keeps these numbers, from moment 0 on a second apart, each with as much airtime.
+fn book_keeping(alloc: Global, gateway: u16, numbers: &[u64]) -> Result<WorkedBook, Fail> {
+    let mut book = book_of(alloc, gateway)?;
+    for (place, number) in numbers.iter().enumerate() {
+        book.book(Ask {
+            number: *number,
+            start: 1_000_000 * place as u64,
+            freq_hz: 868_100_000,
+            rate: DataRate::Dr5,
+            len: 12,
+        })?;
+    }
+    Ok(book)
+}
+
+/// What each gateway's book keeps, by the numbers.
+type Kept = &'static [(u16, &'static [u64])];
+
+/// The books that keep this.
+fn shelf_of(alloc: Global, kept: Kept) -> Result<Vec<(u16, WorkedBook)>, Fail> {
     let mut shelf = Vec::new(alloc);
-    shelf.push((1, book))?;
+    for (gateway, numbers) in kept {
+        shelf.push((*gateway, book_keeping(alloc, *gateway, *numbers)?))?;
+    }
     Ok(shelf)
 }
 
-/// What a comparison of that book with that desk tells.
-fn compared(alloc: Global, number: u64) -> Result<Result<(), FinishCause>, Fail> {
-    let desk = desk_of_two(alloc)?;
-    let shelf = shelf_of(alloc, number)?;
-    Ok(compare(alloc, &desk, &shelf, &[]))
+/// The gateways that answered, what the books keep, whether the receipts are shown, and what is told.
+type Row = (&'static [u16], Kept, bool, Result<(), FinishCause>);
+
+/// A number that one book keeps twice, and one that two books keep.
+const TWICE: FinishCause = FinishCause::Doubled {
+    number: 1,
+    gateway: 1,
+    other: 1,
+};
+
+const ON_BOTH: FinishCause = FinishCause::Doubled {
+    number: 1,
+    gateway: 1,
+    other: 2,
+};
+
+/// More was booked than answered.
+const APART: FinishCause = FinishCause::Apart {
+    gateway: 1,
+    booked: 82_432,
+    answered: 41_216,
+};
+
+/// The receipts are of other starts than what is kept.
+const LOST: FinishCause = FinishCause::Lost { number: 1 };
+
+static ROWS: [Row; 6] = [
+    (&[1, 1], &[(1, &[1, 2])], false, Ok(())),
+    (&[1, 1], &[(1, &[1, 1])], false, Err(TWICE)),
+    (&[1, 2], &[(1, &[1]), (2, &[1])], false, Err(ON_BOTH)),
+    (&[1], &[(1, &[1, 1])], true, Err(APART)),
+    (&[1, 1], &[(1, &[1, 1])], true, Err(TWICE)),
+    (&[1, 1], &[(1, &[1, 2])], true, Err(LOST)),
+];
+
+/// What a comparison of a row's books with its desk tells.
+fn compared(alloc: Global, row: &Row) -> Result<Result<(), FinishCause>, Fail> {
+    let (gateways, kept, are_shown, _) = row;
+    let (desk, receipts) = desk_that_answered(alloc, *gateways)?;
+    let shelf = shelf_of(alloc, *kept)?;
+    let shown = if *are_shown { receipts.len() } else { 0 };
+    Ok(compare(alloc, &desk, &shelf, &receipts[..shown]))
 }
 
 #[test]
-fn a_number_that_is_kept_twice_is_told(rt: HostRuntime) -> Result<(), Fail> {
-    let doubled = FinishCause::Doubled {
-        number: 1,
-        gateway: 1,
-        other: 1,
-    };
-    equal(&compared(rt.alloc(), 2)?, &Ok(()))?;
-    equal(&compared(rt.alloc(), 1)?, &Err(doubled))
+fn what_is_amiss_with_books_is_told(rt: HostRuntime) -> Result<(), Fail> {
+    for (place, row) in ROWS.iter().enumerate() {
+        equal_at(&place, &compared(rt.alloc(), row)?, &row.3)?;
+    }
+    Ok(())
 }

@@ -8,8 +8,8 @@ use std::process::Abort;
 use std::test::Fail;
 use test_asserts::holds;
 
-/// Two workers count airtime with a part each; their tills are gathered with the rest. Answers the total, and the parts
-/// of the rest, of one worker's till, and of all.
+/// Two workers count airtime with a part each, up to the greatest total, 2^62 us; their tills are gathered with the rest. Answers
+/// the total, and the parts of the rest, of one worker's till, and of all.
 fn day<B: Ledger>(alloc: Global, blank: Blank) -> Result<(u64, u32, u32, u32), Fail>
     requires name { blank.name ≡ B.name }
     requires parts { blank.parts ≡ B.parts }
@@ -21,6 +21,7 @@ fn day<B: Ledger>(alloc: Global, blank: Blank) -> Result<(u64, u32, u32, u32), F
     tally.add(&mut first, 41_216);
     tally.add(&mut second, 991_232);
     tally.add(&mut first, 20_608);
+    tally.add(&mut second, (1 << 62) - 1_053_056);
     let (left, one) = (rest.parts(), first.parts());
     let mut tills = Vec::with_capacity(alloc, 3)?;
     tills.push_reserved(first);
@@ -47,7 +48,7 @@ fn nothing_gathered<B: Ledger>(alloc: Global) -> bool {
 #[test]
 fn all_parts_hold_all_airtime(rt: HostRuntime) -> Result<(), Fail> {
     let told = day::<Brand>(rt.alloc(), Blank::new(PARTS as u64))?;
-    assert_eq!(rt; told, (1_053_056, 65_534, 1, 65_536));
+    assert_eq!(rt; told, (1 << 62, 65_534, 1, 65_536));
     Ok(())
 }
 

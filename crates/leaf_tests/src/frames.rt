@@ -1,7 +1,7 @@
 // Worked frames, and the published example of a LoRaWAN decoder.
 
 use lora_frame::{
-    Body, Down, DownFault, FrameFault, Key, Keys, Up, UpFault, Uplink, check_mic, downlink, infer,
+    Body, Down, DownFault, FrameFault, Key, Keys, Up, UpFault, Uplink, check_mic, downlink,
     read_uplink, uplink_bytes,
 };
 use std::alloc::Global;
@@ -345,21 +345,4 @@ fn codes_of_uplinks(rt: HostRuntime) -> Result<(), Fail> {
     frame[11] ^= 1;
     holds(read(frame.as_slice()).is_ok())?;
     holds(!has_mic(frame.as_slice(), 7))
-}
-
-/// The last counter, the low half of the next one, and the next one.
-static COUNTERS: [(Option<u32>, u16, Option<u32>); 5] = [
-    (None, 7, Some(7)),
-    (Some(131_071), 0, Some(131_072)),
-    (Some(5), 5, Some(5)),
-    (Some(5), 4, Some(65_540)),
-    (Some(4_294_967_295), 0, None),
-];
-
-#[test]
-fn counters() -> Result<(), Fail> {
-    for (last, low, counter) in &COUNTERS {
-        equal_at(&(*low, *last), &infer(*last, *low), counter)?;
-    }
-    Ok(())
 }

@@ -10,6 +10,8 @@ mod candidate_growth;
 #[cfg(test)]
 mod codes;
 #[cfg(test)]
+mod counters;
+#[cfg(test)]
 mod cuts;
 #[cfg(test)]
 mod frame_growth;

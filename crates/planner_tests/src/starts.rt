@@ -2,6 +2,7 @@
 
 use crate::asks::{ask_in_k, ask_in_m};
 use crate::trials::{Live, booked, sought};
+use airtime_planner::what_if_earliest;
 use bumpalo::Bump;
 use gateway_book::Ask;
 use radio_airtime::DataRate;
@@ -84,4 +85,32 @@ fn names_the_earliest_start_of_a_copy(rt: HostRuntime) -> Result<(), Fail> {
     are_found(&mut arena, rt.alloc(), &book)?;
     are_found(&mut arena, rt.alloc(), &book)?;
     equal(&book.totals(), &before)
+}
+
+/// The earliest start from moment 0 on of an ask that itself names a later one.
+fn from_the_beginning(alloc: Global, book: &Live) -> Result<Option<u64>, Fail> {
+    let list = book.list(alloc)?;
+    let totals = book.totals();
+    let arena = Bump::new(alloc);
+    Ok(what_if_earliest(
+        &arena,
+        &list,
+        totals.floor,
+        book.cap(),
+        book.gap(),
+        totals.booked,
+        &[],
+        ask_in_k(5, 9_000_000_000),
+        0,
+        u64::MAX,
+    )?)
+}
+
+#[test]
+fn passes_over_the_start_that_the_ask_names(rt: HostRuntime) -> Result<(), Fail> {
+    let book = booked(rt.alloc(), asks_in_k(rt.alloc(), MEMBERS)?.as_slice())?;
+    equal(
+        &from_the_beginning(rt.alloc(), &book)?,
+        &Some(3_600_000_000),
+    )
 }

@@ -2,13 +2,13 @@
 
 use crate::asks::{Answer, Row, answers_in_m, ask_in_m, asks_in_m};
 use crate::trials::{AMPLE_BYTES, Live, answers_of, booked, tried};
-use airtime_planner::what_if;
+use airtime_planner::{what_if, what_if_earliest};
 use bumpalo::Bump;
-use gateway_book::{GatewayBook, Refusal};
+use gateway_book::{Ask, GatewayBook, Refusal};
 use resv_list::VecRoster;
 use std::alloc::Global;
 use std::test::Fail;
-use test_asserts::equal;
+use test_asserts::{equal, equal_at};
 
 const TAKEN: Option<Refusal> = Some(Refusal::Taken { start: 10_000_000 });
 
@@ -89,4 +89,32 @@ fn booked_airtime_is_raised_by_what_a_trial_accepts(rt: HostRuntime) -> Result<(
     let out = nearly_all_booked(rt.alloc())?;
     let wanted = answers_in_m(rt.alloc(), &LAST_AIRTIME)?;
     equal(&out.as_slice(), &wanted.as_slice())
+}
+
+/// The earliest start of one more ask after these, where nothing is kept and all but the airtime of one has been booked.
+fn earliest_of_the_last(alloc: Global, asks: &[Ask]) -> Result<Option<u64>, Fail> {
+    let list = GatewayBook::new(VecRoster::new(alloc), 1, 4_096, 0)?.list(alloc)?;
+    let arena = Bump::try_with_capacity(alloc, AMPLE_BYTES)?;
+    Ok(what_if_earliest(
+        &arena,
+        &list,
+        0,
+        4_096,
+        0,
+        (1 << 62) - 41_216,
+        asks,
+        ask_in_m(9, 0),
+        0,
+        u64::MAX,
+    )?)
+}
+
+#[test]
+fn nothing_starts_once_all_airtime_is_booked(rt: HostRuntime) -> Result<(), Fail> {
+    equal_at(&0, &earliest_of_the_last(rt.alloc(), &[])?, &Some(0))?;
+    equal_at(
+        &1,
+        &earliest_of_the_last(rt.alloc(), &[ask_in_m(8, 10_000_000)])?,
+        &None,
+    )
 }

@@ -119,18 +119,33 @@ fn faults_of_gateways_are_named(rt: HostRuntime) -> Result<(), Fail> {
 }
 
 /// Lines behind a gateway and a device, and the fault of them all.
-static OF_DEVICES: [(&str, &str); 11] = [
+static OF_DEVICES: [(&str, &str); 20] = [
     ("rx2_dr = 7\n", "Kind"),
     ("up = 4294967296\n", "Kind"),
     ("delay = 256\n", "Kind"),
     ("delay = 0\n", "Range"),
     ("delay = 16\n", "Range"),
+    ("delay = 255\n", "Range"),
+    ("offset = 256\n", "Kind"),
+    ("up = -1\n", "Kind"),
     ("down = 4294967297\n", "Range"),
+    ("down = 9223372036854775807\n", "Range"),
     ("down = -1\n", "Kind"),
     ("rx2_freq = 865000000\n", "NoBand"),
+    ("rx2_freq = 4294967295\n", "NoBand"),
+    ("rx2_freq = 5164492296\n", "Kind"),
     (DEVICE, "DoubleDevice"),
     ("[[device]]\naddr = \"26011bd\"\n", "Kind"),
+    ("[[device]]\naddr = 26011000\n", "Kind"),
     ("[[device]]\naddr = \"26011bdb\"\n", "Missing"),
+    (
+        "[[device]]\naddr = \"26011bdb\"\nappskey = \"000102030405060708090a0b0c0d0e0f\"\n",
+        "Missing",
+    ),
+    (
+        "[[device]]\nnwkskey = \"2b7e151628aed2a6abf7158809cf4f3c\"\nappskey = \"000102030405060708090a0b0c0d0e0f\"\n",
+        "Missing",
+    ),
 ];
 
 #[test]

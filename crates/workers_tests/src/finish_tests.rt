@@ -50,14 +50,17 @@ static ENDINGS: [Ending; 8] = [
         &[(1, 0, "Some(TillMissing)"), (2, 0, "None")],
         &BOOKED,
     ),
-    // a booking that isn't settled
+    // a booking that isn't settled, without the till that counted and then with both
     (
         &[SPLIT, SETTLE_1, CANCEL_1, BOOK_2],
-        &[(
-            2,
-            1,
-            "Some(Apart { gateway: 2, booked: 41216, answered: 0 })",
-        )],
+        &[
+            (1, 1, "Some(TillMissing)"),
+            (
+                2,
+                1,
+                "Some(Apart { gateway: 2, booked: 41216, answered: 0 })",
+            ),
+        ],
         &[],
     ),
     // a receipt that was cancelled, and then without it
