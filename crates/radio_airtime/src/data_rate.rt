@@ -4,12 +4,19 @@ ghost use Rattle.std.specs.Prelude.{◌≡◌, ◌≤◌, ◌↔◌, IsSome, IfS
 /// encoding"). DR7 (FSK) and LR-FHSS are no members.
 #[derive(Clone, Copy, Debug, PartialEq, Eq, Hash, PartialOrd, Ord)]
 pub enum DataRate {
+    /// SF12 at 125 kHz.
     Dr0,
+    /// SF11 at 125 kHz.
     Dr1,
+    /// SF10 at 125 kHz.
     Dr2,
+    /// SF9 at 125 kHz.
     Dr3,
+    /// SF8 at 125 kHz.
     Dr4,
+    /// SF7 at 125 kHz.
     Dr5,
+    /// SF7 at 250 kHz.
     Dr6,
 }
 
@@ -59,8 +66,8 @@ impl DataRate {
         }
     }
 
-    /// The greatest PHYPayload in bytes that this project sends or hears at the rate: the greatest
-    /// MACPayload of its profile, MHDR and MIC with it.
+    /// The greatest PHYPayload in bytes that this project sends or hears at the rate, 64, 128 or 255: the greatest
+    /// MACPayload of its profile, MHDR and MIC with it (LoRaWAN L2 1.0.4, section 4.1).
     pub fn max_phy(self) -> u8
         ensures { result ≡ max_phy_of self }
     {

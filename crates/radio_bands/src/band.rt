@@ -8,11 +8,17 @@ use radio_airtime::DataRate;
 /// cycles are this project's profile.
 #[derive(Clone, Copy, Debug, PartialEq, Eq, Hash, PartialOrd, Ord)]
 pub enum Band {
+    /// 863 to 865 MHz, 0.1 % of an hour.
     K,
+    /// 865 to 868 MHz, 1 %.
     L,
+    /// 868 to 868.6 MHz, 1 %.
     M,
+    /// 868.7 to 869.2 MHz, 0.1 %.
     N,
+    /// 869.4 to 869.65 MHz, 10 %.
     P,
+    /// 869.7 to 870 MHz, 1 %.
     Q,
 }
 

@@ -3,7 +3,7 @@ ghost use Rattle.std.specs.Prelude.{Some};
 use radio_airtime::DataRate;
 use std::fmt;
 
-/// A receive window of a Class A device.
+/// A receive window of a Class A device (LoRaWAN L2 1.0.4, section 3.3).
 #[derive(Clone, Copy, Debug, PartialEq, Eq)]
 pub enum Window {
     /// The first window: on the uplink's channel.
