@@ -25,6 +25,8 @@ last = 2 ** 64 - 1
 one_full = f"earliest 9 {5 * HOUR + HOUR // 2} {last} 869525000 0 12\n"
 all_full = f"earliest 9 0 {last} 869525000 0 12\n"
 within = subprocess.run([program, "book", "--cap", "65536"], input=full + one_full + all_full, capture_output=True, text=True)
+if within.returncode not in (0, 1):
+    raise SystemExit(f"{program} book failed: {within.stderr}")
 kept = run(program, full)
 for name, line in (("from the middle of a full hour", one_full), ("over all full hours", all_full)):
     each = (run(program, full + line * ASKS) - kept) / ASKS * 1000

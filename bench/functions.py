@@ -22,6 +22,7 @@ TOP = pathlib.Path(__file__).resolve().parent.parent
 TICKS = os.sysconf("SC_CLK_TCK")
 
 sys.path.insert(0, str(TOP / "tests"))
+sys.dont_write_bytecode = True
 import prover
 
 

@@ -1,11 +1,11 @@
 #!/usr/bin/env python3
-"""Runs the gate on a clone of this repository, and tells where its processor time goes.
+"""Runs `make test` on a clone of this repository, and tells where the processor time of its gate goes.
 
 Usage: bench/gate.py [COMMIT]      (COMMIT: what is checked out in the clone; none: HEAD)
 
 For each crate it prints the processor seconds of its proof, of its tests and of its must-fail edits, how many edits
 there are, and its chain: the proofs of the crates below it that have to end first, then its own proof, tests and edits,
-one after another. Last it prints the sum, the longest chain, and the time that went by. The status is the gate's.
+one after another. Last it prints the sum, the longest chain, and the time that went by. The status is that of `make test`.
 
 Nothing else should run on the machine meanwhile: processor time hardly depends on that, but the time that goes by does.
 It needs git, python3, Linux's /proc and the toolchain's command rt.
@@ -22,6 +22,10 @@ TOP = pathlib.Path(__file__).resolve().parent.parent
 TICKS = os.sysconf("SC_CLK_TCK")
 POLL_SECONDS = 0.2
 PARTS = ("proof", "tests", "edits")
+
+sys.path.insert(0, str(TOP / "tests"))
+sys.dont_write_bytecode = True
+import prover
 
 
 def processes():
@@ -85,20 +89,12 @@ class Meter:
         return sums
 
 
-def crates_below(folder):
-    """The crates of crates.txt, each with those of the repository that it stands on."""
-    lines = [line.split("#")[0] for line in (folder / "crates.txt").read_text().splitlines()]
-    named = [line.split(":", 1) for line in lines if ":" in line]
-    stands_on = {name.split()[0]: words.split() for name, words in named}
-    return {name: [word for word in words if word in stands_on] for name, words in stands_on.items()}
-
-
 def chain_of_proofs(crate, below, sums):
     return sums[crate, "proof"] + max([chain_of_proofs(it, below, sums) for it in below[crate]], default=0)
 
 
 def print_table(folder, sums):
-    below = crates_below(folder)
+    below = prover.stands_on(folder)
     chains = {it: chain_of_proofs(it, below, sums) + sums[it, "tests"] + sums[it, "edits"] for it in below}
     print("| Crate | Proof | Tests | Edits | Number of edits | Own | Chain |")
     print("|---|---|---|---|---|---|---|")
@@ -132,7 +128,7 @@ def main():
             said.seek(0)
             lines = said.read().splitlines()
         print_table(folder, meter.sums())
-        print(f"{(time.monotonic() - started) / 60:.0f} minutes went by. The gate's last line: {lines[-1] if lines else ''}")
+        print(f"{(time.monotonic() - started) / 60:.0f} minutes went by. The last line of make test: {lines[-1] if lines else ''}")
         if gate.returncode:
             print("\n".join(lines), file=sys.stderr)
     return gate.returncode

@@ -30,7 +30,7 @@ def of_socket():
 
 
 def settled(output):
-    """How long the output is once it has stopped growing for half a second."""
+    """The moment at which the output last grew, once it has not grown for half a second."""
     size, since = -1, time.monotonic()
     while time.monotonic() - since < 0.5:
         now = os.fstat(output.fileno()).st_size

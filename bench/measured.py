@@ -43,5 +43,6 @@ def memory(program, lines, what="VmHWM"):
     with open(f"/proc/{child.pid}/status") as status:
         found = next(int(line.split()[1]) for line in status if line.startswith(what))
     child.stdin.close()
-    child.wait()
+    if child.wait() not in (0, 1):
+        raise SystemExit(f"{program} book failed")
     return found

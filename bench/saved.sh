@@ -17,7 +17,9 @@ text = at + text
 booked, written = seconds(program, [lines], RUNS), seconds(program, [lines], RUNS, more=("--save",))
 read, both = seconds(program, [text], RUNS, more=("--resume",)), seconds(program, [text], RUNS, more=("--resume", "--save"))
 again = subprocess.run([program, "book", "--resume", "--save"], input=text, capture_output=True, text=True)
-print(f"{MEMBERS:,} transmissions, {len(text):,} bytes; read and saved again alike: {again.stdout == text}")
+if again.stdout != text:
+    raise SystemExit("a saved book that was read and saved again is another text")
+print(f"{MEMBERS:,} transmissions, {len(text):,} bytes; read and saved again alike")
 print(f"booking {booked * 1000:.0f} ms, with the saved text in place of the report {written * 1000:.0f} ms")
 print(f"reading {read * 1000:.0f} ms, which is {read / booked:.2f} of booking; read and written {both * 1000:.0f} ms")
 P

@@ -13,7 +13,7 @@ program = sys.argv[1]
 FEW, MANY, TICKS = 1_024, 65_536, 200_000
 
 
-def years(count):
+def ticked(count):
     """So many bookings, each at the moment that a tick has just told."""
     for number in range(count):
         yield f"tick {number * STEP}\n"
@@ -31,7 +31,7 @@ def tick(count):
     return min(seconds(program, kept(count, TICKS)) - seconds(program, kept(count, 0)) for _ in range(3)) / TICKS * 1e6
 
 
-few, many = memory(program, years(100_000)), memory(program, years(1_000_000))
+few, many = memory(program, ticked(100_000)), memory(program, ticked(1_000_000))
 print(f"peak memory: 100,000 bookings {few} KiB, 1,000,000 bookings {many} KiB ({many / few:.2f})")
 few, many = tick(FEW), tick(MANY)
 print(f"a tick that retires nothing: {few:.2f} us beside {FEW:,} kept, {many:.2f} us beside {MANY:,} ({many / few:.2f})")

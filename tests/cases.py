@@ -29,6 +29,7 @@ import tempfile
 SECONDS = 120
 TOP = pathlib.Path(__file__).resolve().parent.parent
 CASES = TOP / "cases"
+FILES = {"args", "stdin", "from", "stdout", "stderr", "status", "also", "broken"}
 
 
 def wanted(case, name):
@@ -103,6 +104,9 @@ def run(program, case, more, folder):
 
 def faults_of(program, case, more, folder):
     """What is wrong with a case; nothing where it passes."""
+    strange = sorted(path.name for path in case.iterdir() if path.name not in FILES)
+    if strange:
+        return [f"no case has a file {' '.join(strange)}"]
     status = int((case / "status").read_text()) if (case / "status").is_file() else 0
     try:
         ran = run(program, case, more, folder)

@@ -19,7 +19,7 @@ TOP = pathlib.Path(__file__).resolve().parent.parent
 
 
 def git(*words):
-    return subprocess.run(["git", "-C", TOP, *words], capture_output=True, text=True, check=True).stdout
+    return subprocess.run(["git", "-C", TOP, *words], stdout=subprocess.PIPE, text=True, check=True).stdout
 
 
 def texts_of(commit):

@@ -21,7 +21,7 @@ import tempfile
 import threading
 
 sys.dont_write_bytecode = True
-from listen import NO_REPORT, SETTINGS
+from listen import NO_REPORT, SETTINGS, tell
 
 SECONDS = 60
 LIMIT = 1 << 28
@@ -155,19 +155,13 @@ def main():
         print(__doc__.strip(), file=sys.stderr)
         return 2
     program = str(pathlib.Path(sys.argv[1]).resolve())
-    failed = 0
     with socket.socket(type=socket.SOCK_DGRAM) as other:
         other.bind(("127.0.0.1", 0))
         port = other.getsockname()[1]
-        trials = [(words, functools.partial(fault_of, program, words, *row)) for words, *row in rows(port)]
-        trials += [(words, functools.partial(fault_of_uplinks, program, words)) for words in (["run"], ["run", "--workers", "1"])]
-        for words, trial in trials:
-            fault = trial()
-            if fault:
-                failed += 1
-                print(f"failed: {' '.join(words)}: {fault}", flush=True)
-    print(f"{len(trials) - failed} passed, {failed} failed")
-    return 1 if failed else 0
+        trials = [(" ".join(words), functools.partial(fault_of, program, words, *row)) for words, *row in rows(port)]
+        for words in (["run"], ["run", "--workers", "1"]):
+            trials.append((" ".join(words), functools.partial(fault_of_uplinks, program, words)))
+        return tell(trials)
 
 
 if __name__ == "__main__":

@@ -9,7 +9,7 @@ A file tests/misuse/NAME.txt has lines
     source:  and below it the crate's one source file
 
 The compiler has to give each error that is wanted, and no other; nothing is proved. The last line is 'N passed, M failed'; the
-status is 0 where none failed, 1 where one did.
+status is 0 where none failed, 1 where one did, 2 where nothing could be run.
 """
 import pathlib
 import re
@@ -17,6 +17,7 @@ import subprocess
 import sys
 import tempfile
 
+sys.dont_write_bytecode = True
 import prover
 
 FILES = prover.TOP / "tests" / "misuse"
@@ -48,6 +49,8 @@ def errors_of(uses, source):
 
 def faults_of(path):
     uses, wants, source = parts_of(path)
+    if not wants:
+        return ["the file wants no error"]
     try:
         errors = errors_of(uses, source)
     except subprocess.TimeoutExpired:
@@ -59,6 +62,10 @@ def faults_of(path):
 
 def main():
     names = sys.argv[1:] or sorted(path.stem for path in FILES.glob("*.txt"))
+    missing = [name for name in names if not (FILES / f"{name}.txt").is_file()]
+    if missing or not names:
+        print(f"misuse.py: no file {' '.join(missing) or '*'} in {FILES}", file=sys.stderr)
+        return 2
     failed = 0
     for name in names:
         faults = faults_of(FILES / f"{name}.txt")

@@ -17,16 +17,11 @@ import subprocess
 import sys
 import tempfile
 
+sys.dont_write_bytecode = True
+import prover
+
 TOP = pathlib.Path(__file__).resolve().parent.parent
 REFUSED = ": refused, as it must be"
-
-
-def below(folder):
-    """Each crate of crates.txt, with the crates of the repository that it stands on."""
-    plain = [line.split("#")[0] for line in (folder / "crates.txt").read_text().splitlines()]
-    lines = [line.split(":") for line in plain if ":" in line]
-    named = {name.split()[0]: words.split() for name, words in lines}
-    return {name: [word for word in words if word in named] for name, words in named.items()}
 
 
 def take_over(folder):
@@ -37,7 +32,7 @@ def take_over(folder):
 
 def build_below(folder, crates):
     """Builds what these crates stand on, lowest first: two runs at a time would build the same library twice."""
-    stands_on, built = below(folder), []
+    stands_on, built = prover.stands_on(folder), []
 
     def build(crate):
         for other in stands_on[crate]:
@@ -45,7 +40,9 @@ def build_below(folder, crates):
         if crate not in built:
             built.append(crate)
             place = folder / "crates" / crate
-            subprocess.run(["rt", "lib"], cwd=place, stdin=subprocess.DEVNULL, capture_output=True, check=True)
+            ran = subprocess.run(["rt", "lib"], cwd=place, stdin=subprocess.DEVNULL, capture_output=True, text=True)
+            if ran.returncode:
+                raise SystemExit(f"mutants.py: {crate} is not built: {(ran.stdout + ran.stderr)[-300:]}")
 
     for crate in crates:
         for other in stands_on[crate]:

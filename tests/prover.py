@@ -9,11 +9,17 @@ TOP = pathlib.Path(__file__).resolve().parent.parent
 KIT = pathlib.Path(shutil.which("rt") or "rt").resolve().parent.parent
 
 
-def crates():
+def crates(top=TOP):
     """The crates of crates.txt, each with the libraries that it uses, of the repository and of the toolchain."""
-    lines = [line.split("#")[0] for line in (TOP / "crates.txt").read_text().splitlines()]
+    lines = [line.split("#")[0] for line in (top / "crates.txt").read_text().splitlines()]
     named = [line.split(":", 1) for line in lines if ":" in line]
     return {name.split()[0]: words.split() for name, words in named}
+
+
+def stands_on(top=TOP):
+    """The crates of crates.txt, each with those of the repository that it stands on."""
+    named = crates(top)
+    return {name: [word for word in words if word in named] for name, words in named.items()}
 
 
 def below(libraries, uses):

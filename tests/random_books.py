@@ -15,6 +15,7 @@ import subprocess
 import sys
 
 TOP = pathlib.Path(__file__).resolve().parent.parent
+SECONDS = 600
 HOUR = 3_600_000_000
 # A channel in Hz, its band, the band's limit within an hour, and two frames on it: data rate, length, time on air. All times are
 # microseconds.
@@ -138,13 +139,18 @@ def commands(chance, channels, plain, ahead, count):
 def answers_alike(program, name, plain, lines, wanted):
     """Whether a book with the plain one's cap and gap answers the lines as wanted; each answer that differs has a line."""
     arguments = ["book", "--cap", str(plain.cap), "--gap", str(plain.gap)]
-    ran = subprocess.run([program, *arguments], input="".join(line + "\n" for line in lines), capture_output=True, text=True)
+    given = "".join(line + "\n" for line in lines)
+    ran = subprocess.run([program, *arguments], input=given, capture_output=True, text=True, timeout=SECONDS)
     written = ran.stdout.splitlines()
     differs = [(i, w, g) for i, (w, g) in enumerate(zip(wanted, written)) if w != g]
     for place, want, got in differs[:10]:
         print(f"{name}, line {place + 1}: wanted '{want}', written '{got}'")
     if len(wanted) != len(written):
-        print(f"{name}: {len(wanted)} lines wanted, {len(written)} written; status {ran.returncode} {ran.stderr}")
+        print(f"{name}: {len(wanted)} lines wanted, {len(written)} written")
+    refused = int(any(line.split()[0] in ("no", "bad") for line in wanted))
+    if (ran.returncode, ran.stderr) != (refused, ""):
+        print(f"{name}: wanted status {refused}, ended with {ran.returncode} {ran.stderr}")
+        return False
     return wanted == written
 
 

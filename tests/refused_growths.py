@@ -12,7 +12,8 @@ to end within SECONDS, by no signal, and
     with 0 or 1      a line of the output ends in NoMemory; with workers only the report has to be as with memory, since what a
                      worker finds no memory for is answered after the others
 Prints a line for each run that ends otherwise, and one for each case with the number of its growths and how often each answer
-came. The status is 0 where none ended otherwise, 1 where one did, 2 where nothing could be run.
+came. A case in which no growth was refused, or in which there is no end of them, has failed. The status is 0 where none has
+failed or ended otherwise, 1 where one has, 2 where nothing could be run.
 """
 import collections
 import os
@@ -171,9 +172,15 @@ def refuse_each(program, library, folder, case):
     """Refuses each growth of a case: how many there are, how often each answer came, and how many runs ended otherwise."""
     _, ordinary = run(program, library, folder, case, ALL, ALL)
     answers, wrong = collections.Counter(), 0
+    if ordinary.status not in (0, 1, 2):
+        print(f"{' '.join(case)}: with memory: {ordinary}", flush=True)
+        return 0, answers, 1
     for number in range(1, MOST):
         for last in (number, ALL):
             count, how = run(program, library, folder, case, number, last)
+            if count == 0 and number == 1:
+                print(f"{' '.join(case)}: no growth was refused", flush=True)
+                return 0, answers, wrong + 1
             if count == 0:
                 return number - 1, answers, wrong
             found = answer(case, how, ordinary)
@@ -181,7 +188,8 @@ def refuse_each(program, library, folder, case):
             if found is None:
                 wrong += 1
                 print(f"{' '.join(case)}: growth {number}{' and all after it' * (last == ALL)} refused: {how}", flush=True)
-    return MOST, answers, wrong
+    print(f"{' '.join(case)}: no end of growths after {MOST}", flush=True)
+    return MOST, answers, wrong + 1
 
 
 def main(words):

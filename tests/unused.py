@@ -7,7 +7,7 @@ Prints a line for each item of a .antt file below crates/ whose name stands nowh
 the item itself, and for each item of a crate's specs/ that only that crate's proofs/ name. Names are compared as text, so a name
 that stands for two things counts as used where either is. A record's fields are a part of it. Answers, invariants and proofs of
 functions, whose names the checker fixes, are left out, and so is proofs/**/*Worked*.antt, whose lemmas are worked examples. The
-status is 0 where nothing is found, 1 where something is.
+status is 0 where nothing is found, 1 where something is, 2 where there are no crates.
 """
 import collections
 import pathlib
@@ -46,6 +46,9 @@ def items_of(text):
 def main():
     texts = {path: read(path) for kind in ("rt", "antt") for path in sorted((TOP / "crates").glob(f"*/*/**/*.{kind}"))}
     texts = {path: text for path, text in texts.items() if path.relative_to(TOP).parts[2] in ("src", "specs", "proofs")}
+    if not texts:
+        print(f"unused.py: no crates in {TOP}", file=sys.stderr)
+        return 2
     words = {path: collections.Counter(NAME.findall(text)) for path, text in texts.items()}
     everywhere = sum(words.values(), collections.Counter())
     in_proofs = collections.Counter()

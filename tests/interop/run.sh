@@ -12,7 +12,7 @@ install() {
 }
 command -v tshark > /dev/null || install tshark
 python3 -c 'import cryptography' 2> /dev/null || install python3-cryptography
-python3 -c 'import cryptography' 2> /dev/null || { echo 'skipped: python3-cryptography is not installed'; exit 0; }
+python3 -c 'import cryptography' 2> /dev/null || { echo 'skipped: python3-cryptography is not installed'; exit 2; }
 mkdir -p "$work/crates/frames/src"
 cp -r "$top/crates/aes_cmac" "$top/crates/lora_frame" "$work/crates/"
 cp "$top/tests/interop/frames.rt.txt" "$work/crates/frames/src/main.rt"

@@ -79,9 +79,10 @@ def check(folder):
 
 
 def main(folders):
-    counts = [check(pathlib.Path(folder)) for folder in folders if (pathlib.Path(folder) / "stdin").is_file()]
-    frames, wrong = (sum(column) for column in zip(*counts))
-    print(f"second implementation: {frames - wrong} of {frames} frames of {len(folders)} cases are confirmed")
+    cases = [folder for folder in map(pathlib.Path, folders) if (folder / "stdin").is_file()]
+    counts = [check(folder) for folder in cases]
+    frames, wrong = (sum(column) for column in zip(*counts)) if counts else (0, 0)
+    print(f"second implementation: {frames - wrong} of {frames} frames of {len(cases)} cases are confirmed")
     return 1 if wrong or not frames else 0
 
 
