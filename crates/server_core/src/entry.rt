@@ -41,7 +41,7 @@ pub enum Line<A: Allocator> {
     Stray { number: u64 },
     /// What was booked for the uplink with this number was cancelled, of this time on air in microseconds.
     Cancelled { number: u64, airtime: u64 },
-    /// It was not cancelled.
+    /// What was booked for the uplink with this number, if anything was, was not cancelled, and why.
     NotCancelled { number: u64, fault: CancelFault },
     /// The gateway's floor, in microseconds of its clock.
     Floor { gateway: u16, floor: u64 },

@@ -64,15 +64,15 @@ pub enum Step<A: Allocator> {
     Take {
         number: u64,
     },
-    /// Its answer is settled.
+    /// The answer to the uplink with this number is settled.
     Settle {
         number: u64,
     },
-    /// The candidate at which its ticket stands is tried.
+    /// The candidate is tried at which the ticket of the uplink with this number stands.
     Try {
         number: u64,
     },
-    /// What was booked for it is cancelled.
+    /// What was booked for the uplink with this number is cancelled.
     Cancel {
         number: u64,
     },

@@ -80,7 +80,7 @@ impl<B: Ledger, S: BuildHasher, A: Allocator + Copy> Office<B, S, A> {
 }
 
 impl<B: Ledger, S: BuildHasher, A: Allocator> Office<B, S, A> {
-    /// A desk beside the tally of its settled answers' airtime.
+    /// A desk beside the tally of its settled answers' airtime, in microseconds.
     pub fn new(desk: Desk<S, A>, tally: Tally<B>) -> Self
         requires { tally ≡ total_of desk }
         ensures { result ≡ desk }

@@ -44,7 +44,7 @@ impl<S: BuildHasher, A: Allocator> Model for Gather<S, A> {
 }
 
 impl<S: BuildHasher, A: Allocator + Copy> Gather<S, A> {
-    /// No gatherings yet. It takes no memory.
+    /// No gatherings yet. It takes no memory, so that it never answers Err.
     pub fn new(alloc: A, hasher: S, limits: Limits) -> Result<Self, NoMemory>
         ensures { IsOkAnd result (λ g. g ≡ record { list = []; limits = limits }) }
     {
@@ -72,7 +72,8 @@ impl<S: BuildHasher, A: Allocator + Copy> Gather<S, A> {
         }
     }
 
-    /// As `hear`, for a caller that has what `place` answered, so that the bytes aren't looked up again.
+    /// As `hear`, for a caller that has what `place` answered for just these bytes, this gateway and this arrival, so that the
+    /// bytes aren't looked up again.
     pub fn hear_at(
         &mut self,
         place: Place,
