@@ -12,30 +12,36 @@ GAP_US = 400_000
 CHANNELS_HZ = (868_100_000, 868_300_000, 868_500_000)
 
 
-def main(uplinks, devices, gateways, each=10):
-    lines = []
-    for gateway in range(1, gateways + 1):
-        lines.append(f"[[gateway]]\nid = {gateway}")
+def settings_of(devices, gateways):
+    """The settings: the gateways, and the devices with keys of their own."""
+    yield from (f"[[gateway]]\nid = {gateway}" for gateway in range(1, gateways + 1))
     for device in range(devices):
-        lines.append(
+        yield (
             f'[[device]]\naddr = "{0x26000000 + device:08x}"\n'
             f'nwkskey = "{device:032x}"\nappskey = "{device + 2**64:032x}"'
         )
-    lines.append("---")
-    for device in range(0, devices, 100):
-        lines.append(f"queue {0x26000000 + device:08x} 9 00112233445566778899")
+    yield "---"
+
+
+def heard(i, devices, gateways):
+    """Uplink i as two neighbouring gateways hear it, or the only one."""
+    moment = 1_000_000 + i * GAP_US
+    word = f"@c:{0x26000000 + i % devices:08x}:{i // devices}"
+    first = 1 + 7 * i % gateways
+    for place, gateway in enumerate((first, 1 + first % gateways)[:gateways]):
+        yield (
+            f"hear {gateway} {moment} {CHANNELS_HZ[i % 3]} 5 {55 - 10 * place} -90 "
+            f"{moment + 50_000 * (place + 1)} {word}"
+        )
+
+
+def main(uplinks, devices, gateways, each=10):
+    lines = list(settings_of(devices, gateways))
+    lines += [f"queue {0x26000000 + device:08x} 9 00112233445566778899" for device in range(0, devices, 100)]
     for i in range(uplinks):
-        moment = 1_000_000 + i * GAP_US
-        word = f"@c:{0x26000000 + i % devices:08x}:{i // devices}"
-        first = 1 + 7 * i % gateways
-        for place, gateway in enumerate((first, 1 + first % gateways)):
-            if place == 0 or gateways > 1:
-                lines.append(
-                    f"hear {gateway} {moment} {CHANNELS_HZ[i % 3]} 5 {55 - 10 * place} -90 "
-                    f"{moment + 50_000 * (place + 1)} {word}"
-                )
+        lines += heard(i, devices, gateways)
         if i % each == each - 1:
-            lines.append(f"pass {moment + GAP_US}")
+            lines.append(f"pass {1_000_000 + (i + 1) * GAP_US}")
     lines.append(f"pass {1_000_000 + uplinks * GAP_US}")
     print("\n".join(lines))
 

@@ -5,6 +5,10 @@ from plain_server import COUNTERS
 RX2 = [(869_525_000, 0)] * 4 + [(868_100_000, 5), (869_850_000, 3), (869_525_000, 6)]
 # Channels on which three frames of 12 bytes at data rate 0 fill the hour.
 NARROW = [863_500_000, 868_850_000]
+# What holds where a table doesn't say it.
+UNSAID = {
+    "cap": 4_096, "gap": 0, "delay": 1, "offset": 0, "rx2_freq": 869_525_000, "rx2_dr": 0, "down": 0, "up": None,
+}
 
 
 def settings_of(chance):
@@ -26,21 +30,26 @@ def settings_of(chance):
     return gateways, list({one["addr"]: one for one in devices}.values())
 
 
+def device_keys(one):
+    """What a device's table says, as TOML writes it."""
+    said = dict(one)
+    nwk, app = said.pop("keys")
+    return said | {"addr": f'"{one["addr"]:08x}"', "nwkskey": f'"{nwk.hex()}"', "appskey": f'"{app.hex().upper()}"'}
+
+
+def partly_said(chance, said):
+    """The same, of which a key may be left out where it says what holds without it."""
+    said = dict(said)
+    for key, value in UNSAID.items():
+        if key in said and said[key] == value and (value is None or chance.random() < 0.5):
+            del said[key]
+    return said
+
+
 def rows_of(chance, gateways, devices):
-    """The settings as tables, each a kind and its keys: a key may be left out where it says what holds without it."""
-    rows, left_out = [], {"cap": 4_096, "gap": 0, "delay": 1, "offset": 0, "rx2_freq": 869_525_000, "rx2_dr": 0, "down": 0}
-    left_out["up"] = None
-    for kind, ones in ("gateway", gateways), ("device", devices):
-        for one in ones:
-            said = dict(one)
-            if kind == "device":
-                nwk, app = said.pop("keys")
-                said |= {"addr": f'"{one["addr"]:08x}"', "nwkskey": f'"{nwk.hex()}"', "appskey": f'"{app.hex().upper()}"'}
-            for key, value in left_out.items():
-                if key in said and said[key] == value and (value is None or chance.random() < 0.5):
-                    del said[key]
-            rows.append((kind, said))
-    return rows
+    """The settings as tables, each a kind and its keys."""
+    rows = [("gateway", one) for one in gateways] + [("device", device_keys(one)) for one in devices]
+    return [(kind, partly_said(chance, said)) for kind, said in rows]
 
 
 def spoiled(chance, rows):
