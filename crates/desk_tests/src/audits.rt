@@ -40,8 +40,10 @@ fn desk_that_answered(
 ) -> Result<(WorkedDesk, Vec<Receipt<Global>>), Fail> {
     let mut desk = desk_of(alloc, AMPLE, DEVICE)?;
     let mut receipts = Vec::new(alloc);
-    for (counter, gateway) in gateways.iter().enumerate() {
-        receipts.push(answer(alloc, &mut desk, *gateway, counter as u32)?)?;
+    let mut counter = 0u32;
+    for gateway in gateways {
+        receipts.push(answer(alloc, &mut desk, *gateway, counter)?)?;
+        counter = counter.saturating_add(1);
     }
     Ok((desk, receipts))
 }
@@ -49,14 +51,16 @@ fn desk_that_answered(
 /// A gateway's book that keeps these numbers, from moment 0 on a second apart, each with as much airtime.
 fn book_keeping(alloc: Global, gateway: u16, numbers: &[u64]) -> Result<WorkedBook, Fail> {
     let mut book = book_of(alloc, gateway)?;
-    for (place, number) in numbers.iter().enumerate() {
+    let mut start = 0u64;
+    for number in numbers {
         book.book(Ask {
             number: *number,
-            start: 1_000_000 * place as u64,
+            start,
             freq_hz: 868_100_000,
             rate: DataRate::Dr5,
             len: 12,
         })?;
+        start = start.saturating_add(1_000_000);
     }
     Ok(book)
 }
