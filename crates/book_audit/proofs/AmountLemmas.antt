@@ -6,11 +6,11 @@ use Rattle.std.proofs.lemmas.Bool.Decides.{nat_tests}
 use Rattle.std.proofs.lemmas.List.Elements.{All-head, All-tail, All-cons, All-nil}
 use Rattle.std.proofs.lemmas.List.Folds.{find-append, list_any_at}
 use Rattle.std.specs.Option.{option_or}
-use Rattle.server_core.specs.Airtime.{answered_at, total_at}
-use Rattle.server_core.specs.Desk.{DeskView, total_of}
+use Rattle.server_desk.specs.Airtime.{answered_at, total_at}
+use Rattle.server_desk.specs.Desk.{DeskView, total_of}
 use Rattle.book_audit.specs.Audit.{Shelved, Amounts, are_apart, airtime_at, has_book, booked_by, books_of, of_books, of_others}
 use Rattle.book_audit.specs.Audit.{all_amounts, HasWholeSum}
-use Rattle.server_core.specs.Register.{is_among}
+use Rattle.server_desk.specs.Register.{is_among}
 use Rattle.book_audit.proofs.GatewaySums.{own, over, whole, all_over}
 
 equal_one : (a : Amounts) → are_apart a ≡ false → a.1.0 ≡ a.1.1

@@ -3,7 +3,7 @@ use Rattle.std.proofs.Common.{ℕ, ◌≡◌, ◌≢◌, ◌+◌, Bool, true, fa
 use Rattle.std.specs.Prelude.{◌==◌, All, AllPairs}
 use Rattle.std.proofs.lemmas.Bool.Decides.{nat_tests}
 use Rattle.std.proofs.lemmas.List.Elements.{All-head, All-tail}
-use Rattle.server_core.specs.Register.{is_among}
+use Rattle.server_desk.specs.Register.{is_among}
 use Rattle.rx_windows.proofs.RankLaws.{AllPairs-head, AllPairs-tail}
 
 module _ (f : ℕ → ℕ) where

@@ -6,8 +6,8 @@ use Rattle.radio_bands.specs.Band.{hour}
 use Rattle.resv_list.specs.declared.reservation.Reservation.{Reservation}
 use Rattle.gateway_book.specs.Book.{Book}
 use Rattle.answer_ticket.specs.declared.tried.Receipt.{Receipt}
-use Rattle.server_core.specs.Airtime.{answered_for}
-use Rattle.server_core.specs.Desk.{DeskView, total_of}
+use Rattle.server_desk.specs.Airtime.{answered_for}
+use Rattle.server_desk.specs.Desk.{DeskView, total_of}
 use Rattle.book_audit.specs.declared.cause.FinishCause.{FinishCause}
 use Rattle.book_audit.specs.declared.cause.FinishCause.TheVariants.{TillMissing, Apart, Doubled, Lost, NoMemory}
 

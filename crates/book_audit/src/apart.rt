@@ -4,7 +4,8 @@ ghost use Rattle.std.specs.Prelude.{◌≡◌, not, filter, find, All, IsNone};
 ghost use Rattle.book_audit.specs.Audit.{airtime_at, are_apart, has_book, of_books, of_others, all_amounts};
 ghost use Rattle.book_audit.specs.Audit.{AreTogether, HasWholeSum};
 
-use server_core::{Book, Desk};
+use server_desk::Desk;
+use server_opening::Book;
 use std::alloc::Allocator;
 use std::hash::BuildHasher;
 

@@ -9,7 +9,8 @@ use crate::apart::first_apart;
 use crate::held::{first_doubled, held_by_number};
 use crate::lost::first_lost;
 use answer_ticket::Receipt;
-use server_core::{Book, Desk};
+use server_desk::Desk;
+use server_opening::Book;
 use std::alloc::Allocator;
 use std::hash::BuildHasher;
 

@@ -6,7 +6,8 @@ ghost use Rattle.book_audit.specs.Audit.{held_by};
 ghost use Rattle.book_audit.specs.Held.{AllDiffer, AreAlike};
 
 use resv_list::Reservation;
-use server_core::{Book, NoMemory};
+use server_desk::NoMemory;
+use server_opening::Book;
 use std::alloc::Allocator;
 
 /// A reservation that a book keeps, beside its gateway's number.

@@ -68,7 +68,8 @@ pub use Rattle.server_desk.proofs.Decided.{join_decided, open_decided}
 pub use Rattle.server_core.specs.Promise.{EveryInterleavingIsSafe, HaveOwnCounters, IsMember, IsOwnWindow, IsSafe, jobs_given}
 pub use Rattle.server_core.specs.Promise.{setting_of, with_given}
 pub use Rattle.server_core.specs.Schedule.{answer_steps, closing_steps, due_from, due_numbers, given_steps, is_accepted, is_none}
-pub use Rattle.server_core.specs.Schedule.{reached, schedule, step_of, up_to_first, usual_limits}
+pub use Rattle.server_core.specs.Schedule.{reached, schedule, step_of, up_to_first}
+pub use Rattle.server_opening.specs.UsualLimits.{usual_limits}
 pub use Rattle.server_core.specs.Server.{AreBooksOf, AreHeard, AreHere, Does, HasHeard, IsAt, IsBookOf, IsCancelled, IsIdle}
 pub use Rattle.server_core.specs.Server.{IsOpened, IsBetweenCalls, Makes, Moves, Seen, cancelled_line, heard_line, ids_of}
 pub use Rattle.server_core.specs.Server.{noting, pass_whole, queued_line, seen, with_lines, with_step}

@@ -1,7 +1,6 @@
 use Rattle.std.specs.Prelude.{ℕ, ◌+◌, Bool, true, false, if◌then◌else◌, List, [], ◌∷◌, ◌++◌, map, Option, Some, None, Ok}
 use Rattle.std.specs.Option.{option_map_or}
 use Rattle.gateway_book.specs.Answer.{refusal_of}
-use Rattle.uplink_gather.specs.declared.limits.Limits.{Limits}
 use Rattle.uplink_gather.specs.Gatherings.{Gathering, is_due}
 use Rattle.rx_windows.specs.declared.candidate.Candidate.{Candidate}
 use Rattle.answer_ticket.specs.Job.{Job, candidates, ask_for}
@@ -11,14 +10,11 @@ use Rattle.server_core.specs.declared.event.Step.{Step as Made}
 use Rattle.server_core.specs.declared.event.Step.TheVariants as made
 use Rattle.server_desk.specs.Settings.{SettingLists}
 use Rattle.server_desk.specs.World.{World, Gateway, gateway_with, opening}
+use Rattle.server_opening.specs.UsualLimits.{usual_limits}
 use Rattle.server_core.specs.Steps.{Step, Queue, Hear, Pass, Take, Settle, Try, Cancel, Tick, Reply, Given, terms, step, run_from}
 
 -- The steps that one thread makes of events, after this project's profile: all gatherings that are due are closed one by
 -- one, the least number first, and each is answered before the next is closed.
-
--- how many uplinks may be gathered, and how many copies of one, where nobody says so
-abbrev pub usual_limits : Limits
-usual_limits = record { max_open = 4096; max_ever = 1000000; max_copies = 64 }
 
 -- the world after these steps
 abbrev pub reached : World → List Step → World

@@ -1,18 +1,14 @@
 // The books of a server's gateways.
 
-ghost use Rattle.std.specs.Prelude.{◌≡◌, [], map, All, IfOk};
+ghost use Rattle.std.specs.Prelude.{◌≡◌, map, All, IfOk};
 ghost use Rattle.std.specs.Option.{option_map};
 ghost use Rattle.server_desk.specs.Settings.{IsGatewayInRange};
-ghost use Rattle.server_desk.specs.World.{opened_gateway, rules_of, gateway_with};
+ghost use Rattle.server_desk.specs.World.{opened_gateway, gateway_with};
 ghost use Rattle.server_core.specs.Entries.{gateway_of};
 
-use crate::GatewaySetting;
-use gateway_book::GatewayBook;
-use resv_tree::TreeRoster;
+use crate::{Book, GatewaySetting};
+use server_opening::empty_book;
 use std::alloc::{AllocError, Allocator};
-
-/// The book that a server keeps of a gateway.
-pub type Book<A> = GatewayBook<TreeRoster<A>>;
 
 /// An empty book for each gateway, in their order.
 pub(crate) fn books_of<A: Allocator + Copy>(
@@ -27,27 +23,6 @@ pub(crate) fn books_of<A: Allocator + Copy>(
         books.push(empty_book(alloc, gateway))?;
     }
     Ok(books)
-}
-
-/// The empty book of a gateway with this setting, which is one of accepted settings. Takes no memory.
-pub fn empty_book<A: Allocator + Copy>(alloc: A, gateway: &GatewaySetting) -> Book<A>
-    requires { IsGatewayInRange gateway.now }
-    ensures { result ≡ record {
-      id = gateway.now.id;
-      rules = rules_of gateway.now;
-      floor = 0;
-      list = [];
-      booked = 0;
-      cancelled =
-          0;
-      retired = 0;
-    } }
-{
-    // The cap and the gap of a setting are in range.
-    let Ok(book) = Book::new(TreeRoster::new(alloc), gateway.id, gateway.cap, gateway.gap) else {
-        unreachable!()
-    };
-    book
 }
 
 /// The place of the gateway with this number.

@@ -14,7 +14,6 @@ mod replaying;
 mod server;
 mod trying;
 
-pub use books::{Book, empty_book};
 pub use entry::{Entry, Line};
 pub use event::{Event, Step};
 pub use laws::{
@@ -24,8 +23,8 @@ pub use laws::{
 pub use lines::{cancelled_line, heard_line, queued_line, refused_line};
 pub use replayed::{Answers, Replay};
 pub use replaying::{answer_events, replay};
-pub use server::USUAL_LIMITS;
 pub use server_desk::{
     DataRate, Desk, DeskFault, DeskHeard, DeviceSetting, GatewaySetting, Heard1, Limits,
     MAX_DEVICES, MAX_GATEWAYS, NoMemory, QueueFault, Settings, SettingsFault, TakeFault, keys_of,
 };
+pub use server_opening::{Book, USUAL_LIMITS};

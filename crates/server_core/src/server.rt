@@ -6,19 +6,11 @@ ghost use Rattle.server_core.specs.Schedule.{step_of};
 ghost use Rattle.server_core.specs.Steps.{Queue, Hear};
 ghost use Rattle.server_core.specs.Server.{seen, with_step, with_lines, IsOpened};
 
-use crate::books::{Book, books_of};
-use crate::{Desk, Entry, Heard1, Limits, Line, NoMemory, Settings, Step};
+use crate::books::books_of;
+use crate::{Book, Desk, Entry, Heard1, Line, NoMemory, Settings, Step, USUAL_LIMITS};
 use answer_ticket::Bytes;
 use std::alloc::Allocator;
 use std::hash::BuildHasher;
-
-/// How many uplinks are gathered at a time and in all, and how many copies of one, where nobody says so: 4,096, 1,000,000 and
-/// 64.
-pub const USUAL_LIMITS: Limits = Limits {
-    max_open: 4_096,
-    max_ever: 1_000_000,
-    max_copies: 64,
-};
 
 /// A server on one thread: what its desk knows, its gateways' books in the order of the settings, the steps that it
 /// made, and the lines that it told.

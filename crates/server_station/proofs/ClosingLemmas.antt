@@ -7,7 +7,7 @@ use Rattle.std.proofs.lemmas.Simd.{map-map}
 use Rattle.gateway_book.specs.declared.totals.Totals.{Totals}
 use Rattle.gateway_book.specs.Book.{Book, totals_of}
 use Rattle.answer_ticket.specs.declared.tried.Receipt.{Receipt}
-use Rattle.server_core.specs.Desk.{DeskView, total_of}
+use Rattle.server_desk.specs.Desk.{DeskView, total_of}
 use Rattle.air_ledger.specs.Tills.{Holding}
 use Rattle.book_audit.specs.declared.cause.FinishCause.{FinishCause}
 use Rattle.book_audit.specs.declared.cause.FinishCause.TheVariants.{TillMissing, Apart, Doubled, Lost, NoMemory}

@@ -12,7 +12,7 @@ use Rattle.std.specs.declared.hash.Hasher as Hasher
 use Rattle.std.specs.declared.sync.ledger.Ledger as Ledger
 use Rattle.resv_tree.proofs.Crossing.{roster_send}
 use Rattle.gateway_book.proofs.book.GatewayBook.TheSendSync as book
-use Rattle.server_station.proofs.office.Office.TheSendSync as office
+use Rattle.server_office.proofs.office.Office.TheSendSync as office
 use Rattle.server_station.specs.contracts.place.Place as Place
 use Rattle.server_station.specs.contracts.station.Station as Station
 

@@ -4,10 +4,10 @@ use Rattle.uplink_gather.specs.Gatherings.{numbered, is_closed_at}
 use Rattle.answer_ticket.specs.Job.{Job}
 use Rattle.server_desk.specs.declared.faults.TakeFault.{TakeFault}
 use Rattle.server_desk.specs.declared.faults.TakeFault.TheVariants.{NotReady, Taken}
-use Rattle.server_core.specs.Answers.{is_not_given}
-use Rattle.server_core.specs.Desk.{DeskView}
-use Rattle.server_core.specs.Register.{Device}
-use Rattle.server_core.specs.Taking.{take_answer, take_known, take_asked, given_or, take_fault}
+use Rattle.server_desk.specs.Answers.{is_not_given}
+use Rattle.server_desk.specs.Desk.{DeskView}
+use Rattle.server_desk.specs.Register.{Device}
+use Rattle.server_desk.specs.Taking.{take_answer, take_known, take_asked, given_or, take_fault}
 
 -- the job that a desk gives a ticket for has the number that was asked for
 module _ (d : DeskView) (n : ℕ) (job : Job) where

@@ -1,4 +1,3 @@
-pub mod Tallied
 pub mod Numbered
 pub mod Rising
 pub mod Settled

@@ -3,7 +3,7 @@ use Rattle.std.specs.Prelude.{ℕ, ◌≡◌, ◌==◌, Bool, true, false, ◌||
 use Rattle.std.specs.Option.{option_map}
 use Rattle.std.proofs.Common.{ap, ◌∙◌, refl}
 use Rattle.std.proofs.lemmas.Bool.{eqb-true}
-use Rattle.server_core.specs.Register.{is_among}
+use Rattle.server_desk.specs.Register.{is_among}
 
 find_first : (first id : ℕ) (ids : List ℕ) (b : Bool) → (first == id) ≡ b
     → find (λ x. x == id) ids ≡ cond (is_among ids id) (Some id) None

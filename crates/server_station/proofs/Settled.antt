@@ -8,7 +8,7 @@ use Rattle.answer_ticket.specs.declared.outcome.Ending.{Ending}
 use Rattle.answer_ticket.specs.declared.outcome.Ending.TheVariants.{Answered, Unanswered, GivenUp}
 use Rattle.answer_ticket.specs.declared.outcome.Outcome.{Outcome}
 use Rattle.answer_ticket.specs.Ended.{IsOfCandidate, gateway_of, answered_as}
-use Rattle.server_core.specs.Airtime.{airtime_of_ending}
+use Rattle.server_desk.specs.Airtime.{airtime_of_ending}
 
 -- an answer was booked exactly where it is on air for some time
 pub is_on_air : (ending : Ending) → IsOfCandidate ending → IsSome (gateway_of ending) ↔ (0 < airtime_of_ending ending)

@@ -15,7 +15,7 @@ use Rattle.answer_ticket.specs.declared.tried.Tried.TheVariants.{Wrong, NoMemory
 use Rattle.answer_ticket.specs.Job.{Job}
 use Rattle.answer_ticket.specs.Ticket.{Standing, candidate_of}
 use Rattle.answer_ticket.specs.Tried.{IsBooked, IsNext, IsOut, IsWrong, IsWithoutMemory}
-use Rattle.server_core.specs.Register.{is_among}
+use Rattle.server_desk.specs.Register.{is_among}
 use Rattle.server_station.specs.Stations.{WasTried, gateway_to_try}
 use Rattle.server_station.specs.Tries.{HasAnswered, AreRefused, EndsAt, IsTriedOut}
 

@@ -3,7 +3,7 @@ use Rattle.std.specs.List.{zip}
 use Rattle.gateway_book.specs.declared.totals.Totals.{Totals}
 use Rattle.gateway_book.specs.Book.{Book, totals_of}
 use Rattle.answer_ticket.specs.declared.tried.Receipt.{Receipt}
-use Rattle.server_core.specs.Desk.{DeskView}
+use Rattle.server_desk.specs.Desk.{DeskView}
 use Rattle.air_ledger.specs.Tills.{Holding, all_parts, parts_of}
 use Rattle.book_audit.specs.Audit.{Shelved, IsCauseOf}
 use Rattle.book_audit.specs.declared.cause.FinishCause.{FinishCause}

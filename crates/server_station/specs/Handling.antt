@@ -9,7 +9,7 @@ use Rattle.answer_ticket.specs.declared.outcome.Outcome.{Outcome}
 use Rattle.answer_ticket.specs.declared.tried.Receipt.{Receipt}
 use Rattle.answer_ticket.specs.Ended.{IsOfCandidate}
 use Rattle.server_desk.specs.declared.faults.TakeFault.{TakeFault}
-use Rattle.server_core.specs.Airtime.{airtime_of_ending}
+use Rattle.server_desk.specs.Airtime.{airtime_of_ending}
 use Rattle.answer_ticket.specs.declared.tried.TriedOut.{TriedOut}
 use Rattle.server_station.specs.declared.handled.Handled.{Handled}
 use Rattle.server_station.specs.declared.handled.Handled.TheVariants.{NotTaken, Settled, Stray}

@@ -19,11 +19,11 @@ use Rattle.server_desk.specs.declared.faults.DeskFault.{DeskFault}
 use Rattle.server_desk.specs.declared.faults.DeskFault.TheVariants as hearing
 use Rattle.server_desk.specs.declared.faults.TakeFault.{TakeFault}
 use Rattle.server_desk.specs.declared.faults.TakeFault.TheVariants as taking
-use Rattle.server_core.specs.Desk.{DeskView}
-use Rattle.server_core.specs.Queueing.{queue_answer}
-use Rattle.server_core.specs.Hearing.{decide, answer_to}
-use Rattle.server_core.specs.Passing.{pass_answer}
-use Rattle.server_core.specs.Taking.{take_answer}
+use Rattle.server_desk.specs.Desk.{DeskView}
+use Rattle.server_desk.specs.Queueing.{queue_answer}
+use Rattle.server_desk.specs.Hearing.{decide, answer_to}
+use Rattle.server_desk.specs.Passing.{pass_answer}
+use Rattle.server_desk.specs.Taking.{take_answer}
 use Rattle.server_station.specs.declared.totals_fault.TotalsFault.{TotalsFault}
 use Rattle.server_station.specs.declared.totals_fault.TotalsFault.TheVariants.{UnknownGateway, Behind}
 

@@ -11,7 +11,7 @@ use Rattle.answer_ticket.specs.Ended.{answered_as}
 use Rattle.answer_ticket.specs.Job.{Job, candidate_at}
 use Rattle.answer_ticket.specs.Ticket.{Standing, candidate_of}
 use Rattle.answer_ticket.specs.Tried.{IsReceipt, next_of, refusal_by}
-use Rattle.server_core.specs.Register.{is_among}
+use Rattle.server_desk.specs.Register.{is_among}
 use Rattle.server_station.specs.Stations.{WasTaken, WasTried}
 
 -- How the tries of a ticket end, after this project's profile. Each book that was asked is some book that was found behind the

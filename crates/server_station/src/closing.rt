@@ -4,7 +4,8 @@ ghost use Rattle.std.specs.Prelude.{◌≡◌};
 use crate::{Ledger, Station, Till};
 use book_audit::FinishCause;
 use gateway_book::Totals;
-use server_core::{Book, Desk};
+use server_desk::Desk;
+use server_opening::Book;
 use std::alloc::{Allocator, Global};
 use std::hash::BuildHasher;
 

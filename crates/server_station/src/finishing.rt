@@ -4,7 +4,7 @@ ghost use Rattle.std.specs.Prelude.{◌≡◌, ◌≢◌, ◌≤◌, [], map, Al
 ghost use Rattle.std.specs.List.Sorted.{IsStrictlyIncreasing};
 ghost use Rattle.air_ledger.specs.Tills.{all_parts, parts_of, amount_of};
 ghost use Rattle.gateway_book.specs.Book.{totals_of};
-ghost use Rattle.server_core.specs.Desk.{total_of};
+ghost use Rattle.server_desk.specs.Desk.{total_of};
 ghost use Rattle.book_audit.specs.Audit.{airtime_at, booked_by, kept_numbers, EachStandsOnce, IsAccountedFor};
 ghost use Rattle.server_station.specs.Closings.{shelved, with_totals, IsFinishCause};
 
@@ -13,7 +13,7 @@ use crate::shelf::{ClosingLists, Shelf, part, put_back, take_out};
 use crate::{Closing, FinishFault, Ledger, Office, PARTS, Station, Tally, Till};
 use answer_ticket::Receipt;
 use book_audit::{FinishCause, compare};
-use server_core::Desk;
+use server_desk::Desk;
 use std::alloc::Allocator;
 use std::hash::BuildHasher;
 use std::sync::Mutex;

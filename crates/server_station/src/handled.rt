@@ -6,7 +6,7 @@ ghost use Rattle.server_station.specs.Tries.{IsAnswered, IsTriedOut};
 
 use crate::{Gate, Ledger, Station, Till};
 use answer_ticket::{Ending, Outcome, Receipt, Ticket, Tried, TriedOut};
-use server_core::TakeFault;
+use server_desk::TakeFault;
 use std::alloc::Allocator;
 use std::hash::BuildHasher;
 use std::sync::Wait;

@@ -1,11 +1,11 @@
 ghost use Rattle.std.specs.Prelude.{◌≡◌, ◌+◌, ◌<◌, ◌≤◌, ◌↔◌, true, false, Err, IfOk, IfErr, OnOk, OnErr, IfSome, IsSome, IsNone};
 ghost use Rattle.std.specs.Prelude.{MatchBool, MatchOption};
 ghost use Rattle.answer_ticket.specs.Ended.{IsOfCandidate, gateway_of};
-ghost use Rattle.server_core.specs.Airtime.{airtime_of_ending};
-ghost use Rattle.server_core.specs.Desk.{desk_of};
-ghost use Rattle.server_core.specs.Schedule.{usual_limits};
-ghost use Rattle.server_core.specs.World.{opening};
-ghost use Rattle.server_core.specs.Register.{is_among};
+ghost use Rattle.server_desk.specs.Airtime.{airtime_of_ending};
+ghost use Rattle.server_desk.specs.Desk.{desk_of};
+ghost use Rattle.server_opening.specs.UsualLimits.{usual_limits};
+ghost use Rattle.server_desk.specs.World.{opening};
+ghost use Rattle.server_desk.specs.Register.{is_among};
 ghost use Rattle.server_station.specs.Stations.{AreInOrder, gateway_to_try, WasQueued, WasHeard, WasPassed};
 ghost use Rattle.server_station.specs.Stations.{WasTaken};
 ghost use Rattle.server_station.specs.Stations.{WasTried, WasAsked, WasTicked, WereCounted, IsBehind};
@@ -16,9 +16,8 @@ use crate::{Blank, Gate, Ledger, NoMemory, Office, PARTS, Till, TotalsFault};
 use air_ledger::begin;
 use answer_ticket::{Outcome, Receipt, Stub, Ticket, Tried};
 use gateway_book::{CancelFault, Totals};
-use server_core::{
-    Book, Desk, DeskFault, DeskHeard, Heard1, QueueFault, Settings, TakeFault, USUAL_LIMITS,
-};
+use server_desk::{Desk, DeskFault, DeskHeard, Heard1, QueueFault, Settings, TakeFault};
+use server_opening::{Book, USUAL_LIMITS};
 use std::alloc::{Allocator, Global};
 use std::hash::BuildHasher;
 use std::marker::Model;

@@ -8,7 +8,7 @@ use Rattle.std.proofs.lemmas.List.{length-append, map-append}
 use Rattle.std.proofs.lemmas.List.Sums.{sum_by-cons}
 use Rattle.std.proofs.lemmas.Bool.Decides.{nat_tests}
 use Rattle.std.proofs.lemmas.List.Folds.{list_any_at}
-use Rattle.server_core.specs.Register.{is_among}
+use Rattle.server_desk.specs.Register.{is_among}
 use Rattle.server_station.specs.declared.handled.Handled.{Handled}
 use Rattle.server_station.specs.declared.handled.Handled.TheVariants.{NotTaken, Settled, Stray}
 use Rattle.server_workers.specs.declared.served.Served.{Served}

@@ -3,7 +3,7 @@ use Rattle.std.proofs.Common.{ℕ, ◌≡◌, ◌+◌, ◌++◌, List, sym, ap, 
 use Rattle.std.proofs.lemmas.List.Sums.{sum_by-append}
 use Rattle.answer_ticket.specs.declared.outcome.Outcome.{Outcome}
 use Rattle.air_ledger.specs.Tills.{Holding}
-use Rattle.server_core.specs.Airtime.{airtime_of_ending}
+use Rattle.server_desk.specs.Airtime.{airtime_of_ending}
 use Rattle.server_workers.specs.declared.worked.Worked.{Worked}
 use Rattle.server_workers.specs.Works.{outcomes_airtime}
 use Rattle.server_workers.specs.Working.{IsMore}

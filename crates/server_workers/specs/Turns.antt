@@ -2,7 +2,7 @@ use Rattle.std.specs.Prelude.{ℕ, ◌≡◌, true, false, List, [], ◌∷◌, 
 use Rattle.std.specs.List.{flat_map}
 use Rattle.std.specs.Option.{ForSome}
 use Rattle.air_ledger.specs.Tills.{Holding}
-use Rattle.server_core.specs.Register.{is_among}
+use Rattle.server_desk.specs.Register.{is_among}
 use Rattle.server_station.specs.Handling.{IsHandled, was_taken}
 use Rattle.server_station.specs.declared.handled.Handled.{Handled}
 use Rattle.server_workers.specs.declared.worked.Stopped.{Stopped}

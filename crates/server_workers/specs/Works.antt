@@ -1,6 +1,6 @@
 use Rattle.std.specs.Prelude.{ℕ, ◌≡◌, ◌+◌, ◌<◌, ◌≤◌, List, [], ◌++◌, Vec, vec_len, vec_capacity, sum_by}
 use Rattle.answer_ticket.specs.declared.outcome.Outcome.{Outcome}
-use Rattle.server_core.specs.Airtime.{airtime_of_ending}
+use Rattle.server_desk.specs.Airtime.{airtime_of_ending}
 
 -- What workers have done, after this project's profile.
 

@@ -2,7 +2,7 @@ ghost use Rattle.std.specs.Prelude.{IfOk};
 ghost use Rattle.server_workers.specs.EmptyLists.{AreEmptyFor};
 
 use answer_ticket::{Outcome, Receipt};
-use server_core::TakeFault;
+use server_desk::TakeFault;
 use std::alloc::{AllocError, Allocator};
 
 /// The lists in which workers keep what they did.

@@ -1,6 +1,6 @@
 // A worker among others.
 ghost use Rattle.std.specs.Prelude.{◌≡◌, true, [], Some, List, ℕ, length};
-ghost use Rattle.server_core.specs.Register.{is_among};
+ghost use Rattle.server_desk.specs.Register.{is_among};
 ghost use Rattle.server_workers.specs.Crew.{IsWithin, HasSettledNone, HasDoneItsPart};
 ghost use Rattle.server_workers.specs.Served.{IsIdle, IsDone};
 ghost use Rattle.server_workers.specs.Turns.{HasWorked, HasStopped};

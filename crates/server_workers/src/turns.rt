@@ -8,7 +8,7 @@ ghost use Rattle.server_workers.specs.Working.{items_of, receipts_of, outcomes_o
 use crate::{Gate, Handled, Ledger, Station, Till};
 use answer_ticket::{Outcome, Receipt};
 use crossbeam_channel::Receiver;
-use server_core::TakeFault;
+use server_desk::TakeFault;
 use std::alloc::Allocator;
 use std::hash::BuildHasher;
 use std::sync::Wait;

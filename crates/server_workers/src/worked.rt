@@ -6,7 +6,7 @@ use crate::lists::Lists;
 use crate::turns::Drained;
 use crate::{Ledger, Till};
 use answer_ticket::{Outcome, Receipt};
-use server_core::TakeFault;
+use server_desk::TakeFault;
 use std::alloc::{Allocator, Global};
 
 /// Why a worker stopped.

@@ -1,5 +1,5 @@
 use Rattle.std.proofs.Common.{sym, ap, ◌∙◌}
-use Rattle.server_core.specs.Desk.{total_of}
+use Rattle.server_desk.specs.Desk.{total_of}
 use Rattle.server_desk.proofs.AirtimeLaws.{total-opening}
 use Rattle.server_station.proofs.station.Station.new.Goals as goal
 

@@ -1,18 +1,18 @@
 ghost use Rattle.std.specs.Prelude.{◌≡◌, ◌+◌, Ok, Err, IfOk, OnOk, OnErr, MatchBool, MatchResult, IsOkUnless};
 ghost use Rattle.answer_ticket.specs.Ended.{IsOfCandidate};
-ghost use Rattle.server_core.specs.Airtime.{airtime_of_ending};
-ghost use Rattle.server_core.specs.Desk.{total_of};
-ghost use Rattle.server_core.specs.Desk.{desk_queue, desk_hear, desk_pass, desk_take, desk_settle};
-ghost use Rattle.server_core.specs.Hearing.{decide, answer_to};
-ghost use Rattle.server_core.specs.Passing.{pass_answer};
-ghost use Rattle.server_core.specs.Queueing.{queue_answer};
-ghost use Rattle.server_core.specs.Settling.{may_settle};
-ghost use Rattle.server_core.specs.Taking.{take_answer};
+ghost use Rattle.server_desk.specs.Airtime.{airtime_of_ending};
+ghost use Rattle.server_desk.specs.Desk.{total_of};
+ghost use Rattle.server_desk.specs.Desk.{desk_queue, desk_hear, desk_pass, desk_take, desk_settle};
+ghost use Rattle.server_desk.specs.Hearing.{decide, answer_to};
+ghost use Rattle.server_desk.specs.Passing.{pass_answer};
+ghost use Rattle.server_desk.specs.Queueing.{queue_answer};
+ghost use Rattle.server_desk.specs.Settling.{may_settle};
+ghost use Rattle.server_desk.specs.Taking.{take_answer};
 
 use crate::{Ledger, Tally, Till};
 use answer_ticket::{Ending, Outcome, Stub, Ticket};
-pub use server_core::NoMemory;
-use server_core::{Desk, DeskFault, DeskHeard, Heard1, QueueFault, TakeFault};
+pub use server_desk::NoMemory;
+use server_desk::{Desk, DeskFault, DeskHeard, Heard1, QueueFault, TakeFault};
 use std::alloc::{Allocator, Global};
 use std::hash::BuildHasher;
 use std::marker::Model;
@@ -27,8 +27,8 @@ pub struct Office<B: Ledger, S: BuildHasher, A: Allocator = Global> {
 
 impl<B: Ledger, S: BuildHasher, A: Allocator> Model for Office<B, S, A> {
     ghost use Rattle.std.specs.Prelude.{◌≡◌};
-    ghost use Rattle.server_core.specs.Desk.{DeskView};
-    ghost use Rattle.server_core.specs.Desk.{total_of};
+    ghost use Rattle.server_desk.specs.Desk.{DeskView};
+    ghost use Rattle.server_desk.specs.Desk.{total_of};
 
     ghost Value = { DeskView };
 
@@ -88,8 +88,8 @@ impl<B: Ledger, S: BuildHasher, A: Allocator> Office<B, S, A> {
         Office { desk, tally }
     }
 
-    /// The desk and the tally.
-    pub(crate) fn parted(self) -> (Desk<S, A>, Tally<B>)
+    /// The desk, and the tally of its settled answers' airtime, in microseconds. Takes no memory.
+    pub fn parted(self) -> (Desk<S, A>, Tally<B>)
         ensures desk { result.0 ≡ self }
         ensures tally { result.1 ≡ total_of self }
     {

@@ -1,8 +1,8 @@
 use Rattle.std.proofs.Common.{sym, ◌∙◌}
 use Rattle.server_desk.proofs.AirtimeLaws.{total-hear}
-use Rattle.server_core.specs.Desk.{desk_hear}
-use Rattle.server_station.proofs.Tallied.{same-total}
-use Rattle.server_station.proofs.office.Office.hear.Goals as goal
+use Rattle.server_desk.specs.Desk.{desk_hear}
+use Rattle.server_office.proofs.Tallied.{same-total}
+use Rattle.server_office.proofs.office.Office.hear.Goals as goal
 
 pub invariant_of-self : goal.invariant_of-self
 invariant_of-self g c =
