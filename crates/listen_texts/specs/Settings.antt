@@ -1,7 +1,7 @@
 use Rattle.std.specs.Prelude.{ℕ, ⊤, List, Option, Some, Result, Err}
 use Rattle.text_words.specs.declared.fault.TextFault.{TextFault}
 use Rattle.text_words.specs.declared.fault.TextFault.TheVariants.{Settings}
-use Rattle.run_texts.specs.RunSettings.{settings_in, IsRefusedBy}
+use Rattle.settings_text.specs.SettingsOfBytes.{settings_in, IsRefusedBy}
 
 -- The settings of a server that listens: all of an input.
 

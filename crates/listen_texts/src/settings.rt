@@ -1,13 +1,13 @@
 // The settings of a server that listens.
 ghost use Rattle.std.specs.Prelude.{◌≡◌, ◌≢◌, IfOk, IfErr, IfSome, Ok};
 ghost use Rattle.text_words.specs.Fault.{CountsReads};
+ghost use Rattle.settings_text.specs.SettingsOfBytes.{settings_in};
 ghost use Rattle.run_lines.specs.RunInput.{KeepsInputLimit};
-ghost use Rattle.run_texts.specs.RunSettings.{settings_in};
 ghost use Rattle.listen_texts.specs.Settings.{NamesSettings};
 
 use run_lines::read_all;
-use run_texts::settings_in;
 use server_core::Settings;
+use settings_text::settings_in;
 use std::alloc::Global;
 use text_lines::ByteIn;
 use text_words::TextFault;

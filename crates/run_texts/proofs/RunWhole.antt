@@ -6,9 +6,9 @@ use Rattle.text_lines.specs.Line.{text_of}
 use Rattle.text_lines.specs.Writing.{WritesFront}
 use Rattle.server_core.specs.Settings.{SettingLists}
 use Rattle.text_words.specs.Words.{has_refusal}
+use Rattle.settings_text.specs.SettingsOfBytes.{settings_in}
 use Rattle.run_lines.specs.RunInput.{settings_part, event_part}
 use Rattle.run_lines.specs.RunEvents.{events_of}
-use Rattle.run_texts.specs.RunSettings.{settings_in}
 use Rattle.run_texts.specs.RunOutput.{lines_for, run_lines, Runs, RunsInPart}
 
 -- what is known of an input that was read, and of the lines that answer it

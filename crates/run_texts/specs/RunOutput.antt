@@ -1,4 +1,4 @@
-use Rattle.std.specs.Prelude.{◌≡◌, ◌⊎◌, ℕ, Bool, List, map, Option, Some, None, Result, Ok, Err, ⊤, codes}
+use Rattle.std.specs.Prelude.{◌≡◌, ℕ, Bool, List, map, Option, Some, None, Result, Ok, Err, ⊤, codes}
 use Rattle.std.specs.Io.KnownBytes.{Appends, Consumes}
 use Rattle.std.specs.Str.Lines.{lines}
 use Rattle.text_lines.specs.Line.{text_of}
@@ -14,11 +14,12 @@ use Rattle.settings_text.specs.declared.settings_fault.ReadFault.{ReadFault}
 use Rattle.text_words.specs.declared.fault.TextFault.{TextFault}
 use Rattle.text_words.specs.declared.fault.TextFault.TheVariants.{Write, Settings, NoMemory}
 use Rattle.text_words.specs.Words.{has_refusal}
+use Rattle.settings_text.specs.SettingsOfBytes.{settings_in, IsNamed, IsRefusedBy}
 use Rattle.run_lines.specs.ReplayText.{replay_lines}
 use Rattle.run_lines.specs.RunInput.{settings_part, event_part}
 use Rattle.run_lines.specs.RunEvents.{events_of}
-use Rattle.run_texts.specs.WorkersRun.{IsPlayed, IsPlayedApart}
-use Rattle.run_texts.specs.RunSettings.{settings_in, IsNamed, IsRefusedBy}
+use Rattle.run_shifts.specs.FinishFaults.{IsPlayFault}
+use Rattle.run_shifts.specs.WorkersRun.{IsPlayed, IsPlayedApart}
 
 -- The output of `airbook run`, and what its text promises of a reader and a writer that tell their bytes.
 
@@ -65,17 +66,6 @@ NamesFault left result = ⊤
 abbrev pub NamesWorkers : Result Bool TextFault → Type 0
 NamesWorkers (Err (Settings name)) = name.now ≡ codes "Workers"
 NamesWorkers result = ⊥
-
--- the name says how the books don't go with the answers
-abbrev pub IsFinishName : List ℕ → Type 0
-IsFinishName name =
-    (name ≡ codes "TillMissing") ⊎ ((name ≡ codes "Apart") ⊎ ((name ≡ codes "Doubled") ⊎ (name ≡ codes "Lost")))
-
--- why a run with workers comes to no books: a growth was refused, or the books don't go with the answers
-abbrev pub IsPlayFault : TextFault → Type 0
-IsPlayFault (Settings name) = IsFinishName name.now
-IsPlayFault NoMemory = ⊤
-IsPlayFault other = ⊥
 
 -- why one thread did not write all lines: a call of the writer failed, or a growth was refused
 abbrev pub IsTellFault : TextFault → Type 0

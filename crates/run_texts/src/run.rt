@@ -2,20 +2,20 @@
 ghost use Rattle.std.specs.Prelude.{◌≡◌, ◌≢◌, ◌<◌, ◌≤◌, Ok, Err, IfOk, IfErr};
 ghost use Rattle.std.specs.Str.Lines.{lines};
 ghost use Rattle.text_words.specs.Fault.{CountsReads, CountsWrites};
+ghost use Rattle.settings_text.specs.SettingsOfBytes.{settings_in, IsRefusedBy};
 ghost use Rattle.run_lines.specs.RunInput.{KeepsInputLimit, settings_part, event_part};
 ghost use Rattle.run_lines.specs.RunEvents.{events_of};
-ghost use Rattle.run_texts.specs.RunSettings.{settings_in, IsRefusedBy};
-ghost use Rattle.run_texts.specs.RunOutput.{Runs, RunsInPart, NamesFault, NamesFaultOfWorkers, NamesWorkers, IsPlayFault};
+ghost use Rattle.run_shifts.specs.FinishFaults.{IsPlayFault};
+ghost use Rattle.run_shifts.specs.WorkersRun.{IsPlayed, IsPlayedApart, IsStaffed};
+ghost use Rattle.run_texts.specs.RunOutput.{Runs, RunsInPart, NamesFault, NamesFaultOfWorkers, NamesWorkers};
 ghost use Rattle.run_texts.specs.RunOutput.{IsWorkersRun, IsWorkersRunInPart, RunsByWorkers, RunsByWorkersInPart, NamesApart};
-ghost use Rattle.run_texts.specs.WorkersRun.{IsPlayed, IsPlayedApart};
-ghost use Rattle.run_texts.specs.PassAnswers.{IsStaffed};
 
 use crate::run_alone::tell_alone;
-use crate::run_settings::settings_in;
-use crate::station_run::{Played, play};
 use run_lines::{events_by_threads, parts_of, read_all, write_lines_by_threads};
+use run_shifts::{Played, play};
 use server_core::{Event, Settings};
 use server_workers::{Blank, MAX_WORKERS, PARTS};
+use settings_text::settings_in;
 use std::alloc::Global;
 use std::hash::BuildHasher;
 use std::marker::Brand;

@@ -1,3 +1,4 @@
 pub mod SettingsFaultName
 pub mod SettingsFields
 pub mod SettingsOfTable
+pub mod SettingsOfBytes

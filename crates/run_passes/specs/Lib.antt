@@ -1,0 +1,4 @@
+pub mod Numbered
+pub mod Booking
+pub mod PassEnds
+pub mod PassAnswers

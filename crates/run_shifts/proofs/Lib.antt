@@ -1,0 +1,4 @@
+pub mod BookingLemmas
+pub mod TurnLemmas
+pub mod DoneLemmas
+pub mod ClosingLemmas

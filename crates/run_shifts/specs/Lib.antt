@@ -1,0 +1,5 @@
+pub mod Bookings
+pub mod PassTurns
+pub mod PassTold
+pub mod FinishFaults
+pub mod WorkersRun
