@@ -24,6 +24,8 @@ OPEN_AT_MOST = 4_096
 ROUNDS = 5
 # So many uplinks want 16 workers, one and one more for each 32 of them.
 ONCE = 480
+# So many lines of a comment are a text that is worth a second thread.
+COMMENTS = 3_000
 # So far apart, in microseconds, a gateway may answer for days.
 SPACE = 5_000_000
 KEYS = 'nwkskey = "2b7e151628aed2a6abf7158809cf4f3c"\nappskey = "000102030405060708090a0b0c0d0e0f"\n'
@@ -105,8 +107,8 @@ def alike(program, text, is_wanted):
 
 
 def threads_started(program):
-    """With no worker and with one all is done by the thread that runs; two or more are threads, and so are those who make events
-    of the lines. Hashes are keyed at random in each run."""
+    """With no worker and with one all is done by the thread that runs; two or more are threads. Hashes are keyed at random in each
+    run."""
     with tempfile.TemporaryDirectory() as folder:
         library = library_of(COUNTING, pathlib.Path(folder))
         for workers in (0, 1, 2, 4):
@@ -128,6 +130,21 @@ def threads_of_a_pass(program):
             status, _, errors = written(program, one_pass(), workers, counter.options)
             calls = counter.calls()
             if errors or status or calls.threads != workers:
+                return f"{workers} workers: status {status}, {errors!r}, {calls}"
+    return None
+
+
+def thread_of_events(program):
+    """One thread more makes events of the lines behind the first quarter, where there are enough of them and workers were asked
+    for; a text of comments has nothing else to do."""
+    text = settings(1, 1) + "# nothing is asked for here\n" * COMMENTS
+    with tempfile.TemporaryDirectory() as folder:
+        library = library_of(COUNTING, pathlib.Path(folder))
+        for workers, threads in ((0, 0), (1, 0), (2, 1), (16, 1)):
+            counter = Counter(library)
+            status, _, errors = written(program, text, workers, counter.options)
+            calls = counter.calls()
+            if errors or status or calls.threads != threads:
                 return f"{workers} workers: status {status}, {errors!r}, {calls}"
     return None
 
@@ -187,6 +204,7 @@ def main():
     trials += [
         ("threads", lambda: threads_started(program)),
         ("threads of one pass", lambda: threads_of_a_pass(program)),
+        ("thread of events", lambda: thread_of_events(program)),
         ("no threads", lambda: threads_refused(program)),
         ("no random bytes", lambda: no_random_bytes(program)),
     ]

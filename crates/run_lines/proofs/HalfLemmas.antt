@@ -26,13 +26,3 @@ unfolding events_from
 events_more devices at line more all old new o n =
     o ∙ sym (append_assoc old (option_to_list (line_event devices at line)) (events_from devices (at + 1) more))
     ∙ ap (λ l. l ++ events_from devices (at + 1) more) (sym n)
-
--- the events of both halves
-pub events_joined : {A : Type 0} (devices : List DeviceSetting) (number count : ℕ) (front back lines : List (List ℕ))
-    (first second all : List (Event A)) → lines ≡ front ++ back → count ≡ length front
-    → first ≡ events_from devices number front → second ≡ events_from devices (number + count) back
-    → all ≡ first ++ second → all ≡ events_from devices number lines
-events_joined devices number count front back lines first second all l b e1 e2 e =
-    e ∙ ap (λ l. l ++ second) e1 ∙ ap (λ l. events_from devices number front ++ l)
-    (e2 ∙ ap (λ k. events_from devices (number + k) back) b)
-    ∙ sym (events-append devices number front back) ∙ ap (events_from devices number) (sym l)

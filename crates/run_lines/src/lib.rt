@@ -16,7 +16,7 @@ mod run_input;
 mod run_words;
 mod uplink_counts;
 
-pub use all_events::events_by_threads;
+pub use all_events::{events_from, first_quarter};
 pub use all_lines::write_lines_by_threads;
 pub use datagram::{DATAGRAM_ROOM, datagram_event};
 pub use laws::law_lines_are_whole;

@@ -32,11 +32,16 @@ done_more ids place (f ∷ es) e old mid new so_far done = (
       (subst (λ p. IsDone ids p e mid new) (omega arith) done),
 )
 
--- the same at the place behind all events from the first on
-pub done_behind : (ids : List ℕ) (es : List (Event Global)) (e : Event Global) (place : ℕ) (old mid new : RunState)
-    → place ≡ length es → AreDone ids 0 es old mid → IsDone ids place e mid new → AreDone ids 0 (es ++ e ∷ []) old new
-done_behind ids es e place old mid new behind so_far done =
-    done_more ids 0 es e old mid new so_far (subst (λ p. IsDone ids p e mid new) (omega (arith, behind)) done)
+-- what was done for some events, and then for those behind them
+pub done_all : (ids : List ℕ) (place : ℕ) (es more : List (Event Global)) (old mid new : RunState)
+    → AreDone ids place es old mid → AreDone ids (place + length es) more mid new → AreDone ids place (es ++ more) old new
+done_all ids place [] more old mid new same done =
+    subst (λ p. AreDone ids p more old new) (omega arith) (subst (λ k. AreDone ids (place + 0) more k new) same done)
+done_all ids place (e ∷ es) more old mid new so_far done = (
+  so_far.0,
+  so_far.1,
+  done_all ids (place + 1) es more so_far.0 mid new so_far.2 (subst (λ p. AreDone ids p more mid new) (omega arith) done),
+)
 
 -- some numbers were answered
 pub dealt_with : (ids : List ℕ) (place : ℕ) (numbers : List ℕ) (old new : RunState) → 0 < length numbers

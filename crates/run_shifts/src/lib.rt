@@ -9,4 +9,4 @@ mod station_pass;
 mod station_run;
 
 pub use station_pass::{Answered, Told, answer_with_workers};
-pub use station_run::{Played, Shift, play};
+pub use station_run::{Played, Shift};

@@ -1,12 +1,10 @@
 // A run on a station with workers: what the events ask for, one after another.
-ghost use Rattle.std.specs.Prelude.{◌≡◌, ◌≢◌, ◌++◌, [], ◌∷◌, IfOk, IfErr, OnOk};
+ghost use Rattle.std.specs.Prelude.{◌≡◌, ◌+◌, ◌^◌, ◌<◌, ◌++◌, [], ◌∷◌, IfOk, OnOk, vec_len};
 ghost use Rattle.air_ledger.specs.Tills.{all_parts};
 ghost use Rattle.server_core.specs.Entries.{entry_at};
 ghost use Rattle.server_station.specs.Stations.{AreInOrder};
 ghost use Rattle.run_shifts.specs.Bookings.{booked_for, IsCancelTold};
-ghost use Rattle.run_shifts.specs.WorkersRun.{run_state, floor_line, IsDone, IsDoneButPass, IsPlayed, IsFinished, HasOpened};
-ghost use Rattle.run_shifts.specs.WorkersRun.{IsPlayedApart, IsFinishedApart, IsStaffed};
-ghost use Rattle.run_shifts.specs.FinishFaults.{IsPlayFault};
+ghost use Rattle.run_shifts.specs.WorkersRun.{run_state, floor_line, IsDone, IsDoneButPass, AreDone, HasOpened, IsStaffed};
 
 use crate::receipts::Receipts;
 use gateway_book::{CancelFault, Totals};
@@ -19,7 +17,6 @@ use std::hash::BuildHasher;
 use std::mem::replace;
 use std::sync::Wait;
 use std::thread::Threads;
-use text_words::TextFault;
 
 /// What a run left: the lines that answer its events, what each gateway's book has counted, beside the gateway's number, and the
 /// books.
@@ -45,51 +42,6 @@ pub struct Shift<B: Ledger, S: BuildHasher> {
     pub(crate) workers: u8,
     ghost whole: { till.parts ≡ all_parts },
     ghost staffed: { IsStaffed workers },
-}
-
-/// Does what the events ask for at a station with these settings, with so many workers for the numbers that a `pass`
-/// closes, and compares the books at the end. Each event is dropped once it is answered. `Settings`: the books don't go with the
-/// answers, by the name of the station's cause (Apart, Doubled or Lost). `NoMemory`: a growth was refused.
-pub fn play<
-    B: Ledger + Send + Sync,
-    S: BuildHasher + Clone + Drop + Send + Sync,
-    R: Threads + Wait + Sync,
->(
-    rt: &R,
-    alloc: Global,
-    hasher: S,
-    settings: &Settings<Global>,
-    events: Vec<Event<Global>>,
-    workers: u8,
-    blank: Blank,
-) -> Result<Played, TextFault>
-where
-    S::Hasher: Send + Sync,
-    requires name { blank.name ≡ B.name }
-    requires parts { blank.parts ≡ B.parts }
-    requires all { blank.parts ≡ PARTS }
-    requires staffed { IsStaffed workers }
-    ensures played { IfOk result (λ played. IsPlayed settings.now.gateways events.items played.entries.items
-        played.totals.items played.books.items) }
-    ensures apart { IfErr result (λ fault. fault ≢ TextFault.NoMemory
-        → IsPlayedApart settings.now.gateways events.items fault) }
-    ensures fault { IfErr result IsPlayFault }
-{
-    match Shift::<B, S>::new(alloc, hasher, settings, workers, blank, heard(&events)) {
-        Ok(shift) => shift.play(rt, alloc, events),
-        Err(_) => Err(TextFault::NoMemory),
-    }
-}
-
-/// How many copies of uplinks are heard: no more receipts come of them.
-fn heard(events: &[Event<Global>]) -> usize {
-    let mut count: usize = 0;
-    for event in events {
-        if matches!(event, Event::Hear { .. }) {
-            count = count.saturating_add(1);
-        }
-    }
-    count
 }
 
 impl<B: Ledger, S: BuildHasher + Clone + Drop> Shift<B, S> {
@@ -127,38 +79,32 @@ impl<B: Ledger + Send + Sync, S: BuildHasher + Drop + Send + Sync> Shift<B, S>
 where
     S::Hasher: Send + Sync,
 {
-    /// Does what the events ask for, and compares the books at the end.
-    fn play<R: Threads + Wait + Sync>(
+    /// Does what these events ask for, one after another, of which the first has this place, counted from 0: their lines go
+    /// behind those that were told. Each event is dropped once it is answered. Err(NoMemory) where a growth was refused; the
+    /// shift is gone then.
+    pub fn answer_all<R: Threads + Wait + Sync>(
         self,
         rt: &R,
         alloc: Global,
+        first: usize,
         events: Vec<Event<Global>>,
-    ) -> Result<Played, TextFault>
-        requires { HasOpened (run_state self.till self.receipts self.entries.items) }
-        ensures played { IfOk result (λ played. IsFinished self.station.value events.items played.entries.items
-            played.totals.items played.books.items) }
-        ensures apart { IfErr result
-            (λ fault. fault ≢ TextFault.NoMemory → IsFinishedApart self.station.value events.items fault) }
-        ensures fault { IfErr result IsPlayFault }
+    ) -> Result<Self, NoMemory>
+        requires { first + vec_len events < 2 ^ 64 }
+        ensures station { IfOk result (λ shift. shift.station.value ≡ self.station.value) }
+        ensures done { IfOk result (λ shift. AreDone self.station.value first events.items
+            (run_state self.till self.receipts self.entries.items)
+            (run_state shift.till shift.receipts shift.entries.items)) }
     {
         let mut shift = self;
-        let mut place = 0;
+        let mut place = first;
         for event in events {
-            let Ok(left) = shift.use_up(rt, place, event) else {
-                return Err(TextFault::NoMemory);
-            };
-            match left {
-                None => {}
-                Some(now) => {
-                    shift = match shift.pass(rt, alloc, place, now) {
-                        Ok(shift) => shift,
-                        Err(_) => return Err(TextFault::NoMemory),
-                    }
-                }
+            let left = shift.use_up(rt, place, event)?;
+            if let Some(now) = left {
+                shift = shift.pass(rt, alloc, place, now)?;
             }
             place += 1;
         }
-        shift.close(alloc)
+        Ok(shift)
     }
 
     /// Does what the event at this place asks for, as `answer_all_but_pass` does, and drops it.

@@ -1,1 +1,2 @@
 pub mod RunWhole
+pub mod AheadLemmas

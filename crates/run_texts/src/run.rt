@@ -1,21 +1,21 @@
 // The text of `airbook run`: settings and events in, answers and a report out.
-ghost use Rattle.std.specs.Prelude.{◌≡◌, ◌≢◌, ◌<◌, ◌≤◌, Ok, Err, IfOk, IfErr};
+ghost use Rattle.std.specs.Prelude.{◌≡◌, ◌≢◌, ◌<◌, ◌≤◌, Err, IfOk, IfErr};
 ghost use Rattle.std.specs.Str.Lines.{lines};
 ghost use Rattle.text_words.specs.Fault.{CountsReads, CountsWrites};
-ghost use Rattle.settings_text.specs.SettingsOfBytes.{settings_in, IsRefusedBy};
-ghost use Rattle.run_lines.specs.RunInput.{KeepsInputLimit, settings_part, event_part};
+ghost use Rattle.run_lines.specs.RunInput.{KeepsInputLimit, event_part};
 ghost use Rattle.run_lines.specs.RunEvents.{events_of};
 ghost use Rattle.run_shifts.specs.FinishFaults.{IsPlayFault};
 ghost use Rattle.run_shifts.specs.WorkersRun.{IsPlayed, IsPlayedApart, IsStaffed};
 ghost use Rattle.run_texts.specs.RunOutput.{Runs, RunsInPart, NamesFault, NamesFaultOfWorkers, NamesWorkers};
 ghost use Rattle.run_texts.specs.RunOutput.{IsWorkersRun, IsWorkersRunInPart, RunsByWorkers, RunsByWorkersInPart, NamesApart};
 
+use crate::given_events::{given_events, given_settings};
+use crate::run_ahead::play;
 use crate::run_alone::tell_alone;
-use run_lines::{events_by_threads, parts_of, read_all, write_lines_by_threads};
-use run_shifts::{Played, play};
-use server_core::{Event, Settings};
+use run_lines::{read_all, write_lines_by_threads};
+use run_shifts::Played;
+use server_core::Settings;
 use server_workers::{Blank, MAX_WORKERS, PARTS};
-use settings_text::settings_in;
 use std::alloc::Global;
 use std::hash::BuildHasher;
 use std::marker::Brand;
@@ -73,45 +73,16 @@ where
         return Err(TextFault::Settings("Workers"));
     }
     let input = read_all(alloc, reader)?;
-    let (settings, events) = asked_in(rt, alloc, input.as_slice(), workers)?;
-    // The events have bytes of their own.
-    let _left = given_back(input);
+    let settings = given_settings(alloc, input.as_slice())?;
     if workers == 0 {
+        let events = given_events(alloc, &settings, input)?;
         return tell_alone(alloc, hasher, &settings, events, writer);
     }
-    tell_with_workers(rt, alloc, hasher, &settings, events, workers, writer)
+    tell_with_workers(rt, alloc, hasher, &settings, input, workers, writer)
 }
 
-/// The settings that an input says up to the first line that is exactly `---`, and the events that its other lines ask for.
-fn asked_in<T: Threads + Sync>(
-    rt: &T,
-    alloc: Global,
-    input: &[u8],
-    workers: u8,
-) -> Result<(Settings<Global>, Vec<Event<Global>>), TextFault>
-    ensures given { IfOk result (λ asked. settings_in (settings_part input.now) ≡ Ok asked.0) }
-    ensures events { IfOk result (λ asked. asked.1.items ≡ events_of asked.0.devices (lines (event_part input.now))) }
-    ensures fault { IfErr result (λ fault. IsRefusedBy (settings_in (settings_part input.now)) fault) }
-{
-    let (settings_text, event_text) = parts_of(input);
-    let settings = settings_in(alloc, settings_text)?;
-    match events_by_threads(rt, alloc, settings.devices(), event_text, workers) {
-        Ok(events) => Ok((settings, events)),
-        Err(_) => Err(TextFault::NoMemory),
-    }
-}
-
-/// Gives the bytes back, all but a block for one: the C library maps a block as large as an input by itself, and once it has
-/// freed one it maps no smaller block any more, so that lists which grow would leave holes in its heap.
-fn given_back(bytes: Vec<u8>) -> Vec<u8> {
-    let mut bytes = bytes;
-    bytes.clear();
-    bytes.shrink_to(1);
-    bytes
-}
-
-/// Does what these events ask for, with workers, and writes the answers and the report. After `Write` a front of them
-/// was written, and after each other fault nothing.
+/// Does what the events of this input ask for, with workers, and writes the answers and the report. After `Write` a front of
+/// them was written, and after each other fault nothing.
 fn tell_with_workers<
     T: Threads + Wait + Sync,
     S: BuildHasher + Clone + Drop + Send + Sync,
@@ -121,24 +92,25 @@ fn tell_with_workers<
     alloc: Global,
     hasher: S,
     settings: &Settings<Global>,
-    events: Vec<Event<Global>>,
+    input: Vec<u8>,
     workers: u8,
     writer: &mut W,
 ) -> Result<bool, TextFault>
 where
     S::Hasher: Send + Sync,
     requires { IsStaffed workers }
-    ensures played { IfOk result
-        (λ refused. IsWorkersRun settings.now events.items (W.taken writer.old) (W.taken writer.new) refused) }
+    ensures played { IfOk result (λ refused. IsWorkersRun settings.now
+        (events_of settings.now.devices (lines (event_part input.items))) (W.taken writer.old) (W.taken writer.new) refused) }
     ensures untouched { IfErr result (λ fault. fault ≢ TextFault.Write → writer.new ≡ writer.old) }
     ensures part { result ≡ Err TextFault.Write
-        → IsWorkersRunInPart settings.now events.items (W.taken writer.old) (W.taken writer.new) }
+        → IsWorkersRunInPart settings.now (events_of settings.now.devices (lines (event_part input.items)))
+        (W.taken writer.old) (W.taken writer.new) }
     ensures fault { IfErr result (λ fault. fault ≢ TextFault.Write → IsPlayFault fault) }
     ensures apart { IfErr result (λ fault. fault ≢ TextFault.Write → fault ≢ TextFault.NoMemory
-        → IsPlayedApart settings.now.gateways events.items fault) }
+        → IsPlayedApart settings.now.gateways (events_of settings.now.devices (lines (event_part input.items))) fault) }
     ensures write { CountsWrites (W.failed_calls writer.old) (W.failed_calls writer.new) result }
 {
-    let played = match play_all(rt, alloc, hasher, settings, events, workers) {
+    let played = match play_all(rt, alloc, hasher, settings, input, workers) {
         Err(fault) => return Err(fault),
         Ok(played) => played,
     };
@@ -149,24 +121,25 @@ where
     }
 }
 
-/// Does what these events ask for, with workers and a ledger of its own.
+/// Does what the events of this input ask for, with workers and a ledger of its own.
 fn play_all<T: Threads + Wait + Sync, S: BuildHasher + Clone + Drop + Send + Sync>(
     rt: &T,
     alloc: Global,
     hasher: S,
     settings: &Settings<Global>,
-    events: Vec<Event<Global>>,
+    input: Vec<u8>,
     workers: u8,
 ) -> Result<Played, TextFault>
 where
     S::Hasher: Send + Sync,
     requires { IsStaffed workers }
-    ensures played { IfOk result
-        (λ played. IsPlayed settings.now.gateways events.items played.entries.items played.totals.items played.books.items) }
-    ensures apart { IfErr result (λ fault. fault ≢ TextFault.NoMemory
-        → IsPlayedApart settings.now.gateways events.items fault) }
+    ensures played { IfOk result (λ played. IsPlayed settings.now.gateways
+        (events_of settings.now.devices (lines (event_part input.items))) played.entries.items played.totals.items
+        played.books.items) }
+    ensures apart { IfErr result (λ fault. fault ≢ TextFault.NoMemory → IsPlayedApart settings.now.gateways
+        (events_of settings.now.devices (lines (event_part input.items))) fault) }
     ensures fault { IfErr result IsPlayFault }
 {
     let blank = Blank::new(PARTS as u64);
-    play::<Brand, S, T>(rt, alloc, hasher, settings, events, workers, blank)
+    play::<Brand, S, T>(rt, alloc, hasher, settings, input, workers, blank)
 }

@@ -5,7 +5,7 @@ ghost use Rattle.std.specs.Prelude.{◌≡◌, IfOk};
 use airbook_text::{Settings, read_settings};
 use answer_ticket::{Ending, Outcome};
 use gateway_book::Refusal;
-use run_lines::{events_by_threads, write_lines};
+use run_lines::{events_from, write_lines};
 use run_passes::{Answer, Ends};
 use run_shifts::{Answered, Told, answer_with_workers};
 use server_core::{Book, DeskFault, Entry, Event, Line, NoMemory, TakeFault};
@@ -89,7 +89,7 @@ fn hear_all<B: Ledger, R: Threads + Wait + Sync>(
     settings: &Settings<Global>,
     copies: &[u8],
 ) -> Result<(), Fail> {
-    let events = events_by_threads(rt, alloc, settings.devices(), copies, 0)?;
+    let events = events_from(alloc, settings.devices(), 1, copies)?;
     for event in events.as_slice() {
         if let Event::Hear {
             bytes,

@@ -1,7 +1,7 @@
 use Rattle.std.proofs.Common.{◌≡◌, ◌≤◌, ◌+◌, ◌++◌, length}
 use Rattle.std.specs.Str.Lines.{lines}
 use Rattle.run_lines.specs.RunEvents.{events_from}
-use Rattle.run_lines.proofs.all_events.events_alone.Given as goal
+use Rattle.run_lines.proofs.all_events.events_with.Given as goal
 
 abbrev pub invariant-loop-line : goal.invariant-loop-line
 invariant-loop-line l = record {

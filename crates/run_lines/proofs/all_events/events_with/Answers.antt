@@ -2,7 +2,7 @@ use Rattle.std.proofs.Common.{◌++◌, sym, ap, ◌∙◌, append-nil, arith}
 use Rattle.std.specs.Str.Lines.{lines}
 use Rattle.run_lines.specs.RunEvents.{events_from}
 use Rattle.run_lines.proofs.HalfLemmas.{events_more}
-use Rattle.run_lines.proofs.all_events.events_alone.Goals as goal
+use Rattle.run_lines.proofs.all_events.events_with.Goals as goal
 
 pub loop-line-preserved : goal.loop-line-preserved
 loop-line-preserved c =
