@@ -35,6 +35,7 @@ CASES = [
     ("run_three_devices_at_once", ""), ("run_three_devices_at_once", "--workers 1"), ("run_payload_in_rx1", "--workers 1"),
     ("run_queue_refusals", ""), ("run_settings_alone", ""), ("run_settings_not_toml", ""), ("book_two_bookings_example", ""),
     ("book_resume_example", ""), ("plan_earliest_example", ""), ("toa_dr5_12_bytes", ""), ("listen", "--workers 1"),
+    ("run_in_two_parts", "--workers 2"),
 ]
 # Where the lists that workers begin with, five for each, find no memory, the thread that runs answers all: so many growths at
 # least may be refused, each alone, and nothing of it is seen.

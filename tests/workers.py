@@ -26,6 +26,11 @@ ROUNDS = 5
 ONCE = 480
 # So many lines of a comment are a text that is worth a second thread.
 COMMENTS = 3_000
+# How many threads a run starts by how many workers were asked for, where one `pass` closes 1,000 uplinks: one that makes events
+# behind the first quarter, the workers, and those that make lines of the answers, which are halved by twos.
+THREADS = {0: 0, 1: 0, 2: 1 + 2 + 1, 4: 1 + 4 + 3}
+# A line that alone is a text worth a second thread.
+LONG = 70_000
 # So far apart, in microseconds, a gateway may answer for days.
 SPACE = 5_000_000
 KEYS = 'nwkskey = "2b7e151628aed2a6abf7158809cf4f3c"\nappskey = "000102030405060708090a0b0c0d0e0f"\n'
@@ -65,6 +70,17 @@ def one_pass():
     """Uplinks to which no answer is owed, all closed by one `pass`; one thread makes the events, and the lines of the answers."""
     lines = [hear(device, 1, 0).replace("@c", "@u") for device in range(ONCE)] + [f"pass {LONG_AGO + 1_000_000}"]
     return settings(1, ONCE) + "\n".join(lines) + "\n"
+
+
+def commented():
+    """Comments and lines that end in CR LF stand in front of a line that is none, whose number counts them all; then comes one
+    that is longer than a line may be, without an end, so that no line feed stands behind most of the text."""
+    return settings(1, 1) + "# c\r\n\r\n" * COMMENTS * 4 + "hear\r\n" + "#" * LONG
+
+
+def one_line():
+    """There is no line feed at all."""
+    return settings(1, 1) + "#" * LONG
 
 
 def crammed():
@@ -115,8 +131,7 @@ def threads_started(program):
             counter = Counter(library)
             status, _, errors = written(program, apart(), workers, counter.options)
             calls = counter.calls()
-            is_shared_out = calls.threads >= workers if workers > 1 else calls.threads == 0
-            if errors or status != 1 or not is_shared_out or not calls.random:
+            if errors or status != 1 or calls.threads != THREADS[workers] or not calls.random:
                 return f"{workers} workers: status {status}, {errors!r}, {calls}"
     return None
 
@@ -135,8 +150,8 @@ def threads_of_a_pass(program):
 
 
 def thread_of_events(program):
-    """One thread more makes events of the lines behind the first quarter, where there are enough of them and workers were asked
-    for; a text of comments has nothing else to do."""
+    """One thread more makes events of the lines behind the first quarter, where there are enough of them and two workers or more
+    were asked for; a text of comments has nothing else to do."""
     text = settings(1, 1) + "# nothing is asked for here\n" * COMMENTS
     with tempfile.TemporaryDirectory() as folder:
         library = library_of(COUNTING, pathlib.Path(folder))
@@ -191,6 +206,16 @@ def is_crowded(wanted):
     return wanted[1][: OPEN_AT_MOST + 2] == opened + ["no hear Crowded"] * 2
 
 
+def is_numbered(wanted):
+    """The two lines behind the comments are named by their numbers."""
+    return wanted[1][:2] == [f"bad {8 * COMMENTS + more} Syntax" for more in (1, 2)]
+
+
+def is_long(wanted):
+    """The one line is named."""
+    return wanted[1][:1] == ["bad 1 Syntax"]
+
+
 def main():
     if len(sys.argv) != 2 or not pathlib.Path(sys.argv[1]).is_file():
         print(__doc__.strip(), file=sys.stderr)
@@ -200,6 +225,8 @@ def main():
         (f"{DEVICES} uplinks apart", lambda: alike(program, apart(), is_answered)),
         (f"{ROUNDS * DEVICES} uplinks of one gateway", lambda: alike(program, crammed(), is_full)),
         (f"{OPEN_AT_MOST + 2} uplinks at a time", lambda: alike(program, crowded(), is_crowded)),
+        ("comments in front of a line that is none", lambda: alike(program, commented(), is_numbered)),
+        ("one long line", lambda: alike(program, one_line(), is_long)),
     ]
     trials += [
         ("threads", lambda: threads_started(program)),

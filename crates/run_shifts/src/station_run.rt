@@ -91,6 +91,7 @@ where
     ) -> Result<Self, NoMemory>
         requires { first + vec_len events < 2 ^ 64 }
         ensures station { IfOk result (λ shift. shift.station.value ≡ self.station.value) }
+        ensures workers { IfOk result (λ shift. shift.workers ≡ self.workers) }
         ensures done { IfOk result (λ shift. AreDone self.station.value first events.items
             (run_state self.till self.receipts self.entries.items)
             (run_state shift.till shift.receipts shift.entries.items)) }

@@ -34,13 +34,13 @@ pub(crate) fn given_events(
         Ok(events) => events,
         Err(_) => return Err(TextFault::NoMemory),
     };
-    // The events have bytes of their own.
     let _left = given_back(input);
     Ok(events)
 }
 
-/// Gives the bytes back, all but a block for one: the C library maps a block as large as an input by itself, and once it has
-/// freed one it maps no smaller block any more, so that lists which grow would leave holes in its heap.
+/// Gives the bytes of an input back, once its events are made, which have bytes of their own; all but a block for one: the C
+/// library maps a block as large as an input by itself, and once it has freed one it maps no smaller block any more, so that
+/// lists which grow would leave holes in its heap.
 pub(crate) fn given_back(bytes: Vec<u8>) -> Vec<u8> {
     let mut bytes = bytes;
     bytes.clear();

@@ -29,9 +29,10 @@ use text_words::TextFault;
 /// with `no` or `bad`. Devices and uplinks are looked up through this hasher and a clone of it.
 ///
 /// With no worker one thread does all. With 1 to 16 at most so many answer the uplinks that one `pass` closes, at the same
-/// time: one, and one more for each 32 uplinks. Which gateway and window an answer gets then depends on the schedule. What
-/// the workers skip the calling thread answers once more, and where none of them could work it answers all. The gateways'
-/// books are compared with the answers before anything is written.
+/// time: one, and one more for each 32 uplinks; with two or more another thread makes events of the lines behind the first
+/// quarter. Which gateway and window an answer gets then depends on the schedule. What the workers skip the calling thread
+/// answers once more, and where none of them could work it answers all. The gateways' books are compared with the answers
+/// before anything is written.
 ///
 /// `Settings`: the settings are refused, by the name of their fault; there are more than 16 workers, by the name Workers,
 /// and then nothing was read; or the books don't go with the answers, by the name of `Station::finish`'s fault. `Read`: a

@@ -66,7 +66,6 @@ where
         Ok(made) => made,
         Err(_) => return Err(TextFault::NoMemory),
     };
-    // The events have bytes of their own.
     let _left = given_back(input);
     let Begun { shift, place } = begun;
     match shift.answer_all(rt, alloc, place, rest) {
@@ -75,7 +74,8 @@ where
     }
 }
 
-/// A shift that did what the first lines of this text ask for, and the events of the lines behind them.
+/// A shift that did what the first lines of this text ask for, and the events of the lines behind them. With one worker, or a
+/// text of fewer than 65,536 bytes, nothing was done and all events are left.
 fn opened_for<
     B: Ledger + Send + Sync,
     S: BuildHasher + Clone + Drop + Send + Sync,
@@ -95,7 +95,8 @@ where
     requires parts { blank.parts ≡ B.parts }
     requires all { blank.parts ≡ PARTS }
     requires staffed { IsStaffed workers }
-    ensures { IfOk result (λ made. IsAhead settings.now.gateways (events_of settings.now.devices (lines text.now))
+    ensures workers { IfOk result (λ made. made.0.shift.workers ≡ workers) }
+    ensures ahead { IfOk result (λ made. IsAhead settings.now.gateways (events_of settings.now.devices (lines text.now))
         made.0.shift.station.value made.0.place made.1.items
         (run_state made.0.shift.till made.0.shift.receipts made.0.shift.entries.items)) }
 {
@@ -129,7 +130,8 @@ where
     requires in_order { AreInOrder settings.now.gateways shift.station.value }
     requires opened { HasOpened (run_state shift.till shift.receipts shift.entries.items) }
     requires few { number + length back.now < 2 ^ 64 }
-    ensures { IfOk result (λ made. IsAhead settings.now.gateways (events_of settings.now.devices (lines front.now)
+    ensures workers { IfOk result (λ made. made.0.shift.workers ≡ shift.workers) }
+    ensures ahead { IfOk result (λ made. IsAhead settings.now.gateways (events_of settings.now.devices (lines front.now)
         ++ events_from settings.now.devices number (lines back.now)) made.0.shift.station.value made.0.place made.1.items
         (run_state made.0.shift.till made.0.shift.receipts made.0.shift.entries.items)) }
 {
@@ -141,7 +143,8 @@ where
     let answered = move || -> Result<Begun<B, S>, NoMemory>
         requires { AreInOrder settings.now.gateways shift.station.value
             × HasOpened (run_state shift.till shift.receipts shift.entries.items) }
-        ensures { IfOk result (λ begun. IsAhead settings.entry.now.gateways
+        ensures workers { IfOk result (λ begun. begun.shift.workers ≡ shift.workers) }
+        ensures ahead { IfOk result (λ begun. IsAhead settings.entry.now.gateways
             (events_of settings.entry.now.devices (lines front.entry.now)) begun.shift.station.value begun.place []
             (run_state begun.shift.till begun.shift.receipts begun.shift.entries.items)) }
     { with_front(rt, alloc, shift, settings, front) };
@@ -166,7 +169,8 @@ where
     S::Hasher: Send + Sync,
     requires in_order { AreInOrder settings.now.gateways shift.station.value }
     requires opened { HasOpened (run_state shift.till shift.receipts shift.entries.items) }
-    ensures { IfOk result (λ begun. IsAhead settings.now.gateways (events_of settings.now.devices (lines front.now))
+    ensures workers { IfOk result (λ begun. begun.shift.workers ≡ shift.workers) }
+    ensures ahead { IfOk result (λ begun. IsAhead settings.now.gateways (events_of settings.now.devices (lines front.now))
         begun.shift.station.value begun.place []
         (run_state begun.shift.till begun.shift.receipts begun.shift.entries.items)) }
 {

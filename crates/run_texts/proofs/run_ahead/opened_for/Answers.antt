@@ -5,8 +5,8 @@ use Rattle.run_texts.specs.Ahead.{IsAhead}
 use Rattle.run_texts.proofs.AheadLemmas.{in_parts}
 use Rattle.run_texts.proofs.run_ahead.opened_for.Goals as goal
 
-pub returns-in-Some : goal.returns-in-Some
-returns-in-Some g c =
+pub returns-in-Some-clause-ahead : goal.returns-in-Some-clause-ahead
+returns-in-Some-clause-ahead g c =
     let settings = c.args.settings.now in
     let whole = lines c.args.text.now in
     let front = lines c.in-Some.front.now in
@@ -15,4 +15,4 @@ returns-in-Some g c =
     made.1.items (run_state made.0.shift.till made.0.shift.receipts made.0.shift.entries.items)))
     (in_parts settings.devices (1 + c.in-Some.count) whole front back c.in-Some.ensures.lines
     (ap (λ n. 1 + n) c.in-Some.ensures.count))
-    c.ahead_of.ensures
+    c.ahead_of.ensures.ahead

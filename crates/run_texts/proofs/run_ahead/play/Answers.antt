@@ -22,7 +22,7 @@ returns-in-Ok-answer_all-clause-played g c =
     let reached = run_state after.till after.receipts after.entries.items in
     let ahead : IsAhead settings.gateways es ids begun.place rest mid =
     subst (λ text. IsAhead settings.gateways (events_of {A = Global} settings.devices (lines text)) ids begun.place rest mid)
-    (c.parts_of.ensures.events ∙ ap event_part c.as_slice.ensures.value) c.in-Ok.ensures in
+    (c.parts_of.ensures.events ∙ ap event_part c.as_slice.ensures.value) c.in-Ok.ensures.ahead in
     let done = ahead_done settings.gateways es ids begun.place rest mid reached ahead c.in-Ok-answer_all.ensures.done in
     played_with settings.gateways ids es c.close.result ahead.in_order
     (finished_with ids es after.till after.receipts after.entries c.close.result done c.close.ensures.entries
@@ -41,7 +41,7 @@ returns-in-Ok-answer_all-clause-apart g c =
     let reached = run_state after.till after.receipts after.entries.items in
     let ahead : IsAhead settings.gateways es ids begun.place rest mid =
     subst (λ text. IsAhead settings.gateways (events_of {A = Global} settings.devices (lines text)) ids begun.place rest mid)
-    (c.parts_of.ensures.events ∙ ap event_part c.as_slice.ensures.value) c.in-Ok.ensures in
+    (c.parts_of.ensures.events ∙ ap event_part c.as_slice.ensures.value) c.in-Ok.ensures.ahead in
     let done = ahead_done settings.gateways es ids begun.place rest mid reached ahead c.in-Ok-answer_all.ensures.done in
     played_apart settings.gateways ids es c.close.result ahead.in_order
     (apart_with ids es after.till after.receipts after.entries.items c.close.result done

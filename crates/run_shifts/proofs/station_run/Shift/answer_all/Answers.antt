@@ -15,11 +15,12 @@ loop-event-preserved g c =
     let mid = run_state c.use_up.new.self.till c.use_up.new.self.receipts c.use_up.new.self.entries.items in
     let ids = here.station.value in
     let begun = run_state c.args.self.till c.args.self.receipts c.args.self.entries.items in
-    let step : (after.station.value ≡ ids) × IsDone ids before.place c.in-Some.event old new =
+    let step : (after.station.value ≡ ids) × (after.workers ≡ here.workers) × IsDone ids before.place c.in-Some.event old new =
     elim c.match-left.branch [
       | in-Some-left+in_ok-shift w ↦
           rw w.shift-is (
             w.in_ok-shift.ensures.station ∙ c.use_up.ensures.station,
+            w.in_ok-shift.ensures.workers ∙ c.use_up.ensures.workers,
             passed_then ids before.place w.in-Some-left.now c.in-Some.event old mid _
                 (subst (IsDoneButPass ids before.place c.in-Some.event old mid) w.in-Some-left.is c.in_ok-left.ensures.done)
                 (subst (λ s. HasPassed s before.place w.in-Some-left.now mid (run_state w.in_ok-shift.shift.till
@@ -29,6 +30,7 @@ loop-event-preserved g c =
       | in_default w ↦
           rw w.shift-is (
             c.use_up.ensures.station,
+            c.use_up.ensures.workers,
             subst (IsDoneButPass ids before.place c.in-Some.event old mid) w.in_default.is c.in_ok-left.ensures.done,
           )
     ] in
@@ -38,8 +40,9 @@ loop-event-preserved g c =
           ∙ before.invariant.left;
       place = omega (arith, place, one_more before.yielded c.in-Some.event (length before.yielded) refl);
       station = step.0 ∙ before.invariant.station;
+      workers = step.1 ∙ before.invariant.workers;
       done =
           done_more c.args.self.station.value c.args.first before.yielded c.in-Some.event begun old new before.invariant.done
           (subst (λ p. IsDone c.args.self.station.value p c.in-Some.event old new) place
-          (subst (λ l. IsDone l before.place c.in-Some.event old new) before.invariant.station step.1));
+          (subst (λ l. IsDone l before.place c.in-Some.event old new) before.invariant.station step.2));
     }

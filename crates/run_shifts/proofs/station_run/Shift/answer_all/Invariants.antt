@@ -7,6 +7,7 @@ invariant-loop-event g l = record {
   left : l.yielded ++ l.event-iterator.rest.items ≡ l.fn.events.items;
   place : l.place ≡ l.fn.first + length l.yielded;
   station : l.shift.station.value ≡ l.fn.self.station.value;
+  workers : l.shift.workers ≡ l.fn.self.workers;
   done : AreDone l.fn.self.station.value l.fn.first l.yielded
       (run_state l.fn.self.till l.fn.self.receipts l.fn.self.entries.items)
       (run_state l.shift.till l.shift.receipts l.shift.entries.items);
