@@ -117,7 +117,7 @@ pub accounted_past : (shelf : List Shelved) (g : ℕ) (r : Reservation) → HasB
 accounted_past shelf g r h = (h.0, h.1, h.2, inr h.3)
 
 -- the numbers of what the books keep
-numbers_held : (shelf : List Shelved) → map (λ (h : ℕ × Reservation). h.1.number) (held_by shelf)
+pub numbers_held : (shelf : List Shelved) → map (λ (h : ℕ × Reservation). h.1.number) (held_by shelf)
     ≡ kept_numbers (map (λ (s : Shelved). s.1) shelf)
 numbers_held [] = refl
 numbers_held (s ∷ shelf) =

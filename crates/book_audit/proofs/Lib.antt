@@ -2,3 +2,4 @@ pub mod HeldLemmas
 pub mod GatewaySums
 pub mod AmountLemmas
 pub mod LostLemmas
+pub mod MarkLemmas

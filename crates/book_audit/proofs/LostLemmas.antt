@@ -23,7 +23,7 @@ unless_by : (a b : ℕ) (t : Bool) → nat_lt a b ≡ t → (a < b → 1 ≤ 0) 
 unless_by a b true q f = let less : a < b = grind (arith, nat_tests, q) in absurd (omega (arith, f less))
 unless_by a b false q f = grind (arith, nat_tests, q)
 
-unless : (a b : ℕ) → (a < b → 1 ≤ 0) → b ≤ a
+pub unless : (a b : ℕ) → (a < b → 1 ≤ 0) → b ≤ a
 unless a b f = unless_by a b (nat_lt a b) refl f
 
 -- in rising order, what has a number stands where the numbers below it end

@@ -1,2 +1,3 @@
 pub mod Audit
 pub mod Held
+pub mod Marks

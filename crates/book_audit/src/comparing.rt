@@ -8,6 +8,7 @@ use crate::FinishCause;
 use crate::apart::first_apart;
 use crate::held::{first_doubled, held_by_number};
 use crate::lost::first_lost;
+use crate::marks::are_told;
 use answer_ticket::Receipt;
 use server_desk::Desk;
 use server_opening::Book;
@@ -15,7 +16,8 @@ use std::alloc::Allocator;
 use std::hash::BuildHasher;
 
 /// Tells the first fault that the books have, in the order of `FinishCause`, but never `TillMissing`: tills aren't looked at.
-/// Where there is no memory for the list of what the books keep, nothing is compared.
+/// Mostly what the books keep is what the receipts tell, and that is seen without a list of all that they keep; where it isn't,
+/// such a list is made. NoMemory where a growth for that was refused; by then each gateway has booked what it answered.
 pub fn compare<S: BuildHasher, A: Allocator + Copy>(
     alloc: A,
     desk: &Desk<S, A>,
@@ -28,9 +30,6 @@ pub fn compare<S: BuildHasher, A: Allocator + Copy>(
     ensures accounted { OnOk result (All (IsAccountedFor shelf.now) receipts.now) }
     ensures cause { IfErr result (IsCauseOf desk.now shelf.now receipts.now) }
 {
-    let Ok(held) = held_by_number(alloc, shelf) else {
-        return Err(FinishCause::NoMemory);
-    };
     if let Some((gateway, (booked, answered))) = first_apart(desk, shelf) {
         return Err(FinishCause::Apart {
             gateway,
@@ -38,6 +37,14 @@ pub fn compare<S: BuildHasher, A: Allocator + Copy>(
             answered,
         });
     }
+    match are_told(alloc, shelf, receipts) {
+        Ok(true) => return Ok(()),
+        Ok(false) => {}
+        Err(_) => return Err(FinishCause::NoMemory),
+    }
+    let Ok(held) = held_by_number(alloc, shelf) else {
+        return Err(FinishCause::NoMemory);
+    };
     if let Some((number, gateway, other)) = first_doubled(&held) {
         return Err(FinishCause::Doubled {
             number,

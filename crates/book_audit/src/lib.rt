@@ -6,6 +6,7 @@ mod cause;
 mod comparing;
 mod held;
 mod lost;
+mod marks;
 
 pub use cause::FinishCause;
 pub use comparing::compare;

@@ -80,7 +80,7 @@ fn stands_at(held: &[Held], at: usize, gateway: u16, reservation: &Reservation) 
 }
 
 /// Whether the book of the gateway with this number has a floor more than an hour past the reservation's start.
-fn is_past<A: Allocator + Copy>(
+pub(crate) fn is_past<A: Allocator + Copy>(
     shelf: &[(u16, Book<A>)],
     gateway: u16,
     reservation: &Reservation,
@@ -100,7 +100,7 @@ fn is_past<A: Allocator + Copy>(
 }
 
 /// Whether two reservations have the same fields.
-fn is_same(one: &Reservation, other: &Reservation) -> bool
+pub(crate) fn is_same(one: &Reservation, other: &Reservation) -> bool
     ensures { IsTrue result ↔ (one.now ≡ other.now) }
 {
     one.number == other.number

@@ -10,7 +10,7 @@ first_doubled-requires g c =
 
 pub returns-in-Some-first_doubled-clause-cause : goal.returns-in-Some-first_doubled-clause-cause
 returns-in-Some-first_doubled-clause-cause g c = (
-  c.in_default-first_apart.ensures.together refl,
+  c.in_default.ensures.together refl,
   doubled_kept c.args.shelf.now _ _ _ _ _ c.in-Ok.ensures.same c.in-Ok.ensures.rising c.deref.ensures.value
       c.in-Some-first_doubled.ensures.twice,
 )
@@ -21,10 +21,10 @@ returns-clause-once g c =
     (c.in_default-first_doubled.ensures.none refl)
 
 pub returns-clause-equal : goal.returns-clause-equal
-returns-clause-equal g c = c.in_default-first_apart.ensures.equal refl
+returns-clause-equal g c = c.in_default.ensures.equal refl
 
 pub returns-clause-sum : goal.returns-clause-sum
-returns-clause-sum g c = c.in_default-first_apart.ensures.sum refl
+returns-clause-sum g c = c.in_default.ensures.sum refl
 
 pub first_lost-requires-clause-rising : goal.first_lost-requires-clause-rising
 first_lost-requires-clause-rising g c =
@@ -36,8 +36,20 @@ first_lost-requires-clause-differ g c =
 
 pub returns-in-Some-first_lost-clause-cause : goal.returns-in-Some-first_lost-clause-cause
 returns-in-Some-first_lost-clause-cause g c = (
-  c.in_default-first_apart.ensures.together refl,
+  c.in_default.ensures.together refl,
   once_differ c.args.shelf.now _ _ c.in-Ok.ensures.same c.in-Ok.ensures.rising c.deref.ensures.value
       (c.in_default-first_doubled.ensures.none refl),
   c.in-Some-first_lost.ensures,
 )
+
+pub returns-in-Ok-true-clause-equal : goal.returns-in-Ok-true-clause-equal
+returns-in-Ok-true-clause-equal g c = c.in_default.ensures.equal refl
+
+pub returns-in-Ok-true-clause-sum : goal.returns-in-Ok-true-clause-sum
+returns-in-Ok-true-clause-sum g c = c.in_default.ensures.sum refl
+
+pub returns-in-Ok-true-clause-once : goal.returns-in-Ok-true-clause-once
+returns-in-Ok-true-clause-once g c = c.in-Ok-true.ensures.once c.in-Ok-true.field-0-test
+
+pub returns-in-Ok-true-clause-accounted : goal.returns-in-Ok-true-clause-accounted
+returns-in-Ok-true-clause-accounted g c = c.in-Ok-true.ensures.accounted c.in-Ok-true.field-0-test

@@ -1,0 +1,152 @@
+-- Lemmas on receipts that are marked once a book keeps their reservations.
+use Rattle.std.proofs.Common.{◌≡◌, ◌≢◌, ℕ, zero, suc, ◌+◌, ◌-◌, ◌<◌, ◌≤◌, Bool, true, false, cond, List, [], ◌∷◌, ◌++◌}
+use Rattle.std.proofs.Common.{map, take, length, get_or, refl, sym, ap, subst, ◌∙◌, arith, inl, inr, ◌⊎◌}
+use Rattle.std.specs.Prelude.{◌==◌, Contains, slice_set, sum_by}
+use Rattle.std.proofs.lemmas.Bool.Decides.{nat_tests}
+use Rattle.std.proofs.lemmas.List.{get_or-set_same, get_or-set_other, length-set, map-append, append_assoc, take_more}
+use Rattle.std.proofs.lemmas.List.Elements.{Contains-append_left, Contains-append_right}
+use Rattle.std.proofs.lemmas.List.Sums.{sum_by-append, sum_by-cons}
+use Rattle.resv_list.specs.declared.reservation.Reservation.{Reservation}
+use Rattle.answer_ticket.specs.declared.tried.Receipt.{Receipt}
+use Rattle.book_audit.specs.Audit.{times_of}
+use Rattle.book_audit.specs.Held.{Kept}
+use Rattle.book_audit.specs.Marks.{DoRise, NeighboursRise, told_by, AreMarked}
+use Rattle.book_audit.proofs.HeldLemmas.{number_of}
+use Rattle.book_audit.proofs.LostLemmas.{unless}
+
+-- where all neighbours rise, all do
+pub all_rise : {A : Type 0} (receipts : List (Receipt A)) → NeighboursRise receipts (length receipts) → DoRise receipts
+all_rise receipts a i zero d l h = absurd (omega (arith, l))
+all_rise receipts a i (suc j) d l h =
+    let one : j + 1 ≡ suc j = omega arith in
+    let next : (get_or receipts j d).reservation.number < (get_or receipts (suc j) d).reservation.number =
+    subst (λ k. (get_or receipts j d).reservation.number < (get_or receipts k d).reservation.number) one
+    (a j (omega (arith, h)) d) in
+    elim (nearer i j l) [
+      | inl same ↦ subst (λ k. (get_or receipts k d).reservation.number < (get_or receipts (suc j) d).reservation.number) (sym same) next
+      | inr below ↦ let before = all_rise receipts a i j d below (omega (arith, h)) in omega (arith, before, next)
+    ] where
+      nearer : (i j : ℕ) → i < suc j → (i ≡ j) ⊎ (i < j)
+      nearer i j l = by_test i j l (i == j) refl where
+        by_test : (i j : ℕ) → i < suc j → (t : Bool) → (i == j) ≡ t → (i ≡ j) ⊎ (i < j)
+        by_test i j l true e = inl (grind (arith, nat_tests, e))
+        by_test i j l false e = inr (grind (arith, nat_tests, e, l))
+
+-- where no receipt is marked, nothing is held
+pub none_held : {A : Type 0} (receipts : List (Receipt A)) (marks : List Bool) → length marks ≡ length receipts
+    → ((k : ℕ) → k < length receipts → get_or marks k false ≡ false) → AreMarked receipts [] marks
+none_held receipts marks e clear =
+    record {
+      each = e;
+      once = λ n. omega arith;
+      kept = λ i l t d. let f = clear i l in absurd (cc (t, f));
+      told = λ n p. absurd (omega (arith, p));
+    }
+
+nothing : (k : ℕ) → (0 < k → 1 ≤ 0) → k ≡ 0
+nothing zero f = refl
+nothing (suc k) f = absurd (omega (arith, f (omega arith)))
+
+first_of : {X : Type 0} (xs : List X) (k : ℕ) → k < length xs → X
+first_of [] k h = absurd (omega (arith, h))
+first_of (x ∷ xs) k h = x
+
+-- how often a number is held, with one more
+times_one : (n : ℕ) (held : List Kept) (x : Kept)
+    → times_of n (map number_of (held ++ x ∷ [])) ≡ times_of n (map number_of held) + cond (number_of x == n) 1 0
+times_one n held x =
+    let count : ℕ → ℕ = λ m. cond (m == n) 1 0 in
+    let parted = ap (sum_by count) (map-append number_of held (x ∷ []))
+    ∙ sum_by-append count (map number_of held) (map number_of (x ∷ [])) in
+    let one = sum_by-cons count (number_of x) [] in
+    omega (arith, parted, one)
+
+-- one more is held, and its receipt, which was not marked, is
+module _ {A : Type 0} (receipts : List (Receipt A)) (held : List Kept) (marks : List Bool) (at : ℕ) (x : Kept)
+    (rising : DoRise receipts) (h : at < length receipts) (free : get_or marks at false ≡ false)
+    (same : (d : Receipt A) → told_by (get_or receipts at d) ≡ x) (m : AreMarked receipts held marks) where
+  abbrev pub now : List Bool
+  now = slice_set marks at true
+
+  not_held : (n : ℕ) → number_of x ≡ n → 0 < times_of n (map number_of held) → 1 ≤ 0
+  not_held n e p =
+      let told = m.told n p in
+      let i = told.0 in
+      let l : i < length receipts = told.1 in
+      let t : get_or marks i false ≡ true = told.2 in
+      let d = first_of receipts at h in
+      let own : (get_or receipts at d).reservation.number ≡ n = ap number_of (same d) ∙ e in
+      let theirs : (get_or receipts i d).reservation.number ≡ n = told.3 d in
+      let not_below : at ≤ i = unless i at (λ p. let less = rising i at d p h in omega (arith, less, own, theirs)) in
+      let not_above : i ≤ at = unless at i (λ p. let less = rising at i d p l in omega (arith, less, own, theirs)) in
+      let here : i ≡ at = omega (arith, not_below, not_above) in
+      let marked = ap (λ k. get_or marks k false) (sym here) ∙ t in
+      absurd (cc (marked, free))
+
+  once_by : (n : ℕ) (t : Bool) → (number_of x == n) ≡ t → times_of n (map number_of (held ++ x ∷ [])) ≤ 1
+  once_by n true e =
+      let same_number : number_of x ≡ n = grind (arith, nat_tests, e) in
+      let none = nothing (times_of n (map number_of held)) (not_held n same_number) in
+      let one : ◌≡◌ {A = ℕ} (cond (number_of x == n) 1 0) 1 = ap (λ (b : Bool). cond b 1 0) e in
+      omega (arith, times_one n held x, none, one)
+  once_by n false e =
+      let zero : ◌≡◌ {A = ℕ} (cond (number_of x == n) 1 0) 0 = ap (λ (b : Bool). cond b 1 0) e in
+      let before = m.once n in
+      omega (arith, times_one n held x, before, zero)
+
+  within : at < length marks
+  within = let e = m.each in omega (arith, e, h)
+
+  still_by : (i : ℕ) (t : Bool) → (i == at) ≡ t → get_or marks i false ≡ true → get_or now i false ≡ true
+  still_by i true e marked =
+      let here : i ≡ at = grind (arith, nat_tests, e) in
+      ap (λ k. get_or now k false) here ∙ get_or-set_same marks at true false within
+  still_by i false e marked =
+      let other : i ≢ at = λ (p : i ≡ at). absurd (grind (arith, nat_tests, e, p)) in
+      get_or-set_other marks at i true false other ∙ marked
+
+  kept_by : (i : ℕ) (t : Bool) → (i == at) ≡ t → i < length receipts → get_or now i false ≡ true → (d : Receipt A)
+      → Contains (held ++ x ∷ []) (told_by (get_or receipts i d))
+  kept_by i true e l marked d =
+      let here : i ≡ at = grind (arith, nat_tests, e) in
+      rw (ap (λ k. told_by (get_or receipts k d)) here ∙ same d)
+      (Contains-append_right held (x ∷ []) x (zero, omega arith, refl))
+  kept_by i false e l marked d =
+      let other : i ≢ at = λ (p : i ≡ at). absurd (grind (arith, nat_tests, e, p)) in
+      let before = sym (get_or-set_other marks at i true false other) ∙ marked in
+      Contains-append_left held (x ∷ []) (told_by (get_or receipts i d)) (m.kept i l before d)
+
+  told_by_one : (n : ℕ) (t : Bool) → (number_of x == n) ≡ t → 0 < times_of n (map number_of (held ++ x ∷ []))
+      → (i : ℕ) × (i < length receipts) × (get_or now i false ≡ true)
+      × ((d : Receipt A) → (get_or receipts i d).reservation.number ≡ n)
+  told_by_one n true e p =
+      let same_number : number_of x ≡ n = grind (arith, nat_tests, e) in
+      (at, h, get_or-set_same marks at true false within, λ d. ap number_of (same d) ∙ same_number)
+  told_by_one n false e p =
+      let zero : ◌≡◌ {A = ℕ} (cond (number_of x == n) 1 0) 0 = ap (λ (b : Bool). cond b 1 0) e in
+      let before : 0 < times_of n (map number_of held) = omega (arith, times_one n held x, zero, p) in
+      let told = m.told n before in
+      (told.0, told.1, still_by told.0 (told.0 == at) refl told.2, told.3)
+
+  pub one_more : AreMarked receipts (held ++ x ∷ []) now
+  one_more =
+      record {
+        each = length-set marks at true ∙ m.each;
+        once = λ n. once_by n (number_of x == n) refl;
+        kept = λ i l t d. kept_by i (i == at) refl l t d;
+        told = λ n p. told_by_one n (number_of x == n) refl p;
+      }
+
+-- one more of what a book keeps
+pub next_marked : {A : Type 0} (receipts : List (Receipt A)) (held : List Kept) (g : ℕ) (members : List Reservation) (i : ℕ)
+    (r : Reservation) (marks : List Bool) → i < length members → r ≡ get_or members i r
+    → AreMarked receipts (held ++ map (λ q. (g, q)) (take i members) ++ (g, r) ∷ []) marks
+    → AreMarked receipts (held ++ map (λ q. (g, q)) (take (i + 1) members)) marks
+next_marked receipts held g members i r marks h e =
+    let own : Reservation → Kept = λ q. (g, q) in
+    let one : take i members ++ r ∷ [] ≡ take (i + 1) members =
+    ap (λ x. take i members ++ x ∷ []) e ∙ sym (take_more members i r h) in
+    let more : held ++ map own (take i members) ++ (g, r) ∷ [] ≡ held ++ map own (take (i + 1) members) =
+    append_assoc held (map own (take i members)) ((g, r) ∷ [])
+    ∙ ap (λ l. held ++ l) (sym (map-append own (take i members) (r ∷ [])) ∙ ap (map own) one) in
+    subst (λ l. AreMarked receipts l marks) more

@@ -1,0 +1,5 @@
+use Rattle.book_audit.specs.Marks.{NeighboursRise}
+use Rattle.book_audit.proofs.marks.do_rise.Given as goal
+
+abbrev pub invariant-loop-at : goal.invariant-loop-at
+invariant-loop-at g l = NeighboursRise l.receipts l.at
