@@ -3,7 +3,7 @@ pub mod OrderLemmas
 pub mod GatewayLemmas
 pub mod ReplayLemmas
 pub mod KeyLemmas
-pub mod HalfLemmas
+pub mod PartLemmas
 pub mod CutLemmas
 pub mod EventLemmas
 pub mod InputLemmas

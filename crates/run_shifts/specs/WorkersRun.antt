@@ -18,16 +18,15 @@ use Rattle.server_desk.specs.declared.faults.QueueFault.{QueueFault}
 use Rattle.server_desk.specs.declared.heard.DeskHeard.{DeskHeard}
 use Rattle.server_desk.specs.Register.{is_among}
 use Rattle.server_core.specs.Desk.{DeskView, total_of}
-use Rattle.server_desk.specs.declared.setting.GatewaySetting.{GatewaySetting}
 use Rattle.book_audit.specs.Audit.{airtime_at, booked_by, kept_numbers, EachStandsOnce, IsAccountedFor}
 use Rattle.book_audit.specs.declared.cause.FinishCause.{FinishCause}
-use Rattle.server_station.specs.Stations.{AreInOrder, WasQueued, WasHeard, WasPassed, WasTicked}
+use Rattle.server_station.specs.Stations.{WasQueued, WasHeard, WasPassed, WasTicked}
 use Rattle.server_station.specs.Closings.{shelved, IsCauseAt}
 use Rattle.text_words.specs.declared.fault.TextFault.{TextFault}
 use Rattle.run_passes.specs.declared.pass_answers.Answer.{Answer}
 use Rattle.run_passes.specs.Booking.{Booking}
 use Rattle.run_passes.specs.PassAnswers.{all_lines}
-use Rattle.run_shifts.specs.Bookings.{HasMore, booked_for, open_receipts, IsCancelTold}
+use Rattle.run_shifts.specs.Bookings.{HasMore, booked_for, IsCancelTold}
 use Rattle.run_shifts.specs.PassTold.{IsPassTold}
 use Rattle.run_shifts.specs.FinishFaults.{IsFinishFault}
 
@@ -142,35 +141,3 @@ pub record IsClosing (ids : List ℕ) (receipts : List (Receipt Global)) (totals
 -- the books of these gateways don't go with a desk, or with just these receipts
 abbrev pub IsClosingFault : List ℕ → List (Receipt Global) → TextFault → Type 0
 IsClosingFault ids receipts fault = (cause : FinishCause) × IsCauseAt ids receipts cause × IsFinishFault cause fault
-
--- these events were done for one after another at a station of these gateways, which was closed then: the books have booked the
--- airtime of all that was settled meanwhile
-pub record IsFinished (ids : List ℕ) (es : List (Event Global)) (entries : List (Entry Global)) (totals : List (ℕ × Totals))
-    (books : List Book) : Type 0 where
-  pub till : Holding
-  pub bookings : List Booking
-  pub done : AreDone ids 0 es (run_state opening_till [] []) (run_state till bookings entries)
-  pub closing : IsClosing ids (open_receipts bookings) totals books
-  pub booked : booked_by books ≡ till.amount
-
--- at a station of gateways with these settings
-pub record IsPlayed (gateways : List GatewaySetting) (es : List (Event Global)) (entries : List (Entry Global))
-    (totals : List (ℕ × Totals)) (books : List Book) : Type 0 where
-  pub ids : List ℕ
-  pub in_order : AreInOrder gateways ids
-  pub finished : IsFinished ids es entries totals books
-
--- these events were done for one after another at a station of these gateways, whose books then didn't go with a desk, or with
--- just the receipts of what was not cancelled
-pub record IsFinishedApart (ids : List ℕ) (es : List (Event Global)) (fault : TextFault) : Type 0 where
-  pub till : Holding
-  pub bookings : List Booking
-  pub entries : List (Entry Global)
-  pub done : AreDone ids 0 es (run_state opening_till [] []) (run_state till bookings entries)
-  pub cause : IsClosingFault ids (open_receipts bookings) fault
-
--- at a station of gateways with these settings
-pub record IsPlayedApart (gateways : List GatewaySetting) (es : List (Event Global)) (fault : TextFault) : Type 0 where
-  pub ids : List ℕ
-  pub in_order : AreInOrder gateways ids
-  pub finished : IsFinishedApart ids es fault

@@ -1,2 +1,3 @@
 pub mod RunWhole
 pub mod AheadLemmas
+pub mod PlayedLemmas

@@ -19,7 +19,7 @@ use Rattle.run_lines.specs.ReplayText.{replay_lines}
 use Rattle.run_lines.specs.RunInput.{settings_part, event_part}
 use Rattle.run_lines.specs.RunEvents.{events_of}
 use Rattle.run_shifts.specs.FinishFaults.{IsPlayFault}
-use Rattle.run_shifts.specs.WorkersRun.{IsPlayed, IsPlayedApart}
+use Rattle.run_texts.specs.Played.{IsPlayed, IsPlayedApart}
 
 -- The output of `airbook run`, and what its text promises of a reader and a writer that tell their bytes.
 

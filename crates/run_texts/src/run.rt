@@ -5,7 +5,8 @@ ghost use Rattle.text_words.specs.Fault.{CountsReads, CountsWrites};
 ghost use Rattle.run_lines.specs.RunInput.{KeepsInputLimit, event_part};
 ghost use Rattle.run_lines.specs.RunEvents.{events_of};
 ghost use Rattle.run_shifts.specs.FinishFaults.{IsPlayFault};
-ghost use Rattle.run_shifts.specs.WorkersRun.{IsPlayed, IsPlayedApart, IsStaffed};
+ghost use Rattle.run_shifts.specs.WorkersRun.{IsStaffed};
+ghost use Rattle.run_texts.specs.Played.{IsPlayed, IsPlayedApart};
 ghost use Rattle.run_texts.specs.RunOutput.{Runs, RunsInPart, NamesFault, NamesFaultOfWorkers, NamesWorkers};
 ghost use Rattle.run_texts.specs.RunOutput.{IsWorkersRun, IsWorkersRunInPart, RunsByWorkers, RunsByWorkersInPart, NamesApart};
 

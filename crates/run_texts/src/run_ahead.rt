@@ -4,7 +4,8 @@ ghost use Rattle.std.specs.Str.Lines.{lines};
 ghost use Rattle.run_lines.specs.RunEvents.{events_from, events_of};
 ghost use Rattle.run_lines.specs.RunInput.{event_part};
 ghost use Rattle.run_shifts.specs.FinishFaults.{IsPlayFault};
-ghost use Rattle.run_shifts.specs.WorkersRun.{HasOpened, IsPlayed, IsPlayedApart, IsStaffed, run_state};
+ghost use Rattle.run_shifts.specs.WorkersRun.{HasOpened, IsStaffed, run_state};
+ghost use Rattle.run_texts.specs.Played.{IsPlayed, IsPlayedApart};
 ghost use Rattle.server_station.specs.Stations.{AreInOrder};
 ghost use Rattle.run_texts.specs.Ahead.{IsAhead};
 
@@ -101,14 +102,16 @@ where
         (run_state made.0.shift.till made.0.shift.receipts made.0.shift.entries.items)) }
 {
     let room = text.len() / LEAST_HEARD;
-    let shift = Shift::<B, S>::new(alloc, hasher, settings, workers, blank, room)?;
     match first_quarter(text) {
         Some((front, count, back)) if workers > 1 => {
+            let shift = Shift::<B, S>::new(alloc, hasher, settings, workers, blank, room)?;
             let behind = 1 + count as u64;
             ahead_of(rt, alloc, shift, settings, front, behind, back)
         }
         _ => {
+            // First, so that what is made beside them and freed lies behind nothing that stays, and leaves no hole.
             let events = events_from(alloc, settings.devices(), 1, text)?;
+            let shift = Shift::<B, S>::new(alloc, hasher, settings, workers, blank, room)?;
             Ok((Begun { shift, place: 0 }, events))
         }
     }

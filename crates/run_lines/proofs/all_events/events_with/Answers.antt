@@ -1,7 +1,7 @@
 use Rattle.std.proofs.Common.{◌++◌, sym, ap, ◌∙◌, append-nil, arith}
 use Rattle.std.specs.Str.Lines.{lines}
 use Rattle.run_lines.specs.RunEvents.{events_from}
-use Rattle.run_lines.proofs.HalfLemmas.{events_more}
+use Rattle.run_lines.proofs.PartLemmas.{events_more}
 use Rattle.run_lines.proofs.all_events.events_with.Goals as goal
 
 pub loop-line-preserved : goal.loop-line-preserved

@@ -5,8 +5,8 @@ use Rattle.run_texts.specs.Ahead.{IsAhead}
 use Rattle.run_texts.proofs.AheadLemmas.{in_parts}
 use Rattle.run_texts.proofs.run_ahead.opened_for.Goals as goal
 
-pub returns-in-Some-clause-ahead : goal.returns-in-Some-clause-ahead
-returns-in-Some-clause-ahead g c =
+pub returns-in_ok-shift-in-Some-clause-ahead : goal.returns-in_ok-shift-in-Some-clause-ahead
+returns-in_ok-shift-in-Some-clause-ahead g c =
     let settings = c.args.settings.now in
     let whole = lines c.args.text.now in
     let front = lines c.in-Some.front.now in

@@ -5,9 +5,9 @@ use Rattle.run_lines.specs.RunEvents.{events_of}
 use Rattle.run_lines.specs.RunInput.{event_part}
 use Rattle.run_shifts.specs.Bookings.{open_receipts}
 use Rattle.run_shifts.specs.WorkersRun.{run_state, IsClosing, IsClosingFault}
-use Rattle.run_shifts.proofs.DoneLemmas.{finished_with, apart_with, played_apart}
 use Rattle.run_texts.specs.Ahead.{IsAhead}
-use Rattle.run_texts.proofs.AheadLemmas.{ahead_done, played_with}
+use Rattle.run_texts.proofs.AheadLemmas.{ahead_done}
+use Rattle.run_texts.proofs.PlayedLemmas.{finished_with, apart_with, played_apart, played_with}
 use Rattle.run_texts.proofs.run_ahead.play.Goals as goal
 
 pub returns-in-Ok-answer_all-clause-played : goal.returns-in-Ok-answer_all-clause-played
