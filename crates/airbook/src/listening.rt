@@ -19,7 +19,7 @@ pub enum Stopped {
 }
 
 /// How a server listens.
-#[derive(Clone, Copy, Debug, PartialEq, Eq)]
+#[derive(Clone, Copy)]
 pub struct Listening {
     /// The UDP port of 127.0.0.1.
     pub port: u16,
