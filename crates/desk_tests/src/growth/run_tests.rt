@@ -2,12 +2,12 @@
 
 use crate::runs::{IN_RX1, Row, Told, tells};
 use answer_ticket::Bytes;
-use refusing_alloc::{Call, Refuser, Refusing, growths_of, same, was_refused};
+use refusing_alloc::{Call, Refused, Refuser, Refusing, growths_of, refuse, same, was_refused};
 use rx_windows::Candidate;
-use server_core::{DeskHeard, Entry, Event, Settings, answer_events, replay};
+use server_core::{DeskHeard, Event, Settings, answer_events, replay};
 use std::alloc::{Allocator, Global};
 use std::test::Fail;
-use test_asserts::{equal, holds};
+use test_asserts::holds;
 use worked_inputs::{copy_at, device, hasher, settings_of, uplink};
 
 /// The address of the device.
@@ -87,74 +87,48 @@ fn events<A: Allocator + Copy>(memory: Global, alloc: A) -> Result<Vec<Event<A>,
     Ok(events)
 }
 
-/// Compares the lines of a run, and how many there are of all else.
-fn compare<A: Allocator>(
-    outcomes: &[Entry<A>],
-    counts: &[usize],
-    wanted: &[usize],
-) -> Result<bool, Fail> {
-    tells(outcomes, &LINES)?;
-    equal(&counts, &wanted)?;
-    Ok(true)
-}
-
-/// A run of these events by these settings, with memory of which growths are refused.
+/// A run of these events by these settings, or the answers to them alone, with memory of which growths are refused.
 #[derive(Drop)]
-struct Run<'r, A: Allocator>(&'r Settings<Global>, &'r [Event<A>], A);
+struct Run<'r, A: Allocator> {
+    settings: &'r Settings<Global>,
+    memory: Global,
+    own: A,
+    is_replayed: bool,
+}
 
 impl<'r, A: Allocator + Copy> Run<'r, A> {
-    /// Whether it finds memory; it answers as ever then, with two books and in 16 steps.
-    fn is_whole(&self) -> Result<bool, Fail> {
-        match replay(self.2, hasher(), self.0, self.1) {
-            Ok(replay) => compare(
-                &replay.outcomes,
-                &[replay.books.len(), replay.steps.len()],
-                &[2, 16],
-            ),
-            Err(_) => Ok(false),
-        }
+    /// Whether it finds memory where these growths are refused. It answers as ever then, with two books; and with 16 steps, where
+    /// it has steps.
+    fn is_whole(&self, alloc: &Refuser, refused: Refused) -> Result<bool, Fail> {
+        let events = events(self.memory, self.own)?;
+        refuse(alloc, refused);
+        let counts = if self.is_replayed {
+            let Ok(replay) = replay(self.own, hasher(), self.settings, &events) else {
+                return Ok(false);
+            };
+            tells(&replay.outcomes, &LINES)?;
+            [replay.books.len(), replay.steps.len()]
+        } else {
+            let Ok(answers) = answer_events(self.own, hasher(), self.settings, events) else {
+                return Ok(false);
+            };
+            tells(&answers.outcomes, &LINES)?;
+            [answers.books.len(), 0]
+        };
+        same(counts, [2, if self.is_replayed { 16 } else { 0 }])?;
+        Ok(true)
     }
 }
 
-/// With the growth of this number refused, and all that follow it. With memory the run then answers as ever; and so it does
-/// where that growth alone is refused, if something asks for less then.
+/// With the growth of this number refused, and all that follow it. With memory it then answers as ever; and so it does where that
+/// growth alone is refused, if something asks for less then.
 impl<'r, A: Allocator + Copy> Call for Run<'r, A> {
     fn is_refused(&mut self, alloc: &Refuser, number: u64) -> Result<bool, Fail> {
-        alloc.refuse_from(number);
-        let is_starved = !self.is_whole()?;
+        let is_starved = !self.is_whole(alloc, (number, true))?;
         if was_refused(alloc, number, is_starved, true)? {
-            holds(self.is_whole()?)?;
-            alloc.refuse(number);
-            self.is_whole()?;
+            holds(self.is_whole(alloc, (0, false))?)?;
+            self.is_whole(alloc, (number, false))?;
             alloc.grant();
-        }
-        Ok(is_starved)
-    }
-}
-
-/// The answers to the events by these settings, with memory of which growths are refused.
-#[derive(Drop)]
-struct Answered<'r, A: Allocator>(&'r Settings<Global>, Global, A);
-
-impl<'r, A: Allocator + Copy> Answered<'r, A> {
-    /// Whether they find memory with growths from this number on refused, or none where it is 0. They are as ever then, with two
-    /// books.
-    fn is_whole(&self, alloc: &Refuser, number: u64) -> Result<bool, Fail> {
-        let events = events(self.1, self.2)?;
-        alloc.refuse_from(number);
-        match answer_events(self.2, hasher(), self.0, events) {
-            Ok(answers) => compare(&answers.outcomes, &[answers.books.len()], &[2]),
-            Err(_) => Ok(false),
-        }
-    }
-}
-
-/// With the growth of this number refused, and all that follow it. With memory they are as ever.
-impl<'r, A: Allocator + Copy> Call for Answered<'r, A> {
-    fn is_refused(&mut self, alloc: &Refuser, number: u64) -> Result<bool, Fail> {
-        let is_starved = !self.is_whole(alloc, number)?;
-        if was_refused(alloc, number, is_starved, true)? {
-            holds(self.is_whole(alloc, 0)?)?;
         }
         Ok(is_starved)
     }
@@ -167,8 +141,15 @@ fn are_refused<A: Allocator + Copy>(
     settings: &Settings<Global>,
     memory: Global,
 ) -> Result<(), Fail> {
-    let replayed = growths_of(alloc, &mut Run(settings, &events(memory, own)?, own))?;
-    let answered = growths_of(alloc, &mut Answered(settings, memory, own))?;
+    let mut run = Run {
+        settings,
+        memory,
+        own,
+        is_replayed: true,
+    };
+    let replayed = growths_of(alloc, &mut run)?;
+    run.is_replayed = false;
+    let answered = growths_of(alloc, &mut run)?;
     same((replayed, answered), (42, 35))
 }
 
