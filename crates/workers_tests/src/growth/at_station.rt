@@ -80,14 +80,10 @@ impl<'c> AtWork for Calling<'c> {
 }
 
 /// Payloads are queued, copies are heard and tickets are taken, each with each of its growths refused.
-fn are_refused<R: Wait>(rt: &R, memory: Global, cases: &[Case]) -> Result<(), Fail> {
-    for case in cases {
-        takes(rt, memory, 0, &Calling(memory, case), case.growths)?;
-    }
-    Ok(())
-}
-
 #[test]
 fn calls_of_a_station(rt: HostRuntime) -> Result<(), Fail> {
-    are_refused(&rt, rt.alloc(), &CASES)
+    for case in &CASES {
+        takes(&rt, rt.alloc(), 0, &Calling(rt.alloc(), case), case.growths)?;
+    }
+    Ok(())
 }

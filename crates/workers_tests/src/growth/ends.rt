@@ -25,30 +25,6 @@ fn file<B: Ledger, A: Allocator + Copy, R: Wait>(
     }
 }
 
-/// Answers two uplinks, each with another till.
-fn file_both<B: Ledger, A: Allocator + Copy, R: Wait>(
-    rt: &R,
-    station: &Station<B, WorkedHasher, A>,
-    till: &mut Till<B>,
-    other: &mut Till<B>,
-    receipts: &mut Vec<Receipt<A>, A>,
-) -> Result<(), Fail> {
-    file(rt, station, till, 1, receipts)?;
-    file(rt, station, other, 2, receipts)
-}
-
-/// Two tills as a list.
-fn listed<B: Ledger, A: Allocator>(
-    memory: A,
-    till: Till<B>,
-    other: Till<B>,
-) -> Result<Vec<Till<B>, A>, Fail> {
-    let mut tills = Vec::new(memory);
-    tills.push(till)?;
-    tills.push(other)?;
-    Ok(tills)
-}
-
 /// Two tills, and the receipts of what was counted with them.
 type Counted<B, A> = (Vec<Till<B>, A>, Vec<Receipt<A>, A>);
 
@@ -64,8 +40,12 @@ fn answered<B: Ledger, A: Allocator + Copy, R: Wait>(
     let mut till = till;
     let mut other = till.split();
     let mut receipts = Vec::new(memory);
-    file_both(rt, station, &mut till, &mut other, &mut receipts)?;
-    Ok((listed(memory, till, other)?, receipts))
+    file(rt, station, &mut till, 1, &mut receipts)?;
+    file(rt, station, &mut other, 2, &mut receipts)?;
+    let mut tills = Vec::new(memory);
+    tills.push(till)?;
+    tills.push(other)?;
+    Ok((tills, receipts))
 }
 
 /// What a station came to: the airtime that was booked, and that of all totals; how many totals and books there are; and what the

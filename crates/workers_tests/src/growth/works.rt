@@ -71,33 +71,8 @@ fn a_ticket_is_tried(rt: HostRuntime) -> Result<(), Fail> {
     takes(&rt, rt.alloc(), 2, &Tries, 2)
 }
 
-/// An uplink is answered with the growth of this number refused, at a gate that notes who goes where: who has a ticket goes to
-/// gateway 1 and leaves it, whether the try found memory or not.
-fn is_answered_without<B: Ledger, A: Allocator + Copy, R: Wait>(
-    rt: &R,
-    alloc: &Refuser,
-    station: &Station<B, WorkedHasher, A>,
-    till: &mut Till<B>,
-    number: u64,
-) -> Result<bool, Fail> {
-    let log = Log::new();
-    alloc.refuse(number);
-    let handled = station.answer(rt, &log, 2, till, &mut 0);
-    let asked = asked_of(alloc);
-    let (is_starved, calls) = gone(&handled);
-    same(log.calls(), calls)?;
-    is_as_asked(asked, number, is_starved, false)
-}
-
-/// Whether an uplink wasn't booked, and who went where for it.
-fn gone<A: Allocator>(handled: &Handled<A>) -> (bool, u64) {
-    match handled {
-        Handled::NotTaken(_) => (true, 0),
-        Handled::Settled(_, receipt) | Handled::Stray(_, receipt) => (receipt.is_none(), 16),
-    }
-}
-
-/// An uplink is answered.
+/// An uplink is answered at a gate that notes who goes where: who has a ticket goes to gateway 1 and leaves it, whether the try
+/// found memory or not.
 #[derive(Drop)]
 struct Answers;
 
@@ -112,7 +87,16 @@ impl AtWork for Answers {
         number: u64,
     ) -> Result<bool, Fail> {
         let mut till = till;
-        is_answered_without(rt, alloc, &station, &mut till, number)
+        let log = Log::new();
+        alloc.refuse(number);
+        let handled = station.answer(rt, &log, 2, &mut till, &mut 0);
+        let asked = asked_of(alloc);
+        let (is_starved, calls) = match handled {
+            Handled::NotTaken(_) => (true, 0),
+            Handled::Settled(_, receipt) | Handled::Stray(_, receipt) => (receipt.is_none(), 16),
+        };
+        same(log.calls(), calls)?;
+        is_as_asked(asked, number, is_starved, false)
     }
 }
 
