@@ -145,9 +145,12 @@ fn is_closed(
     is_as_asked(asked, number, is_starved, false)
 }
 
-/// A station that answered an uplink on each gateway, each with another till, is finished.
+/// A station that answered an uplink on each gateway, each with another till, is finished: with all receipts, or with none, where
+/// more is looked at.
 #[derive(Drop)]
-struct Finishes;
+struct Finishes {
+    are_given: bool,
+}
 
 impl AtWork for Finishes {
     fn is_refused<B: Ledger, A: Allocator + Copy, R: Wait>(
@@ -159,12 +162,16 @@ impl AtWork for Finishes {
         till: Till<B>,
         number: u64,
     ) -> Result<bool, Fail> {
-        let (tills, receipts) = answered(rt, own, &station, till)?;
+        let (tills, mut receipts) = answered(rt, own, &station, till)?;
+        if !self.are_given {
+            receipts.clear();
+        }
         is_finished_without(rt, alloc, station, own, tills, &receipts, number)
     }
 }
 
 #[test]
 fn a_station_is_finished(rt: HostRuntime) -> Result<(), Fail> {
-    takes(&rt, rt.alloc(), 2, &Finishes, 6)
+    takes(&rt, rt.alloc(), 2, &Finishes { are_given: true }, 6)?;
+    takes(&rt, rt.alloc(), 2, &Finishes { are_given: false }, 7)
 }
