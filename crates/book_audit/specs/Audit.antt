@@ -1,4 +1,4 @@
-use Rattle.std.specs.Prelude.{ℕ, ◌≡◌, ◌≢◌, ◌+◌, ◌<◌, ◌≤◌, ◌==◌, ◌⊎◌, ⊤, Bool, not, List, [], ◌∷◌, ◌++◌, map, filter, find, All}
+use Rattle.std.specs.Prelude.{ℕ, ◌≡◌, ◌≢◌, ◌+◌, ◌<◌, ◌≤◌, ◌==◌, ◌⊎◌, Bool, not, List, [], ◌∷◌, ◌++◌, map, filter, find, All}
 use Rattle.std.specs.Prelude.{AllPairs, Some, unwrap_or, Contains, count_by}
 use Rattle.std.specs.List.{flat_map, list_any}
 use Rattle.std.specs.List.Sorted.{IsPermutation}
@@ -118,4 +118,4 @@ IsCauseOf desk shelf receipts (Apart gateway booked answered) =
 IsCauseOf desk shelf receipts (Doubled number gateway other) = AreTogether desk shelf × IsDoubled shelf number gateway other
 IsCauseOf desk shelf receipts (Lost number) =
     AreTogether desk shelf × EachStandsOnce (kept_numbers (books_of shelf)) × IsLost shelf receipts number
-IsCauseOf desk shelf receipts NoMemory = ⊤
+IsCauseOf desk shelf receipts NoMemory = AreTogether desk shelf

@@ -1,9 +1,9 @@
 -- What the calling thread files, number by number.
-use Rattle.std.proofs.Common.{◌≡◌, ℕ, ◌++◌, List, [], ◌∷◌, Some, Vec, subst, sym}
+use Rattle.std.proofs.Common.{◌≡◌, ℕ, ◌++◌, ◌+◌, List, [], ◌∷◌, Some, subst, sym}
 use Rattle.std.proofs.Common.{ap, ◌∙◌, append_assoc, append-nil, refl, length, ◌==◌, Bool, true, map, arith}
 use Rattle.std.specs.Global.{Global}
 use Rattle.std.specs.List.{flat_map}
-use Rattle.std.specs.List.Sorted.{IsPermutation}
+use Rattle.std.specs.List.Sorted.{IsPermutation, IsNonDecreasingBy}
 use Rattle.std.proofs.Math.Logic.{∥∥₁_map}
 use Rattle.std.proofs.lemmas.Bool.Decides.{nat_tests}
 use Rattle.std.proofs.lemmas.List.Elements.{All-nil}
@@ -19,8 +19,9 @@ use Rattle.server_station.specs.declared.handled.Handled.{Handled}
 use Rattle.server_station.specs.declared.handled.Handled.TheVariants.{NotTaken, Settled, Stray}
 use Rattle.server_workers.specs.declared.served.Served.{Served}
 use Rattle.server_workers.specs.Served.{IsServed}
+use Rattle.server_workers.specs.Serving.{IsSortedByNumber}
 use Rattle.server_workers.specs.Turns.{IsOneOf}
-use Rattle.server_workers.specs.Working as working
+use Rattle.server_workers.specs.Works.{outcomes_airtime}
 use Rattle.server_workers.specs.Working.{receipts_of, outcomes_of, strays_of}
 use Rattle.server_workers.proofs.TurnLemmas.{handed_on}
 use Rattle.run_passes.specs.declared.pass_answers.Answer.{Answer}
@@ -28,8 +29,8 @@ use Rattle.run_passes.specs.declared.pass_ends.Ends.{Ends}
 use Rattle.run_passes.specs.Booking.{booking_of}
 use Rattle.run_passes.specs.PassEnds.{AreNone, AreByNumber, left_by}
 use Rattle.run_passes.specs.PassAnswers.{answer_in}
-use Rattle.run_shifts.specs.PassTurns.{AreServed, WereEnded, TakenUp, IsFiled, HasFiled, HasFiledInOrder, refused_of}
-use Rattle.run_shifts.specs.PassTold.{IsPassToldFrom}
+use Rattle.run_shifts.specs.PassTurns.{ends_of, WereEnded, TakenUp, IsFiled, HasFiled, HasFiledInOrder, refused_of}
+use Rattle.run_shifts.specs.PassTold.{raised, IsPassTold, IsPassToldFrom, IsPassToldAlone}
 
 -- a list that has got more, one turn after others
 more : {X : Type 0} (f : TakenUp → List X) (turns : List TakenUp) (t : TakenUp) (old mid new : List X)
@@ -109,24 +110,47 @@ told_in_order ids before after workers all numbers left answers booked filed sam
     }
 
 -- what workers served is how they ended it
-pub served_ended : {B : Type 0} (numbers : List ℕ) (served : Served B Global) (e : Ends) → IsServed numbers served
-    → AreServed served e → WereEnded numbers e
-served_ended numbers served e all same =
+pub served_ended : {B : Type 0} (numbers : List ℕ) (served : Served B Global) → IsServed numbers served
+    → WereEnded numbers (ends_of served)
+served_ended numbers served all =
     ∥∥₁_map all (λ s. (
       s.0,
       record {
         among = s.1.among;
         told = s.1.told;
-        receipts = subst (IsPermutation (flat_map (λ (t : TakenUp). receipts_of t.1) s.0))
-            (sym (ap (λ (v : Vec (Receipt Global) Global). v.items) same.receipts)) s.1.receipts;
-        outcomes = subst (IsPermutation (flat_map (λ (t : TakenUp). outcomes_of t.1) s.0))
-            (sym (ap (λ (v : Vec Outcome Global). v.items) same.outcomes)) s.1.outcomes;
-        refused = subst (IsPermutation (flat_map (λ (t : TakenUp). working.refused_of t.0 t.1) s.0))
-            (sym (ap (λ (v : Vec (ℕ × TakeFault) Global). v.items) same.refused)) s.1.refused;
-        strays = subst (IsPermutation (flat_map (λ (t : TakenUp). strays_of t.0 t.1) s.0))
-            (sym (ap (λ (v : Vec ℕ Global). v.items) same.strays)) s.1.strays;
+        receipts = s.1.receipts;
+        outcomes = s.1.outcomes;
+        refused = s.1.refused;
+        strays = s.1.strays;
       },
     ))
+
+-- what is sorted by number is so as ends
+pub served_by_number : {B : Type 0} (served : Served B Global) → IsSortedByNumber served → AreByNumber (ends_of served)
+served_by_number served sorted =
+    record {
+      receipts = sorted.receipts;
+      outcomes = sorted.outcomes;
+      refused = sorted.refused;
+      strays = sorted.strays;
+    }
+
+-- no ends are by number
+pub none_by_number : (e : Ends) → AreNone e → AreByNumber e
+none_by_number e none =
+    record {
+      receipts = subst (IsNonDecreasingBy (λ (r : Receipt Global). r.number)) (sym none.receipts) (λ i j d l m. absurd (omega (arith, m)));
+      outcomes = subst (IsNonDecreasingBy (λ (o : Outcome). o.number)) (sym none.outcomes) (λ i j d l m. absurd (omega (arith, m)));
+      refused = subst (IsNonDecreasingBy (λ (r : ℕ × TakeFault). r.0)) (sym none.refused) (λ i j d l m. absurd (omega (arith, m)));
+      strays = subst (IsNonDecreasingBy (λ (n : ℕ). n)) (sym none.strays) (λ i j d l m. absurd (omega (arith, m)));
+    }
+
+-- where nobody worked the till is as it was
+pub raised_none : (till : Holding) (e : Ends) → AreNone e → till ≡ raised till e
+raised_none till e none =
+    let zero : outcomes_airtime e.outcomes.items ≡ 0 = ap outcomes_airtime none.outcomes in
+    let same : till.amount + outcomes_airtime e.outcomes.items ≡ till.amount = omega (arith, zero) in
+    sym (ap (λ n. record till { amount = n }) same)
 
 -- where nobody worked none ended
 pub none_ended : (numbers : List ℕ) (e : Ends) → AreNone e → WereEnded numbers e
@@ -142,6 +166,18 @@ none_ended numbers e none =
         strays = subst (IsPermutation []) (sym none.strays) (IsPermutation-refl []);
       },
     ) ∣₁
+
+-- what the calling thread told alone is told where no worker ended any
+pub told_alone : (ids : List ℕ) (before after : Holding) (numbers : List ℕ) (answers : List Answer)
+    (booked : List (Receipt Global)) → IsPassToldAlone ids before after numbers answers booked
+    → IsPassTold ids before after numbers answers booked
+told_alone ids before after numbers answers booked alone =
+    record {
+      workers = alone.0;
+      by_number = none_by_number alone.0 alone.1;
+      ended = none_ended numbers alone.0 alone.1;
+      told = alone.2;
+    }
 
 -- the till keeps its parts
 pub handled_parts : (ids : List ℕ) (n : ℕ) (old new : Holding) (turn : Handled Global) → IsHandled ids n old new turn

@@ -17,12 +17,10 @@ use Rattle.run_passes.specs.PassEnds.{IsReordered}
 -- Who ended the uplinks that one `pass` closed, after this project's profile: the workers, and, where none of them ended one, the
 -- calling thread.
 
--- what workers did together, but for what they skipped, which has not ended
-pub record AreServed {B : Type 0} (served : Served B Global) (e : Ends) : Type 0 where
-  pub receipts : e.receipts ≡ served.receipts
-  pub outcomes : e.outcomes ≡ served.outcomes
-  pub refused : e.refused ≡ served.refused
-  pub strays : e.strays ≡ served.strays
+-- how workers ended uplinks, by what they did together; what they skipped has not ended
+abbrev pub ends_of : {B : Type 0} → Served B Global → Ends
+ends_of served =
+    record { receipts = served.receipts; outcomes = served.outcomes; refused = served.refused; strays = served.strays }
 
 -- every fault for which number n got no ticket
 abbrev pub refused_of : ℕ → Handled Global → List (ℕ × TakeFault)

@@ -1,16 +1,15 @@
 // The uplinks that one `pass` of a run on a station closes: workers answer them, and the calling thread the rest.
-ghost use Rattle.std.specs.Prelude.{◌≡◌, ◌+◌, ◌≤◌, ◌↔◌, Ok, IfOk, IfErr, OnOk, IsErrAnd};
+ghost use Rattle.std.specs.Prelude.{◌≡◌, ◌≤◌, ◌↔◌, Ok, Err, IfOk, IfErr, OnOk, IsErrAnd};
 ghost use Rattle.server_workers.specs.Serving.{IsOutside, IsSortedByNumber};
-ghost use Rattle.server_workers.specs.Works.{outcomes_airtime};
-ghost use Rattle.run_passes.specs.PassEnds.{AreNone, AreByNumber};
-ghost use Rattle.run_shifts.specs.PassTurns.{AreServed, IsFiled, HasFiled, HasFiledInOrder, WereEnded};
+ghost use Rattle.run_passes.specs.PassEnds.{AreByNumber};
+ghost use Rattle.run_shifts.specs.PassTurns.{ends_of, IsFiled, HasFiled, HasFiledInOrder};
 ghost use Rattle.run_shifts.specs.PassTold.{IsPassTold, IsPassToldFrom, IsPassToldAlone};
 
 use answer_ticket::Receipt;
 use run_passes::{Answer, Ends};
 use server_core::NoMemory;
 use server_workers::{
-    Handled, Ledger, MAX_WORKERS, NoGate, PARTS, ServeCause, Served, Station, Till, serve,
+    Handled, Ledger, MAX_WORKERS, NoGate, PARTS, ServeCause, ServeFault, Served, Station, Till, serve,
 };
 use std::alloc::Global;
 use std::hash::BuildHasher;
@@ -41,14 +40,6 @@ pub struct Told {
     pub booked: Vec<Receipt<Global>>,
 }
 
-/// What workers made of some uplinks.
-#[derive(Drop)]
-struct Shared<B: Ledger> {
-    till: Till<B>,
-    ran: Result<u8, ServeCause>,
-    ends: Ends,
-}
-
 /// Answers the uplinks with these numbers by as many of so many workers as there is work for. What they did not end, and all
 /// where none could work, the calling thread takes up once more. The till comes with all parts of the ledger, and comes back so.
 /// `told` is Err(NoMemory) where a growth was refused: what was answered by then is settled and booked, and its lines and
@@ -76,13 +67,11 @@ where
     ensures alone { IfErr result.ran (λ _. IfOk result.told
         (λ told. IsPassToldAlone station.now till result.till numbers.now told.answers.items told.booked.items)) }
 {
-    let Shared {
-        mut till,
-        ran,
-        ends,
-    } = shared_out(rt, alloc, station, numbers, till, workers);
-    let told = told_of(rt, alloc, station, numbers, &mut till, ends);
-    Answered { till, ran, told }
+    let asked = wanted(workers, numbers.len());
+    match serve(rt, alloc, station, numbers, till, asked, &NoGate) {
+        Ok(served) => told_behind(rt, alloc, station, numbers, served),
+        Err(fault) => told_alone(rt, alloc, station, numbers, fault),
+    }
 }
 
 /// How many of so many workers so many numbers want: one, and one more for each 32 numbers, as a thread costs what some
@@ -98,46 +87,22 @@ fn wanted(workers: u8, count: usize) -> u8
     most as u8
 }
 
-/// What as many of so many workers as there is work for make of the uplinks with these numbers.
-fn shared_out<B: Ledger + Send + Sync, S: BuildHasher + Send + Sync, R: Threads + Wait + Sync>(
+/// What is told of the uplinks with these numbers behind workers that did this together: what they skipped has not ended.
+fn told_behind<B: Ledger, S: BuildHasher, R: Wait>(
     rt: &R,
     alloc: Global,
     station: &Station<B, S>,
     numbers: &[u64],
-    till: Till<B>,
-    workers: u8,
-) -> Shared<B>
-where
-    S::Hasher: Send + Sync,
-    requires { till.parts ≡ PARTS }
-    ensures till { result.till ≡ record till { amount = till.amount + outcomes_airtime result.ends.outcomes.items } }
-    ensures sorted { AreByNumber result.ends }
-    ensures ended { WereEnded numbers.now result.ends }
-    ensures ran { IfOk result.ran (λ ran. (1 ≤ ran) × (ran ≤ workers)) }
-    ensures outside { IsErrAnd result.ran (λ cause. cause ≡ ServeCause.Workers) ↔ IsOutside workers }
-    ensures nobody { IfErr result.ran (λ cause. AreNone result.ends) }
-{
-    let asked = wanted(workers, numbers.len());
-    match serve(rt, alloc, station, numbers, till, asked, &NoGate) {
-        Ok(served) => joined_in(served),
-        Err(fault) => Shared {
-            till: fault.till,
-            ran: Err(fault.cause),
-            ends: Ends::none(alloc),
-        },
-    }
-}
-
-/// What workers did together. What they skipped has not ended.
-fn joined_in<B: Ledger>(served: Served<B>) -> Shared<B>
+    served: Served<B>,
+) -> Answered<B>
     requires { IsSortedByNumber served }
-    ensures till { result.till ≡ served.till }
+    ensures parts { result.till.parts ≡ served.till.parts }
     ensures ran { result.ran ≡ Ok served.ran }
-    ensures ends { AreServed served result.ends }
-    ensures sorted { AreByNumber result.ends }
+    ensures told { IfOk result.told (λ told. IsPassToldFrom station.now served.till result.till (ends_of served) numbers.now
+        told.answers.items told.booked.items) }
 {
     let Served {
-        till,
+        mut till,
         receipts,
         outcomes,
         skipped: _,
@@ -147,15 +112,39 @@ fn joined_in<B: Ledger>(served: Served<B>) -> Shared<B>
         ran,
         ..
     } = served;
-    Shared {
+    let ends = Ends {
+        receipts,
+        outcomes,
+        refused,
+        strays,
+    };
+    let told = told_of(rt, alloc, station, numbers, &mut till, ends);
+    Answered {
         till,
         ran: Ok(ran),
-        ends: Ends {
-            receipts,
-            outcomes,
-            refused,
-            strays,
-        },
+        told,
+    }
+}
+
+/// What is told of the uplinks with these numbers where no worker was started, for this cause.
+fn told_alone<B: Ledger, S: BuildHasher, R: Wait>(
+    rt: &R,
+    alloc: Global,
+    station: &Station<B, S>,
+    numbers: &[u64],
+    fault: ServeFault<B>,
+) -> Answered<B>
+    ensures parts { result.till.parts ≡ fault.till.parts }
+    ensures ran { result.ran ≡ Err fault.cause }
+    ensures told { IfOk result.told (λ told. IsPassToldAlone station.now fault.till result.till numbers.now
+        told.answers.items told.booked.items) }
+{
+    let ServeFault { cause, mut till } = fault;
+    let told = told_of(rt, alloc, station, numbers, &mut till, Ends::none(alloc));
+    Answered {
+        till,
+        ran: Err(cause),
+        told,
     }
 }
 

@@ -4,6 +4,12 @@ use Rattle.book_audit.specs.Held.{AllDiffer}
 use Rattle.book_audit.proofs.HeldLemmas.{doubled_kept, once_differ}
 use Rattle.book_audit.proofs.comparing.compare.Goals as goal
 
+pub returns-in-Err-clause-cause : goal.returns-in-Err-clause-cause
+returns-in-Err-clause-cause g c = c.in_default.ensures.together refl
+
+pub returns-in_default-held_by_number-clause-cause : goal.returns-in_default-held_by_number-clause-cause
+returns-in_default-held_by_number-clause-cause g c = c.in_default.ensures.together refl
+
 pub first_doubled-requires : goal.first_doubled-requires
 first_doubled-requires g c =
     subst (IsNonDecreasingBy (λ h. h.1.number)) (sym c.deref.ensures.value) c.in-Ok.ensures.rising
