@@ -1,5 +1,5 @@
 // A ledger is opened.
-ghost use Rattle.std.specs.Prelude.{◌≡◌, ℕ};
+ghost use Rattle.std.specs.Prelude.{◌≡◌};
 
 use crate::{Blank, Ledger, Tally, Till};
 

@@ -1,5 +1,5 @@
 // Members of rosters, and how they get in.
-ghost use Rattle.std.specs.Prelude.{◌≡◌, IsTrue};
+ghost use Rattle.std.specs.Prelude.{IsTrue};
 ghost use Rattle.resv_list.specs.Reservations.{IsFree};
 
 use radio_airtime::DataRate;

@@ -1,9 +1,9 @@
 // The answer to a line, and its text.
-ghost use Rattle.std.specs.Prelude.{◌≡◌, ◌+◌, ◌≤◌, [], ◌∷◌, ◌++◌, length, decimal};
+ghost use Rattle.std.specs.Prelude.{◌≡◌, ◌+◌, ◌≤◌, [], ◌∷◌, ◌++◌, length};
 
 use gateway_book::{CancelFault, Refusal};
 use text_lines::TextLine;
-use text_words::{add_fault, add_number, add_refusal, add_word};
+use text_words::{add_fault, add_number, add_numbered, add_refusal, add_word};
 
 /// The answer to a line of input.
 #[derive(Clone, Copy, Debug, PartialEq, Eq)]
@@ -105,14 +105,4 @@ impl Reply {
             | Reply::Bad { .. } => true,
         }
     }
-}
-
-/// Adds an answer's first word and a number.
-fn add_numbered(text: &mut TextLine, word: &[u8], number: u64)
-    requires { length text.old + length word.now + 21 ≤ 1024 }
-    ensures text { text.new ≡ (text.old ++ word.now) ++ (32 ∷ decimal number) }
-    ensures len { length text.new ≤ length text.old + length word.now + 21 }
-{
-    text.text(word);
-    add_number(text, number);
 }

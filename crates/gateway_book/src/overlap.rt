@@ -1,9 +1,9 @@
 // The two members that may overlap what is asked for: the last that begins before it, and the first that doesn't.
-ghost use Rattle.std.specs.Prelude.{◌≡◌, ◌≤◌, nat_lt, ◌+◌};
+ghost use Rattle.std.specs.Prelude.{◌≡◌, nat_lt, ◌+◌};
 ghost use Rattle.std.specs.Option.{option_map};
 ghost use Rattle.resv_list.specs.Reservations.{start_of, end_of};
 ghost use Rattle.gateway_book.specs.Answer.{overlap};
-ghost use Rattle.gateway_book.specs.Disjoint.{most_gap, rested_from};
+ghost use Rattle.gateway_book.specs.Disjoint.{rested_from};
 ghost use Rattle.gateway_book.specs.Spaced.{keep_if};
 
 use crate::GatewayBook;

@@ -1,5 +1,5 @@
 // The lines of a saved book, from a reader that is asked for one byte at a time, so that nothing behind them is taken.
-ghost use Rattle.std.specs.Prelude.{◌≡◌, IfOk, IfErr, OnOk, IfNone};
+ghost use Rattle.std.specs.Prelude.{IfOk, IfErr, OnOk, IfNone};
 ghost use Rattle.std.specs.Option.{option_to_list};
 ghost use Rattle.std.specs.Io.KnownBytes.{Consumes, IsAtEnd};
 ghost use Rattle.text_lines.specs.Calls.{CountsFailure, CountsWhere};

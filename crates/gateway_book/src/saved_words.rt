@@ -1,5 +1,5 @@
 // The words of a line of a saved book, which single spaces part.
-ghost use Rattle.std.specs.Prelude.{◌≡◌, ℕ, ◌<◌, ◌≤◌, List, [], ◌∷◌, map, length, take, MatchOption};
+ghost use Rattle.std.specs.Prelude.{◌≡◌, ℕ, ◌<◌, ◌≤◌, List, [], ◌∷◌, map, take, MatchOption};
 ghost use Rattle.gateway_book.specs.Loading.{words_between};
 
 use std::marker::Model;

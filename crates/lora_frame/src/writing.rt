@@ -1,6 +1,6 @@
 // Frames are written: the server's downlink and the device's uplink.
 
-ghost use Rattle.std.specs.Prelude.{◌≡◌, ◌↔◌, ◌+◌, ◌≤◌, ◌<◌, ◌++◌, Some, None, Err, IfOk, nat_lt, if◌then◌else◌, length, vec_len};
+ghost use Rattle.std.specs.Prelude.{◌≡◌, ◌↔◌, ◌+◌, ◌≤◌, ◌<◌, ◌++◌, Some, None, Err, IfOk, nat_lt, length, vec_len};
 ghost use Rattle.std.specs.Prelude.{vec_capacity};
 ghost use Rattle.lora_frame.specs.Frame.{header_bytes, body_bytes, body_len, payload_key, with_mic, bit_worth, down_control};
 ghost use Rattle.lora_frame.specs.Frame.{up_control, down_bytes, up_bytes};

@@ -1,4 +1,4 @@
-ghost use Rattle.std.specs.Prelude.{◌≡◌, ℕ, ◌-◌, ◌*◌, ◌/◌, ◌<◌};
+ghost use Rattle.std.specs.Prelude.{◌≡◌, ◌-◌, ◌*◌, ◌/◌, ◌<◌};
 ghost use Rattle.std.specs.Int.{div_ceil};
 ghost use Rattle.radio_airtime.specs.DataRate.{spreading_factor_of};
 ghost use Rattle.radio_airtime.specs.TimeOnAir.{airtime_of, symbol_us, low_data_rate_optimisation};

@@ -1,6 +1,6 @@
 ghost use Rattle.std.specs.Prelude.{◌≡◌, ◌↔◌, IsSome, IfSome, Some, ◌<◌};
 ghost use Rattle.radio_airtime.specs.TimeOnAir.{airtime_of};
-ghost use Rattle.radio_bands.specs.Band.{LiesIn, band_of};
+ghost use Rattle.radio_bands.specs.Band.{band_of};
 ghost use Rattle.resv_list.specs.Fit.{IsFit, end_at};
 
 use radio_airtime::{DataRate, airtime};

@@ -1,4 +1,4 @@
-ghost use Rattle.std.specs.Prelude.{◌≡◌, ℕ, ◌<◌, ◌≤◌, ◌+◌, ◌^◌, nat_le, ◌↔◌, List, length, [], IfOk, IfErr, OnOk, OnErr};
+ghost use Rattle.std.specs.Prelude.{◌≡◌, ◌<◌, ◌≤◌, ◌+◌, ◌^◌, nat_le, ◌↔◌, List, length, [], IfOk, IfErr, OnOk, OnErr};
 ghost use Rattle.std.specs.Prelude.{IsErrAnd};
 ghost use Rattle.resv_list.specs.declared.reservation.Reservation.{Reservation as Member};
 ghost use Rattle.resv_list.specs.Reservations.{IsByStart, IsFree, place, member_before, member_from, member_at, without, begun};

@@ -13,7 +13,7 @@ use rx_windows::{Candidate, Window};
 use server_core::{DeskHeard, Line};
 use std::alloc::Allocator;
 use text_lines::{ByteOut, CallFailed, TextLine, WriteBehind};
-use text_words::{add_fault, add_number, add_word, refusal_name};
+use text_words::{add_fault, add_number, add_numbered, add_word, refusal_name};
 
 /// So many bytes are made hexadecimal digits at a time.
 const BYTES_AT_ONCE: usize = 32;
@@ -74,7 +74,7 @@ fn write_but_frame<A: Allocator>(line: &Line<A>, text: &mut TextLine)
         Line::NotQueued(fault) => add_named(text, b"no queue", queue_name(*fault)),
         Line::Heard(heard) => add_heard(text, *heard),
         Line::NotHeard(fault) => add_named(text, b"no hear", hear_name(*fault)),
-        Line::Silent { number } => begin(text, b"silent", *number),
+        Line::Silent { number } => add_numbered(text, b"silent", *number),
         Line::NotTaken { number, fault } => begin_named(text, b"no", *number, take_name(*fault)),
         Line::Send { number, candidate } => add_send(text, *number, candidate),
         Line::Frame { .. } => return,
@@ -84,7 +84,7 @@ fn write_but_frame<A: Allocator>(line: &Line<A>, text: &mut TextLine)
         Line::Stray { number } => begin_named(text, b"no", *number, b"Stray"),
         Line::Cancelled { number, airtime } => begin_pair(text, b"cancelled", *number, *airtime),
         Line::NotCancelled { number, fault } => {
-            begin(text, b"no cancel", *number);
+            add_numbered(text, b"no cancel", *number);
             add_fault(text, *fault);
         }
         Line::Floor { gateway, floor } => begin_pair(text, b"floor", *gateway as u64, *floor),
@@ -114,7 +114,7 @@ fn begin_named(text: &mut TextLine, word: &[u8], number: u64, name: &[u8])
     ensures text { text.new ≡ word.now ++ (32 ∷ (decimal number ++ (32 ∷ name.now))) }
     ensures len { length text.new ≤ 60 }
 {
-    begin(text, word, number);
+    add_numbered(text, word, number);
     add_word(text, name);
 }
 
@@ -125,19 +125,8 @@ fn begin_pair(text: &mut TextLine, word: &[u8], number: u64, other: u64)
     ensures text { text.new ≡ word.now ++ (32 ∷ (decimal number ++ (32 ∷ decimal other))) }
     ensures len { length text.new ≤ 70 }
 {
-    begin(text, word, number);
+    add_numbered(text, word, number);
     add_number(text, other);
-}
-
-/// Makes the empty `text` a word and a number.
-fn begin(text: &mut TextLine, word: &[u8], number: u64)
-    requires empty { text.old ≡ [] }
-    requires short { length word.now ≤ 16 }
-    ensures text { text.new ≡ word.now ++ (32 ∷ decimal number) }
-    ensures len { length text.new ≤ 40 }
-{
-    text.text(word);
-    add_number(text, number);
 }
 
 /// Makes the empty `text` where a copy of an uplink went.
@@ -147,13 +136,13 @@ fn add_heard(text: &mut TextLine, heard: DeskHeard)
     ensures len { length text.new ≤ 100 }
 {
     match heard {
-        DeskHeard::Opened { n, repeat: false } => begin(text, b"opened", n),
+        DeskHeard::Opened { n, repeat: false } => add_numbered(text, b"opened", n),
         DeskHeard::Opened { n, repeat: true } => {
-            begin(text, b"opened", n);
+            add_numbered(text, b"opened", n);
             add_word(text, b"repeat");
         }
         DeskHeard::Joined { n, copies } => {
-            begin(text, b"joined", n);
+            add_numbered(text, b"joined", n);
             add_number(text, copies as u64);
         }
     }
@@ -165,7 +154,7 @@ fn add_send(text: &mut TextLine, number: u64, candidate: &Candidate)
     ensures text { text.new ≡ spaced (codes "send" ∷ decimal number ∷ candidate_words candidate.now) }
     ensures len { length text.new ≤ 200 }
 {
-    begin(text, b"send", number);
+    add_numbered(text, b"send", number);
     add_number(text, candidate.gateway as u64);
     add_word(text, window_name(candidate.window));
     add_number(text, candidate.start);
@@ -236,7 +225,7 @@ fn put_frame_number<W: ByteOut>(
     ensures failed { CountsFailure (W.failed_calls writer.old) (W.failed_calls writer.new) result }
 {
     text.clear();
-    begin(text, b"frame", number);
+    add_numbered(text, b"frame", number);
     text.text(b" ");
     output.put(writer, text.as_slice())
 }

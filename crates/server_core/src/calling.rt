@@ -1,6 +1,6 @@
 // The events that are one step each.
 
-ghost use Rattle.std.specs.Prelude.{◌≡◌, ◌∷◌, [], OnOk};
+ghost use Rattle.std.specs.Prelude.{◌∷◌, [], OnOk};
 ghost use Rattle.server_core.specs.Steps.{Queue, Hear, Tick, Cancel};
 ghost use Rattle.server_core.specs.Server.{seen, Makes, IsBetweenCalls, IsCancelled};
 

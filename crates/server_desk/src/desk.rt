@@ -1,4 +1,4 @@
-ghost use Rattle.std.specs.Prelude.{◌≡◌, ℕ, List, [], map, IfOk, OnOk, OnErr, MatchResult, IsOkUnless};
+ghost use Rattle.std.specs.Prelude.{◌≡◌, map, IfOk, OnOk, OnErr, MatchResult, IsOkUnless};
 ghost use Rattle.std.specs.Option.{option_map};
 ghost use Rattle.lora_frame.specs.Reading.{uplink_of};
 ghost use Rattle.uplink_gather.specs.Hearing.{is_crowded};

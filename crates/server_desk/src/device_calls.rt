@@ -1,6 +1,5 @@
 // What the desk does with a device: a payload is queued, and an answer is given and settled.
 ghost use Rattle.std.specs.Prelude.{◌≡◌, ◌+◌, ◌^◌, ◌<◌, true, false, if◌then◌else◌, IfOk, OnOk, OnErr, MatchResult, IsOkUnless};
-ghost use Rattle.std.specs.Prelude.{length};
 ghost use Rattle.server_desk.specs.Queueing.{queue_fault, queued_or, with_payload};
 ghost use Rattle.server_desk.specs.Taking.{head, plan_for, job_for, fault_of, with_counter_given};
 ghost use Rattle.server_desk.specs.Settling.{without_head};

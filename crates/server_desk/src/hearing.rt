@@ -12,9 +12,6 @@ use radio_airtime::DataRate;
 use radio_bands::Band;
 use uplink_gather::{HearFault, Heard, HeardCopy};
 
-/// The greatest number of a data rate.
-const LAST_RATE: u8 = 6;
-
 /// The last moment that is accepted, in microseconds.
 const LAST_MOMENT: u64 = 1 << 60;
 
@@ -25,7 +22,7 @@ pub(crate) fn copy_fault(gateways: &[u16], heard: &Heard1, arrived: u64) -> Opti
     if !has_gateway(gateways, heard.gateway) {
         return Some(DeskFault::UnknownGateway);
     }
-    if heard.rate > LAST_RATE {
+    if DataRate::from_number(heard.rate).is_none() {
         return Some(DeskFault::NoRate);
     }
     if Band::of(heard.freq_hz, rate_numbered(heard.rate)).is_none() {

@@ -1,6 +1,6 @@
 // What a desk keeps of its settings before anything was heard.
 
-ghost use Rattle.std.specs.Prelude.{◌≡◌, ◌≢◌, ◌<◌, ◌^◌, false, map, IfOk, All, AllPairs};
+ghost use Rattle.std.specs.Prelude.{◌≡◌, ◌≢◌, ◌<◌, false, map, IfOk, All, AllPairs};
 ghost use Rattle.server_desk.specs.Invariant.{shown};
 ghost use Rattle.server_desk.specs.Register.{opened_device};
 

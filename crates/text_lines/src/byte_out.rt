@@ -1,7 +1,7 @@
 // Where bytes go, one call at a time.
-ghost use Rattle.std.specs.Prelude.{◌≡◌, ℕ, List, [], None, IfOk, OnOk, length};
+ghost use Rattle.std.specs.Prelude.{◌≡◌, ℕ, List, [], None, IfOk};
 ghost use Rattle.std.specs.Io.{WritesAtMost};
-ghost use Rattle.std.specs.Io.KnownBytes.{WriteAppends, Appends};
+ghost use Rattle.std.specs.Io.KnownBytes.{WriteAppends};
 ghost use Rattle.std.specs.declared.option.Option.{Option};
 ghost use Rattle.text_lines.specs.Calls.{CountsFailure};
 

@@ -1,5 +1,5 @@
 // What a line says: whether it is passed over, and its words.
-ghost use Rattle.std.specs.Prelude.{◌≡◌, ℕ, ◌<◌, ◌≤◌, ◌↔◌, List, [], ◌∷◌, map, length, take, drop, slice_index, true, false};
+ghost use Rattle.std.specs.Prelude.{◌≡◌, ℕ, ◌<◌, ◌≤◌, ◌↔◌, List, [], ◌∷◌, map, length, take, slice_index, true, false};
 ghost use Rattle.std.specs.Prelude.{IsTrue, IfSome, MatchOption};
 ghost use Rattle.std.specs.Str.{bytes_eq};
 ghost use Rattle.text_lines.specs.Line.{is_too_long};

@@ -1,5 +1,5 @@
 // The busiest hours in a report.
-ghost use Rattle.std.specs.Prelude.{◌≡◌, ℕ, ◌+◌, ◌≤◌, ◌∷◌, ◌++◌, length, codes};
+ghost use Rattle.std.specs.Prelude.{◌≡◌, ◌+◌, ◌≤◌, ◌∷◌, ◌++◌, length, codes};
 ghost use Rattle.text_lines.specs.Line.{text_of};
 ghost use Rattle.text_words.specs.Words.{spaced};
 ghost use Rattle.text_words.specs.Busiest.{gateway_words, busiest_lines, all_busiest_lines};

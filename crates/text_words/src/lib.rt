@@ -8,4 +8,4 @@ mod words;
 pub use busiest::add_busiest;
 pub use fault::TextFault;
 pub use text_lines::{add_number, add_word};
-pub use words::{add_band, add_fault, add_refusal, refusal_name};
+pub use words::{add_band, add_fault, add_numbered, add_refusal, refusal_name};

@@ -1,5 +1,5 @@
 // The words of answers and reports.
-ghost use Rattle.std.specs.Prelude.{◌≡◌, ℕ, ◌+◌, ◌≤◌, List, [], ◌∷◌, ◌++◌, length};
+ghost use Rattle.std.specs.Prelude.{◌≡◌, ◌+◌, ◌≤◌, ◌∷◌, ◌++◌, length, decimal};
 ghost use Rattle.text_words.specs.Words.{spaced, band_word, fault_word, refusal_words};
 ghost use Rattle.text_words.specs.Words as words;
 
@@ -53,6 +53,16 @@ pub fn add_fault(text: &mut TextLine, fault: CancelFault)
         CancelFault::Begun => add_word(text, b"Begun"),
         CancelFault::NotHere => add_word(text, b"NotHere"),
     }
+}
+
+/// Adds a word, a space and a number.
+pub fn add_numbered(text: &mut TextLine, word: &[u8], number: u64)
+    requires { length text.old + length word.now + 21 ≤ 1024 }
+    ensures text { text.new ≡ text.old ++ (word.now ++ (32 ∷ decimal number)) }
+    ensures len { length text.new ≤ length text.old + length word.now + 21 }
+{
+    text.text(word);
+    add_number(text, number);
 }
 
 /// Adds a space and the letter of a sub-band.

@@ -1,4 +1,4 @@
-use Rattle.std.proofs.Common.{◌≡◌, ◌<◌, ◌++◌, length, map, take, ap, sym, subst, arith}
+use Rattle.std.proofs.Common.{◌≡◌, ◌<◌, ◌++◌, length, map, take, sym, subst, arith}
 use Rattle.std.proofs.lemmas.List.{append-nil, take_all}
 use Rattle.resv_list.specs.declared.reservation.Reservation.{Reservation}
 use Rattle.book_audit.specs.Held.{Kept}

@@ -1,7 +1,6 @@
 use Rattle.std.proofs.Common.{◌≡◌, ◌+◌, ◌<◌, ◌++◌, false, refl, length, map, take, drop, sym, ap, subst, ◌∙◌, arith, rules}
 use Rattle.std.proofs.Math.Seq.{take-append_seam}
 use Rattle.book_audit.specs.Audit.{held_by}
-use Rattle.book_audit.specs.Held.{Kept}
 use Rattle.book_audit.specs.Marks.{AreMarked}
 use Rattle.book_audit.proofs.HeldLemmas.{held_more}
 use Rattle.book_audit.proofs.MarkLemmas.{none_held}

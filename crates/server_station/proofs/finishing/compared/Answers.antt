@@ -1,4 +1,4 @@
-use Rattle.std.proofs.Common.{◌∙◌, sym, ap, subst, refl, map}
+use Rattle.std.proofs.Common.{sym, ap, subst, refl, map}
 use Rattle.server_station.specs.Closings.{IsFinishCause}
 use Rattle.server_station.proofs.ClosingLemmas.{cause_handed, sum_closed, ids_closed, totals_closed, equal_closed, once_closed}
 use Rattle.server_station.proofs.ClosingLemmas.{accounted_closed}
