@@ -9,7 +9,8 @@ use answer_ticket::Receipt;
 use run_passes::{Answer, Ends};
 use server_core::NoMemory;
 use server_workers::{
-    Handled, Ledger, MAX_WORKERS, NoGate, PARTS, ServeCause, ServeFault, Served, Station, Till, serve,
+    Handled, Ledger, MAX_WORKERS, NoGate, PARTS, ServeCause, ServeFault, Served, Station, Till,
+    serve,
 };
 use std::alloc::Global;
 use std::hash::BuildHasher;
