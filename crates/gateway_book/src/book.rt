@@ -270,8 +270,8 @@ impl<R: Roster> GatewayBook<R> {
     }
 
     /// The busiest hour of a sub-band: where it opens, the start of a kept transmission of the band, and
-    /// the airtime that begins in it, both in microseconds. No hour has more; of hours with as much the
-    /// first is answered. `None` where no transmission of the band is kept.
+    /// the airtime that begins in it, both in microseconds. No hour has more; of those that open at such a
+    /// start and have as much the first is answered. `None` where no transmission of the band is kept.
     pub fn busiest(&self, band: Band) -> Option<(u64, u64)>
         ensures hour { IsBusiestAnswer self.now.list band result }
         ensures value { result ≡ busiest_of self.now.list band }
