@@ -1,12 +1,12 @@
 // A station is finished, in one try or in several.
 
-use crate::posts::{Post, text};
+use crate::posts::{Post, text, totals_at};
 use answer_ticket::Receipt;
 use server_workers::{Closing, FinishCause, FinishFault, Ledger, Till};
 use std::alloc::Global;
 use std::sync::Wait;
 use std::test::Fail;
-use test_asserts::equal_at;
+use test_asserts::{equal, equal_at};
 use worked_inputs::WorkedHasher;
 
 /// With how many of the tills and with how many of the receipts a station is to be finished, the first of each, and why it
@@ -53,10 +53,13 @@ impl<B: Ledger, R: Wait> Finish for Post<'_, B, R> {
     ) -> Result<Tried<Self, Closing<WorkedHasher>>, Fail> {
         let mut post = self;
         let mut later = kept_back(&mut post, tills)?;
+        let before = totals_at(post.rt, &post.station);
         match finished_with(post, receipts) {
             Ok(closing) => Ok((None, Ok(closing))),
             Err((cause, same)) => {
                 let mut post = same;
+                // What is handed back has counted what it had.
+                equal(&totals_at(post.rt, &post.station), &before)?;
                 post.tills.append(&mut later)?;
                 Ok((Some(cause), Err(post)))
             }

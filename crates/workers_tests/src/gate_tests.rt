@@ -1,6 +1,6 @@
 // Workers at gates, and what they do where a gateway refuses them.
 
-use crate::asks::{Ask, Heard, OPENED_1, OPENED_2, OPENED_3};
+use crate::asks::{Ask, Heard, OPENED_1, OPENED_2, OPENED_3, OPENED_4};
 use crate::plans::tells;
 use crate::steps::{Row, Step};
 use crate::tickets::Answer;
@@ -72,14 +72,16 @@ fn a_worker_leaves_once_per_try(rt: HostRuntime) -> Result<(), Fail> {
     tells(&rt, rt.alloc(), 2, &CROWDED)
 }
 
-/// A third device finds both windows taken.
-static FULL: [Row; 9] = [
+/// A third device finds both windows taken, and so does a fourth, whose worker asks what the gateway has booked when it has left.
+static FULL: [Row; 12] = [
     (Step::Hear(Heard::Of(1, 0)), OPENED_1),
     (Step::Hear(Heard::Of(2, 0)), OPENED_2),
     (Step::Hear(Heard::Of(3, 0)), OPENED_3),
+    (Step::Hear(Heard::Of(4, 0)), OPENED_4),
     (Step::Ask(Ask::Pass(200_001)), "Some(1)"),
     (Step::Ask(Ask::Pass(200_001)), "Some(2)"),
     (Step::Ask(Ask::Pass(200_001)), "Some(3)"),
+    (Step::Ask(Ask::Pass(200_001)), "Some(4)"),
     (
         Step::Answer(1, Answer::Freely),
         "(Some(Answered { gateway: 1, window: Rx1, start: 6000000, airtime: 41216, carried: false }), 0)",
@@ -92,11 +94,12 @@ static FULL: [Row; 9] = [
         Step::Answer(3, Answer::Logged),
         "((Some(Unanswered(Taken { start: 7000000 })), 0), 1616)",
     ),
+    (Step::Answer(4, Answer::Audited), "1032448"),
 ];
 
 #[test]
 fn a_worker_leaves_after_the_last_refusal(rt: HostRuntime) -> Result<(), Fail> {
-    tells(&rt, rt.alloc(), 3, &FULL)
+    tells(&rt, rt.alloc(), 4, &FULL)
 }
 
 /// A payload of three bytes goes with the answer.

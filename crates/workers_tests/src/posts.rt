@@ -2,9 +2,10 @@
 ghost use Rattle.std.specs.Prelude.{◌≡◌};
 
 use answer_ticket::Receipt;
+use gateway_book::Totals;
 use server_core::{DeviceSetting, GatewaySetting, Settings};
 use server_workers::{Blank, Ledger, PARTS, Station, Till};
-use std::alloc::Global;
+use std::alloc::{Allocator, Global};
 use std::fmt::Debug;
 use std::sync::Wait;
 use std::test::Fail;
@@ -77,6 +78,14 @@ fn devices_of(alloc: Global, count: u32) -> Result<Vec<DeviceSetting>, Fail> {
         devices.push(device(before + 1))?;
     }
     Ok(devices)
+}
+
+/// What the books of the gateways 1 and 2 have counted.
+pub(crate) fn totals_at<B: Ledger, A: Allocator + Copy, R: Wait>(
+    rt: &R,
+    station: &Station<B, WorkedHasher, A>,
+) -> [Option<Totals>; 2] {
+    [station.totals(rt, 1, 0).ok(), station.totals(rt, 2, 0).ok()]
 }
 
 /// A value as a text.

@@ -20,7 +20,7 @@ pub(crate) enum Shift {
     Meeting(u64, u64, u8),
     /// So many workers whom no gate lets in, at the numbers from the one to the other.
     ShutOut(u64, u64, u8),
-    /// One with room for so many numbers, at these.
+    /// One with room for so many numbers, at these, whom no gate lets in.
     One(u32, &'static [u64]),
 }
 
@@ -114,12 +114,12 @@ impl<B: Ledger, R: Wait> Post<'_, B, R> {
         text(self.alloc, &(cause, parts))
     }
 
-    /// One worker with room for so many numbers works at these: how many outcomes there are, what was skipped and what
-    /// refused, and the number that is left.
+    /// One worker with room for so many numbers, whom no gate lets in, works at these: how many outcomes there are, what was
+    /// skipped and what refused, how many tries the gate didn't let in, and the number that is left.
     fn work(&mut self, room: u32, numbers: &[u64]) -> Result<String, Fail> {
         let numbers = channel_of(self.rt, self.alloc, numbers)?;
         let worked = self.hired(room)?;
-        let worked = work(self.rt, &self.station, &numbers, &NoGate, worked);
+        let worked = work(self.rt, &self.station, &numbers, &Shut::new(), worked);
         let left = numbers.recv(self.rt).ok();
         text(
             self.alloc,
@@ -127,6 +127,7 @@ impl<B: Ledger, R: Wait> Post<'_, B, R> {
                 worked.outcomes.len(),
                 worked.skipped.as_slice(),
                 worked.refused.as_slice(),
+                worked.overrun,
                 left,
             ),
         )

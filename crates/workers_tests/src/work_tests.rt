@@ -39,18 +39,22 @@ fn sixteen_workers_answer_five_hundred_devices(rt: HostRuntime) -> Result<(), Fa
     tells(&rt, rt.alloc(), 500, &FIVE_HUNDRED)
 }
 
-/// Each worker goes on once it has asked the gate often enough, and tells so.
-static SHUT_OUT: [Row; 2] = [
-    (Step::Hear(Heard::All(3)), "3"),
+/// Each worker goes on once it has asked the gate often enough, and tells so; so does one who works alone.
+static SHUT_OUT: [Row; 3] = [
+    (Step::Hear(Heard::All(4)), "4"),
     (
         Step::Work(Shift::ShutOut(1, 3, 2)),
         "(2, [3, 3], ([], 0, 0), 3, true)",
+    ),
+    (
+        Step::Work(Shift::ShutOut(4, 4, 1)),
+        "(1, [1, 1], ([], 0, 0), 1, true)",
     ),
 ];
 
 #[test]
 fn workers_whom_no_gate_lets_in_go_on(rt: HostRuntime) -> Result<(), Fail> {
-    tells(&rt, rt.alloc(), 3, &SHUT_OUT)
+    tells(&rt, rt.alloc(), 4, &SHUT_OUT)
 }
 
 /// The till is handed back with all its parts.
@@ -64,10 +68,13 @@ fn one_to_sixteen_workers_serve(rt: HostRuntime) -> Result<(), Fail> {
     tells(&rt, rt.alloc(), 1, &TOO_FEW_AND_TOO_MANY)
 }
 
-/// With room for one number it is given two; the second is left.
+/// With room for one number it is given two; the second is left. No gate lets it in, and it goes on.
 static ONE_OF_TWO: [Row; 2] = [
     (Step::Hear(Heard::All(2)), "2"),
-    (Step::Work(Shift::One(1, &[1, 2])), "(1, [], [], Some(2))"),
+    (
+        Step::Work(Shift::One(1, &[1, 2])),
+        "(1, [], [], 1, Some(2))",
+    ),
 ];
 
 #[test]
@@ -83,7 +90,7 @@ static PASSED_OVER: [Row; 5] = [
     (Step::Ask(Ask::Pass(200_001)), "Some(2)"),
     (
         Step::WorkBeside(1, Shift::One(2, &[2, 9])),
-        "(0, [2], [(9, NotReady)], None)",
+        "(0, [2], [(9, NotReady)], 0, None)",
     ),
 ];
 

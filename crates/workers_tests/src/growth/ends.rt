@@ -1,7 +1,8 @@
 // A station that answered is finished.
 ghost use Rattle.std.specs.Prelude.{◌<◌};
 
-use crate::growth::stations::{AtWork, takes, totals_at};
+use crate::growth::stations::{AtWork, takes};
+use crate::posts::totals_at;
 use answer_ticket::Receipt;
 use gateway_book::Totals;
 use refusing_alloc::{Refuser, asked_of, is_as_asked, same};

@@ -2,7 +2,6 @@
 ghost use Rattle.std.specs.Prelude.{◌≡◌, ◌<◌, IfOk};
 
 use crate::posts::settings_of;
-use gateway_book::Totals;
 use refusing_alloc::{MOST_GROWTHS, Refuser, Refusing, same, was_refused};
 use server_core::{Heard1, Settings};
 use server_workers::{Blank, Ledger, PARTS, Station, Till};
@@ -100,14 +99,6 @@ fn hears<B: Ledger, A: Allocator + Copy, R: Wait>(
         hears_one(rt, memory, station, before + 1)?;
     }
     Ok(())
-}
-
-/// What the books of both gateways have counted.
-pub(crate) fn totals_at<B: Ledger, A: Allocator + Copy, R: Wait>(
-    rt: &R,
-    station: &Station<B, WorkedHasher, A>,
-) -> [Option<Totals>; 2] {
-    [station.totals(rt, 1, 0).ok(), station.totals(rt, 2, 0).ok()]
 }
 
 /// Refuses the growth of this number, and all after it, where a station of these settings is made: whether there was one.

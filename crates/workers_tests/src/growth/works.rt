@@ -1,8 +1,9 @@
 // What is done at a station: a ticket is tried, and an uplink is answered.
 
 use crate::gates::Log;
-use crate::growth::stations::{AtWork, takes, totals_at};
+use crate::growth::stations::{AtWork, takes};
 use crate::growth::tickets::{Gone, booked_in, is_wanted, shown_by};
+use crate::posts::totals_at;
 use answer_ticket::{Ticket, Tried};
 use refusing_alloc::{Refuser, asked_of, is_as_asked, same};
 use server_workers::{Handled, Ledger, Station, Till};
