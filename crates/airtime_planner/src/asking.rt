@@ -1,6 +1,7 @@
 // Asks that are tried on a copy of a book.
-ghost use Rattle.std.specs.Prelude.{◌≡◌, IfOk, OnOk, OnErr};
-ghost use Rattle.gateway_book.specs.Book.{IsBookList, state_of};
+ghost use Rattle.std.specs.Prelude.{◌≡◌, None, IfOk, OnOk, OnErr};
+ghost use Rattle.gateway_book.specs.Answer.{refusal_of};
+ghost use Rattle.gateway_book.specs.Book.{IsBookList, state_of, terms_of};
 ghost use Rattle.gateway_book.specs.Step.{book_step};
 ghost use Rattle.airtime_planner.specs.WhatIf.{AddsAnswers, AddsSome, IsAnswer, opened_at};
 
@@ -71,7 +72,7 @@ fn answer_all<R: Roster, A: Allocator>(
     Ok(())
 }
 
-/// A book's answer to an ask; want of memory, which refuses nothing by the book's rules, is no answer and changes nothing.
+/// A book's answer to an ask; want of memory is no answer and changes nothing, and comes only where the ask would be accepted.
 pub fn answer_to<R: Roster>(
     book: &mut GatewayBook<R>,
     ask: Ask,
@@ -80,6 +81,7 @@ pub fn answer_to<R: Roster>(
     ensures step { OnOk result (state_of book.new ≡ book_step book.old.rules (state_of book.old) ask) }
     ensures rules { book.new.rules ≡ book.old.rules }
     ensures unchanged { OnErr result (book.new ≡ book.old) }
+    ensures wanting { OnErr result (refusal_of (terms_of book.old) book.old.list ask ≡ None) }
 {
     match book.book(ask) {
         Ok(reservation) => Ok(Ok(reservation)),

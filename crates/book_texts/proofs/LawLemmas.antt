@@ -118,7 +118,7 @@ plan_is_book rules starved lines shut =
 
 pub plan_tells_answers : (rules : Rules) (s t : State) (number : ℕ) (lines : List (List ℕ)) (asks : List Ask)
     (tried : List Answer) → map said lines ≡ map (λ ask. Order (Book ask)) asks → AreAnswers rules t asks tried
-    → answers_by plan_turns [] number (record { rules = rules; state = s; trial = Some t }) lines ≡ tried_lines asks tried
+    → answers_by plan_turns [] number (record { rules = rules; state = s; trial = Some (Some t) }) lines ≡ tried_lines asks tried
 plan_tells_answers rules s t number [] [] [] e h = refl
 plan_tells_answers rules s t number [] (ask ∷ asks) tried e h = absurd (cc)
 plan_tells_answers rules s t number (line ∷ lines) [] tried e h = absurd (cc)
@@ -127,7 +127,7 @@ plan_tells_answers rules s t number lines (ask ∷ asks) [] e h = absurd (h)
 plan_tells_answers rules s t number (line ∷ lines) (ask ∷ asks) (answer ∷ tried) e h =
     let first : said line ≡ Order (Book ask) = cc in
     let more : map said lines ≡ map (λ ask. Order (Book ask)) asks = cc in
-    let after : Planned = record { rules = rules; state = s; trial = Some (book_step rules t ask) } in
+    let after : Planned = record { rules = rules; state = s; trial = Some (Some (book_step rules t ask)) } in
     let rest : List (List ℕ) = answers_by plan_turns [] (number + 1) after lines in
     rw first (ap (λ reply. if_line reply ∷ rest) (told_answer ask (refusal_of (terms_at rules t) t.list ask) answer h.0)
     ∙ ap (λ l. if_line (reply_of ask answer) ∷ l)
@@ -136,11 +136,12 @@ plan_tells_answers rules s t number (line ∷ lines) (ask ∷ asks) (answer ∷ 
 -- what would be reserved after lines of a plan is what stands after the bookings among them
 module _ (rules : Rules) (s : State) where
   abbrev in_plan : State → Planned
-  in_plan t = record { rules = rules; state = s; trial = Some t }
+  in_plan t = record { rules = rules; state = s; trial = Some (Some t) }
 
   reached_line : (number : ℕ) (t : State) (more : List (List ℕ)) (x : Said)
       → ((u : State) → reached_by plan_turns [] number (in_plan u) more ≡ in_plan (after_asks rules u (asks_of (map said more))))
-      → reached_by plan_turns [] number (in_plan (planned_after_line rules false t x)) more
+      → reached_by plan_turns [] number
+      (record { rules = rules; state = s; trial = Some (planned_after_line rules false (Some t) x) }) more
       ≡ in_plan (after_asks rules t (asks_of (x ∷ map said more)))
   reached_line number t more Nothing rest = rest t
   reached_line number t more Malformed rest = rest t

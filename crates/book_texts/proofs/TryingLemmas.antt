@@ -1,6 +1,6 @@
 -- A booking that is tried on the copy of a book is the plan's turn.
 use Rattle.std.proofs.Common.{◌≡◌, ℕ, true, false, List, [], ◌∷◌, ◌++◌, Option, None, Some, Ok, Err, MatchOption}
-use Rattle.std.proofs.Common.{IsOkAnd, is_some, refl, sym, ap, ◌∙◌, Bool}
+use Rattle.std.proofs.Common.{IsOkAnd, refl, sym, ap, ◌∙◌, Bool}
 use Rattle.text_lines.specs.Progress.{IsAnswer, IsTurn}
 use Rattle.text_words.specs.Words.{is_refusal}
 use Rattle.gateway_book.specs.declared.ask.Ask.{Ask}
@@ -37,7 +37,7 @@ tried-answered old new ask answer h step same =
     record {
       starved = false;
       answered = sym (told_answer ask (refusal_of (terms_of old) old.list ask) answer h);
-      reached = step;
+      reached = ap Some step;
       rules = same;
     }
 
@@ -55,12 +55,12 @@ if_line-unrefused (Bad line) = refl
 -- a command of the plan whose line begins with `if`
 module _ (number : ℕ) (line text : List ℕ) (command : Command) (reply : Reply) (is : said line ≡ Order command)
     (put : text ≡ if_line reply ++ (10 ∷ [])) where
-  turn_at : (new : Option Book) (at : Planned) (t : State) (starved : Bool) → at.trial ≡ Some t
-      → if_line reply ≡ planned_line at.rules starved number t command
-      → IsCopyOf new (record { rules = at.rules; state = at.state; trial = Some (planned_after at.rules starved t command) })
+  turn_at : (new : Option Book) (at : Planned) (o : Option State) (starved : Bool) → at.trial ≡ Some o
+      → if_line reply ≡ planned_line at.rules starved number o command
+      → IsCopyOf new (record { rules = at.rules; state = at.state; trial = Some (planned_after at.rules starved o command) })
       → IsAnswer plan_turns at (λ next. (next.rules ≡ at.rules) × (next.state ≡ at.state) × IsCopyOf new next) number line text
       false
-  turn_at new at t starved trial e stood =
+  turn_at new at o starved trial e stood =
       record {
         starved = starved;
         is_text = rw (trial, is) (put ∙ ap (λ l. l ++ (10 ∷ [])) e);
@@ -68,36 +68,29 @@ module _ (number : ℕ) (line text : List ℕ) (command : Command) (reply : Repl
         stands = rw (trial, is) (refl, refl, stood);
       }
 
-  -- without a copy of the book memory is wanted
-  turn_starved : (at : Planned) (o : Option State) → at.trial ≡ o → is_some at.trial ≡ true
-      → ((t : State) → if_line reply ≡ planned_line at.rules true number t command)
-      → IsAnswer plan_turns at (λ next. (next.rules ≡ at.rules) × (next.state ≡ at.state) × IsCopyOf None next) number line text
-      false
-  turn_starved at None trial some e = absurd (cc (trial, some))
-  turn_starved at (Some t) trial some e = turn_at None at t true trial (e t) refl
-
 module _ (number : ℕ) (line text : List ℕ) (ask : Ask) (reply : Reply) (is : said line ≡ Order (Booking ask))
     (put : text ≡ if_line reply ++ (10 ∷ [])) where
   pub turn_tried : (old new : Option Book) → IsTriedOn old new ask reply → IsTrialTurn old new number line text false
   turn_tried None (Some new) e = elim e [ ]
   turn_tried (Some old) None tried = elim tried [ ]
-  turn_tried None None e = λ at some.
-      turn_starved number line text (Booking ask) reply is put at at.trial refl some (λ t. ap if_line e)
+  turn_tried None None e = λ at stood.
+      turn_at number line text (Booking ask) reply is put None at None true stood (ap if_line e) refl
   turn_tried (Some old) (Some new) tried = λ at stood.
-      let answered : reply ≡ tried_reply at.rules tried.starved (state_of old) ask = rw (sym stood.0) tried.answered in
-      let reached : state_of new ≡ tried_after at.rules tried.starved (state_of old) ask = rw (sym stood.0) tried.reached in
-      turn_at number line text (Booking ask) reply is put (Some new) at (state_of old) tried.starved stood.1
+      let answered : reply ≡ tried_reply at.rules tried.starved (Some (state_of old)) ask = rw (sym stood.0) tried.answered in
+      let reached : Some (state_of new) ≡ tried_after at.rules tried.starved (Some (state_of old)) ask =
+          rw (sym stood.0) tried.reached in
+      turn_at number line text (Booking ask) reply is put (Some new) at (Some (state_of old)) tried.starved stood.1
       (ap if_line answered) (tried.rules ∙ stood.0, ap Some (sym reached))
 
 -- the earliest start that is looked for on the copy is the plan's turn, and leaves the copy as it is
 pub turn_sought : (number : ℕ) (line text : List ℕ) (ask : Ask) (last : ℕ) (reply : Reply)
     → said line ≡ Order (Earliest ask last) → text ≡ if_line reply ++ (10 ∷ []) → (copy : Option Book)
     → IsSoughtOn copy ask last reply → IsTrialTurn copy copy number line text false
-turn_sought number line text ask last reply is put None e = λ at some.
-    turn_starved number line text (Earliest ask last) reply is put at at.trial refl some (λ t. ap if_line e)
+turn_sought number line text ask last reply is put None e = λ at stood.
+    turn_at number line text (Earliest ask last) reply is put None at None true stood (ap if_line e) refl
 turn_sought number line text ask last reply is put (Some copy) e = λ at stood.
-    let answered : reply ≡ tried_start at.rules false (state_of copy) ask last = rw (sym stood.0) e in
-    turn_at number line text (Earliest ask last) reply is put (Some copy) at (state_of copy) false stood.1
+    let answered : reply ≡ tried_start at.rules (Some (state_of copy)) ask last = rw (sym stood.0) e in
+    turn_at number line text (Earliest ask last) reply is put (Some copy) at (Some (state_of copy)) false stood.1
     (ap if_line answered) (stood.0, refl)
 
 -- before the plan a line is the book's own turn

@@ -63,10 +63,11 @@ pub planned_bookings :
 unfolding airtime_of band_of net begun kept overlap full_hour busiest_of digits
 planned_bookings = refl
 
--- after a line `plan` no tick and no cancel is taken, and no second `plan`; the second booking finds no memory
+-- after a line `plan` no tick and no cancel is taken, and no second `plan`; the second booking finds no memory, and the third
+-- would find none, but is refused before that
 pub planned_alone :
-    plan_output (record { cap = 1; gap = 0 }) (7 ∷ []) (codes "plan now" ∷ codes "  plan " ∷ codes "plan" ∷ codes "tick 5" ∷ []
-    ∷ codes "book 1 0 868100000 5 12" ∷ codes "book 1 0 868100000 5 12" ∷ codes "book 2 0 868100000 5 12"
+    plan_output (record { cap = 2; gap = 0 }) (7 ∷ 8 ∷ []) (codes "plan now" ∷ codes "  plan " ∷ codes "plan" ∷ codes "tick 5"
+    ∷ [] ∷ codes "book 1 0 868100000 5 12" ∷ codes "book 1 5000000 868100000 5 12" ∷ codes "book 2 0 868100000 5 12"
     ∷ codes "cancel 1 0" ∷ [])
     ≡ codes "bad 1 Syntax" ∷ codes "bad 3 Syntax" ∷ codes "bad 4 Syntax" ∷ codes "if ok 1 0 41216" ∷ codes "if no 1 NoMemory"
     ∷ codes "if no 2 Taken 0" ∷ codes "bad 9 Syntax" ∷ codes "booked 0" ∷ codes "cancelled 0" ∷ codes "retired 0"
@@ -74,18 +75,28 @@ pub planned_alone :
 unfolding airtime_of band_of net begun kept overlap full_hour busiest_of digits
 planned_alone = refl
 
--- the earliest start beside what is booked and where there is none, and the same in a plan after a booking that is tried; the
--- last question finds no memory
+-- the earliest start beside what is booked and where there is none, and the same in a plan after a booking that is tried
 pub earliest_starts :
-    plan_output (record { cap = 4096; gap = 0 }) (8 ∷ []) (codes "book 1 10000000 868100000 5 12"
+    plan_output (record { cap = 4096; gap = 0 }) [] (codes "book 1 10000000 868100000 5 12"
     ∷ codes "earliest 2 10041214 10041218 868100000 5 12" ∷ codes "earliest 3 10041213 10041215 868100000 5 12" ∷ codes "plan"
     ∷ codes "book 8 10041216 868100000 5 12" ∷ codes "earliest 9 10082430 10082434 868100000 5 12"
-    ∷ codes "earliest 10 10082430 10082431 868100000 5 12" ∷ codes "earliest 11 10082430 10082434 868100000 5 12" ∷ [])
+    ∷ codes "earliest 10 10082430 10082431 868100000 5 12" ∷ [])
     ≡ codes "ok 1 10000000 10041216" ∷ codes "at 2 10041216" ∷ codes "no 3 NoStart" ∷ codes "if ok 8 10041216 10082432"
-    ∷ codes "if at 9 10082432" ∷ codes "if no 10 NoStart" ∷ codes "if no 11 NoMemory" ∷ codes "booked 41216"
+    ∷ codes "if at 9 10082432" ∷ codes "if no 10 NoStart" ∷ codes "booked 41216"
     ∷ codes "cancelled 0" ∷ codes "retired 0" ∷ codes "kept 1 41216" ∷ codes "floor 0" ∷ codes "busiest M 10000000 41216" ∷ []
 unfolding airtime_of band_of net begun kept overlap full_hour busiest_of earliest_of digits
 earliest_starts = refl
+
+-- a plan whose book can't be copied: whatever is asked finds no memory, also what would be refused
+pub uncopied_plan :
+    plan_output (record { cap = 4096; gap = 0 }) (2 ∷ []) (codes "book 1 10000000 868100000 5 12" ∷ codes "plan"
+    ∷ codes "book 8 10000000 868100000 5 12" ∷ codes "book 9 10041216 868100000 5 12"
+    ∷ codes "earliest 10 10041214 10041218 868100000 5 12" ∷ [])
+    ≡ codes "ok 1 10000000 10041216" ∷ codes "if no 8 NoMemory" ∷ codes "if no 9 NoMemory" ∷ codes "if no 10 NoMemory"
+    ∷ codes "booked 41216" ∷ codes "cancelled 0" ∷ codes "retired 0" ∷ codes "kept 1 41216" ∷ codes "floor 0"
+    ∷ codes "busiest M 10000000 41216" ∷ []
+unfolding airtime_of band_of net begun kept overlap full_hour busiest_of earliest_of digits
+uncopied_plan = refl
 
 pub longest_frame : toa_line 0 64 ≡ codes "2793472"
 unfolding airtime_of digits

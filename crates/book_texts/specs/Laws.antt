@@ -54,7 +54,7 @@ abbrev pub PlanTellsAnswers : Type 0
 PlanTellsAnswers =
     (rules : Rules) (s t : State) (number : ℕ) (lines : List (List ℕ)) (asks : List Ask) (tried : List Answer)
     → map said lines ≡ map (λ ask. Order (Book ask)) asks → AreAnswers rules t asks tried
-    → answers_by plan_turns [] number (record { rules = rules; state = s; trial = Some t }) lines ≡ tried_lines asks tried
+    → answers_by plan_turns [] number (record { rules = rules; state = s; trial = Some (Some t) }) lines ≡ tried_lines asks tried
 
 -- the bookings among what lines say, in turn
 abbrev pub asks_of : List Said → List Ask
@@ -68,8 +68,8 @@ abbrev pub PlanTellsBookings : Type 0
 PlanTellsBookings =
     (rules : Rules) (s t : State) (number : ℕ) (lines : List (List ℕ)) (line : List ℕ) (ask : Ask) (answer : Answer)
     → said line ≡ Order (Book ask) → IsAnswer rules (after_asks rules t (asks_of (map said lines))) ask answer
-    → answers_by plan_turns [] number (record { rules = rules; state = s; trial = Some t }) (lines ++ line ∷ [])
-    ≡ answers_by plan_turns [] number (record { rules = rules; state = s; trial = Some t }) lines
+    → answers_by plan_turns [] number (record { rules = rules; state = s; trial = Some (Some t) }) (lines ++ line ∷ [])
+    ≡ answers_by plan_turns [] number (record { rules = rules; state = s; trial = Some (Some t) }) lines
     ++ if_line (reply_of ask answer) ∷ []
 
 -- a question for the earliest start, after whatever lines of a plan, is answered by the earliest start after the bookings among
@@ -78,6 +78,6 @@ abbrev pub PlanTellsStarts : Type 0
 PlanTellsStarts =
     (rules : Rules) (s t : State) (number : ℕ) (lines : List (List ℕ)) (line : List ℕ) (ask : Ask) (last : ℕ)
     → said line ≡ Order (Earliest ask last)
-    → answers_by plan_turns [] number (record { rules = rules; state = s; trial = Some t }) (lines ++ line ∷ [])
-    ≡ answers_by plan_turns [] number (record { rules = rules; state = s; trial = Some t }) lines
+    → answers_by plan_turns [] number (record { rules = rules; state = s; trial = Some (Some t) }) (lines ++ line ∷ [])
+    ≡ answers_by plan_turns [] number (record { rules = rules; state = s; trial = Some (Some t) }) lines
     ++ if_line (start_reply ask.number (earliest_after rules t (asks_of (map said lines)) ask ask.start last)) ∷ []

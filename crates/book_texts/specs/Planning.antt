@@ -22,7 +22,8 @@ use Rattle.book_texts.specs.Output.{opened, report_at}
 
 -- The output of `airbook plan` as a list of lines: up to a line `plan` that of `airbook book`; from there on bookings are only
 -- tried, on what the book keeps then, and each accepted one stays for the next, and the earliest start is looked for beside
--- them; and at the end the report of the book itself.
+-- them; and at the end the report of the book itself. A line `plan` that finds no memory opens a plan without a copy of the book,
+-- in which whatever is asked finds none.
 
 -- whether the words are the one word `plan`
 abbrev pub are_plan : List (List ℕ) → Bool
@@ -37,65 +38,69 @@ opens_plan line = if is_too_long line then false else are_plan (words_of line)
 abbrev pub tried_on : State → State
 tried_on s = record { floor = s.floor; list = kept s.list s.floor; booked = s.booked; cancelled = 0 }
 
--- the answer to a booking that is tried. Where memory is wanted there may be no copy of the book to be asked, so that no other
--- refusal is told
-abbrev pub tried_reply : Rules → Bool → State → Ask → Reply
-tried_reply rules starved t ask =
-    if starved then Refused ask.number NoMemory else booking_reply false (refusal_of (terms_at rules t) t.list ask) ask
+-- the answer to a booking that is tried, by what would be reserved, as a book gives it; without a copy memory is wanted
+abbrev pub tried_reply : Rules → Bool → Option State → Ask → Reply
+tried_reply rules starved None ask = Refused ask.number NoMemory
+tried_reply rules starved (Some t) ask = booking_reply starved (refusal_of (terms_at rules t) t.list ask) ask
 
 -- what would be reserved after it
-abbrev pub tried_after : Rules → Bool → State → Ask → State
-tried_after rules starved t ask = if starved then t else book_step rules t ask
+abbrev pub tried_after : Rules → Bool → Option State → Ask → Option State
+tried_after rules starved None ask = None
+tried_after rules starved (Some t) ask = Some (if starved then t else book_step rules t ask)
 
 -- the answer to a question for the earliest start there; it too needs the copy
-abbrev pub tried_start : Rules → Bool → State → Ask → ℕ → Reply
-tried_start rules starved t ask last =
-    if starved then Refused ask.number NoMemory
-    else start_reply ask.number (earliest_of (terms_at rules t) t.list ask ask.start last)
+abbrev pub tried_start : Rules → Option State → Ask → ℕ → Reply
+tried_start rules None ask last = Refused ask.number NoMemory
+tried_start rules (Some t) ask last = start_reply ask.number (earliest_of (terms_at rules t) t.list ask ask.start last)
 
 -- its line: the answer after the word `if`
 abbrev pub if_line : Reply → List ℕ
 if_line reply = spaced (codes "if" ∷ reply_words reply)
 
 -- the line that answers a command of the plan, of which bookings and questions for the earliest start alone are some
-abbrev pub planned_line : Rules → Bool → ℕ → State → Command → List ℕ
-planned_line rules starved number t (Book ask) = if_line (tried_reply rules starved t ask)
-planned_line rules starved number t (Earliest ask last) = if_line (tried_start rules starved t ask last)
-planned_line rules starved number t _ = reply_line (Bad number)
+abbrev pub planned_line : Rules → Bool → ℕ → Option State → Command → List ℕ
+planned_line rules starved number trial (Book ask) = if_line (tried_reply rules starved trial ask)
+planned_line rules starved number trial (Earliest ask last) = if_line (tried_start rules trial ask last)
+planned_line rules starved number trial _ = reply_line (Bad number)
 
-abbrev pub planned_after : Rules → Bool → State → Command → State
-planned_after rules starved t (Book ask) = tried_after rules starved t ask
-planned_after rules starved t _ = t
+abbrev pub planned_after : Rules → Bool → Option State → Command → Option State
+planned_after rules starved trial (Book ask) = tried_after rules starved trial ask
+planned_after rules starved trial _ = trial
 
 -- the lines that answer line number `number` of the plan: none, or one
-abbrev pub planned_answer : Rules → Bool → ℕ → State → Said → List (List ℕ)
-planned_answer rules starved number t Nothing = []
-planned_answer rules starved number t (Order command) = planned_line rules starved number t command ∷ []
-planned_answer rules starved number t Malformed = reply_line (Bad number) ∷ []
+abbrev pub planned_answer : Rules → Bool → ℕ → Option State → Said → List (List ℕ)
+planned_answer rules starved number trial Nothing = []
+planned_answer rules starved number trial (Order command) = planned_line rules starved number trial command ∷ []
+planned_answer rules starved number trial Malformed = reply_line (Bad number) ∷ []
 
-abbrev pub planned_after_line : Rules → Bool → State → Said → State
-planned_after_line rules starved t Nothing = t
-planned_after_line rules starved t (Order command) = planned_after rules starved t command
-planned_after_line rules starved t Malformed = t
+abbrev pub planned_after_line : Rules → Bool → Option State → Said → Option State
+planned_after_line rules starved trial Nothing = trial
+planned_after_line rules starved trial (Order command) = planned_after rules starved trial command
+planned_after_line rules starved trial Malformed = trial
 
--- what the answers hang on: what the book is opened with, what is reserved, and in the plan what would be
+-- what the answers hang on: what the book is opened with, what is reserved, and in the plan what would be, if the book could be
+-- copied
 pub record Planned : Type 0 where
   pub rules : Rules
   pub state : State
-  pub trial : Option State
+  pub trial : Option (Option State)
+
+-- what a line `plan` makes of the book
+abbrev pub copied_of : Bool → State → Option State
+copied_of starved s = if starved then None else Some (tried_on s)
 
 -- the lines that answer a line before the plan, and in it
-abbrev pub answer_in : Rules → Bool → ℕ → State → Option State → List ℕ → List (List ℕ)
+abbrev pub answer_in : Rules → Bool → ℕ → State → Option (Option State) → List ℕ → List (List ℕ)
 answer_in rules starved number s None line = if opens_plan line then [] else answer_to rules starved number s (said line)
-answer_in rules starved number s (Some t) line = planned_answer rules starved number t (said line)
+answer_in rules starved number s (Some trial) line = planned_answer rules starved number trial (said line)
 
 -- what stands after it
-abbrev pub after_in : Rules → Bool → State → Option State → List ℕ → Planned
+abbrev pub after_in : Rules → Bool → State → Option (Option State) → List ℕ → Planned
 after_in rules starved s None line =
-    if opens_plan line then record { rules = rules; state = s; trial = Some (tried_on s) }
+    if opens_plan line then record { rules = rules; state = s; trial = Some (copied_of starved s) }
     else record { rules = rules; state = state_after_line rules starved s (said line); trial = None }
-after_in rules starved s (Some t) line =
-    record { rules = rules; state = s; trial = Some (planned_after_line rules starved t (said line)) }
+after_in rules starved s (Some trial) line =
+    record { rules = rules; state = s; trial = Some (planned_after_line rules starved trial (said line)) }
 
 -- how each line is answered, and the report of the book at the end
 abbrev pub plan_turns : Turns Planned

@@ -1,4 +1,4 @@
-use Rattle.std.specs.Prelude.{◌≡◌, ℕ, Bool, true, false, List, Option, Some, None, is_some, ⊤}
+use Rattle.std.specs.Prelude.{◌≡◌, ℕ, Bool, true, false, List, Option, Some, None, ⊤}
 use Rattle.std.proofs.Common.{refl}
 use Rattle.text_lines.specs.Line.{kept}
 use Rattle.text_lines.specs.Progress.{IsAnswer}
@@ -22,8 +22,8 @@ use Rattle.book_texts.specs.Progress.{report-refuses_nothing}
 -- a booking was tried on a book, and this is the answer
 pub record IsTried (old new : Book) (ask : Ask) (reply : Reply) : Type 0 where
   pub starved : Bool
-  pub answered : reply ≡ tried_reply old.rules starved (state_of old) ask
-  pub reached : state_of new ≡ tried_after old.rules starved (state_of old) ask
+  pub answered : reply ≡ tried_reply old.rules starved (Some (state_of old)) ask
+  pub reached : Some (state_of new) ≡ tried_after old.rules starved (Some (state_of old)) ask
   pub rules : new.rules ≡ old.rules
 
 -- the same on a copy of a book that may be missing: then memory is wanted
@@ -48,8 +48,8 @@ IsCopied book (Some copy) =
 -- a plan is open, and what would be reserved in it is what its copy of the book has. Where there was no memory for a copy,
 -- there is none to the end
 abbrev pub IsCopyOf : Option Book → Planned → Type 0
-IsCopyOf None at = is_some at.trial ≡ true
-IsCopyOf (Some copy) at = (copy.rules ≡ at.rules) × (at.trial ≡ Some (state_of copy))
+IsCopyOf None at = at.trial ≡ Some None
+IsCopyOf (Some copy) at = (copy.rules ≡ at.rules) × (at.trial ≡ Some (Some (state_of copy)))
 
 abbrev pub IsPlanOf : Bool → Option Book → Planned → Type 0
 IsPlanOf false copy at = at.trial ≡ None
@@ -75,14 +75,14 @@ opens_plan-kept = by_kept opens_plan false (λ line e. rw e refl)
 pub plan_turns_by_kept : TurnsByKept plan_turns
 plan_turns_by_kept starved number at line = by at.trial
   where
-    by : (trial : Option State)
+    by : (trial : Option (Option State))
         → (answer_in at.rules starved number at.state trial (kept line) ≡ answer_in at.rules starved number at.state trial line)
         × (after_in at.rules starved at.state trial (kept line) ≡ after_in at.rules starved at.state trial line)
     by None = (
       rw (opens_plan-kept line, said-kept line) refl,
       rw (opens_plan-kept line, said-kept line) refl,
     )
-    by (Some t) = (rw (said-kept line) refl, rw (said-kept line) refl)
+    by (Some trial) = (rw (said-kept line) refl, rw (said-kept line) refl)
 
 -- no line of the report begins with `no` or `bad`
 pub plan_ends_without_refusal : EndsWithoutRefusal plan_turns

@@ -55,7 +55,7 @@ question = codes "earliest 8 0 9 868100000 5 12"
 
 module _ (rules : Rules) (s t : State) where
   abbrev answered : List (List ℕ) → List (List ℕ)
-  answered lines = answers_by plan_turns [] 3 (record { rules = rules; state = s; trial = Some t }) lines
+  answered lines = answers_by plan_turns [] 3 (record { rules = rules; state = s; trial = Some (Some t) }) lines
 
   tells_answer : PlanTellsAnswers → (answer : Answer) → IsAnswer rules t (asked_at 0) answer
       → answered (booking ∷ []) ≡ if_line (reply_of (asked_at 0) answer) ∷ []
