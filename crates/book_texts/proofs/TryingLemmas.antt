@@ -78,7 +78,7 @@ module _ (number : ℕ) (line text : List ℕ) (ask : Ask) (reply : Reply) (is :
   turn_tried (Some old) (Some new) tried = λ at stood.
       let answered : reply ≡ tried_reply at.rules tried.starved (Some (state_of old)) ask = rw (sym stood.0) tried.answered in
       let reached : Some (state_of new) ≡ tried_after at.rules tried.starved (Some (state_of old)) ask =
-          rw (sym stood.0) tried.reached in
+      rw (sym stood.0) tried.reached in
       turn_at number line text (Booking ask) reply is put (Some new) at (Some (state_of old)) tried.starved stood.1
       (ap if_line answered) (tried.rules ∙ stood.0, ap Some (sym reached))
 
