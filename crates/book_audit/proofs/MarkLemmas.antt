@@ -23,7 +23,8 @@ all_rise receipts a i (suc j) d l h =
     subst (λ k. (get_or receipts j d).reservation.number < (get_or receipts k d).reservation.number) one
     (a j (omega (arith, h)) d) in
     elim (nearer i j l) [
-      | inl same ↦ subst (λ k. (get_or receipts k d).reservation.number < (get_or receipts (suc j) d).reservation.number) (sym same) next
+      | inl same ↦
+          subst (λ k. (get_or receipts k d).reservation.number < (get_or receipts (suc j) d).reservation.number) (sym same) next
       | inr below ↦ let before = all_rise receipts a i j d below (omega (arith, h)) in omega (arith, before, next)
     ] where
       nearer : (i j : ℕ) → i < suc j → (i ≡ j) ⊎ (i < j)

@@ -21,8 +21,8 @@ use Rattle.server_workers.specs.declared.served.Served.{Served}
 use Rattle.server_workers.specs.Served.{IsServed}
 use Rattle.server_workers.specs.Serving.{IsSortedByNumber}
 use Rattle.server_workers.specs.Turns.{IsOneOf}
-use Rattle.server_workers.specs.Works.{outcomes_airtime}
 use Rattle.server_workers.specs.Working.{receipts_of, outcomes_of, strays_of}
+use Rattle.server_workers.specs.Works.{outcomes_airtime}
 use Rattle.server_workers.proofs.TurnLemmas.{handed_on}
 use Rattle.run_passes.specs.declared.pass_answers.Answer.{Answer}
 use Rattle.run_passes.specs.declared.pass_ends.Ends.{Ends}
@@ -135,14 +135,17 @@ served_by_number served sorted =
       strays = sorted.strays;
     }
 
--- no ends are by number
+-- no items are by number
+none_sorted : {X : Type 0} (n : X → ℕ) (items : List X) → items ≡ [] → IsNonDecreasingBy n items
+none_sorted n items none = subst (IsNonDecreasingBy n) (sym none) (λ i j d l m. absurd (omega (arith, m)))
+
 pub none_by_number : (e : Ends) → AreNone e → AreByNumber e
 none_by_number e none =
     record {
-      receipts = subst (IsNonDecreasingBy (λ (r : Receipt Global). r.number)) (sym none.receipts) (λ i j d l m. absurd (omega (arith, m)));
-      outcomes = subst (IsNonDecreasingBy (λ (o : Outcome). o.number)) (sym none.outcomes) (λ i j d l m. absurd (omega (arith, m)));
-      refused = subst (IsNonDecreasingBy (λ (r : ℕ × TakeFault). r.0)) (sym none.refused) (λ i j d l m. absurd (omega (arith, m)));
-      strays = subst (IsNonDecreasingBy (λ (n : ℕ). n)) (sym none.strays) (λ i j d l m. absurd (omega (arith, m)));
+      receipts = none_sorted (λ (r : Receipt Global). r.number) e.receipts.items none.receipts;
+      outcomes = none_sorted (λ (o : Outcome). o.number) e.outcomes.items none.outcomes;
+      refused = none_sorted (λ (r : ℕ × TakeFault). r.0) e.refused.items none.refused;
+      strays = none_sorted (λ (n : ℕ). n) e.strays.items none.strays;
     }
 
 -- where nobody worked the till is as it was

@@ -53,8 +53,8 @@ impl WriteBehind {
         }
     }
 
-    /// Adds bytes, at most 4,096, to what is gathered, and writes all of it where that makes 4,096. After an Err a front of it was
-    /// taken, and the rest is forgotten.
+    /// Adds bytes, at most 4,096, to what is gathered, and writes all of it where that makes 4,096. After an Err a front of it
+    /// was taken, and the rest is forgotten.
     pub fn put<W: ByteOut>(&mut self, writer: &mut W, bytes: &[u8]) -> Result<(), CallFailed>
         requires { length bytes.now ≤ WRITE_SIZE }
         ensures ok { OnOk result (WritesAllBut (W.taken writer.old) (W.taken writer.new) (self.old ++ bytes.now) self.new) }
