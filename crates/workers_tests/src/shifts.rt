@@ -20,8 +20,8 @@ pub(crate) enum Shift {
     Meeting(u64, u64, u8),
     /// So many workers whom no gate lets in, at the numbers from the one to the other.
     ShutOut(u64, u64, u8),
-    /// One with room for so many numbers, at these, whom no gate lets in.
-    One(u32, &'static [u64]),
+    /// One with room for so many numbers, at these and then at those of another channel, whom no gate lets in.
+    One(u32, &'static [u64], &'static [u64]),
 }
 
 impl<B: Ledger + Send + Sync, R: Threads + Wait + Sync> Post<'_, B, R> {
@@ -31,7 +31,7 @@ impl<B: Ledger + Send + Sync, R: Threads + Wait + Sync> Post<'_, B, R> {
             Shift::Crew(first, last, workers) => self.serve(first, last, workers, &NoGate),
             Shift::Meeting(first, last, workers) => self.meet(first, last, workers),
             Shift::ShutOut(first, last, workers) => self.serve(first, last, workers, &Shut::new()),
-            Shift::One(room, numbers) => self.work(room, numbers),
+            Shift::One(room, numbers, others) => self.work(room, numbers, others),
         }
     }
 
@@ -114,13 +114,12 @@ impl<B: Ledger, R: Wait> Post<'_, B, R> {
         text(self.alloc, &(cause, parts))
     }
 
-    /// One worker with room for so many numbers, whom no gate lets in, works at these: how many outcomes there are, what was
-    /// skipped and what refused, how many tries the gate didn't let in, and the number that is left.
-    fn work(&mut self, room: u32, numbers: &[u64]) -> Result<String, Fail> {
-        let numbers = channel_of(self.rt, self.alloc, numbers)?;
+    /// One worker with room for so many numbers, whom no gate lets in, works at these and then at those: how many outcomes there
+    /// are, what was skipped and what refused, how many tries the gate didn't let in, and which numbers are left first.
+    fn work(&mut self, room: u32, numbers: &[u64], others: &[u64]) -> Result<String, Fail> {
         let worked = self.hired(room)?;
-        let worked = work(self.rt, &self.station, &numbers, &Shut::new(), worked);
-        let left = numbers.recv(self.rt).ok();
+        let (worked, left) = self.worked_at(worked, numbers)?;
+        let (worked, left_of_others) = self.worked_at(worked, others)?;
         text(
             self.alloc,
             &(
@@ -128,9 +127,20 @@ impl<B: Ledger, R: Wait> Post<'_, B, R> {
                 worked.skipped.as_slice(),
                 worked.refused.as_slice(),
                 worked.overrun,
-                left,
+                [left, left_of_others],
             ),
         )
+    }
+
+    /// A worker works at some numbers: what it has done so far, and the first number that is left.
+    fn worked_at(
+        &self,
+        worked: Worked<B>,
+        numbers: &[u64],
+    ) -> Result<(Worked<B>, Option<u64>), Fail> {
+        let numbers = channel_of(self.rt, self.alloc, numbers)?;
+        let worked = work(self.rt, &self.station, &numbers, &Shut::new(), worked);
+        Ok((worked, numbers.recv(self.rt).ok()))
     }
 
     /// A worker who has done nothing, with room for so many numbers.

@@ -77,7 +77,7 @@ fn strayed<B: Ledger + Send + Sync, C: Ledger, R: Threads + Wait + Sync>(
     strayed_to::<B, C, R>(&post, other)
 }
 
-/// The same, by the ledger of the other.
+/// The same, by the ledger of the other, at which an uplink is open before and afterwards.
 fn strayed_to<B: Ledger, C: Ledger, R: Wait>(
     post: &Post<'_, B, R>,
     other: Blank,
@@ -87,7 +87,16 @@ fn strayed_to<B: Ledger, C: Ledger, R: Wait>(
     requires all { other.parts ≡ PARTS }
 {
     let mut elsewhere = opened::<C, R>(post.rt, post.alloc, &[2], 1, other)?;
-    stray(post, &mut elsewhere)
+    equal(
+        &elsewhere.told_of_air(Heard::By(1, 2, 0))?.as_str(),
+        &OPENED_1,
+    )?;
+    let ended = stray(post, &mut elsewhere)?;
+    equal(
+        &elsewhere.told_of_ask(Ask::Pass(200_001))?.as_str(),
+        &"Some(1)",
+    )?;
+    Ok(ended)
 }
 
 /// Whether a station hands the ticket of another back, then whether it settles the stub, and how that ended.

@@ -6,7 +6,7 @@ use crate::finishing::Try;
 use crate::looks::{AtDesk, Look, Sight};
 use crate::plans::{Plan, runs};
 use crate::steps::{Row, Step};
-use crate::tickets::Fate;
+use crate::tickets::{Answer, Fate};
 use std::alloc::Global;
 use std::sync::Wait;
 use std::test::Fail;
@@ -30,7 +30,7 @@ const CANCELLED: Call = (
     ],
 );
 
-static CALLS: [Call; 10] = [
+static CALLS: [Call; 18] = [
     (
         (Step::Ask(Ask::Queue(5, &[2])), "Ok(2)"),
         &[(
@@ -135,6 +135,22 @@ static CALLS: [Call; 10] = [
         ),
         &[],
     ),
+    // Refused calls take no step.
+    ((Step::Ask(Ask::Queue(9, &[2])), "Err(UnknownDevice)"), &[]),
+    ((Step::Hear(Heard::By(1, 9, 0)), "Err(UnknownGateway)"), &[]),
+    ((Step::Ask(Ask::Pass(200_001)), "None"), &[]),
+    // Number 4 isn't ready, and number 1 was taken.
+    ((Step::Answer(4, Answer::Freely), "(None, 0)"), &[]),
+    ((Step::Answer(1, Answer::Freely), "(None, 0)"), &[]),
+    ((Step::Ask(Ask::Tick(9, 9)), "None"), &[]),
+    (
+        (
+            Step::Ask(Ask::Totals(1, 41_217)),
+            "Err(Behind { booked: 41216 })",
+        ),
+        &[],
+    ),
+    ((Step::Ask(Ask::Totals(9, 0)), "Err(UnknownGateway)"), &[]),
 ];
 
 /// A busy station is called once, and finished in so many tries.

@@ -68,35 +68,43 @@ fn one_to_sixteen_workers_serve(rt: HostRuntime) -> Result<(), Fail> {
     tells(&rt, rt.alloc(), 1, &TOO_FEW_AND_TOO_MANY)
 }
 
-/// With room for one number it is given two; the second is left. No gate lets it in, and it goes on.
-static ONE_OF_TWO: [Row; 2] = [
-    (Step::Hear(Heard::All(2)), "2"),
+/// With room for one number it is given two; the second is left. No gate lets it in, and it goes on. With room for two it
+/// answers one of each of two channels, though it stopped at the end of the first.
+static ONE_OF_TWO: [Row; 3] = [
+    (Step::Hear(Heard::All(4)), "4"),
     (
-        Step::Work(Shift::One(1, &[1, 2])),
-        "(1, [], [], 1, Some(2))",
+        Step::Work(Shift::One(1, &[1, 2], &[])),
+        "(1, [], [], 1, [Some(2), None])",
+    ),
+    (
+        Step::Work(Shift::One(2, &[3], &[4])),
+        "(2, [], [], 2, [None, None])",
     ),
 ];
 
 #[test]
-fn a_worker_without_room_stops(rt: HostRuntime) -> Result<(), Fail> {
-    tells(&rt, rt.alloc(), 2, &ONE_OF_TWO)
+fn a_worker_stops_without_room_and_goes_on_at_another_channel(rt: HostRuntime) -> Result<(), Fail> {
+    tells(&rt, rt.alloc(), 4, &ONE_OF_TWO)
 }
 
-/// It is given the second uplink of a device whose first ticket is out, and a number that is unknown.
-static PASSED_OVER: [Row; 5] = [
+/// It is given the second uplink of a device whose first ticket is out, and a number that is unknown. An uplink that wasn't closed
+/// is open then as before.
+static PASSED_OVER: [Row; 7] = [
     (Step::Hear(Heard::Of(1, 0)), OPENED_1),
     (Step::Hear(Heard::Of(1, 1)), OPENED_2),
     (Step::Ask(Ask::Pass(200_001)), "Some(1)"),
     (Step::Ask(Ask::Pass(200_001)), "Some(2)"),
+    (Step::Hear(Heard::Of(2, 0)), OPENED_3),
     (
-        Step::WorkBeside(1, Shift::One(2, &[2, 9])),
-        "(0, [2], [(9, NotReady)], 0, None)",
+        Step::WorkBeside(1, Shift::One(2, &[2, 9], &[])),
+        "(0, [2], [(9, NotReady)], 0, [None, None])",
     ),
+    (Step::Ask(Ask::Pass(200_001)), "Some(3)"),
 ];
 
 #[test]
 fn a_worker_tells_whom_it_passed_over(rt: HostRuntime) -> Result<(), Fail> {
-    tells(&rt, rt.alloc(), 1, &PASSED_OVER)
+    tells(&rt, rt.alloc(), 2, &PASSED_OVER)
 }
 
 /// Two workers are given the second uplink of a device whose first ticket is out.
