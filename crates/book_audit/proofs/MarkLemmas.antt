@@ -10,9 +10,14 @@ use Rattle.resv_list.specs.declared.reservation.Reservation.{Reservation}
 use Rattle.answer_ticket.specs.declared.tried.Receipt.{Receipt}
 use Rattle.book_audit.specs.Audit.{times_of}
 use Rattle.book_audit.specs.Held.{Kept}
-use Rattle.book_audit.specs.Marks.{DoRise, NeighboursRise, told_by, AreMarked}
+use Rattle.book_audit.specs.Marks.{DoRise, told_by, AreMarked}
 use Rattle.book_audit.proofs.HeldLemmas.{number_of}
 use Rattle.book_audit.proofs.LostLemmas.{unless}
+
+-- of the first so many, each neighbour has a greater number than the one before
+abbrev pub NeighboursRise : {A : Type 0} → List (Receipt A) → ℕ → Type 0
+NeighboursRise {A} receipts n = (k : ℕ) → k + 1 < n → (d : Receipt A)
+    → (get_or receipts k d).reservation.number < (get_or receipts (k + 1) d).reservation.number
 
 -- where all neighbours rise, all do
 pub all_rise : {A : Type 0} (receipts : List (Receipt A)) → NeighboursRise receipts (length receipts) → DoRise receipts

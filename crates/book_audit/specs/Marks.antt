@@ -1,4 +1,4 @@
-use Rattle.std.specs.Prelude.{ℕ, ◌≡◌, ◌+◌, ◌<◌, Bool, true, false, List, length, get_or, map, AllPairs, Contains}
+use Rattle.std.specs.Prelude.{ℕ, ◌≡◌, ◌<◌, Bool, true, false, List, length, get_or, map, AllPairs, Contains}
 use Rattle.answer_ticket.specs.declared.tried.Receipt.{Receipt}
 use Rattle.book_audit.specs.Audit.{times_of, EachStandsOnce}
 use Rattle.book_audit.specs.Held.{Kept}
@@ -8,11 +8,6 @@ use Rattle.book_audit.specs.Held.{Kept}
 -- the numbers of their reservations rise
 abbrev pub DoRise : {A : Type 0} → List (Receipt A) → Type 0
 DoRise receipts = AllPairs (λ r s. r.reservation.number < s.reservation.number) receipts
-
--- of the first so many, each neighbour has a greater number than the one before
-abbrev pub NeighboursRise : {A : Type 0} → List (Receipt A) → ℕ → Type 0
-NeighboursRise {A} receipts n = (k : ℕ) → k + 1 < n → (d : Receipt A)
-    → (get_or receipts k d).reservation.number < (get_or receipts (k + 1) d).reservation.number
 
 -- what a receipt tells that a book keeps, beside the gateway's number
 abbrev pub told_by : {A : Type 0} → Receipt A → Kept

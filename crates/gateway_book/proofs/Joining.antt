@@ -16,12 +16,11 @@ use Rattle.gateway_book.specs.declared.saved_line.SavedGateway.{SavedGateway}
 use Rattle.gateway_book.specs.Answer.{IsAsked, no_band, too_long, past_end, taken, duty_full, first_some, overlap, ask_end}
 use Rattle.gateway_book.specs.Book.{Book, IsSound}
 use Rattle.gateway_book.specs.Loading.{is_behind, may_follow, joined, saved_empty}
-use Rattle.gateway_book.specs.Orderly.{MayJoin}
 use Rattle.gateway_book.specs.Saved.{Saved, saved_of, opened_again}
 use Rattle.gateway_book.specs.Step.{is_fit, made_if, reservation_of}
 use Rattle.gateway_book.proofs.AnswerLaws.{first_none, no_refusal, not_taken, not_full}
 use Rattle.gateway_book.proofs.FollowLaws.{follow_rows, follow_terms, none_of, place-last, net-behind, net-short}
-use Rattle.gateway_book.proofs.OrderlyLaws.{same_hour}
+use Rattle.gateway_book.proofs.OrderlyLaws.{MayJoin, same_hour}
 use Rattle.gateway_book.proofs.SoundLaws.{CanBook}
 
 -- What a member that may follow brings to the book.

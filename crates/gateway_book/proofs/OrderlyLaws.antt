@@ -1,7 +1,7 @@
 use Rattle.std.specs.Prelude.{ℕ, ◌≡◌, ◌+◌, Bool, List, [], Option, Some, None, All, filter, find, ◌≤◌}
 use Rattle.std.specs.Option.{option_map}
 use Rattle.std.proofs.Common.{refl, sym, subst, ◌∙◌, arith, get_or}
-use Rattle.radio_bands.specs.Band.{hour}
+use Rattle.radio_bands.specs.Band.{hour, band_of}
 use Rattle.radio_bands.specs.declared.band.Band.{Band}
 use Rattle.resv_list.specs.declared.reservation.Reservation.{Reservation}
 use Rattle.resv_list.specs.Fit.{IsFit}
@@ -17,9 +17,14 @@ use Rattle.gateway_book.proofs.CancelLaws.{SpacedFrom-filter, begun-filter}
 use Rattle.gateway_book.specs.Disjoint.{overlaps, rested_from, most_gap}
 use Rattle.gateway_book.proofs.SpacedLaws.{SpacedFrom-place_by, free_of_clear}
 use Rattle.gateway_book.proofs.ApartLaws.{first_has_least_start, apart_spaced, spaced_apart, rests_later}
-use Rattle.gateway_book.specs.Orderly.{IsOrderly, MayJoin}
+use Rattle.gateway_book.specs.Orderly.{IsOrderly}
 
 -- What stays orderly: no list at all, a list that is joined by what it may hold, and a part of a list.
+
+-- it overlaps no member, and no hour of its band would be overfull with it
+pub record MayJoin (gap : ℕ) (l : List Reservation) (r : Reservation) : Type 0 where
+  pub clear : overlap gap l r.start (end_of r) ≡ None
+  pub duty : (band : Band) → band_of r.freq_hz r.rate ≡ Some band → full_hour l band r.start (airtime_us r) ≡ None
 
 -- every reservation is fit by its type
 pub all_fit : (l : List Reservation) → All (λ r. IsFit r.start r.freq_hz r.rate r.len) l

@@ -17,8 +17,8 @@ use Rattle.gateway_book.specs.Answer.{IsAsked, total_limit, refusal_of, Rules}
 use Rattle.gateway_book.proofs.AnswerLaws.{accepted, book_step-accepted}
 use Rattle.gateway_book.specs.Step.{is_named, without_named, book_step, tick_step}
 use Rattle.gateway_book.proofs.CancelLaws.{fewer, net_named}
-use Rattle.gateway_book.specs.Orderly.{IsOrderly, MayJoin}
-use Rattle.gateway_book.proofs.OrderlyLaws.{orderly_nil, orderly_placed, orderly_filter, may_join}
+use Rattle.gateway_book.specs.Orderly.{IsOrderly}
+use Rattle.gateway_book.proofs.OrderlyLaws.{MayJoin, orderly_nil, orderly_placed, orderly_filter, may_join}
 use Rattle.gateway_book.specs.Book.{Book, IsSound, terms_of, with_booked, with_cancelled, at_floor, ticked, state_of}
 use Rattle.gateway_book.specs.Remembers.{Remembers}
 use Rattle.gateway_book.specs.Disjoint.{most_gap}

@@ -9,7 +9,8 @@ use Rattle.aes_cmac.specs.Aes.{xor_bytes, ciphertext}
 use Rattle.aes_cmac.specs.Mac.{cmac}
 use Rattle.aes_cmac.proofs.Lengths.{length-ciphertext, length-cmac}
 use Rattle.lora_frame.specs.Blocks.{key_stream, stream_seed, crypted, block_count, mic_of, first_block}
-use Rattle.lora_frame.specs.Frame.{payload_key, down_frame, down_bytes, down_message, body_bytes, header_bytes, down_control}
+use Rattle.lora_frame.specs.Frame.{payload_key, down_frame, down_bytes, message_of_parts, parts_of, body_bytes, header_bytes}
+use Rattle.lora_frame.specs.Frame.{down_control}
 use Rattle.lora_frame.specs.Laws.{IsKeyPair, sent_payload}
 use Rattle.lora_frame.specs.declared.parts.Body.{Body}
 use Rattle.lora_frame.specs.declared.parts.Keys.{Keys}
@@ -87,6 +88,10 @@ front-mic message mic h = take_at message mic (length (message ++ mic) - 4) (ome
 
 pub back-mic : (message mic : List ℕ) → length mic ≡ 4 → drop (length (message ++ mic) - 4) (message ++ mic) ≡ mic
 back-mic message mic h = drop_at message mic (length (message ++ mic) - 4) (omega (arith, length-append message mic))
+
+-- a downlink but its MIC
+abbrev down_message : Down → Keys → List ℕ
+down_message down keys = message_of_parts keys down.addr down.counter (down_control down) (parts_of down.body)
 
 pub device_decrypts : (down : Down) (keys : Keys) (body : Body) → IsKeyPair keys → down.body ≡ Some body
     → crypted (payload_key keys body.port) 1 down.addr down.counter (sent_payload (down_bytes down keys)) ≡ body.payload.now

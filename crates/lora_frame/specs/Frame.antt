@@ -52,9 +52,6 @@ abbrev pub message_of_parts : Keys → ℕ → ℕ → ℕ → Option (ℕ × Li
 message_of_parts keys addr counter control parts =
     header_bytes unconfirmed_down addr control counter ++ parts_bytes keys 1 addr counter parts
 
-abbrev pub down_message : Down → Keys → List ℕ
-down_message down keys = message_of_parts keys down.addr down.counter (down_control down) (parts_of down.body)
-
 -- a downlink with these keys, DevAddr, counter, ACK and FPending, and this port and payload
 unfoldable pub down_frame : Keys → ℕ → ℕ → Bool → Bool → Option (ℕ × List ℕ) → List ℕ
 down_frame keys addr counter ack pending parts =

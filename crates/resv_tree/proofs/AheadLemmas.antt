@@ -14,11 +14,11 @@ use Rattle.resv_tree.specs.declared.entry.Entry.{Entry}
 use Rattle.resv_tree.specs.Entries.{key_of, members, Each}
 use Rattle.resv_tree.specs.Filling.{with_hours, EndsBy, IsAhead}
 use Rattle.resv_tree.specs.OwnHours.{own_hour, HasHours}
-use Rattle.resv_tree.specs.Sums.{sum_in, quarters_in, total_in}
+use Rattle.resv_tree.specs.Sums.{sum_in, quarters_in}
 use Rattle.resv_tree.proofs.EntryLemmas.{banded, amount_of, amount_at, each-with}
 use Rattle.resv_tree.proofs.QuarterLemmas.{own_hour_whole}
 use Rattle.resv_tree.proofs.SumLemmas.{airtime_in-short, begun_le-total, begun_between}
-use Rattle.resv_tree.proofs.TotalLemmas.{total_in-nil, total_in-cons}
+use Rattle.resv_tree.proofs.TotalLemmas.{total_in, total_in-nil, total_in-cons}
 
 -- A walk over members by start, with the sums of what begins in the hour that the next one opens.
 

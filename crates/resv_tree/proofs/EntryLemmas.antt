@@ -9,13 +9,17 @@ use Rattle.radio_bands.proofs.BandLaws.{LiesIn-band_of, lies_in-true}
 use Rattle.resv_list.specs.declared.reservation.Reservation.{Reservation}
 use Rattle.resv_list.specs.Sorted.{RisesFrom}
 use Rattle.resv_list.specs.Reservations.{start_of, is_in, airtime_us, airtime_in}
+use Rattle.resv_list.specs.Hours.{greatest}
 use Rattle.resv_list.proofs.NetLemmas.{in_own}
 use Rattle.resv_tree.specs.declared.entry.Entry.{Entry}
-use Rattle.resv_tree.specs.Entries.{Each, amount, at_band, moved, own_in, most_own, members, key_of}
-use Rattle.resv_tree.specs.Sums.{total_in}
-use Rattle.resv_tree.proofs.TotalLemmas.{total_in-nil, total_in-cons}
+use Rattle.resv_tree.specs.Entries.{Each, amount, at_band, moved, own_in, members, key_of}
+use Rattle.resv_tree.proofs.TotalLemmas.{total_in, total_in-nil, total_in-cons}
 
 -- Lists of entries, and amounts by sub-bands.
+
+-- the greatest own hour of the band
+abbrev pub most_own : Band → List Entry → ℕ
+most_own band es = greatest (map (own_in band) es)
 
 module _ {X : Type 0} where
   pub each : (P : X → Type 0) → ((x : X) → P x) → (xs : List X) → Each P xs

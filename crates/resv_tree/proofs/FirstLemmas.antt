@@ -9,14 +9,12 @@ use Rattle.resv_list.specs.Reservations.{is_in, airtime_us}
 use Rattle.resv_list.specs.Sorted.{RisesFrom}
 use Rattle.resv_tree.specs.declared.entry.Entry.{Entry}
 use Rattle.resv_tree.specs.Entries.{key_of, IsByKey, Each, amount, moved, CanMove, reaches, first_reaching, member_of, members}
-use Rattle.resv_tree.specs.Entries.{most_own}
-use Rattle.resv_tree.specs.Sums.{total_in}
 use Rattle.resv_tree.specs.Shape.{Shape, entries, greatest_of, top_of, kept_sum, IsWhole}
 use Rattle.resv_tree.specs.Parts.{IsOwing}
 use Rattle.resv_tree.proofs.SplitLemmas.{rises_left, rises_right}
-use Rattle.resv_tree.proofs.TotalLemmas.{total_in-cons}
+use Rattle.resv_tree.proofs.TotalLemmas.{total_in, total_in-cons}
 use Rattle.resv_tree.proofs.SumLemmas.{kept_sum-total}
-use Rattle.resv_tree.proofs.EntryLemmas.{each-with, in_band, amount_of}
+use Rattle.resv_tree.proofs.EntryLemmas.{most_own, each-with, in_band, amount_of}
 use Rattle.resv_tree.proofs.OwedLemmas.{entries-members, greatest_is_most}
 use Rattle.resv_tree.proofs.StretchLemmas.{keys_below, keys_above}
 

@@ -6,16 +6,17 @@ use Rattle.resv_list.specs.Reservations.{airtime_in, place}
 use Rattle.resv_list.specs.Sorted.{place_by}
 use Rattle.resv_tree.specs.declared.entry.Entry.{Entry}
 use Rattle.resv_tree.specs.declared.kept.Kept.{Kept}
-use Rattle.resv_tree.specs.Entries.{key_of, members, own_in, most_own}
-use Rattle.resv_tree.specs.Sums.{total_in, sum_in, quarters_in}
+use Rattle.resv_tree.specs.Entries.{key_of, members, own_in}
+use Rattle.resv_tree.specs.Sums.{sum_in, quarters_in}
 use Rattle.resv_tree.specs.Shape.{Shape, Leaf, entries, members_of, height_of, count_of, greatest_of, kept_sum}
 use Rattle.resv_tree.specs.Shape.{IsWhole, IsKept, IsLevel, HasSides}
 use Rattle.resv_tree.specs.Parts.{IsMadeOf, LacksOne}
-use Rattle.resv_tree.proofs.TotalLemmas.{total_in-cons}
+use Rattle.resv_tree.proofs.TotalLemmas.{total_in, total_in-cons}
 use Rattle.resv_tree.proofs.SumLemmas.{kept_sum-total, airtime_in-short}
 use Rattle.resv_tree.proofs.ShapeLemmas.{count_bounds_sum}
 use Rattle.resv_tree.proofs.OwedLemmas.{entries-members, greatest_is_most}
 use Rattle.resv_tree.proofs.OwnLemmas.{members-place}
+use Rattle.resv_tree.proofs.EntryLemmas.{most_own}
 
 -- Trees with one entry more.
 

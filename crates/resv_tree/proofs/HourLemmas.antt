@@ -7,11 +7,11 @@ use Rattle.resv_list.specs.Reservations.{is_in, spent}
 use Rattle.resv_list.specs.Hours.{reach, starts_in, is_over, first_over, greatest, most_spent}
 use Rattle.resv_list.proofs.HourLemmas.{greatest-cons}
 use Rattle.resv_tree.specs.declared.entry.Entry.{Entry}
-use Rattle.resv_tree.specs.Entries.{key_of, Each, reaches, first_reaching, member_of, members, most_own}
+use Rattle.resv_tree.specs.Entries.{key_of, Each, reaches, first_reaching, member_of, members}
 use Rattle.resv_tree.specs.Entries.{moved_in, CanMoveIn}
 use Rattle.resv_tree.specs.OwnHours.{own_hour, HasHours, airtimes, raised, lowered, CountsIn}
 use Rattle.resv_tree.specs.Shape.{Shape, entries, members_of, greatest_of, IsWhole}
-use Rattle.resv_tree.proofs.EntryLemmas.{in_band, amount_of}
+use Rattle.resv_tree.proofs.EntryLemmas.{most_own, in_band, amount_of}
 use Rattle.resv_tree.proofs.OwedLemmas.{entries-members, greatest_is_most}
 use Rattle.resv_tree.proofs.FirstLemmas.{low_none}
 use Rattle.resv_tree.proofs.QuarterLemmas.{above}

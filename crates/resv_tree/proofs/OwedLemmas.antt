@@ -4,17 +4,18 @@ use Rattle.radio_bands.specs.declared.band.Band.{Band}
 use Rattle.resv_list.specs.Reservations.{is_in, airtime_us}
 use Rattle.resv_tree.specs.declared.entry.Entry.{Entry}
 use Rattle.resv_tree.specs.declared.kept.Kept.{Kept}
-use Rattle.resv_tree.specs.Entries.{Each, amount, moved, CanMove, most_own, members}
-use Rattle.resv_tree.specs.Sums.{sum_in, quarters_in, total_in}
+use Rattle.resv_tree.specs.Entries.{Each, amount, moved, CanMove, members}
+use Rattle.resv_tree.specs.Sums.{sum_in, quarters_in}
 use Rattle.resv_tree.specs.Shape.{Shape, Leaf, Fork, entries, members_of, greatest_of, top_of, kept_sum}
 use Rattle.resv_tree.specs.Shape.{IsWhole, IsKept}
 use Rattle.resv_tree.specs.Parts.{IsMadeOf, IsMoved}
 use Rattle.resv_tree.proofs.SumLemmas.{kept_sum-total}
-use Rattle.resv_tree.proofs.EntryLemmas.{own_same, each}
+use Rattle.resv_tree.proofs.EntryLemmas.{most_own, own_same, each}
 use Rattle.resv_tree.proofs.EntryLemmas.{map-identity}
 use Rattle.resv_tree.proofs.EntryLemmas.{map-parts, members-moved, members-parts, most-parts, most_none, most_moved}
 use Rattle.resv_tree.proofs.EntryLemmas.{each_within}
 use Rattle.resv_tree.proofs.EntryLemmas.{own_moved}
+use Rattle.resv_tree.proofs.TotalLemmas.{total_in}
 
 -- What a tree keeps of the own hours of its members, and what its nodes owe.
 

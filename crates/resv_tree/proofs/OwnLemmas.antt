@@ -17,12 +17,12 @@ use Rattle.resv_list.proofs.SortedLaws.{at_none}
 use Rattle.resv_tree.specs.declared.entry.Entry.{Entry}
 use Rattle.resv_tree.specs.Entries.{Each, key_of, members, moved_in, amount, entry_at, entries_without}
 use Rattle.resv_tree.specs.OwnHours.{own_hour, airtimes, nothing, raised, lowered, CountsIn}
-use Rattle.resv_tree.specs.Sums.{total_in}
 use Rattle.resv_tree.specs.Shape.{Shape, entries, kept_sum, IsWhole}
 use Rattle.resv_tree.proofs.EntryLemmas.{Banded, banded, amount_at}
 use Rattle.resv_tree.proofs.OwedLemmas.{entries-members}
 use Rattle.resv_tree.proofs.QuarterLemmas.{airtime_in-whole}
 use Rattle.resv_tree.proofs.SumLemmas.{kept_sum-total}
+use Rattle.resv_tree.proofs.TotalLemmas.{total_in}
 
 -- The own hours of all members once one is placed, taken out, or dropped.
 

@@ -10,11 +10,11 @@ use Rattle.resv_list.proofs.NetLemmas.{in_own}
 use Rattle.resv_tree.specs.declared.entry.Entry.{Entry}
 use Rattle.resv_tree.specs.declared.node.Node.{Node}
 use Rattle.resv_tree.specs.declared.sums.Sums.{Sums}
-use Rattle.resv_tree.specs.Entries.{key_of, amount, moved, moved_in, own_in, most_own}
+use Rattle.resv_tree.specs.Entries.{key_of, amount, moved, moved_in, own_in}
 use Rattle.resv_tree.specs.Sums.{quarters_in, sum_in, order_of, is_same, IsOnly}
 use Rattle.resv_tree.specs.Shape.{Shape, shape, entries, entry_of, kept_of, left_of, right_of, greatest_of, top_of, IsWhole}
 use Rattle.resv_tree.specs.Parts.{IsMadeOf}
-use Rattle.resv_tree.proofs.EntryLemmas.{own_moved, in_band, banded, amount_at}
+use Rattle.resv_tree.proofs.EntryLemmas.{most_own, own_moved, in_band, banded, amount_at}
 use Rattle.resv_tree.proofs.QuarterLemmas.{airtime_of-quarters}
 use Rattle.resv_tree.proofs.OwedLemmas.{greatest_is_most}
 use Rattle.resv_tree.proofs.ShapeLemmas.{shape-out}

@@ -10,10 +10,10 @@ use Rattle.resv_list.proofs.NetLemmas.{net-nil, net-cons, airtime_in-all}
 use Rattle.resv_list.specs.Begun.{begun-cons, begun-nil}
 use Rattle.resv_list.proofs.BegunLemmas.{share_before, share_after, share_within, begun_late}
 use Rattle.resv_tree.specs.declared.sums.Sums.{Sums}
-use Rattle.resv_tree.specs.Sums.{sum_in, sum_of_all, total_in}
+use Rattle.resv_tree.specs.Sums.{sum_in, sum_of_all}
 use Rattle.resv_tree.specs.Shape.{Shape, Leaf, Fork, members_of, kept_sum, IsWhole}
 use Rattle.resv_tree.proofs.QuarterLemmas.{airtime_of-below}
-use Rattle.resv_tree.proofs.TotalLemmas.{total_in-nil, total_in-cons, total_in-append}
+use Rattle.resv_tree.proofs.TotalLemmas.{total_in, total_in-nil, total_in-cons, total_in-append}
 use Rattle.resv_tree.proofs.SplitLemmas.{middle_from}
 
 -- Sums of airtime.

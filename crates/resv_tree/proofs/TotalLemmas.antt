@@ -1,11 +1,15 @@
-use Rattle.std.specs.Prelude.{◌≡◌, ◌+◌, List, [], ◌∷◌, ◌++◌}
+use Rattle.std.specs.Prelude.{ℕ, ◌≡◌, ◌+◌, List, [], ◌∷◌, ◌++◌}
 use Rattle.std.proofs.Common.{refl, arith}
 use Rattle.radio_bands.specs.declared.band.Band.{Band}
 use Rattle.resv_list.specs.declared.reservation.Reservation.{Reservation}
 use Rattle.resv_list.specs.Reservations.{airtime_in}
-use Rattle.resv_tree.specs.Sums.{total_in}
 
 -- The airtime of a list in one sub-band.
+
+-- the airtime of the members of the sub-band
+unfoldable pub total_in : Band → List Reservation → ℕ
+total_in band [] = 0
+total_in band (r ∷ rs) = airtime_in band r + total_in band rs
 
 pub total_in-nil : (band : Band) → total_in band [] ≡ 0
 unfolding total_in

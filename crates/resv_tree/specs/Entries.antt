@@ -7,7 +7,6 @@ use Rattle.radio_bands.specs.Band.{band_of}
 use Rattle.resv_list.specs.declared.reservation.Reservation.{Reservation}
 use Rattle.resv_list.specs.Reservations.{is_in}
 use Rattle.resv_list.specs.Sorted.{RisesFrom}
-use Rattle.resv_list.specs.Hours.{greatest}
 use Rattle.resv_tree.specs.declared.entry.Entry.{Entry}
 
 -- What the tree keeps of its members: each with the airtime of its own hour.
@@ -72,10 +71,6 @@ first_reaching band from to least es = option_map member_of (find (reaches band 
 -- the airtime of the own hour where the member is one of the band, and 0 where it isn't
 abbrev pub own_in : Band → Entry → ℕ
 own_in band e = if is_in band e.reservation then e.own else 0
-
--- the most of the band
-abbrev pub most_own : Band → List Entry → ℕ
-most_own band es = greatest (map (own_in band) es)
 
 -- so it is of each
 abbrev pub Each : {X : Type 0} → (X → Type 0) → List X → Type 0

@@ -1,8 +1,6 @@
-use Rattle.std.specs.Prelude.{ℕ, ◌≡◌, ◌+◌, ◌*◌, List, [], ◌∷◌, Bool, false, nat_eq}
+use Rattle.std.specs.Prelude.{ℕ, ◌≡◌, ◌+◌, ◌*◌, Bool, false, nat_eq}
 use Rattle.radio_bands.specs.declared.band.Band.{Band}
 use Rattle.radio_bands.specs.declared.band.Band.TheVariants.{K, L, M, N, P, Q}
-use Rattle.resv_list.specs.declared.reservation.Reservation.{Reservation}
-use Rattle.resv_list.specs.Reservations.{airtime_in}
 use Rattle.resv_tree.specs.declared.sums.Sums.{Sums}
 
 -- Airtime by sub-bands.
@@ -39,8 +37,3 @@ IsOnly band more less = (other : Band) → is_same other band ≡ false → more
 -- the sum of all sub-bands in microseconds
 abbrev pub sum_of_all : Sums → ℕ
 sum_of_all s = 128 * (s.k + s.l + s.m + s.n + s.p + s.q)
-
--- the airtime of the members of the sub-band
-unfoldable pub total_in : Band → List Reservation → ℕ
-total_in band [] = 0
-total_in band (r ∷ rs) = airtime_in band r + total_in band rs

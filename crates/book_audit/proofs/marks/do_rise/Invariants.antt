@@ -1,4 +1,4 @@
-use Rattle.book_audit.specs.Marks.{NeighboursRise}
+use Rattle.book_audit.proofs.MarkLemmas.{NeighboursRise}
 use Rattle.book_audit.proofs.marks.do_rise.Given as goal
 
 abbrev pub invariant-loop-at : goal.invariant-loop-at
