@@ -14,8 +14,8 @@ pub trait Gate {
     /// gateway: it would wait for itself.
     fn inside(&self, gateway: u16) -> bool;
 
-    /// A worker has asked this gateway's book, and released the gateway's lock. It is called once per try, whether the book
-    /// accepted or refused. The worker holds no lock, so this may call the station.
+    /// A worker has asked this gateway's book, and released the gateway's lock. It is called once per try, however that ended.
+    /// The worker holds no lock, so this may call the station.
     fn left(&self, gateway: u16);
 }
 
