@@ -1,13 +1,15 @@
 #!/usr/bin/env python3
-"""Compares docs/MEMORY.md with the sources: each public call whose answer can name want of memory has a row there.
+"""Compares docs/MEMORY.md with the sources: each public call whose answer can name want of memory has a row there, and the tests
+and scripts that it names are there.
 
 Usage: tests/growths.py [ROOT]      (ROOT: the repository's top; none: that of this script)
 
 Such a call is a `pub fn`, or a function of a public trait, that a library passes on from its root and whose result names
 NoMemory or AllocError, or a type of the repository that does: an enum with that variant, a struct with such a field, and a
 fault or a cause that holds one of these. Crates of tests are left out. A row begins with the crate and the call, as
-`| `gateway_book` | `GatewayBook::book` |`. Prints a line for each call without a row, and for each row of another call. The
-status is 0 where there is none, 1 where there is one.
+`| `gateway_book` | `GatewayBook::book` |`; a test is named behind its crate, as `` `book_tests`: `a_booking` ``. Prints a line
+for each call without a row, for each row of another call, and for each test and script that isn't there. The status is 0 where
+there is none, 1 where there is one.
 """
 import pathlib
 import re
@@ -90,15 +92,30 @@ def calls():
                 yield crate, name
 
 
+def absent(page):
+    """The tests and scripts that the page names and that are not there."""
+    for crate, names in re.findall(r"`(\w+_tests)`: (`\w+`(?:, `\w+`)*)", page):
+        text = "".join(path.read_text() for path in TOP.glob(f"crates/{crate}/src/**/*.rt"))
+        for name in re.findall(r"\w+", names):
+            if not re.search(rf"#\[test\]\nfn {name}\(", text):
+                yield f"`{name}` of {crate}"
+    yield from sorted(path for path in set(re.findall(r"`(tests/\w+\.py)`", page)) if not (TOP / path).exists())
+
+
 def main():
-    rows = set(re.findall(r"(?m)^\| `(\w+)` \| `([\w:]+)` \|", (TOP / "docs/MEMORY.md").read_text()))
+    page = (TOP / "docs/MEMORY.md").read_text()
+    rows = set(re.findall(r"(?m)^\| `(\w+)` \| `([\w:]+)` \|", page))
     wanted = set(calls()) | UNNAMED
     for crate, name in sorted(wanted - rows):
         print(f"docs/MEMORY.md has no row of {name} of {crate}")
     for crate, name in sorted(rows - wanted):
         print(f"docs/MEMORY.md has a row of {name} of {crate}, which names no want of memory")
-    print(f"{len(wanted & rows)} calls with a row, {len(wanted ^ rows)} at fault")
-    return 1 if wanted ^ rows else 0
+    gone = list(absent(page))
+    for name in gone:
+        print(f"docs/MEMORY.md names {name}, which isn't there")
+    at_fault = len(wanted ^ rows) + len(gone)
+    print(f"{len(wanted & rows)} calls with a row, {at_fault} at fault")
+    return 1 if at_fault else 0
 
 
 if __name__ == "__main__":
