@@ -21,6 +21,7 @@ import time
 
 sys.dont_write_bytecode = True
 import lorawan
+import plain_server
 from preloaded import COUNTING, FAILING_RECEIVE, NO_RANDOM_BYTES, NO_THREADS, Counter, library_of, over
 
 SECONDS = 60
@@ -31,6 +32,8 @@ SESSION = "2b7e151628aed2a6abf7158809cf4f3c", "000102030405060708090a0b0c0d0e0f"
 KEYS = f'nwkskey = "{SESSION[0]}"\nappskey = "{SESSION[1]}"\n'
 SETTINGS = f'[[gateway]]\nid = 1\n[[gateway]]\nid = 2\n[[device]]\naddr = "26011bda"\n{KEYS}'
 UPLINK = "80da1b012600070009c89141"
+# What is answered to four uplinks, of which the last was heard twice.
+OWN_ANSWERS = ["opened"] * 4 + ["joined"] + ["send"] * 3 + ["unanswered"]
 NO_REPORT = [f"gateway {g} booked 0 cancelled 0 retired 0 kept 0" for g in (1, 2)] + ["answered 0 unanswered 0 silent 0"]
 
 
@@ -101,9 +104,9 @@ class Server:
         return lines, status, self.child.stderr.read().decode("utf-8", "backslashreplace")
 
 
-def exchange(program, turns, wanted_rest, wanted_status, more=(), options=None):
+def exchange(program, turns, wanted_rest, wanted_status, more=(), options=None, settings=SETTINGS):
     """Sends each datagram once its turn has come. What differs from what is wanted, if anything."""
-    with Server(program, len(turns), more, options=options) as server:
+    with Server(program, len(turns), more, settings, options) as server:
         for turn, (datagram, answer) in enumerate(turns, 1):
             server.send(datagram)
             got = server.lines(len(answer))
@@ -148,10 +151,11 @@ def shared_out(program, workers, options):
 
 
 def threads_started(program):
-    """Two workers are two threads where they have enough to do, one is the thread that listens; hashes are keyed at random."""
+    """Two workers are two threads where they have enough to do, and of sixteen three have; one is the thread that listens. Hashes
+    are keyed at random."""
     with tempfile.TemporaryDirectory() as folder:
         library = library_of(COUNTING, pathlib.Path(folder))
-        for workers, threads in ((1, 0), (2, 2)):
+        for workers, threads in ((1, 0), (2, 2), (16, 3)):
             counter = Counter(library)
             fault = shared_out(program, workers, counter.options)
             calls = counter.calls()
@@ -162,8 +166,45 @@ def threads_started(program):
 
 def threads_refused(program):
     """Where no thread can be started, the one that listens answers all."""
-    with over(NO_THREADS) as options:
-        return shared_out(program, 2, options)
+    with tempfile.TemporaryDirectory() as folder:
+        counter = Counter(library_of(NO_THREADS, pathlib.Path(folder)))
+        fault = shared_out(program, 2, counter.options)
+        calls = counter.calls()
+    return fault or (None if calls.threads else "no thread was asked for")
+
+
+def own_settings(program):
+    """Caps, a gap and a device that differ from what they are where nothing is said: the answers are those of a plain model."""
+    gateways = [{"id": 1, "cap": 2, "gap": 100_000}, {"id": 2, "cap": 1, "gap": 0}]
+    device = {"addr": 0x26011BDA, "delay": 2, "offset": 1, "rx2_freq": 868_500_000, "rx2_dr": 3, "up": 6, "down": 5}
+    rows = [f"[[{name}]]\n" + "".join(f"{key} = {value}\n" for key, value in one.items()) for name, one in
+            [("gateway", gateways[0]), ("gateway", gateways[1]), ("device", device | {"addr": '"26011bda"'})]]
+    keys = [bytes.fromhex(key) for key in SESSION]
+    model = plain_server.Server(gateways, [device | {"keys": keys}])
+    # RX1 of the second lies in the gap behind the first, and the fourth finds both books full.
+    copies = [(1, 5_000_000), (1, 5_100_000), (2, 30_000_000), (1, 60_000_000), (2, 60_000_000)]
+    lines = []
+    for counter, (gateway, at) in zip([7, 8, 9, 10, 10], copies):
+        uplink = lorawan.uplink(True, device["addr"], counter, keys).hex()
+        lines.append(f"hear {gateway} {at} 868100000 5 55 -90 {300_000 * counter} {uplink}")
+    for counter in range(7, 11):
+        lines.append(f"pass {300_000 * counter + 200_001}")
+    turns = [(line.encode(), model.answers(line.encode(), place)) for place, line in enumerate(lines, 1)]
+    told = [answer for _, answers in turns for answer in answers]
+    if [line.split()[0] for line in told if not line.startswith("frame")] != OWN_ANSWERS:
+        return f"the model answers {told}"
+    return exchange(program, turns, model.report(), 0, settings="".join(rows) + KEYS)
+
+
+def turns_above_16_bits(program):
+    """A program that was asked for more turns than 16 bits hold takes a third one."""
+    with Server(program, (1 << 16) + 2) as server:
+        for moment in (1, 2, 3):
+            server.send(f"tick 1 {moment}".encode())
+            got = server.lines(1)
+            if got != [f"floor 1 {moment}"]:
+                return f"turn {moment}: {got}"
+    return None
 
 
 def receive_failed(program):
@@ -309,6 +350,8 @@ def main():
         ("worked turns", lambda: worked(program)),
         ("threads", lambda: threads_started(program)),
         ("no threads", lambda: threads_refused(program)),
+        ("settings of its own", lambda: own_settings(program)),
+        ("turns above 16 bits", lambda: turns_above_16_bits(program)),
         ("a receive that fails", lambda: receive_failed(program)),
         ("no random bytes", lambda: no_random_bytes(program)),
         (f"{datagrams} random datagrams", lambda: at_random(program, datagrams, seed)),

@@ -10,16 +10,19 @@ import subprocess
 import tempfile
 
 Calls = collections.namedtuple("Calls", "threads random")
-COUNTING = r"""
+# Tells a call of the program by one letter.
+TELLING = r"""
 #define _GNU_SOURCE
-#include <dlfcn.h>
-#include <pthread.h>
 #include <stdlib.h>
 #include <unistd.h>
 
 static void told(const char *call) {
     if (write(atoi(getenv("CALLS_TOLD")), call, 1)) {}
 }
+"""
+COUNTING = TELLING + r"""
+#include <dlfcn.h>
+#include <pthread.h>
 
 int pthread_create(pthread_t *thread, const pthread_attr_t *attributes, void *(*start)(void *), void *given) {
     int (*real)(pthread_t *, const pthread_attr_t *, void *(*)(void *), void *);
@@ -52,12 +55,13 @@ ssize_t recv(int from, void *into, size_t count, int flags) {
     return real(from, into, count, flags);
 }
 """
-# No thread can be started, as where there are too many.
-NO_THREADS = r"""
+# No thread can be started, as where there are too many; each that was asked for is told.
+NO_THREADS = TELLING + r"""
 #include <errno.h>
 #include <pthread.h>
 
 int pthread_create(pthread_t *thread, const pthread_attr_t *attributes, void *(*start)(void *), void *given) {
+    told("t");
     return EAGAIN;
 }
 """
@@ -90,8 +94,9 @@ def over(text):
 
 
 class Counter:
-    """Counts how many threads a program starts, and how often it asks the system for random bytes: the program is started with
-    the options, over a library of COUNTING, and what it called is told once it has ended."""
+    """Counts how many threads a program asks for, and how often it asks the system for random bytes: the program is started with
+    the options, over a library of COUNTING or of NO_THREADS, which tells no random bytes, and what it called is told once it has
+    ended."""
 
     def __init__(self, library):
         self.read, self.write = os.pipe()

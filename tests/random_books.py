@@ -177,9 +177,9 @@ def asked_for(words, count):
 
 
 def status_of(passed):
-    """The last line, and the status that goes with it."""
+    """The last line, and the status that goes with it: 0 where some were tried and all passed."""
     print(f"{sum(passed)} passed, {len(passed) - sum(passed)} failed")
-    return 0 if all(passed) else 1
+    return 0 if passed and all(passed) else 1
 
 
 def main(words):

@@ -6,8 +6,8 @@ Usage: tests/random_runs.py [PROGRAM [RUNS [SEED]]]     (the program that the ga
 The model (plain_server.py) goes over lists, with ciphers and frames of its own (lorawan.py). Each run has 1 to 6 gateways, 1 to
 6 devices and some dozens of lines: uplinks heard by one or more gateways, given as bytes or made by the program, heard again in
 time, late or later; payloads; moments; cancellations; and frames, counters, MICs and lines with faults. A few runs have settings
-with a fault. The last of 200 or more has more uplinks at a time than are gathered. All of the output, what stands on standard
-error and the status are compared.
+with a fault. The last of 200 or more has more uplinks at a time than are gathered. Every second run has one worker, who answers
+in the order of the numbers as one thread does. All of the output, what stands on standard error and the status are compared.
 
 What differs has a line. Then comes how many of each answer were wanted; where 200 runs or more were asked for, a common kind
 that never came is one failure. TooManyCopies never comes, as there are no more gateways than copies that are kept, nor does
@@ -285,7 +285,7 @@ def compared(words, usual, common, tried):
 
 def tried(seed, is_last):
     text, *wanted = crowded() if is_last else trial(seed)
-    return ["run"], text, tuple(wanted), kinds_of(*wanted[:2]), "run"
+    return ["run", *["--workers", "1"] * (seed % 2)], text, tuple(wanted), kinds_of(*wanted[:2]), "run"
 
 
 def main(words):

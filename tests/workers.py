@@ -31,6 +31,8 @@ COMMENTS = 3_000
 THREADS = {0: 0, 1: 0, 2: 1 + 2 + 1, 4: 1 + 4 + 3}
 # A line that alone is a text worth a second thread.
 LONG = 70_000
+# From so many bytes of lines on a second thread makes events, and from so many answers on their lines are made in halves.
+IN_PARTS, IN_HALVES = 65_536, 1_024
 # So far apart, in microseconds, a gateway may answer for days.
 SPACE = 5_000_000
 KEYS = 'nwkskey = "2b7e151628aed2a6abf7158809cf4f3c"\nappskey = "000102030405060708090a0b0c0d0e0f"\n'
@@ -149,29 +151,47 @@ def threads_of_a_pass(program):
     return None
 
 
+def threads_by(program, trials, wanted_status):
+    """Runs of so many workers on a text start so many threads. What differs, if anything."""
+    with tempfile.TemporaryDirectory() as folder:
+        library = library_of(COUNTING, pathlib.Path(folder))
+        for workers, text, threads in trials:
+            counter = Counter(library)
+            status, _, errors = written(program, text, workers, counter.options)
+            calls = counter.calls()
+            if errors or status != wanted_status or calls.threads != threads:
+                return f"{workers} workers, {len(text)} bytes: status {status}, {errors!r}, {calls}"
+    return None
+
+
 def thread_of_events(program):
     """One thread more makes events of the lines behind the first quarter, where there are enough of them and two workers or more
     were asked for; a text of comments has nothing else to do."""
     text = settings(1, 1) + "# nothing is asked for here\n" * COMMENTS
-    with tempfile.TemporaryDirectory() as folder:
-        library = library_of(COUNTING, pathlib.Path(folder))
-        for workers, threads in ((0, 0), (1, 0), (2, 1), (16, 1)):
-            counter = Counter(library)
-            status, _, errors = written(program, text, workers, counter.options)
-            calls = counter.calls()
-            if errors or status or calls.threads != threads:
-                return f"{workers} workers: status {status}, {errors!r}, {calls}"
-    return None
+    trials = [(workers, text, threads) for workers, threads in ((0, 0), (1, 0), (2, 1), (16, 1))]
+    # Lines of so many bytes in all, each of 16.
+    lines = [settings(1, 1) + ("#" * 15 + "\n") * (IN_PARTS // 16 - 1) + "#" * left + "\n" for left in (14, 15)]
+    return threads_by(program, trials + [(2, lines[0], 0), (2, lines[1], 1)], 0)
+
+
+def threads_of_lines(program):
+    """Where there are enough answers one thread more makes the lines of half of them; here they answer lines that are none."""
+    texts = [settings(1, 1) + "hear\n" * count for count in (IN_HALVES - 1, IN_HALVES)]
+    return threads_by(program, [(16, texts[0], 0), (16, texts[1], 1), (1, texts[1], 0)], 1)
 
 
 def threads_refused(program):
-    """Where no thread can be started, one does it all."""
+    """Where no thread can be started, one does it all; where two or more workers were asked for, some thread was."""
     wanted = written(program, apart(), 0)
-    with over(NO_THREADS) as options:
+    with tempfile.TemporaryDirectory() as folder:
+        library = library_of(NO_THREADS, pathlib.Path(folder))
         for workers in (1, 2, 4, 16):
-            got = written(program, apart(), workers, options)
-            if got != wanted:
-                return f"{workers} workers: status {got[0]}, {first_difference(wanted[1], got[1])}, {got[2]!r}"
+            counter = Counter(library)
+            got = written(program, apart(), workers, counter.options)
+            asked = counter.calls().threads
+            if got != wanted or (asked > 0) != (workers > 1):
+                difference = first_difference(wanted[1], got[1])
+                return f"{workers} workers: status {got[0]}, {difference}, {got[2]!r}, {asked} threads asked for"
     return None
 
 
@@ -232,6 +252,7 @@ def main():
         ("threads", lambda: threads_started(program)),
         ("threads of one pass", lambda: threads_of_a_pass(program)),
         ("thread of events", lambda: thread_of_events(program)),
+        ("threads of lines", lambda: threads_of_lines(program)),
         ("no threads", lambda: threads_refused(program)),
         ("no random bytes", lambda: no_random_bytes(program)),
     ]
