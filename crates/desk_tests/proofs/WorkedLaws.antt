@@ -1,6 +1,6 @@
 -- The headline and the promise once more, clause by clause, of every run: who loosens a clause has to loosen it here too.
 use Rattle.std.proofs.Common.{ℕ, List, ◌≡◌, ◌≢◌, ◌+◌, ◌-◌, ◌*◌, ◌≤◌, length, map, slice_get, Contains, Some, refl, subst, sym}
-use Rattle.std.specs.Prelude.{AllPairs, ◌⊎◌}
+use Rattle.std.specs.Prelude.{AllPairs, ◌⊎◌, ◌^◌}
 use Rattle.radio_airtime.specs.DataRate.{number_of, rate_numbered}
 use Rattle.radio_airtime.specs.TimeOnAir.{airtime_of}
 use Rattle.radio_airtime.specs.declared.data_rate.DataRate.TheVariants.{Dr0}
@@ -18,6 +18,7 @@ use Rattle.rx_windows.specs.Laws.{IsWindowOf}
 use Rattle.rx_windows.specs.declared.plan.Plan.{Plan}
 use Rattle.answer_ticket.specs.Ended.{longest_us}
 use Rattle.answer_ticket.specs.Job.{ask_for, candidates}
+use Rattle.server_desk.specs.Airtime.{settled_limit}
 use Rattle.server_desk.specs.declared.setting.DeviceSetting.{DeviceSetting}
 use Rattle.server_desk.specs.Settings.{AreSettings, SettingLists}
 use Rattle.server_desk.specs.Taking.{plan_for}
@@ -41,6 +42,10 @@ module _ (device : DeviceSetting) (copy : HeardCopy) (a : Reservation) where
 longest : airtime_of Dr0 64 ≡ longest_us
 unfolding airtime_of
 longest = refl
+
+-- and all settled answers are on air no longer than as many of these as there are downlink counters
+all_settled : settled_limit ≡ 2793472 * 2 ^ 32
+all_settled = refl
 
 module _ (settings : SettingLists) (accepted : AreSettings settings.gateways settings.devices) (limits : Limits)
     (steps : List Step) where

@@ -100,12 +100,31 @@ const APART: FinishCause = FinishCause::Apart {
     answered: 41_216,
 };
 
+/// Gateway 2 answered, and its book has nothing, or it has none.
+const UNBOOKED: FinishCause = FinishCause::Apart {
+    gateway: 2,
+    booked: 0,
+    answered: 41_216,
+};
+
+/// Gateway 1 answered nothing.
+const UNANSWERED: FinishCause = FinishCause::Apart {
+    gateway: 1,
+    booked: 41_216,
+    answered: 0,
+};
+
 /// The receipts are of other starts than what is kept.
 const LOST: FinishCause = FinishCause::Lost { number: 1 };
 
-static ROWS: [Row; 6] = [
+/// Of two numbers that stand twice the least is named. The books come before gateways without one, in their order.
+static ROWS: [Row; 10] = [
     (&[1, 1], &[(1, &[1, 2])], false, Ok(())),
     (&[1, 1], &[(1, &[1, 1])], false, Err(TWICE)),
+    (&[1, 1, 1, 1], &[(1, &[2, 1, 2, 1])], false, Err(TWICE)),
+    (&[1, 2], &[(1, &[1])], false, Err(UNBOOKED)),
+    (&[1, 2], &[(2, &[]), (1, &[])], false, Err(UNBOOKED)),
+    (&[2], &[(1, &[1])], false, Err(UNANSWERED)),
     (&[1, 2], &[(1, &[1]), (2, &[1])], false, Err(ON_BOTH)),
     (&[1], &[(1, &[1, 1])], true, Err(APART)),
     (&[1, 1], &[(1, &[1, 1])], true, Err(TWICE)),

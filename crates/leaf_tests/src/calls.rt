@@ -1,4 +1,6 @@
 // Which call of a reader or a writer fails, how output is gathered, and readers and writers of the standard library.
+ghost use Rattle.std.specs.Prelude.{◌≤◌, length};
+
 use std::alloc::Global;
 use std::io::Cursor;
 use std::test::Fail;
@@ -70,6 +72,22 @@ fn output_is_gathered(rt: HostRuntime) -> Result<(), Fail> {
     holds(writer.bytes.starts_with(b"number 18446744073709551000\n"))?;
     // One call for 4,096 bytes or more, and one for the rest.
     equal(&writer.calls, &4)?;
+    Ok(())
+}
+
+/// How many calls a writer has had once so many bytes were put and not flushed.
+fn calls_of(rt: &impl AllocGlobal, bytes: &[u8]) -> Result<u64, Fail>
+    requires { length bytes.now ≤ 4096 }
+{
+    let mut writer = MemoryOut::new(rt.alloc());
+    WriteBehind::new().put(&mut writer, bytes)?;
+    Ok(writer.calls)
+}
+
+#[test]
+fn output_is_written_from_4096_bytes_on(rt: HostRuntime) -> Result<(), Fail> {
+    equal(&calls_of(&rt, &[b'x'; 4_095])?, &0)?;
+    equal(&calls_of(&rt, &[b'x'; 4_096])?, &1)?;
     Ok(())
 }
 
