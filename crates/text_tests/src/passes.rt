@@ -241,9 +241,12 @@ fn number_that_stands_twice_has_its_answer_twice(rt: HostRuntime) -> Result<(), 
 }
 
 /// How many workers there may be, the last number, and how many are started.
-static STARTS: [(u8, u64, u8); 5] = [
+static STARTS: [(u8, u64, u8); 8] = [
     (2, 600, 2),
     (16, 600, 16),
+    (16, 31, 1),
+    (16, 32, 2),
+    (16, 63, 2),
     (16, 64, 3),
     (16, 3, 1),
     (1, 3, 1),
