@@ -6,18 +6,22 @@ use crate::steps::{Row, Step};
 use crate::tickets::Answer;
 use std::test::Fail;
 
-/// The gate is asked ten million times, and no more.
-static SHUT_OUT: [Row; 2] = [
-    (Step::Hear(Heard::All(1)), "1"),
+/// The gate is asked ten million times, and no more; who is let in at the last of these is let in.
+static SHUT_OUT: [Row; 3] = [
+    (Step::Hear(Heard::All(2)), "2"),
     (
-        Step::Answer(1, Answer::ShutOut),
+        Step::Answer(1, Answer::ShutOut(0)),
         "((Some(Answered { gateway: 2, window: Rx1, start: 2000000, airtime: 41216, carried: false }), 1), [0, 10000000])",
+    ),
+    (
+        Step::Answer(2, Answer::ShutOut(10_000_000)),
+        "((Some(Answered { gateway: 1, window: Rx1, start: 3000000, airtime: 41216, carried: false }), 0), [10000000, 0])",
     ),
 ];
 
 #[test]
 fn one_who_is_never_let_in_goes_on(rt: HostRuntime) -> Result<(), Fail> {
-    tells(&rt, rt.alloc(), 1, &SHUT_OUT)
+    tells(&rt, rt.alloc(), 2, &SHUT_OUT)
 }
 
 /// One of two devices finds RX1 taken, and is tried twice: the gate is asked ten million times for each try.
@@ -31,7 +35,7 @@ static SHUT_OUT_TWICE: [Row; 6] = [
         "(Some(Answered { gateway: 1, window: Rx1, start: 6000000, airtime: 41216, carried: false }), 0)",
     ),
     (
-        Step::Answer(2, Answer::ShutOut),
+        Step::Answer(2, Answer::ShutOut(0)),
         "((Some(Answered { gateway: 1, window: Rx2, start: 7000000, airtime: 991232, carried: false }), 2), [20000000, 0])",
     ),
 ];

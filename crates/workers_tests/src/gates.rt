@@ -5,17 +5,19 @@ use server_workers::{Gate, Ledger, Till};
 use std::sync::Wait;
 use std::sync::atomic::{AtomicU64, Ordering};
 
-/// Lets nobody in; counts how often it was asked for each gateway.
+/// Lets nobody in, or for each gateway who asks for the so-manieth time; counts how often it was asked for each.
 #[derive(Drop)]
 pub(crate) struct Shut {
+    opens: u64,
     first: AtomicU64,
     second: AtomicU64,
 }
 
 impl Shut {
-    /// A gate at which nobody has asked.
-    pub(crate) fn new() -> Self {
+    /// A gate at which nobody has asked. It lets in who asks for this time; nobody where it is 0.
+    pub(crate) fn new(opens: u64) -> Self {
         Shut {
+            opens,
             first: AtomicU64::new(0),
             second: AtomicU64::new(0),
         }
@@ -32,12 +34,12 @@ impl Shut {
 
 impl Gate for Shut {
     fn inside(&self, gateway: u16) -> bool {
-        if gateway == 1 {
-            self.first.fetch_add(1, Ordering::SeqCst);
+        let asked = if gateway == 1 {
+            &self.first
         } else {
-            self.second.fetch_add(1, Ordering::SeqCst);
-        }
-        false
+            &self.second
+        };
+        asked.fetch_add(1, Ordering::SeqCst).wrapping_add(1) == self.opens
     }
 
     fn left(&self, _gateway: u16) {}

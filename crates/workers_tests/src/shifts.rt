@@ -30,7 +30,7 @@ impl<B: Ledger + Send + Sync, R: Threads + Wait + Sync> Post<'_, B, R> {
         match shift {
             Shift::Crew(first, last, workers) => self.serve(first, last, workers, &NoGate),
             Shift::Meeting(first, last, workers) => self.meet(first, last, workers),
-            Shift::ShutOut(first, last, workers) => self.serve(first, last, workers, &Shut::new()),
+            Shift::ShutOut(first, last, workers) => self.serve(first, last, workers, &Shut::new(0)),
             Shift::One(room, numbers, others) => self.work(room, numbers, others),
         }
     }
@@ -139,7 +139,7 @@ impl<B: Ledger, R: Wait> Post<'_, B, R> {
         numbers: &[u64],
     ) -> Result<(Worked<B>, Option<u64>), Fail> {
         let numbers = channel_of(self.rt, self.alloc, numbers)?;
-        let worked = work(self.rt, &self.station, &numbers, &Shut::new(), worked);
+        let worked = work(self.rt, &self.station, &numbers, &Shut::new(0), worked);
         Ok((worked, numbers.recv(self.rt).ok()))
     }
 

@@ -16,8 +16,8 @@ pub(crate) enum Answer {
     Freely,
     /// At one that notes who goes where.
     Logged,
-    /// At one that lets nobody in.
-    ShutOut,
+    /// At one that lets in who asks for this time, nobody where it is 0.
+    ShutOut(u64),
     /// At one that asks the station when the worker has left.
     Audited,
 }
@@ -48,7 +48,7 @@ impl<B: Ledger, R: Wait> Post<'_, B, R> {
         match answer {
             Answer::Freely => self.answer_freely(number),
             Answer::Logged => self.answer_logged(number),
-            Answer::ShutOut => self.answer_shut_out(number),
+            Answer::ShutOut(opens) => self.answer_shut_out(number, opens),
             Answer::Audited => self.answer_audited(number),
         }
     }
@@ -67,8 +67,8 @@ impl<B: Ledger, R: Wait> Post<'_, B, R> {
     }
 
     /// How an answer ends, and how often the gate was asked for each gateway.
-    fn answer_shut_out(&mut self, number: u64) -> Result<String, Fail> {
-        let shut = Shut::new();
+    fn answer_shut_out(&mut self, number: u64, opens: u64) -> Result<String, Fail> {
+        let shut = Shut::new(opens);
         let end = self.answer(number, &shut)?;
         text(self.alloc, &(end, shut.asked()))
     }

@@ -87,8 +87,8 @@ fn a_worker_stops_without_room_and_goes_on_at_another_channel(rt: HostRuntime) -
     tells(&rt, rt.alloc(), 4, &ONE_OF_TWO)
 }
 
-/// It is given the second uplink of a device whose first ticket is out, and a number that is unknown. An uplink that wasn't closed
-/// is open then as before.
+/// It is given both uplinks of a device whose first ticket is out, and a number that is unknown. An uplink that wasn't closed is
+/// open then as before.
 static PASSED_OVER: [Row; 7] = [
     (Step::Hear(Heard::Of(1, 0)), OPENED_1),
     (Step::Hear(Heard::Of(1, 1)), OPENED_2),
@@ -96,8 +96,8 @@ static PASSED_OVER: [Row; 7] = [
     (Step::Ask(Ask::Pass(200_001)), "Some(2)"),
     (Step::Hear(Heard::Of(2, 0)), OPENED_3),
     (
-        Step::WorkBeside(1, Shift::One(2, &[2, 9], &[])),
-        "(0, [2], [(9, NotReady)], 0, [None, None])",
+        Step::WorkBeside(1, Shift::One(3, &[1, 2, 9], &[])),
+        "(0, [2], [(1, Taken), (9, NotReady)], 0, [None, None])",
     ),
     (Step::Ask(Ask::Pass(200_001)), "Some(3)"),
 ];
