@@ -32,8 +32,8 @@ SESSION = "2b7e151628aed2a6abf7158809cf4f3c", "000102030405060708090a0b0c0d0e0f"
 KEYS = f'nwkskey = "{SESSION[0]}"\nappskey = "{SESSION[1]}"\n'
 SETTINGS = f'[[gateway]]\nid = 1\n[[gateway]]\nid = 2\n[[device]]\naddr = "26011bda"\n{KEYS}'
 UPLINK = "80da1b012600070009c89141"
-# What is answered to four uplinks, of which the last was heard twice.
-OWN_ANSWERS = ["opened"] * 4 + ["joined"] + ["send"] * 3 + ["unanswered"]
+# What is answered to an uplink whose counter is past, and to four more, of which the last was heard twice.
+OWN_ANSWERS = ["no"] + ["opened"] * 4 + ["joined"] + ["send"] * 3 + ["unanswered"]
 NO_REPORT = [f"gateway {g} booked 0 cancelled 0 retired 0 kept 0" for g in (1, 2)] + ["answered 0 unanswered 0 silent 0"]
 
 
@@ -151,8 +151,8 @@ def shared_out(program, workers, options):
 
 
 def threads_started(program):
-    """Two workers are two threads where they have enough to do, and of sixteen three have; one is the thread that listens. Hashes
-    are keyed at random."""
+    """Two workers are two threads where they have enough to do, and of sixteen, three have enough; one is the thread that listens.
+    Hashes are keyed at random."""
     with tempfile.TemporaryDirectory() as folder:
         library = library_of(COUNTING, pathlib.Path(folder))
         for workers, threads in ((1, 0), (2, 2), (16, 3)):
@@ -181,10 +181,10 @@ def own_settings(program):
             [("gateway", gateways[0]), ("gateway", gateways[1]), ("device", device | {"addr": '"26011bda"'})]]
     keys = [bytes.fromhex(key) for key in SESSION]
     model = plain_server.Server(gateways, [device | {"keys": keys}])
-    # RX1 of the second lies in the gap behind the first, and the fourth finds both books full.
-    copies = [(1, 5_000_000), (1, 5_100_000), (2, 30_000_000), (1, 60_000_000), (2, 60_000_000)]
+    # The first has a counter that is past. RX1 of the third lies in the gap behind the second, and the last finds both books full.
+    copies = [(1, 4_000_000), (1, 5_000_000), (1, 5_100_000), (2, 30_000_000), (1, 60_000_000), (2, 60_000_000)]
     lines = []
-    for counter, (gateway, at) in zip([7, 8, 9, 10, 10], copies):
+    for counter, (gateway, at) in zip([5, 7, 8, 9, 10, 10], copies):
         uplink = lorawan.uplink(True, device["addr"], counter, keys).hex()
         lines.append(f"hear {gateway} {at} 868100000 5 55 -90 {300_000 * counter} {uplink}")
     for counter in range(7, 11):
@@ -193,7 +193,7 @@ def own_settings(program):
     told = [answer for _, answers in turns for answer in answers]
     if [line.split()[0] for line in told if not line.startswith("frame")] != OWN_ANSWERS:
         return f"the model answers {told}"
-    return exchange(program, turns, model.report(), 0, settings="".join(rows) + KEYS)
+    return exchange(program, turns, model.report(), 1, settings="".join(rows) + KEYS)
 
 
 def turns_above_16_bits(program):

@@ -285,7 +285,8 @@ def compared(words, usual, common, tried):
 
 def tried(seed, is_last):
     text, *wanted = crowded() if is_last else trial(seed)
-    return ["run", *["--workers", "1"] * (seed % 2)], text, tuple(wanted), kinds_of(*wanted[:2]), "run"
+    words = ["run", *["--workers", "1"] * (seed % 2)]
+    return words, text, tuple(wanted), kinds_of(*wanted[:2]), " ".join(words)
 
 
 def main(words):

@@ -169,19 +169,19 @@ def thread_of_events(program):
     were asked for; a text of comments has nothing else to do."""
     text = settings(1, 1) + "# nothing is asked for here\n" * COMMENTS
     trials = [(workers, text, threads) for workers, threads in ((0, 0), (1, 0), (2, 1), (16, 1))]
-    # Lines of so many bytes in all, each of 16.
+    # Lines of so many bytes in all, each but the last of 16.
     lines = [settings(1, 1) + ("#" * 15 + "\n") * (IN_PARTS // 16 - 1) + "#" * left + "\n" for left in (14, 15)]
     return threads_by(program, trials + [(2, lines[0], 0), (2, lines[1], 1)], 0)
 
 
 def threads_of_lines(program):
-    """Where there are enough answers one thread more makes the lines of half of them; here they answer lines that are none."""
+    """Where there are enough answers one thread more makes the lines of half of them; here they answer lines that are no events."""
     texts = [settings(1, 1) + "hear\n" * count for count in (IN_HALVES - 1, IN_HALVES)]
     return threads_by(program, [(16, texts[0], 0), (16, texts[1], 1), (1, texts[1], 0)], 1)
 
 
 def threads_refused(program):
-    """Where no thread can be started, one does it all; where two or more workers were asked for, some thread was."""
+    """Where no thread can be started, one does it all; where two or more workers were asked for, one was asked for."""
     wanted = written(program, apart(), 0)
     with tempfile.TemporaryDirectory() as folder:
         library = library_of(NO_THREADS, pathlib.Path(folder))

@@ -43,7 +43,7 @@ longest : airtime_of Dr0 64 ≡ longest_us
 unfolding airtime_of
 longest = refl
 
--- and all settled answers are on air no longer than as many of these as there are downlink counters
+-- and the limit of all settled answers is 2^32 times that, since there are fewer than 2^32 uplinks
 all_settled : settled_limit ≡ 2793472 * 2 ^ 32
 all_settled = refl
 

@@ -6,7 +6,7 @@ use crate::steps::{Row, Step};
 use crate::tickets::Answer;
 use std::test::Fail;
 
-/// The gate is asked ten million times, and no more; who is let in at the last of these is let in.
+/// The gate is asked ten million times, and no more; one who is let in at the last of these isn't counted.
 static SHUT_OUT: [Row; 3] = [
     (Step::Hear(Heard::All(2)), "2"),
     (

@@ -5,7 +5,7 @@ use server_workers::{Gate, Ledger, Till};
 use std::sync::Wait;
 use std::sync::atomic::{AtomicU64, Ordering};
 
-/// Lets nobody in, or for each gateway who asks for the so-manieth time; counts how often it was asked for each.
+/// Lets in whoever asks for the n-th time at a gateway, nobody where n is 0; counts how often it was asked for each.
 #[derive(Drop)]
 pub(crate) struct Shut {
     opens: u64,
@@ -14,7 +14,7 @@ pub(crate) struct Shut {
 }
 
 impl Shut {
-    /// A gate at which nobody has asked. It lets in who asks for this time; nobody where it is 0.
+    /// A gate at which nobody has asked. It lets in whoever asks for the time of this number; nobody where it is 0.
     pub(crate) fn new(opens: u64) -> Self {
         Shut {
             opens,

@@ -16,7 +16,7 @@ pub(crate) enum Answer {
     Freely,
     /// At one that notes who goes where.
     Logged,
-    /// At one that lets in who asks for this time, nobody where it is 0.
+    /// At one that lets in whoever asks for the time of this number, nobody where it is 0.
     ShutOut(u64),
     /// At one that asks the station when the worker has left.
     Audited,
