@@ -17,7 +17,8 @@ use Rattle.resv_tree.specs.declared.entry.Entry.{Entry}
 use Rattle.resv_tree.specs.Entries.{Each, key_of, IsByKey, members, entry_at, entries_without}
 use Rattle.resv_tree.specs.OwnHours.{own_hour, HasHours, airtimes, nothing, raised, lowered, CountsIn}
 use Rattle.resv_tree.specs.Shape.{Shape, entries, members_of, greatest_of, count_of, IsWhole}
-use Rattle.resv_tree.proofs.EntryLemmas.{most_own, each-with, each-to-map, banded, amount_at, amount_of, entry_with, rises_entries}
+use Rattle.resv_tree.proofs.EntryLemmas.{most_own, each-with, each-to-map, banded, amount_at, amount_of, entry_with}
+use Rattle.resv_tree.proofs.EntryLemmas.{rises_entries}
 use Rattle.resv_tree.proofs.OwedLemmas.{entries-members, greatest_is_most}
 use Rattle.resv_tree.proofs.ShapeLemmas.{count_bounds_sum}
 use Rattle.resv_tree.proofs.SumLemmas.{begun_difference, begun_le-total, kept_sum-total}
