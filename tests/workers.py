@@ -138,19 +138,6 @@ def threads_started(program):
     return None
 
 
-def threads_of_a_pass(program):
-    """As many threads start for one `pass` as workers were asked for, where there is work for them."""
-    with tempfile.TemporaryDirectory() as folder:
-        library = library_of(COUNTING, pathlib.Path(folder))
-        for workers in (2, 4, 16):
-            counter = Counter(library)
-            status, _, errors = written(program, one_pass(), workers, counter.options)
-            calls = counter.calls()
-            if errors or status or calls.threads != workers:
-                return f"{workers} workers: status {status}, {errors!r}, {calls}"
-    return None
-
-
 def threads_by(program, trials, wanted_status):
     """Runs of so many workers on a text start so many threads. What differs, if anything."""
     with tempfile.TemporaryDirectory() as folder:
@@ -162,6 +149,11 @@ def threads_by(program, trials, wanted_status):
             if errors or status != wanted_status or calls.threads != threads:
                 return f"{workers} workers, {len(text)} bytes: status {status}, {errors!r}, {calls}"
     return None
+
+
+def threads_of_a_pass(program):
+    """As many threads start for one `pass` as workers were asked for, where there is work for them."""
+    return threads_by(program, [(workers, one_pass(), workers) for workers in (2, 4, 16)], 0)
 
 
 def thread_of_events(program):
@@ -181,7 +173,7 @@ def threads_of_lines(program):
 
 
 def threads_refused(program):
-    """Where no thread can be started, one does it all; where two or more workers were asked for, one was asked for."""
+    """Where no thread can be started, one does it all; with two workers or more a thread was asked for."""
     wanted = written(program, apart(), 0)
     with tempfile.TemporaryDirectory() as folder:
         library = library_of(NO_THREADS, pathlib.Path(folder))
