@@ -17,8 +17,9 @@ use test_asserts::{equal, holds};
 use worked_inputs::handed_back;
 
 /// An uplink is answered, and the gateways are asked: the totals by one who saw 41,216 us booked there, and 41,217, and those
-/// of a gateway that isn't there; the floors of both; and the answer is cancelled twice, and once on the other gateway.
-static CALLS: [Row; 17] = [
+/// of a gateway that isn't there; the floors of both; and the answer is cancelled twice, and once on the other gateway. What is
+/// refused leaves the floor.
+static CALLS: [Row; 19] = [
     (Step::Hear(Heard::Of(1, 0)), OPENED_1),
     (Step::Ask(Ask::Pass(200_001)), "Some(1)"),
     (Step::Ask(Ask::Split), "65535"),
@@ -40,8 +41,10 @@ static CALLS: [Row; 17] = [
     (Step::Ask(Ask::Tick(9, 5)), "None"),
     (Step::Ask(Ask::Cancel(0)), "Ok(41216)"),
     (Step::Ask(Ask::Cancel(0)), "Err(NotHere)"),
+    (Step::Ask(Ask::Tick(1, 0)), "Some(1)"),
     (Step::Ask(Ask::Readdress(0, 9)), "9"),
     (Step::Ask(Ask::Cancel(0)), "Err(NotHere)"),
+    (Step::Ask(Ask::Tick(1, 0)), "Some(1)"),
     (Step::Ask(Ask::Queue(1, &[1])), "Ok(1)"),
     (Step::Ask(Ask::Queue(1, &[2])), "Ok(2)"),
     (Step::Ask(Ask::Queue(9, &[2])), "Err(UnknownDevice)"),
