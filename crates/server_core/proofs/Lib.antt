@@ -7,12 +7,6 @@ pub mod GatewaySteps
 pub mod TakeStep
 pub mod Runs
 pub mod Headlines
-pub mod WorkedInputs
-pub mod WorkedSteps
-pub mod WorkedPromise
-pub mod WorkedHeadline
-pub mod WorkedDeskCalls
-pub mod WorkedBookCalls
 pub mod DeskSteps
 pub mod Ready
 pub mod Calls

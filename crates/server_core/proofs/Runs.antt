@@ -107,7 +107,7 @@ module _ (settings : SettingLists) (are : AreSettings settings.gateways settings
 pub record AreTickets (w : World) (jobs : List Job) : Type 0 where
   pub new : All (IsNew w) jobs
   pub tickets : AllPairs (λ a b. a.number ≢ b.number) jobs
-  pub counters : AllPairs HaveOwnCounters jobs
+  pub counters : AllPairs (λ a b. a.addr ≡ b.addr → a.counter ≢ b.counter) jobs
 
 -- what is new after a step was new before it, and differs from what the step used up
 still_new : (w v : World) → Follows w v → (job : Job) → IsNew v job → IsNew w job

@@ -3,29 +3,25 @@ pub use Rattle.std.proofs.lemmas.List.Elements.{All-cons, All-filter, All-head, 
 pub use Rattle.std.proofs.lemmas.List.Elements.{Contains-append_left, Contains-append_right, Contains-push_cases}
 pub use Rattle.std.proofs.Common.{ap, append-nil, append_assoc, arith, inl, inr, length-append, subst, sym, true≢false, ◌∙◌}
 pub use Rattle.std.proofs.lemmas.Option.{get_or_from_slice_get, same_Some, slice_get_cases, slice_get_within}
-pub use Rattle.std.proofs.{Math.ListN.drop_of_length-le, lemmas.Bool.Decides.nat_tests, lemmas.List.drop_all}
-pub use Rattle.std.proofs.{lemmas.List.drop_more, lemmas.List.map-append, lemmas.List.map-id, lemmas.List.set-set}
-pub use Rattle.std.proofs.{lemmas.List.Kept.AllPairs-cons, lemmas.Simd.map-map}
+pub use Rattle.std.proofs.lemmas.{List.drop_all, List.drop_more, List.map-append, List.map-id, List.set-set, Simd.map-map}
+pub use Rattle.std.proofs.lemmas.List.Kept.{AllPairs-cons}
 pub use Rattle.std.specs.Prelude.{All, AllPairs, Bool, Contains, Err, IfOk, IsOkUnless, IsSome, IsTrue, List, MatchResult, None}
 pub use Rattle.std.specs.Prelude.{Ok, OnErr, OnOk, Option, Result, Some, [], cond, drop, false, find, get_or, if◌then◌else◌}
 pub use Rattle.std.specs.Prelude.{length, map, nat_le, nat_lt, not, refl, slice_get, slice_set, suc, true, zero, ℕ, ⊤, ◌++◌, ◌+◌}
 pub use Rattle.std.specs.Prelude.{◌-◌, ◌<◌, ◌==◌, ◌∷◌, ◌≡◌, ◌≢◌, ◌≤◌, ◌⊎◌}
 pub use Rattle.std.specs.List.{AllZip, position_from}
 pub use Rattle.std.specs.Option.{IsSomeAnd, option_and_then, option_map, option_map_or}
-pub use Rattle.resv_list.specs.Reservations.{IsByStart, airtime_us, member_from, place, start_of, without}
+pub use Rattle.resv_list.specs.Reservations.{airtime_us, place, start_of, without}
 pub use Rattle.resv_list.specs.{Sorted.RisesFrom, Sorted.place_by, declared.reservation.Reservation.Reservation}
 pub use Rattle.gateway_book.specs.Step.{State, after_cancel, book_step, cancel_answer, cancel_step, found_or, is_fit-IsFit}
-pub use Rattle.gateway_book.specs.Step.{is_named, tick_step, without_named}
-pub use Rattle.gateway_book.specs.{Book.Book, Book.ticked, Book.with_booked, Book.with_cancelled, Answer.IsAsked}
-pub use Rattle.gateway_book.specs.{Answer.refusal_of, Orderly.IsOrderly, declared.ask.Ask.Ask}
-pub use Rattle.gateway_book.specs.{declared.cancel.CancelFault.CancelFault, declared.cancel.CancelFault.TheVariants.Begun}
-pub use Rattle.gateway_book.specs.{declared.cancel.CancelFault.TheVariants.NotHere, declared.refusal.Refusal.Refusal}
-pub use Rattle.gateway_book.specs.{declared.totals.Totals.Totals, Lawful.IsLawful, Answer.Rules}
-pub use Rattle.gateway_book.proofs.ApartLaws.{one_after_another}
+pub use Rattle.gateway_book.specs.{Step.is_named, Step.tick_step, Book.Book, Book.ticked, Book.with_booked, Answer.IsAsked}
+pub use Rattle.gateway_book.specs.{Answer.Rules, Answer.refusal_of, Orderly.IsOrderly, Lawful.IsLawful, declared.ask.Ask.Ask}
+pub use Rattle.gateway_book.specs.declared.{cancel.CancelFault.CancelFault, refusal.Refusal.Refusal, totals.Totals.Totals}
+pub use Rattle.gateway_book.specs.declared.cancel.CancelFault.TheVariants.{Begun, NotHere}
 pub use Rattle.gateway_book.proofs.RememberedLaws.{orderly_booked, orderly_cancelled, remembers_answer, remembers_booked}
 pub use Rattle.gateway_book.proofs.RememberedLaws.{remembers_cancel, remembers_cancelled, remembers_own, remembers_ticked}
 pub use Rattle.gateway_book.proofs.OrderlyLaws.{may_join, orderly_filter, orderly_nil, orderly_placed}
-pub use Rattle.gateway_book.proofs.{CancelLaws.named_found, CancelLaws.named_none, CancelLaws.net_named, AnswerLaws.accepted}
+pub use Rattle.gateway_book.proofs.{ApartLaws.one_after_another, CancelLaws.net_named, AnswerLaws.accepted}
 pub use Rattle.gateway_book.proofs.{AnswerLaws.book_step-accepted, KeptLaws.kept-nil, KeptLaws.net-place}
 pub use Rattle.lora_frame.specs.Reading.{addr_of}
 pub use Rattle.uplink_gather.specs.Gatherings.{Gathering, Gatherings, close_step, copies_of, is_due, is_open, is_open_at}
@@ -52,14 +48,12 @@ pub use Rattle.server_desk.specs.Register.{Device, Register, device_with, opened
 pub use Rattle.server_desk.specs.World.{Gateway, World, gateway_with, ids, known, opened_gateway, opening}
 pub use Rattle.server_desk.specs.{Taking.job_of, Taking.plan_for, Taking.with_counter_given, Queueing.after_queueing}
 pub use Rattle.server_desk.specs.{Queueing.queue_answer, Queueing.with_payload, Passing.closing, Passing.pass_answer}
-pub use Rattle.server_desk.specs.{Settings.AreSettings, Settings.SettingLists, declared.answers.Asked.Asked}
-pub use Rattle.server_desk.specs.{Settings.IsGatewayInRange}
-pub use Rattle.server_desk.specs.{declared.answers.Known.Known, declared.answers.Known.TheVariants.Done}
-pub use Rattle.server_desk.specs.{declared.answers.Known.TheVariants.NotGiven, declared.answers.Sent.Sent}
-pub use Rattle.server_desk.specs.{declared.faults.DeskFault.DeskFault, declared.faults.QueueFault.QueueFault}
-pub use Rattle.server_desk.specs.{declared.faults.TakeFault.TakeFault, declared.faults.TakeFault.TheVariants.NoMemory}
-pub use Rattle.server_desk.specs.{declared.heard.Heard1.Heard1, declared.setting.DeviceSetting.DeviceSetting}
-pub use Rattle.server_desk.specs.{declared.setting.GatewaySetting.GatewaySetting}
+pub use Rattle.server_desk.specs.Settings.{AreSettings, IsGatewayInRange, SettingLists}
+pub use Rattle.server_desk.specs.declared.{answers.Asked.Asked, answers.Known.Known, answers.Sent.Sent, heard.Heard1.Heard1}
+pub use Rattle.server_desk.specs.declared.answers.Known.TheVariants.{Done, NotGiven}
+pub use Rattle.server_desk.specs.declared.faults.{DeskFault.DeskFault, QueueFault.QueueFault, TakeFault.TakeFault}
+pub use Rattle.server_desk.specs.declared.faults.TakeFault.TheVariants.{NoMemory}
+pub use Rattle.server_desk.specs.declared.setting.{DeviceSetting.DeviceSetting, GatewaySetting.GatewaySetting}
 pub use Rattle.server_desk.proofs.Numbers.{length-rewritten, map-rewritten, numbered-append, numbered-append_cases, numbered-here}
 pub use Rattle.server_desk.proofs.Numbers.{numbered-map, numbered_after, numbered_cases, numbered_next, same_rewritten}
 pub use Rattle.server_desk.proofs.Places.{all_get, from_map, get_contains, get_set_after, get_set_cases, get_set_same, map_set}

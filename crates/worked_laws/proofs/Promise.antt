@@ -4,9 +4,9 @@ use Words.{ap, arith, inl, inr, subst, sym, ◌∙◌, All-head, Contains, Some,
 use Words.{◌≡◌, ◌≢◌, ◌≤◌, ◌∷◌, Reservation, IsAsked, Gathering, HeardCopy, numbered, AllPairs-head, Candidate, Job, ask_for}
 use Words.{candidates, Device, Gateway, AreSettings, same_Some, HaveOwnCounters, IsMember, IsOwnWindow, IsSafe, plan_for}
 use Words.{setting_of, net, None, addr_of, Bool, false, ◌==◌, ⊤, List}
-use Rattle.server_core.proofs.WorkedInputs.{settings, limits, first_device, second_device, kept_copy, both_copies, gathering}
-use Rattle.server_core.proofs.WorkedInputs.{uplink, rx1, rx2, device_at}
-use Rattle.server_core.proofs.WorkedSteps.{job_1, job_2, job_3, gateway_1, gateway_3, third_copy, w18, steps, after, whole_run}
+use Rattle.worked_laws.proofs.Inputs.{settings, limits, first_device, second_device, kept_copy, both_copies, gathering}
+use Rattle.worked_laws.proofs.Inputs.{uplink, rx1, rx2, device_at}
+use Rattle.worked_laws.proofs.Steps.{job_1, job_2, job_3, gateway_1, gateway_3, third_copy, w18, steps, after, whole_run}
 use Rattle.server_core.proofs.Runs.{every_interleaving_is_safe}
 use Rattle.server_desk.proofs.SettingsLemmas.{are_settings}
 use Rattle.server_desk.specs.Settings.{settings_fault}

@@ -2,9 +2,9 @@
 use Rattle.server_core.proofs.Words
 use Words.{DeskCallsAreSteps, desk_of, desk_queue, desk_hear, desk_pass, desk_take, told, queue_answer, answer_to, decide}
 use Words.{pass_answer, take_answer, answered_at, Queue, step, Tick, World, refl, ◌≡◌, [], ◌∷◌, Some, Ok, false}
-use Rattle.server_core.proofs.WorkedInputs.{copy_at, ended_at, device_at, first_device, second_device}
-use Rattle.server_core.proofs.WorkedSteps.{second, w3, w5, w6, w7, w14, w15, w16, w17, w18, w19, job_3, made, cancelled_19}
-use Rattle.server_core.proofs.WorkedSteps.{gateway_1, gateway_3}
+use Rattle.worked_laws.proofs.Inputs.{copy_at, ended_at, device_at, first_device, second_device}
+use Rattle.worked_laws.proofs.Steps.{second, w3, w5, w6, w7, w14, w15, w16, w17, w18, w19, job_3, made, cancelled_19}
+use Rattle.worked_laws.proofs.Steps.{gateway_1, gateway_3}
 use Rattle.radio_airtime.specs.TimeOnAir.{airtime_of}
 use Rattle.radio_bands.specs.Band.{band_of}
 use Rattle.resv_list.specs.Reservations.{begun}

@@ -6,9 +6,9 @@ use Rattle.server_core.proofs.Words
 use Words.{suc, zero, ◌-◌, true, false, Bool, List, [], ◌∷◌, ◌++◌, map, ℕ, ◌≡◌, Some, None, Ok, refl, Gathering, Job, Answer}
 use Words.{Waiting, Open, Booked, Settled, Gateway, World, Hear, Pass, Take, Settle, Try, Cancel, opening, step, decide, due_of}
 use Words.{take_answer, HeardCopy, Step, Reply, Run, run, run_from, ⊤}
-use Rattle.server_core.proofs.WorkedInputs.{settings, limits, uplink, bytes_same, has_its_mic, copy_at, device_at, gateway_at}
-use Rattle.server_core.proofs.WorkedInputs.{unused, kept_copy, world, job, both_copies, sent_at, ended_at, with_booked, gathering}
-use Rattle.server_core.proofs.WorkedInputs.{first_alone, asked_by, first_device, second_device, rx1, rx2, sent_in_rx2}
+use Rattle.worked_laws.proofs.Inputs.{settings, limits, uplink, bytes_same, has_its_mic, copy_at, device_at, gateway_at}
+use Rattle.worked_laws.proofs.Inputs.{unused, kept_copy, world, job, both_copies, sent_at, ended_at, with_booked, gathering}
+use Rattle.worked_laws.proofs.Inputs.{first_alone, asked_by, first_device, second_device, rx1, rx2, sent_in_rx2}
 use Rattle.radio_airtime.specs.TimeOnAir.{airtime_of}
 use Rattle.radio_bands.specs.Band.{band_of}
 use Rattle.resv_list.specs.Reservations.{begun}

@@ -1,10 +1,10 @@
 -- What the headline and the law of book calls say of the worked run: each clause tells a fact.
 use Rattle.server_core.proofs.Words.{ap, arith, inl, inr, subst, sym, ◌∙◌, Contains, refl, true, ◌+◌, ◌≡◌, ◌≤◌, Gathering}
 use Rattle.server_core.proofs.Words.{HeardCopy, numbered, same_Some, DeviceSetting, addr_of}
-use Rattle.server_core.proofs.WorkedInputs.{settings, limits, first_device, second_device, kept_copy, both_copies, gathering}
-use Rattle.server_core.proofs.WorkedInputs.{uplink}
-use Rattle.server_core.proofs.WorkedSteps.{gateway_1, gateway_3, third_copy, w18, steps, after, whole_run}
-use Rattle.server_core.proofs.WorkedPromise.{are, first_held, second_held, third_held, the_only}
+use Rattle.worked_laws.proofs.Inputs.{settings, limits, first_device, second_device, kept_copy, both_copies, gathering}
+use Rattle.worked_laws.proofs.Inputs.{uplink}
+use Rattle.worked_laws.proofs.Steps.{gateway_1, gateway_3, third_copy, w18, steps, after, whole_run}
+use Rattle.worked_laws.proofs.Promise.{are, first_held, second_held, third_held, the_only}
 use Rattle.server_core.proofs.Headlines.{every_run_keeps_headline}
 use Rattle.radio_airtime.specs.declared.data_rate.DataRate.TheVariants.{Dr3, Dr5}
 use Rattle.radio_airtime.specs.TimeOnAir.{airtime_of}

@@ -2,16 +2,16 @@
 use Rattle.server_core.proofs.Words
 use Words.{ap, arith, None, Some, [], Ok, Err, refl, ◌≡◌, ◌∷◌, List, slice_set, same_Some, desk_of, Done, DeskView, Settle, step}
 use Words.{Reservation, Try, Cancel, Tick, opening, Standing, Outcome, GatewaySetting, NotHere, ticked, with_booked, Book}
-use Words.{CancelFault, Result, Sent, ℕ, Step, Reply, Answer, World, told, with_cancelled, orderly_nil, IsOrderly}
-use Rattle.server_core.proofs.WorkedInputs.{settings, limits, gateway_at, unused, sent_at, ended_at, rx1}
-use Rattle.server_core.proofs.WorkedSteps.{job_1, job_2, job_3, gateway_1, w3, w4, w5, w6, w11, w15, w16, w17, w18, w19}
-use Rattle.server_core.proofs.WorkedSteps.{cancelled_19, made, steps, whole_run}
-use Rattle.server_core.proofs.WorkedPromise.{are, safe_run, first_held, second_held}
+use Words.{CancelFault, Result, Sent, ℕ, Step, Reply, Answer, World, told, orderly_nil, IsOrderly}
+use Rattle.worked_laws.proofs.Inputs.{settings, limits, gateway_at, unused, sent_at, ended_at, rx1}
+use Rattle.worked_laws.proofs.Steps.{job_1, job_2, job_3, gateway_1, w3, w4, w5, w6, w11, w15, w16, w17, w18, w19}
+use Rattle.worked_laws.proofs.Steps.{cancelled_19, made, steps, whole_run}
+use Rattle.worked_laws.proofs.Promise.{are, safe_run, first_held, second_held}
 use Rattle.radio_airtime.specs.TimeOnAir.{airtime_of}
 use Rattle.radio_bands.specs.Band.{band_of}
 use Rattle.resv_list.specs.Reservations.{begun}
 use Rattle.gateway_book.specs.declared.refusal.Refusal.TheVariants.{Taken, Passed}
-use Rattle.gateway_book.specs.{Answer.overlap, Kept.kept, Duty.full_hour}
+use Rattle.gateway_book.specs.{Answer.overlap, Book.with_cancelled, Kept.kept, Duty.full_hour}
 use Rattle.rx_windows.specs.{Windows.candidates_of, declared.candidate.Candidate.Candidate}
 use Rattle.answer_ticket.specs.declared.outcome.Ending.TheVariants.{GivenUp, Unanswered}
 use Rattle.answer_ticket.specs.{declared.tried.Receipt.Receipt, Job.Job, Job.frame_for, Tried.TriedIs, Tried.next_of}
