@@ -13,7 +13,7 @@ use rx_windows::{Candidate, candidates};
 use std::alloc::{AllocError, Allocator};
 use std::marker::Model;
 
-/// There was no memory for the candidates of a ticket, or for a frame.
+/// A growth was refused: there was no memory.
 pub type NoMemory = AllocError;
 
 /// The right to one answer: a job, and the candidate to try next. Its type keeps that the candidates are RX1 of

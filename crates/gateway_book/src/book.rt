@@ -25,7 +25,7 @@ use std::marker::Model;
 /// The greatest total of booked airtime, in microseconds.
 pub const TOTAL_LIMIT: u64 = 1 << 62;
 
-/// There was no memory for a list.
+/// A growth was refused: there was no memory.
 pub type NoMemory = AllocError;
 
 /// The airtime book of one gateway, over any roster: which transmissions it has reserved. Its type

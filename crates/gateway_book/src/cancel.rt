@@ -8,8 +8,10 @@ use thiserror::Error;
 /// Why nothing was cancelled. Where both hold, the first is answered.
 #[derive(Clone, Copy, Debug, PartialEq, Eq, Error)]
 pub enum CancelFault {
+    /// The start is not above the moment that the book was told last, so that it may be on air.
     #[error("the transmission begins no later than the book's floor")]
     Begun,
+    /// No member has this number and begins at this moment.
     #[error("no transmission with this number and start is kept")]
     NotHere,
 }

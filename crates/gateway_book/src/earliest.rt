@@ -25,13 +25,7 @@ impl<R: Roster> GatewayBook<R> {
     {
         let mut start = not_before.max(self.floor);
         while start <= last {
-            let next = self.next_start(Ask {
-                number: ask.number,
-                start,
-                freq_hz: ask.freq_hz,
-                rate: ask.rate,
-                len: ask.len,
-            })?;
+            let next = self.next_start(Ask { start, ..ask })?;
             if next == start {
                 return Some(start);
             }

@@ -13,8 +13,10 @@ pub const MAX_GAP: u32 = 100_000;
 /// Why no book was opened. Where both hold, the first in this order is answered.
 #[derive(Clone, Copy, Debug, PartialEq, Eq, Error)]
 pub enum OpenFault {
+    /// The cap is 0 or above 65,536 members.
     #[error("the cap of a book is 1 to 65,536 transmissions")]
     BadCap,
+    /// The gap is above 100,000 us.
     #[error("the gap between two transmissions is 0 to 100,000 microseconds")]
     BadGap,
 }

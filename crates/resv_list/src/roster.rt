@@ -19,8 +19,10 @@ pub const HOUR: u64 = 3_600_000_000;
 /// Why a roster took no reservation.
 #[derive(Clone, Copy, Debug, PartialEq, Eq, Hash, Error)]
 pub enum RosterFault {
+    /// There are `MAX_MEMBERS` members.
     #[error("the roster is full: it holds 65,536 reservations")]
     Full,
+    /// A growth was refused; the roster is as it was.
     #[error("there is no memory for one more reservation")]
     NoMemory,
 }

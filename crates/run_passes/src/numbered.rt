@@ -61,13 +61,9 @@ pub(crate) fn with_number<'i, T: Numbered>(
     requires { IsNonDecreasingBy T.number_of items.now }
     ensures { option_map (λ x. x.now) result ≡ find (λ x. T.number_of x == number) items.now }
 {
-    match place_of(items, *likely, number) {
-        Some(at) => {
-            *likely = at.saturating_add(1);
-            items.get(at)
-        }
-        None => None,
-    }
+    let at = place_of(items, *likely, number)?;
+    *likely = at.saturating_add(1);
+    items.get(at)
 }
 
 /// The place of the first item with this number, which is looked for at the likely place first.

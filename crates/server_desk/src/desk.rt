@@ -23,7 +23,7 @@ use std::hash::BuildHasher;
 use std::marker::Model;
 use uplink_gather::{Gather, Limits, Place};
 
-/// There was no memory for a desk.
+/// A growth was refused: there was no memory.
 pub type NoMemory = AllocError;
 
 /// What a server knows of its devices, of the uplinks that its gateways heard, and of their answers, all but the books

@@ -17,6 +17,9 @@ use std::alloc::{AllocError, Allocator};
 /// The greatest number of payloads that wait for a device.
 const QUEUE_LIMIT: usize = 16;
 
+/// How many downlink counters a session has: FCntDown has 32 bits (LoRaWAN L2 1.0.4, section 4.3.1.5).
+pub(crate) const COUNTERS: u64 = 1 << 32;
+
 impl<A: Allocator + Copy> KnownDevice<A> {
     /// A device of which nothing was heard yet; takes no memory.
     pub(crate) fn new(alloc: A, setting: &DeviceSetting) -> Self
@@ -141,7 +144,7 @@ impl<A: Allocator> KnownDevice<A> {
         if self.out {
             return Some(TakeFault::Engaged);
         }
-        if self.down > u64::from(u32::MAX) {
+        if self.down >= COUNTERS {
             return Some(TakeFault::CounterSpent);
         }
         None

@@ -22,10 +22,10 @@ pub(crate) fn copy_fault(gateways: &[u16], heard: &Heard1, arrived: u64) -> Opti
     if !has_gateway(gateways, heard.gateway) {
         return Some(DeskFault::UnknownGateway);
     }
-    if DataRate::from_number(heard.rate).is_none() {
+    let Some(rate) = DataRate::from_number(heard.rate) else {
         return Some(DeskFault::NoRate);
-    }
-    if Band::of(heard.freq_hz, rate_numbered(heard.rate)).is_none() {
+    };
+    if Band::of(heard.freq_hz, rate).is_none() {
         return Some(DeskFault::NoBand);
     }
     if heard.at > LAST_MOMENT || arrived > LAST_MOMENT {

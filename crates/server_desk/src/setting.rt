@@ -20,15 +20,15 @@ pub struct GatewaySetting {
 /// One device with its session (LoRaWAN L2 1.0.4, Class A), as it is set.
 #[derive(Clone, Copy, PartialEq, Eq)]
 pub struct DeviceSetting {
-    /// DevAddr.
+    /// DevAddr (LoRaWAN L2 1.0.4, section 6.1.1).
     pub addr: u32,
     /// NwkSKey.
     pub nwk: [u8; 16],
     /// AppSKey.
     pub app: [u8; 16],
-    /// RX1Delay: RX1 opens so many seconds after the end of an uplink, 1 to 15.
+    /// RECEIVE_DELAY1: RX1 opens so many seconds after the end of an uplink, 1 to 15 (LoRaWAN L2 1.0.4, section 3.3.1).
     pub delay: u8,
-    /// RX1DROffset: by how much the data rate of RX1 lies below the uplink's, 0 to 5.
+    /// RX1DROffset: by how many rates RX1 lies below the uplink, 0 to 5 (RP002, EU863-870, receive windows).
     pub offset: u8,
     /// The centre of the channel of RX2, in Hz; at `rx2_rate` it lies in a sub-band.
     pub rx2_freq: u32,

@@ -5,6 +5,7 @@ ghost use Rattle.std.specs.List.{list_any};
 ghost use Rattle.server_desk.specs.Settings.{SettingLists, AreSettings, are_counts_in_range, gateway_fault, device_fault};
 ghost use Rattle.server_desk.specs.Settings.{first_fault, settings_fault, is_gateway_in_range, is_device_in_range};
 
+use crate::device_calls::COUNTERS;
 use crate::{DeviceSetting, GatewaySetting, SettingsFault};
 use gateway_book::{MAX_CAP, MAX_GAP};
 use radio_bands::Band;
@@ -16,6 +17,12 @@ pub const MAX_GATEWAYS: usize = 64;
 
 /// The greatest number of devices.
 pub const MAX_DEVICES: usize = 1_024;
+
+/// The greatest RECEIVE_DELAY1, in seconds (RP002, EU863-870: RXTimingSetupReq's Delay).
+const MAX_DELAY: u8 = 15;
+
+/// The greatest RX1DROffset (RP002, EU863-870, receive windows).
+const MAX_OFFSET: u8 = 5;
 
 /// The gateways and devices that a server serves. Its type keeps that they are 1 to 64 gateways of
 /// different ids and at most 1,024 devices of different addresses, that each number is in its range, and
@@ -121,7 +128,7 @@ impl Setting for GatewaySetting {
         if !is_gateway_in_range(self) {
             return Some(SettingsFault::Range);
         }
-        if has_gateway(earlier, self.id) {
+        if has_id(earlier, self.id) {
             return Some(SettingsFault::DoubleGateway);
         }
         None
@@ -138,7 +145,7 @@ impl Setting for DeviceSetting {
         if Band::of(self.rx2_freq, self.rx2_rate).is_none() {
             return Some(SettingsFault::NoBand);
         }
-        if has_device(earlier, self.addr) {
+        if has_addr(earlier, self.addr) {
             return Some(SettingsFault::DoubleDevice);
         }
         None
@@ -146,14 +153,14 @@ impl Setting for DeviceSetting {
 }
 
 /// Whether a gateway has this number.
-fn has_gateway(gateways: &[GatewaySetting], id: u16) -> bool
+fn has_id(gateways: &[GatewaySetting], id: u16) -> bool
     ensures { result ≡ list_any (λ g. g.id == id) gateways.now }
 {
     gateways.iter().any(|gateway| gateway.id == id)
 }
 
 /// Whether a device has this address.
-fn has_device(devices: &[DeviceSetting], addr: u32) -> bool
+fn has_addr(devices: &[DeviceSetting], addr: u32) -> bool
     ensures { result ≡ list_any (λ d. d.addr == addr) devices.now }
 {
     devices.iter().any(|device| device.addr == addr)
@@ -170,5 +177,8 @@ fn is_gateway_in_range(gateway: &GatewaySetting) -> bool
 fn is_device_in_range(device: &DeviceSetting) -> bool
     ensures { result ≡ is_device_in_range device.now }
 {
-    1 <= device.delay && device.delay <= 15 && device.offset <= 5 && device.down <= 1 << 32
+    1 <= device.delay
+        && device.delay <= MAX_DELAY
+        && device.offset <= MAX_OFFSET
+        && device.down <= COUNTERS
 }

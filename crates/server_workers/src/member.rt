@@ -6,7 +6,7 @@ ghost use Rattle.server_workers.specs.Served.{IsIdle, IsDone};
 ghost use Rattle.server_workers.specs.Turns.{HasWorked, HasStopped};
 ghost use Rattle.server_workers.specs.Working.{IsMore};
 
-use crate::turns::Numbered;
+use crate::turns::InChannel;
 use crate::working::work_on;
 use crate::{Gate, Ledger, Station, Worked};
 use crossbeam_channel::{Receiver, bounded};
@@ -36,7 +36,7 @@ pub(crate) struct Sent<K: Room> {
     ghost among: { is_among K.numbers number ≡ true },
 }
 
-impl<K: Room> Numbered for Sent<K> {
+impl<K: Room> InChannel for Sent<K> {
     ghost numbers = { Some K.numbers };
 
     fn number(self) -> u64 {

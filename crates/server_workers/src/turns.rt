@@ -14,7 +14,7 @@ use std::hash::BuildHasher;
 use std::sync::Wait;
 
 /// A number in a channel, and of which numbers it is one, where these are known.
-pub(crate) trait Numbered: Drop {
+pub(crate) trait InChannel: Drop {
     ghost use Rattle.std.specs.Prelude.{ℕ, List, Option};
 
     ghost numbers: { Option (List ℕ) };
@@ -24,7 +24,7 @@ pub(crate) trait Numbered: Drop {
         ensures { IsOneOf Self.numbers result };
 }
 
-impl Numbered for u64 {
+impl InChannel for u64 {
     ghost numbers = { None };
 
     fn number(self) -> u64
@@ -53,7 +53,7 @@ pub(crate) struct Turn<A: Allocator> {
 }
 
 /// The next number of a channel, for which it waits.
-pub(crate) fn next_of<R: Wait, N: Numbered, A: Allocator>(
+pub(crate) fn next_of<R: Wait, N: InChannel, A: Allocator>(
     rt: &R,
     numbers: &Receiver<N, A>,
 ) -> Result<Given, Drained>

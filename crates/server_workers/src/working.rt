@@ -5,7 +5,7 @@ ghost use Rattle.server_workers.specs.Works.{IsOpen, outcomes_airtime};
 ghost use Rattle.server_workers.specs.Working.{HasFiled, HasRoom, IsMore};
 ghost use Rattle.server_workers.specs.Turns.{HasWorked, HasStopped};
 
-use crate::turns::{Given, Numbered, next_of};
+use crate::turns::{Given, InChannel, next_of};
 use crate::worked::Stopped;
 use crate::{Gate, Ledger, Station, Worked};
 use crossbeam_channel::Receiver;
@@ -37,7 +37,7 @@ pub fn work<R: Wait, B: Ledger, S: BuildHasher, A: Allocator + Copy, G: Gate>(
 /// The same, in place.
 pub(crate) fn work_on<
     R: Wait,
-    N: Numbered,
+    N: InChannel,
     B: Ledger,
     S: BuildHasher,
     A: Allocator + Copy,
