@@ -16,6 +16,12 @@ pub(crate) const UP: u8 = 0;
 /// The byte of the blocks that says that a frame goes down.
 pub(crate) const DOWN: u8 = 1;
 
+// The first byte of the blocks whose ciphers are the key stream (LoRaWAN L2 1.0.4 section 4.3.3).
+const STREAM_FIRST: u8 = 0x01;
+
+// The first byte of B0, the block before the message of a MIC (LoRaWAN L2 1.0.4 section 4.4).
+const MIC_FIRST: u8 = 0x49;
+
 // A block with these first and last bytes.
 fn block_of(first: u8, direction: u8, addr: u32, counter: u32, last: u8) -> [u8; 16]
     ensures { result ≡ first ∷ replicate 4 0 ++ direction ∷ to_le_bytes w32 addr ++ to_le_bytes w32 counter ++ 0 ∷ last ∷ [] }
@@ -31,7 +37,7 @@ fn block_of(first: u8, direction: u8, addr: u32, counter: u32, last: u8) -> [u8;
 pub(crate) fn stream_block(key: &Key, direction: u8, addr: u32, counter: u32, i: u8) -> [u8; 16]
     ensures { result ≡ ciphertext key.now (stream_seed direction addr counter i) }
 {
-    encrypt(key, block_of(0x01, direction, addr, counter, i))
+    encrypt(key, block_of(STREAM_FIRST, direction, addr, counter, i))
 }
 
 // The sum of a piece of a payload, of at most 16 bytes, and the block of the key stream that it meets;
@@ -94,7 +100,7 @@ pub(crate) fn append_crypted<A: Allocator>(
     ensures len { vec_len frame.new ≡ vec_len frame.old + length payload.now }
     ensures room { vec_capacity frame.old ≤ vec_capacity frame.new }
 {
-    let count = (payload.len() + 15) / 16;
+    let count = payload.len().div_ceil(16);
     'blocks: for i in 0..count {
         let block = stream_block(key, direction, addr, counter, i as u8 + 1);
         append_sum(frame, block, piece_at(payload, i));
@@ -107,7 +113,7 @@ pub(crate) fn mic(key: &Key, direction: u8, addr: u32, counter: u32, message: &[
     ensures { result ≡ mic_of key.now direction addr counter message.now }
 {
     let mut state = Cmac::new(key);
-    state.update(&block_of(0x49, direction, addr, counter, message.len() as u8));
+    state.update(&block_of(MIC_FIRST, direction, addr, counter, message.len() as u8));
     state.update(message);
     let code = state.finish();
     [code[0], code[1], code[2], code[3]]

@@ -12,11 +12,16 @@ pub(crate) const COUNTER_AT: usize = 6;
 /// The place of FOpts, after FCnt.
 pub(crate) const OPTIONS_AT: usize = 8;
 
-/// The bytes of the MIC, which a frame ends in.
-pub(crate) const MIC_LEN: usize = 4;
+/// The bytes of the MIC, which a frame ends in (LoRaWAN L2 1.0.4 section 4.4).
+pub const MIC_LEN: usize = 4;
 
-/// The bytes of a frame without FOpts, FPort and FRMPayload.
-pub(crate) const EMPTY_LEN: usize = OPTIONS_AT + MIC_LEN;
+/// The bytes of a frame without FOpts, FPort and FRMPayload: MHDR (1), FHDR (7) and MIC (4) (LoRaWAN L2 1.0.4 sections 4.1
+/// and 4.3.1).
+pub const EMPTY_LEN: usize = OPTIONS_AT + MIC_LEN;
+
+/// The bytes of a frame without FOpts beside its FRMPayload: those of an empty one, and FPort (1) (LoRaWAN L2 1.0.4 section
+/// 4.3.2).
+pub const BESIDE_PAYLOAD: usize = EMPTY_LEN + 1;
 
 /// The bytes of the longest frame.
 pub(crate) const MAX_LEN: usize = 255;
@@ -26,10 +31,32 @@ pub(crate) const MAX_OPTIONS: usize = 15;
 
 /// The bytes of the longest FRMPayload, beside FPort and without FOpts, so that the PHYPayload has 255 bytes (LoRaWAN L2 1.0.4
 /// section 4.3.3).
-pub const MAX_PAYLOAD: usize = MAX_LEN - EMPTY_LEN - 1;
+pub const MAX_PAYLOAD: usize = MAX_LEN - BESIDE_PAYLOAD;
 
 /// The greatest FPort that an application's payload may have; the least is 1 (LoRaWAN L2 1.0.4 section 4.3.2).
 pub const MAX_PORT: u8 = 223;
+
+/// What the type is multiplied by in MHDR, whose top three bits it is (LoRaWAN L2 1.0.4 section 4.2.1).
+pub(crate) const TYPE: u8 = 32;
+
+/// How many values Major has, the low two bits of MHDR, which are MHDR modulo this (LoRaWAN L2 1.0.4 section 4.2.2).
+pub(crate) const MAJORS: u8 = 4;
+
+/// What ADR is worth in FCtrl: the network may set the data rate (LoRaWAN L2 1.0.4 section 4.3.1).
+pub(crate) const ADR: u8 = 0x80;
+
+/// What ADRACKReq is worth in an uplink's FCtrl: a downlink is asked for (LoRaWAN L2 1.0.4 section 4.3.1).
+pub(crate) const ADR_ACK_REQ: u8 = 0x40;
+
+/// What ACK is worth in FCtrl: a confirmed frame is acknowledged (LoRaWAN L2 1.0.4 section 4.3.1).
+pub(crate) const ACK: u8 = 0x20;
+
+/// What FPending is worth in a downlink's FCtrl: more downlinks wait (LoRaWAN L2 1.0.4 section 4.3.1).
+pub(crate) const F_PENDING: u8 = 0x10;
+
+/// How many values FOptsLen has, 0 to 15 bytes: the low four bits of FCtrl, which are FCtrl modulo this (LoRaWAN L2 1.0.4
+/// section 4.3.1).
+pub(crate) const FOPTS_LENS: u8 = 16;
 
 /// The type of an unconfirmed data uplink, in the top three bits of MHDR.
 pub(crate) const UNCONFIRMED_UP: u8 = 2;

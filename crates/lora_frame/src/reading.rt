@@ -7,8 +7,8 @@ ghost use Rattle.lora_frame.specs.Reading.{mic_place, options_end, uplink_of, up
 
 use crate::blocks::{UP, mic};
 use crate::layout::{
-    ADDR_AT, CONFIRMED_UP, CONTROL_AT, COUNTER_AT, EMPTY_LEN, MAX_LEN, MIC_LEN, OPTIONS_AT,
-    UNCONFIRMED_UP,
+    ACK, ADDR_AT, ADR, ADR_ACK_REQ, CONFIRMED_UP, CONTROL_AT, COUNTER_AT, EMPTY_LEN, FOPTS_LENS,
+    MAJORS, MAX_LEN, MIC_LEN, OPTIONS_AT, TYPE, UNCONFIRMED_UP,
 };
 use aes_cmac::Key;
 use thiserror::Error;
@@ -41,14 +41,19 @@ pub struct Uplink {
 /// Why bytes are no data uplink.
 #[derive(Clone, Copy, Debug, PartialEq, Eq, Error)]
 pub enum FrameFault {
+    /// There are fewer than 12 bytes: MHDR, FHDR without FOpts, and MIC (LoRaWAN L2 1.0.4 sections 4.1 and 4.3.1).
     #[error("the frame has fewer than 12 bytes")]
     Short,
+    /// There are more than 255 bytes, the most that a PHYPayload has.
     #[error("the frame has more than 255 bytes")]
     Long,
+    /// The type in MHDR is neither 2, unconfirmed data up, nor 4, confirmed data up (LoRaWAN L2 1.0.4 section 4.2.1).
     #[error("the frame is no data uplink: its type is neither 2 nor 4")]
     NotData,
+    /// Major in MHDR is not 0, LoRaWAN R1 (LoRaWAN L2 1.0.4 section 4.2.2).
     #[error("the frame's Major is not 0")]
     Major,
+    /// FOptsLen, 0 to 15 bytes, leads past the place of the MIC (LoRaWAN L2 1.0.4 section 4.3.1).
     #[error("the frame ends within its FOpts: FOptsLen is too great")]
     OptionsCut,
 }
@@ -107,7 +112,7 @@ fn options_end(bytes: &[u8]) -> usize
     requires { 12 ≤ length bytes.now }
     ensures { result ≡ options_end bytes.now }
 {
-    OPTIONS_AT + (bytes[CONTROL_AT] % 16) as usize
+    OPTIONS_AT + (bytes[CONTROL_AT] % FOPTS_LENS) as usize
 }
 
 // What an uplink says in which no fault was found.
@@ -119,13 +124,13 @@ fn uplink_from(bytes: &[u8]) -> Uplink
     let control = bytes[CONTROL_AT];
     let options_end = options_end(bytes);
     Uplink {
-        confirmed: bytes[0] / 32 == CONFIRMED_UP,
+        confirmed: bytes[0] / TYPE == CONFIRMED_UP,
         addr: u32::from_le_bytes(four_at(bytes, ADDR_AT)),
-        adr: control / 128 % 2 == 1,
-        adr_ack_req: control / 64 % 2 == 1,
-        ack: control / 32 % 2 == 1,
+        adr: control / ADR % 2 == 1,
+        adr_ack_req: control / ADR_ACK_REQ % 2 == 1,
+        ack: control / ACK % 2 == 1,
         low: low_of(bytes),
-        opts_len: control % 16,
+        opts_len: control % FOPTS_LENS,
         port: port_of(bytes, options_end, mic_at),
         payload_at: payload_place(options_end, mic_at),
         mic: four_at(bytes, mic_at),
@@ -143,11 +148,11 @@ pub fn read_uplink(bytes: &[u8]) -> Result<Uplink, FrameFault>
     if bytes.len() > MAX_LEN {
         return Err(FrameFault::Long);
     }
-    let kind = bytes[0] / 32;
+    let kind = bytes[0] / TYPE;
     if kind != UNCONFIRMED_UP && kind != CONFIRMED_UP {
         return Err(FrameFault::NotData);
     }
-    if bytes[0] % 4 != 0 {
+    if bytes[0] % MAJORS != 0 {
         return Err(FrameFault::Major);
     }
     let mic_at = mic_place(bytes);

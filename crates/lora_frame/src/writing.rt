@@ -9,8 +9,8 @@ ghost use Rattle.lora_frame.specs.Faults.{down_fault, up_fault, has_high_port};
 
 use crate::blocks::{DOWN, UP, append, append_crypted, mic};
 use crate::layout::{
-    CONFIRMED_UP, EMPTY_LEN, MAX_LEN, MAX_OPTIONS, MAX_PAYLOAD, MAX_PORT, UNCONFIRMED_DOWN,
-    UNCONFIRMED_UP,
+    ACK, ADR, ADR_ACK_REQ, CONFIRMED_UP, EMPTY_LEN, F_PENDING, MAX_LEN, MAX_OPTIONS, MAX_PAYLOAD,
+    MAX_PORT, TYPE, UNCONFIRMED_DOWN, UNCONFIRMED_UP,
 };
 use crate::parts::{Body, Down, Keys, Up};
 use aes_cmac::Key;
@@ -20,10 +20,13 @@ use thiserror::Error;
 /// Why a downlink was not written; the first in this order is answered.
 #[derive(Clone, Copy, Debug, PartialEq, Eq, Error)]
 pub enum DownFault {
+    /// The FPort is not 1 to 223, the ports of an application (LoRaWAN L2 1.0.4 section 4.3.2).
     #[error("a downlink's port has to be 1 to 223")]
     Port,
+    /// The FRMPayload has more than 242 bytes, so that the PHYPayload would have more than 255.
     #[error("a downlink's payload has at most 242 bytes")]
     Long,
+    /// The growth by the frame's bytes was refused.
     #[error("no memory was found for a downlink")]
     NoMemory,
 }
@@ -31,10 +34,13 @@ pub enum DownFault {
 /// Why an uplink was not written; the first in this order is answered.
 #[derive(Clone, Copy, Debug, PartialEq, Eq, Error)]
 pub enum UpFault {
+    /// The FPort is above 223: neither 0, MAC commands, nor 1 to 223 (LoRaWAN L2 1.0.4 section 4.3.2).
     #[error("an uplink's port has to be 0 to 223")]
     Port,
+    /// FOpts have more than 15 bytes (LoRaWAN L2 1.0.4 section 4.3.1), or the PHYPayload would have more than 255.
     #[error("an uplink has at most 15 bytes of FOpts and 255 bytes in all")]
     Long,
+    /// The growth by the frame's bytes was refused.
     #[error("no memory was found for an uplink")]
     NoMemory,
 }
@@ -109,16 +115,16 @@ fn bit_worth(bit: bool, worth: u8) -> u8
 fn down_control(down: &Down) -> u8
     ensures { result ≡ down_control down.now }
 {
-    bit_worth(down.ack, 0x20) + bit_worth(down.pending, 0x10)
+    bit_worth(down.ack, ACK) + bit_worth(down.pending, F_PENDING)
 }
 
 fn up_control(up: &Up) -> u8
     requires { length up.now.options.now ≤ MAX_OPTIONS }
     ensures { result ≡ up_control up.now }
 {
-    bit_worth(up.adr, 0x80)
-        + bit_worth(up.adr_ack_req, 0x40)
-        + bit_worth(up.ack, 0x20)
+    bit_worth(up.adr, ADR)
+        + bit_worth(up.adr_ack_req, ADR_ACK_REQ)
+        + bit_worth(up.ack, ACK)
         + up.options.len() as u8
 }
 
@@ -141,7 +147,7 @@ fn header(kind: u8, addr: u32, control: u8, counter: u32) -> [u8; 8]
 {
     let [a0, a1, a2, a3] = addr.to_le_bytes();
     let [c0, c1] = ((counter % 0x1_0000) as u16).to_le_bytes();
-    [32 * kind, a0, a1, a2, a3, control, c0, c1]
+    [TYPE * kind, a0, a1, a2, a3, control, c0, c1]
 }
 
 fn payload_key(keys: &Keys, port: u8) -> &Key
