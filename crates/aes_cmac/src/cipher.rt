@@ -6,10 +6,11 @@ ghost use Rattle.aes_cmac.specs.Words.{four_words, state_bytes, IsSchedule};
 
 use crate::keys::Key;
 use crate::rounds::{bytes_of, columns_of, last_round, middle_round};
+use crate::schedule::Schedule;
 
 // AddRoundKey with the first round key.
 #[inline(always)]
-fn first_sum(v: [u32; 4], words: &[u32; 44]) -> [u32; 4]
+fn first_sum(v: [u32; 4], words: &Schedule) -> [u32; 4]
     ensures { state_bytes result ≡ xor_bytes (state_bytes v) (four_words words.now 0) }
 {
     [
@@ -21,7 +22,7 @@ fn first_sum(v: [u32; 4], words: &[u32; 44]) -> [u32; 4]
 }
 
 /// The block that AES-128 gives of a block, under the words of a key's schedule.
-pub(crate) fn encrypt_block(words: &[u32; 44], block: &[u8; 16]) -> [u8; 16]
+pub(crate) fn encrypt_block(words: &Schedule, block: &[u8; 16]) -> [u8; 16]
     ensures { (key : List ℕ) → IsSchedule words.now key → result ≡ ciphertext key block.now }
 {
     let mut v = first_sum(columns_of(block), words);

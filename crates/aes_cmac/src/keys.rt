@@ -4,7 +4,7 @@ ghost use Rattle.std.specs.Prelude.{◌≡◌};
 ghost use Rattle.aes_cmac.specs.Mac.{first_subkey, second_subkey};
 
 use crate::cipher::encrypt_block;
-use crate::schedule::expanded;
+use crate::schedule::{Schedule, expanded};
 use crate::subkeys::subkey_after;
 use std::fmt;
 use std::marker::Model;
@@ -13,7 +13,7 @@ use std::marker::Model;
 /// schedule (FIPS 197 section 5.2) and the two subkeys of CMAC (RFC 4493 section 2.3).
 #[derive(Clone, Copy)]
 pub struct Key {
-    pub(crate) words: [u32; 44],
+    pub(crate) words: Schedule,
     first: [u8; 16],
     second: [u8; 16],
 }

@@ -10,6 +10,7 @@ use crate::keys::Key;
 use std::fmt;
 use std::marker::Model;
 
+/// The bytes of a block (RFC 4493 section 2.4).
 const BLOCK_LEN: usize = 16;
 
 // The sum of two blocks.
@@ -17,8 +18,8 @@ const BLOCK_LEN: usize = 16;
 fn sum_of(a: &[u8; 16], b: &[u8; 16]) -> [u8; 16]
     ensures { result ≡ xor_bytes a.now b.now }
 {
-    let mut out = [0u8; 16];
-    'bytes: for i in 0..16 {
+    let mut out = [0u8; BLOCK_LEN];
+    'bytes: for i in 0..BLOCK_LEN {
         out[i] = a[i] ^ b[i];
     }
     out
@@ -30,8 +31,8 @@ fn block_from(bytes: &[u8], at: usize) -> [u8; 16]
     requires { at + 16 ≤ length bytes.now }
     ensures { result ≡ take 16 (drop at bytes.now) }
 {
-    let mut block = [0u8; 16];
-    block.copy_from_slice(&bytes[at..at + 16]);
+    let mut block = [0u8; BLOCK_LEN];
+    block.copy_from_slice(&bytes[at..at + BLOCK_LEN]);
     block
 }
 

@@ -3,6 +3,9 @@
 ghost use Rattle.std.specs.Prelude.{◌≡◌};
 ghost use Rattle.aes_cmac.specs.Mac.{shifted_left, doubled_block};
 
+// const_Rb: what is added to the last byte where the bit that is lost was 1 (RFC 4493 section 2.3).
+const RB: u8 = 0x87;
+
 // The block shifted left by one bit, the first bit being lost.
 fn shifted(block: &[u8; 16]) -> [u8; 16]
     ensures { result ≡ shifted_left block.now }
@@ -21,7 +24,7 @@ pub(crate) fn subkey_after(block: &[u8; 16]) -> [u8; 16]
 {
     let mut out = shifted(block);
     if block[0] >= 128 {
-        out[15] = 0x87 ^ out[15];
+        out[15] = RB ^ out[15];
     }
     out
 }
