@@ -7,6 +7,9 @@ use Rattle.aes_cmac.specs.declared.tables.TheConstants.{ROUND_CONSTANTS}
 use Rattle.aes_cmac.specs.Field.{s_box}
 use Rattle.aes_cmac.proofs.TableFacts.{get_or-ROUND_CONSTANTS}
 use Rattle.std.specs.Prelude.{◌==◌, bit_xor}
+use Rattle.std.specs.Int.{w32, rotate_left}
+use Rattle.std.specs.Int.Bits.{bit_or}
+use Rattle.std.proofs.lemmas.Grind.{or_after_shift}
 use Rattle.std.proofs.lemmas.List.{get_or-map, get_or-take, length-take-le, take_all, take_more_set, map_push, get_or_append_left}
 use Rattle.aes_cmac.specs.Aes.{xor_bytes, shift_rows, sub_bytes, mix_columns, state_after, ciphertext, added_word, next_word}
 use Rattle.aes_cmac.specs.Aes.{key_words, round_key, word_at, round_constant, rot_word, sub_word}
@@ -81,11 +84,20 @@ four_words-round_key ws key n is len low =
       schedule_word ws key (4 * n + 3) is (omega arith),
     ) refl
 
+-- a word turned by a byte is its low three bytes above its high one
+turned_sum : (n : ℕ) → n < 2 ^ 32 → rotate_left w32 n 8 ≡ n % 16777216 * 256 + n / 16777216
+turned_sum n fits =
+    let low : n * 256 % 4294967296 ≡ n % 16777216 * 256 % 4294967296 = omega arith in
+    ap (λ (x : ℕ). bit_or x (n / 16777216)) low
+    ∙ or_after_shift (n % 16777216) 256 4294967296 (n / 16777216) refl (omega arith) (omega arith)
+
 -- a word turned by a byte
-pub turned_bytes : (n t : ℕ) → n < 2 ^ 32 → t ≡ n % 16777216 * 256 + n / 16777216
+pub turned_bytes : (n t : ℕ) → n < 2 ^ 32 → t ≡ rotate_left w32 n 8
     → (byte_of t 0 ≡ byte_of n 1) × (byte_of t 1 ≡ byte_of n 2) × (byte_of t 2 ≡ byte_of n 3) × (byte_of t 3 ≡ byte_of n 0)
 unfolding byte_of
-turned_bytes n t fits e = (omega arith, omega arith, omega arith, omega arith)
+turned_bytes n t fits e =
+    let sum = e ∙ turned_sum n fits in
+    (omega (arith, sum), omega (arith, sum), omega (arith, sum), omega (arith, sum))
 
 pub added_word-same : (n i : ℕ) → 0 < i % 4 → word_bytes n ≡ added_word (word_bytes n) i
 added_word-same n i h =
@@ -99,7 +111,7 @@ turned_word n = refl
 
 -- the S-box of the turned word's bytes, and Rcon
 pub added_word-turned : (n t i r : ℕ) → n < 2 ^ 32 → 4 ≤ i → i < 44 → i % 4 ≡ 0
-    → t ≡ n % 16777216 * 256 + n / 16777216
+    → t ≡ rotate_left w32 n 8
     → word_bytes r ≡ xor_bytes (s_box (byte_of t 0) ∷ s_box (byte_of t 1) ∷ s_box (byte_of t 2) ∷ s_box (byte_of t 3) ∷ [])
     (word_bytes (get_or ROUND_CONSTANTS (i / 4 - 1) 0))
     → word_bytes r ≡ added_word (word_bytes n) i

@@ -22,7 +22,8 @@ fn added_to(word: u32, i: usize) -> u32
     if i % 4 > 0 {
         return word;
     }
-    let turned = word % 0x0100_0000 * 256 + word / 0x0100_0000;
+    // RotWord; SubWord and Rcon follow.
+    let turned = word.rotate_left(8);
     substituted(turned, turned, turned, turned, ROUND_CONSTANTS[i / 4 - 1])
 }
 

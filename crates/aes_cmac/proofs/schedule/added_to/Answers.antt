@@ -1,4 +1,4 @@
-use Rattle.std.proofs.Common.{arith, refl}
+use Rattle.std.proofs.Common.{arith}
 use Rattle.aes_cmac.proofs.ScheduleFacts.{added_word-turned, added_word-same}
 use Rattle.aes_cmac.proofs.schedule.added_to.Goals as goal
 
@@ -7,4 +7,4 @@ returns-then-i-gt0 c = added_word-same c.args.word c.args.i (omega arith)
 
 pub returns : goal.returns
 returns c = added_word-turned c.args.word _ c.args.i _ (omega arith) c.requires.low c.requires.high
-    (omega arith) refl c.substituted.ensures
+    (omega arith) c.rotate_left-turned.ensures c.substituted.ensures
