@@ -5,6 +5,10 @@ ghost use Rattle.radio_airtime.specs.TimeOnAir.{airtime_of, symbol_us, low_data_
 
 use crate::DataRate;
 
+/// The preamble in quarters of a symbol: 8 symbols, as LoRaWAN sends, and the 4.25 that the radio adds (Semtech SX1276 datasheet,
+/// section 4.1.1.7).
+const PREAMBLE_QUARTERS: u64 = 4 * 8 + 17;
+
 /// The time on air in microseconds of a PHYPayload of `len` bytes, 0 to 255, from the first symbol of
 /// the preamble on (Semtech SX1276 datasheet, section 4.1.1.7, "Time on air"), as a downlink is sent: a
 /// preamble of 8 symbols, the explicit header, coding rate 4/5 and no CRC, with which an uplink may last
@@ -16,7 +20,7 @@ pub fn airtime(rate: DataRate, len: u8) -> u64
 {
     let bits = (8 * u64::from(len) + 28).saturating_sub(4 * rate.spreading_factor());
     let symbols = 8 + 5 * blocks_of(rate, bits);
-    (49 + 4 * symbols) * quarter_symbol_us(rate)
+    (PREAMBLE_QUARTERS + 4 * symbols) * quarter_symbol_us(rate)
 }
 
 /// How many blocks of coded symbols so many bits take, each of `4 (SF - 2 DE)` bits. These stand here as numbers, since to divide
