@@ -102,7 +102,7 @@ impl<S: BuildHasher, A: Allocator + Copy> Gather<S, A> {
         ensures joined { OnOk result (self.new ≡ record self.old { list = rewritten (with_copy copy) n self.old.list }) }
         ensures refused { OnErr result (self.new ≡ self.old) }
     {
-        let gathering = &mut self.stored[n as usize - 1];
+        let gathering = &mut self.stored[rules::index_of(n)];
         if make_room(&mut gathering.copies).is_err() {
             return Err(HearFault::NoMemory);
         }
@@ -164,7 +164,7 @@ impl<S: BuildHasher, A: Allocator> Gather<S, A> {
         match self.newest.number_of(bytes) {
             None => Ok(Place::Opens),
             Some(n) => rules::place_by(
-                &self.stored[n as usize - 1],
+                &self.stored[rules::index_of(n)],
                 n,
                 &self.limits,
                 gateway,
@@ -190,7 +190,7 @@ impl<S: BuildHasher, A: Allocator> Gather<S, A> {
         match self.unclosed.binary_search(&n) {
             Ok(place) => {
                 self.unclosed.remove(place);
-                self.stored[n as usize - 1].closed = true;
+                self.stored[rules::index_of(n)].closed = true;
                 true
             }
             Err(_) => false,

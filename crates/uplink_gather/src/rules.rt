@@ -1,4 +1,4 @@
-ghost use Rattle.std.specs.Prelude.{◌≡◌, [], Some, false, find};
+ghost use Rattle.std.specs.Prelude.{◌≡◌, ◌-◌, ◌<◌, [], Some, false, find};
 ghost use Rattle.std.specs.Option.{option_copied, option_map_or};
 ghost use Rattle.uplink_gather.specs.Gatherings.{is_due, numbered};
 ghost use Rattle.uplink_gather.specs.Hearing.{place_by, has_gateway, join_answer};
@@ -14,12 +14,22 @@ const JOIN_US: u64 = 200_000;
 /// Up to how long after a gathering's opening its bytes open no other, in microseconds.
 const LATE_US: u64 = 1_000_000;
 
-/// The gathering with this number, counted from 1.
+/// The index of the gathering with this number, counted from 1.
+pub(crate) fn index_of(n: u64) -> usize
+    requires { 0 < n }
+    ensures { result ≡ n - 1 }
+{
+    n as usize - 1
+}
+
+/// The gathering with this number.
 pub(crate) fn numbered<A: Allocator>(stored: &[Stored<A>], n: u64) -> Option<&Stored<A>>
     ensures { option_copied result ≡ numbered n stored.now }
 {
-    let place = n.checked_sub(1)?;
-    stored.get(place as usize)
+    if n == 0 {
+        return None;
+    }
+    stored.get(index_of(n))
 }
 
 /// Where a copy goes by this gathering, the newest of its bytes, which has the number `n`.

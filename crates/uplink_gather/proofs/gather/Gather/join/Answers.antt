@@ -5,18 +5,21 @@ use Rattle.uplink_gather.proofs.gather.Gather.join.Goals as goal
 
 pub invariant_of-self : goal.invariant_of-self
 invariant_of-self g c =
-    whole_joining _ _ _ _ c.self.invariant _ c.self.view_is c.args.n c.requires c.index_mut-gathering.result.now
-    c.index_mut-gathering.ensures.value c.make_room.new.copies
+    rw c.index_of.ensures
+    (whole_joining _ _ _ _ c.self.invariant _ c.self.view_is c.args.n c.requires c.index_mut-gathering.result.now
+    (rw c.index_of.ensures at c.index_mut-gathering.ensures.value) c.make_room.new.copies)
 
 pub returns-then-is_err-clause-refused : goal.returns-then-is_err-clause-refused
 returns-then-is_err-clause-refused g c =
-    joining_refused _ _ _ _ c.self.invariant _ c.self.view_is c.args.n c.requires c.index_mut-gathering.result.now
-    c.index_mut-gathering.ensures.value c.make_room.new.copies c.make_room.ensures.same
+    rw c.index_of.ensures
+    (joining_refused _ _ _ _ c.self.invariant _ c.self.view_is c.args.n c.requires c.index_mut-gathering.result.now
+    (rw c.index_of.ensures at c.index_mut-gathering.ensures.value) c.make_room.new.copies c.make_room.ensures.same)
 
 pub invariant_of-self-2 : goal.invariant_of-self-2
 invariant_of-self-2 g c =
-    whole_joining _ _ _ _ c.self.invariant _ c.self.view_is c.args.n c.requires c.index_mut-gathering.result.now
-    c.index_mut-gathering.ensures.value c.push_reserved.new.self
+    rw c.index_of.ensures
+    (whole_joining _ _ _ _ c.self.invariant _ c.self.view_is c.args.n c.requires c.index_mut-gathering.result.now
+    (rw c.index_of.ensures at c.index_mut-gathering.ensures.value) c.push_reserved.new.self)
 
 pub returns-clause-told : goal.returns-clause-told
 returns-clause-told g c =
@@ -29,10 +32,11 @@ returns-clause-told g c =
       c.index_mut-gathering.result.now.copies.ok.0,
     ) in
     ap (λ (m : ℕ). Joined c.args.n m) (joining_count _ _ _ _ c.self.invariant _ c.self.view_is c.args.n c.requires
-    c.index_mut-gathering.result.now c.index_mut-gathering.ensures.value c.len.result count)
+    c.index_mut-gathering.result.now (rw c.index_of.ensures at c.index_mut-gathering.ensures.value) c.len.result count)
 
 pub returns-clause-joined : goal.returns-clause-joined
 returns-clause-joined g c =
-    joining_looks _ _ _ _ c.self.invariant _ c.self.view_is c.args.n c.requires c.index_mut-gathering.result.now
-    c.index_mut-gathering.ensures.value c.push_reserved.new.self c.args.copy
-    (rw c.make_room.ensures.same at c.push_reserved.ensures.items)
+    rw c.index_of.ensures
+    (joining_looks _ _ _ _ c.self.invariant _ c.self.view_is c.args.n c.requires c.index_mut-gathering.result.now
+    (rw c.index_of.ensures at c.index_mut-gathering.ensures.value) c.push_reserved.new.self c.args.copy
+    (rw c.make_room.ensures.same at c.push_reserved.ensures.items))
