@@ -12,16 +12,29 @@ pub enum Window {
     Rx2,
 }
 
+impl Window {
+    ghost use Rattle.std.specs.Prelude.{◌≡◌, length};
+    ghost use Rattle.rx_windows.specs.Window.{window_text};
+
+    /// The window's name as it is written, "RX1" or "RX2" (LoRaWAN L2 1.0.4, section 3.3).
+    pub fn name(self) -> &'static str
+        ensures name { result.now ≡ window_text self }
+        ensures len { length result.now ≡ 3 }
+    {
+        match self {
+            Window::Rx1 => "RX1",
+            Window::Rx2 => "RX2",
+        }
+    }
+}
+
 impl fmt::Display for Window {
     ghost use Rattle.rx_windows.specs.Window.{window_text};
 
     ghost output = { λ window. Some (window_text window) };
 
     fn fmt<W: fmt::Write>(&self, f: &mut fmt::Formatter<W>) -> fmt::Result {
-        f.write_str(match self {
-            Window::Rx1 => "RX1",
-            Window::Rx2 => "RX2",
-        })
+        f.write_str(self.name())
     }
 }
 
