@@ -4,10 +4,11 @@
 Usage: listen.py PROGRAM [DATAGRAMS [SEED]]     (5,000, 1: how many random datagrams)
 
 Each datagram is sent once the answers to those before it were read, so none is lost. What the random ones are answered is found
-here, as docs/FORMATS.md says. Libraries that are loaded before the C library count the threads, of which there have to be some
-where workers are asked for, and refuse threads, random bytes and one receive. Every program that is started ends within a
-minute, or is stopped. A failing trial has a line; the last line is 'N passed, M failed'. The status is 0 where none failed, 1
-where one did, 2 where nothing could be run.
+in drawn_turns.py, as docs/FORMATS.md says. The lines of a case and of some drawn runs are sent too, a datagram each, and have to
+be answered as the case has it, and as by the model in plain_server.py. Libraries that are loaded before the C library count the
+threads, of which there have to be some where workers are asked for, and refuse threads, random bytes and one receive. Every
+program that is started ends within a minute, or is stopped. A failing trial has a line; the last line is 'N passed, M failed'.
+The status is 0 where none failed, 1 where one did, 2 where nothing could be run.
 """
 import os
 import pathlib
@@ -22,16 +23,15 @@ import time
 sys.dont_write_bytecode = True
 import lorawan
 import plain_server
+from drawn_turns import KEYS, SESSION, SETTINGS, UPLINK, Alone, drawn_run, run_of_steps
 from preloaded import COUNTING, FAILING_RECEIVE, NO_RANDOM_BYTES, NO_THREADS, Counter, library_of, over
 
 SECONDS = 60
 EXAMPLE = pathlib.Path(__file__).resolve().parent.parent / "examples" / "settings.toml"
 # As many uplinks as several workers share out.
 SHARED = 64
-SESSION = "2b7e151628aed2a6abf7158809cf4f3c", "000102030405060708090a0b0c0d0e0f"
-KEYS = f'nwkskey = "{SESSION[0]}"\nappskey = "{SESSION[1]}"\n'
-SETTINGS = f'[[gateway]]\nid = 1\n[[gateway]]\nid = 2\n[[device]]\naddr = "26011bda"\n{KEYS}'
-UPLINK = "80da1b012600070009c89141"
+# How many runs are drawn, of some dozens of datagrams each.
+RUNS = 12
 # What is answered to an uplink whose counter is past, and to four more, of which the last was heard twice.
 OWN_ANSWERS = ["no"] + ["opened"] * 4 + ["joined"] + ["send"] * 3 + ["unanswered"]
 NO_REPORT = [f"gateway {g} booked 0 cancelled 0 retired 0 kept 0" for g in (1, 2)] + ["answered 0 unanswered 0 silent 0"]
@@ -225,79 +225,33 @@ def no_random_bytes(program):
         return refused(program, SETTINGS, "Read", options)
 
 
-class Expected:
-    """What a server with these settings answers, as far as it is asked here."""
+def run_of_turns(program, settings, turns, report, more=()):
+    """The lines of a run, a datagram each, with one worker or with those that are asked for."""
+    refused = any(answer.split()[0] in ("no", "bad") for _, answers in turns for answer in answers)
+    return exchange(program, turns, report, int(refused), more, settings=settings)
 
-    def __init__(self, chance):
-        self.chance = chance
-        self.floor = {1: 0, 2: 0}
-        self.queued = 0
 
-    def tick(self):
-        gateway, now = self.chance.choice([1, 2, 3]), self.chance.randrange(1 << 60)
-        if gateway == 3:
-            return f"tick 3 {now}", "no tick UnknownGateway"
-        self.floor[gateway] = max(self.floor[gateway], now)
-        return f"tick {gateway} {now}", f"floor {gateway} {self.floor[gateway]}"
+def steps(program):
+    """Each event takes its own step alone: what is booked is cancelled, and a payload sent, beside a gathering that is open."""
+    run = run_of_steps()
+    if run is None:
+        return "the model answers otherwise than the case"
+    return run_of_turns(program, *run) or run_of_turns(program, *run, ["--workers", "16"])
 
-    def queue(self):
-        addr, port = self.chance.choice(["26011bda", "26011BDA", "00000001"]), self.chance.choice([0, 1, 223, 224])
-        line = f"queue {addr} {port} {self.chance.choice(['-', '00', 'aBcD'])}"
-        if addr == "00000001":
-            return line, "no queue UnknownDevice"
-        if port in (0, 224):
-            return line, "no queue Port"
-        if self.queued == 16:
-            return line, "no queue QueueFull"
-        self.queued += 1
-        return line, f"queued 26011bda {self.queued}"
 
-    def hear(self):
-        uplink = self.chance.choice(["40", "00" * 12, UPLINK[:-1] + "0"])
-        name = {2: "Short", 24: "NotData"}[len(uplink)] if uplink != UPLINK[:-1] + "0" else "BadMic"
-        return f"hear 1 5000000 868100000 5 0 -100 0 {uplink}", f"no hear {name}"
-
-    def cancel(self):
-        number = self.chance.randrange(1 << 64)
-        return f"cancel {number}", f"no cancel {number} NotHere"
-
-    def line(self):
-        """A line of the format, and its answer."""
-        return self.chance.choice([self.tick, self.queue, self.hear, self.cancel])()
-
-    def whole(self, turn):
-        line, answer = self.line()
-        spread = line.replace(" ", self.chance.choice([" ", "\t", "  "]))
-        return (spread + self.chance.choice(["", "\n", "\r\n"])).encode(), [answer]
-
-    def passed_over(self, turn):
-        text = self.chance.choice(["", " ", "\t \t", "# tick 1 5", "#" * 1024, "#@"])
-        return (text + self.chance.choice(["", "\n", "\r\n"])).encode(), []
-
-    def malformed(self, turn):
-        texts = [
-            "tick 1", "ticks 1 5", "tick 1 5 6", "tick 70000 5", "tick 1 5\r", "\r", "tick 1 5\n\n", "\ntick 1 5",
-            "tick 1 5\ntick 2 5", "hear 1 5000000 868100000 5 0 -100 0 @c:26011bda:7",
-            "hear 1 5000000 868100000 5 0 -100 0 ", "cancel @", "---", "plan",
-            "cancel 1" + " " * 1017, "#" * 1025, " " * 1026, "#" * 1027, "tick 1 5" + " " * 1020, "#" * 3000,
-            "tick 1 5".ljust(1024) + "\r\ntick 2 5",
-        ]
-        return self.chance.choice(texts).encode(), [f"bad {turn} Syntax"]
-
-    def noise(self, turn):
-        size = self.chance.randrange(1, 1400)
-        datagram = bytes(self.chance.choice(b"\x00\xff\x80xyz\n\r") for _ in range(size))
-        return b"x" + datagram, [f"bad {turn} Syntax"]
-
-    def turn(self, turn):
-        kinds = [self.whole, self.passed_over, self.malformed, self.noise]
-        return self.chance.choices(kinds, [6, 1, 2, 1])[0](turn)
+def drawn_runs(program, seed):
+    """Runs as tests/random_runs.py draws them: the answers are those of a plain model. Every second one has two workers."""
+    for one in range(seed, seed + RUNS):
+        fault = run_of_turns(program, *drawn_run(one), ["--workers", "2"] * (one % 2))
+        if fault:
+            return f"run {one}: {fault}"
+    return None
 
 
 def at_random(program, datagrams, seed):
     """Random datagrams, each answered by itself."""
-    expected = Expected(random.Random(seed))
-    return exchange(program, [expected.turn(turn) for turn in range(1, datagrams + 1)], NO_REPORT, 1)
+    alone = Alone(random.Random(seed))
+    return exchange(program, [alone.turn(turn) for turn in range(1, datagrams + 1)], NO_REPORT, 1)
 
 
 def example(program):
@@ -351,6 +305,8 @@ def main():
         ("threads", lambda: threads_started(program)),
         ("no threads", lambda: threads_refused(program)),
         ("settings of its own", lambda: own_settings(program)),
+        ("a step for each event", lambda: steps(program)),
+        (f"{RUNS} runs", lambda: drawn_runs(program, seed)),
         ("turns above 16 bits", lambda: turns_above_16_bits(program)),
         ("a receive that fails", lambda: receive_failed(program)),
         ("no random bytes", lambda: no_random_bytes(program)),

@@ -49,23 +49,25 @@ def settings(gateways, devices, cap=OPEN_AT_MOST):
     return "".join(rows + [f'[[device]]\naddr = "{addr(device)}"\n{KEYS}' for device in range(devices)]) + "---\n"
 
 
-def hear(device, gateway, at, counter=0):
-    return f"hear {gateway} {LONG_AGO + at} 868100000 5 0 -100 {LONG_AGO} @c:{addr(device)}:{counter}"
+def hear(device, gateway, at, counter=0, snr=0, arrived=0):
+    return f"hear {gateway} {LONG_AGO + at} 868100000 5 {snr} -100 {LONG_AGO + arrived} @c:{addr(device)}:{counter}"
 
 
 def apart():
-    """Each device is heard once, by one gateway, and is answered in RX1. After that four are heard whose RX1 begins in the gap
-    behind a transmission, so that they are answered in RX2; and what was booked is cancelled, in part, and retired. A line that
-    is none stands at the end, behind most of the text, and is named by its number."""
+    """Each device is heard once, by one gateway, and is answered in RX1. One more is open then, is heard a second time, better,
+    after that, and is answered last. Before it four are heard whose RX1 begins in the gap behind a transmission, so that they are
+    answered in RX2; and what was booked is cancelled, in part, and retired. A line that is none stands at the end, behind most of
+    the text, and is named by its number."""
     lines = [f"queue {addr(device)} 9 0102" for device in range(0, DEVICES, 3)]
     lines += [hear(device, 1 + device % GATEWAYS, 200_000 * (device // GATEWAYS)) for device in range(DEVICES)]
-    lines += [f"pass {LONG_AGO + 1_000_000}"]
     last = 200_000 * ((DEVICES - 1) // GATEWAYS)
+    lines += [hear(DEVICES, 1, last + SPACE, arrived=900_000), f"pass {LONG_AGO + 1_000_000}"]
+    lines += [hear(DEVICES, 2, last + SPACE, snr=1, arrived=1_050_000)]
     lines += [hear(device, 1 + device, last + 100_000, 1) for device in range(GATEWAYS)]
-    lines += [f"pass {LONG_AGO + 1_000_000}"]
-    lines += [f"cancel {number}" for number in [*range(1, DEVICES + GATEWAYS + 2, 7), 1]]
+    lines += [f"pass {LONG_AGO + 1_000_000}", f"pass {LONG_AGO + 1_200_000}"]
+    lines += [f"cancel {number}" for number in [*range(1, DEVICES + GATEWAYS + 3, 7), 1]]
     lines += [f"tick {gateway} {LONG_AGO + 3_620_000_000 + gateway}" for gateway in range(1, GATEWAYS + 2)]
-    return settings(GATEWAYS, DEVICES) + "\n".join([*lines, "hear"]) + "\n"
+    return settings(GATEWAYS, DEVICES + 1) + "\n".join([*lines, "hear"]) + "\n"
 
 
 def one_pass():
@@ -197,14 +199,20 @@ def no_random_bytes(program):
     return None
 
 
+def sent(wanted):
+    """What is sent: by which gateway, and in which window."""
+    return [line.split()[2:4] for line in wanted[1] if line.startswith("send ")]
+
+
 def windows(wanted):
     """The windows in which uplinks are answered."""
-    return [line.split()[3] for line in wanted[1] if line.startswith("send ")]
+    return [window for _, window in sent(wanted)]
 
 
 def is_answered(wanted):
-    """Every uplink is answered, the last ones in RX2."""
-    return windows(wanted) == ["RX1"] * DEVICES + ["RX2"] * GATEWAYS
+    """Every uplink is answered, all in RX1 but four, the last one by the gateway that heard it better."""
+    wanted_windows = ["RX1"] * DEVICES + ["RX2"] * GATEWAYS + ["RX1"]
+    return windows(wanted) == wanted_windows and sent(wanted)[-1] == ["2", "RX1"]
 
 
 def is_full(wanted):

@@ -18,12 +18,20 @@ static ANSWERED: [Row; 2] = [
 ];
 
 /// The station is asked this and that; the last receipt is that of number 500, which gateway 1 heard.
-static ASKED: [Row; 18] = [
+static ASKED: [Row; 20] = [
     (Step::Ask(Ask::Queue(1, b"x")), "Ok(1)"),
     (Step::Ask(Ask::Queue(1, b"x")), "Ok(2)"),
     (
         Step::Ask(Ask::Totals(1, 10_304_001)),
         "Err(Behind { booked: 10304000 })",
+    ),
+    (
+        Step::Ask(Ask::Totals(2, 20_000_000)),
+        "Err(Behind { booked: 10304000 })",
+    ),
+    (
+        Step::Ask(Ask::Totals(2, 1)),
+        "Ok(Totals { booked: 10304000, cancelled: 0, retired: 0, kept_airtime: 10304000, kept: 250, floor: 0 })",
     ),
     (Step::Ask(Ask::Totals(9, 0)), "Err(UnknownGateway)"),
     (

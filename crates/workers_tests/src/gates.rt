@@ -1,9 +1,10 @@
 // Gates at which workers stop.
 
-use crate::posts::TestStation;
-use server_workers::{Gate, Ledger, Till};
+use server_workers::{Gate, Handled, Ledger, Station, Till};
+use std::alloc::Allocator;
 use std::sync::Wait;
 use std::sync::atomic::{AtomicU64, Ordering};
+use worked_inputs::WorkedHasher;
 
 /// Lets in whoever asks for the n-th time at a gateway, nobody where n is 0; counts how often it was asked for each.
 #[derive(Drop)]
@@ -82,38 +83,42 @@ impl Gate for Log {
     }
 }
 
-/// Asks the station for what a gateway has booked when a worker has left it, and keeps that.
+/// Notes who goes where, and asks the station for what a gateway has booked when a worker has left it, and keeps that.
 #[derive(Drop)]
-struct Auditor<'a, B: Ledger, R: Wait> {
+struct Auditor<'a, B: Ledger, A: Allocator + Copy, R: Wait> {
     rt: &'a R,
-    station: &'a TestStation<B>,
+    station: &'a Station<B, WorkedHasher, A>,
+    log: Log,
     booked: AtomicU64,
 }
 
-impl<B: Ledger, R: Wait> Gate for Auditor<'_, B, R> {
-    fn inside(&self, _gateway: u16) -> bool {
-        true
+impl<B: Ledger, A: Allocator + Copy, R: Wait> Gate for Auditor<'_, B, A, R> {
+    fn inside(&self, gateway: u16) -> bool {
+        self.log.inside(gateway)
     }
 
     fn left(&self, gateway: u16) {
+        self.log.left(gateway);
         if let Ok(totals) = self.station.totals(self.rt, gateway, 0) {
             self.booked.store(totals.booked, Ordering::SeqCst);
         }
     }
 }
 
-/// A number is answered at such a gate: what it was told that is booked.
-pub(crate) fn audited<B: Ledger, R: Wait>(
+/// A number is answered at such a gate: what became of it, who went where, and what the gate was told that is booked.
+pub(crate) fn audited<B: Ledger, A: Allocator + Copy, R: Wait>(
     rt: &R,
-    station: &TestStation<B>,
+    station: &Station<B, WorkedHasher, A>,
     till: &mut Till<B>,
     number: u64,
-) -> u64 {
+) -> (Handled<A>, [u64; 2]) {
     let auditor = Auditor {
         rt,
         station,
+        log: Log::new(),
         booked: AtomicU64::new(0),
     };
-    station.answer(rt, &auditor, number, till, &mut 0);
-    auditor.booked.load(Ordering::SeqCst)
+    let handled = station.answer(rt, &auditor, number, till, &mut 0);
+    let booked = auditor.booked.load(Ordering::SeqCst);
+    (handled, [auditor.log.calls(), booked])
 }

@@ -5,7 +5,7 @@ use crate::meeting::Meeting;
 use crate::posts::{Post, text};
 use answer_ticket::{Ending, Outcome};
 use crossbeam_channel::{Receiver, bounded};
-use server_workers::{Gate, Ledger, NoGate, ServeFault, Served, Worked, serve, work};
+use server_workers::{Gate, Ledger, NoGate, PARTS, ServeFault, Served, Worked, serve, work};
 use std::alloc::Global;
 use std::sync::Wait;
 use std::test::Fail;
@@ -20,6 +20,8 @@ pub(crate) enum Shift {
     Meeting(u64, u64, u8),
     /// So many workers whom no gate lets in, at the numbers from the one to the other.
     ShutOut(u64, u64, u8),
+    /// One with room for so many numbers, at these.
+    Alone(u32, &'static [u64]),
     /// One with room for so many numbers, at these and then at those of another channel, whom no gate lets in.
     One(u32, &'static [u64], &'static [u64]),
 }
@@ -31,7 +33,8 @@ impl<B: Ledger + Send + Sync, R: Threads + Wait + Sync> Post<'_, B, R> {
             Shift::Crew(first, last, workers) => self.serve(first, last, workers, &NoGate),
             Shift::Meeting(first, last, workers) => self.meet(first, last, workers),
             Shift::ShutOut(first, last, workers) => self.serve(first, last, workers, &Shut::new(0)),
-            Shift::One(room, numbers, others) => self.work(room, numbers, others),
+            Shift::Alone(room, numbers) => self.work(room, numbers, &[], &NoGate),
+            Shift::One(room, numbers, others) => self.work(room, numbers, others, &Shut::new(0)),
         }
     }
 
@@ -114,13 +117,19 @@ impl<B: Ledger, R: Wait> Post<'_, B, R> {
         text(self.alloc, &(cause, parts))
     }
 
-    /// One worker with room for so many numbers, whom no gate lets in, works at these and then at those: how many outcomes there
-    /// are, what was skipped and what refused, how many tries the gate didn't let in, and which numbers are left first.
-    fn work(&mut self, room: u32, numbers: &[u64], others: &[u64]) -> Result<String, Fail> {
+    /// One worker with room for so many numbers works at these and then at those: how many outcomes there are, what was skipped
+    /// and what refused, how many tries the gate didn't let in, and which numbers are left first.
+    fn work<G: Gate>(
+        &mut self,
+        room: u32,
+        numbers: &[u64],
+        others: &[u64],
+        gate: &G,
+    ) -> Result<String, Fail> {
         let worked = self.hired(room)?;
-        let (worked, left) = self.worked_at(worked, numbers)?;
-        let (worked, left_of_others) = self.worked_at(worked, others)?;
-        text(
+        let (worked, left) = self.worked_at(worked, numbers, gate)?;
+        let (worked, left_of_others) = self.worked_at(worked, others, gate)?;
+        let told = text(
             self.alloc,
             &(
                 worked.outcomes.len(),
@@ -129,17 +138,20 @@ impl<B: Ledger, R: Wait> Post<'_, B, R> {
                 worked.overrun,
                 [left, left_of_others],
             ),
-        )
+        )?;
+        self.dismiss(worked)?;
+        Ok(told)
     }
 
     /// A worker works at some numbers: what it has done so far, and the first number that is left.
-    fn worked_at(
+    fn worked_at<G: Gate>(
         &self,
         worked: Worked<B>,
         numbers: &[u64],
+        gate: &G,
     ) -> Result<(Worked<B>, Option<u64>), Fail> {
         let numbers = channel_of(self.rt, self.alloc, numbers)?;
-        let worked = work(self.rt, &self.station, &numbers, &Shut::new(0), worked);
+        let worked = work(self.rt, &self.station, &numbers, gate, worked);
         Ok((worked, numbers.recv(self.rt).ok()))
     }
 
@@ -151,6 +163,22 @@ impl<B: Ledger, R: Wait> Post<'_, B, R> {
         }
         let worked = Worked::new(self.alloc, till.split(), room);
         Ok(worked.ok().ok_or("there is memory")?)
+    }
+
+    /// Keeps the receipts of a worker, whose till is joined with the last one.
+    fn dismiss(&mut self, worked: Worked<B>) -> Result<(), Fail> {
+        let Worked {
+            till,
+            mut receipts,
+            ..
+        } = worked;
+        self.receipts.append(&mut receipts)?;
+        let last = self.tills.last_mut().ok_or("there is a till")?;
+        if last.parts().saturating_add(till.parts()) > PARTS {
+            return Err(Fail::from("they have too many parts"));
+        }
+        last.join(till);
+        Ok(())
     }
 }
 

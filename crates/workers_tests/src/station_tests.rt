@@ -16,10 +16,10 @@ use std::thread::Threads;
 use test_asserts::{equal, holds};
 use worked_inputs::handed_back;
 
-/// An uplink is answered, and the gateways are asked: the totals by one who saw 41,216 us booked there, and 41,217, and those
-/// of a gateway that isn't there; the floors of both; and the answer is cancelled twice, and once on the other gateway. What is
-/// refused leaves the floor.
-static CALLS: [Row; 19] = [
+/// An uplink is answered, and the gateways are asked: the totals by those who saw less than the 41,216 us that are booked
+/// there, just as much, and more; where nothing is booked; and those of a gateway that isn't there; the floors of both; and the
+/// answer is cancelled twice, and once on the other gateway. What is refused leaves the floor.
+static CALLS: [Row; 24] = [
     (Step::Hear(Heard::Of(1, 0)), OPENED_1),
     (Step::Ask(Ask::Pass(200_001)), "Some(1)"),
     (Step::Ask(Ask::Split), "65535"),
@@ -32,8 +32,25 @@ static CALLS: [Row; 19] = [
         "Ok(Totals { booked: 41216, cancelled: 0, retired: 0, kept_airtime: 41216, kept: 1, floor: 0 })",
     ),
     (
+        Step::Ask(Ask::Totals(1, 1)),
+        "Ok(Totals { booked: 41216, cancelled: 0, retired: 0, kept_airtime: 41216, kept: 1, floor: 0 })",
+    ),
+    (
         Step::Ask(Ask::Totals(1, 41_217)),
         "Err(Behind { booked: 41216 })",
+    ),
+    (
+        Step::Ask(Ask::Totals(1, 1_000_000)),
+        "Err(Behind { booked: 41216 })",
+    ),
+    (
+        Step::Ask(Ask::Totals(1, u64::MAX)),
+        "Err(Behind { booked: 41216 })",
+    ),
+    (Step::Ask(Ask::Totals(2, 1)), "Err(Behind { booked: 0 })"),
+    (
+        Step::Ask(Ask::Totals(2, 1_000_000)),
+        "Err(Behind { booked: 0 })",
     ),
     (Step::Ask(Ask::Totals(9, 0)), "Err(UnknownGateway)"),
     (Step::Ask(Ask::Tick(1, 1)), "Some(1)"),

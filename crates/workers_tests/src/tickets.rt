@@ -7,7 +7,7 @@ use server_workers::{Gate, Handled, Ledger, NoGate, Till};
 use std::alloc::Global;
 use std::sync::Wait;
 use std::test::Fail;
-use worked_inputs::{booked, next_refused};
+use worked_inputs::{booked, last_refused, next_refused};
 
 /// At which gate a station answers.
 #[derive(Clone, Copy)]
@@ -37,6 +37,8 @@ pub(crate) enum Fate {
     RefusedAndLost,
     /// It is refused once, booked and settled.
     RefusedAndSettled,
+    /// It is refused twice, by the last try too, and settled.
+    RefusedTwice,
 }
 
 /// How an answer ended that was settled, and how many tries the gate didn't let in.
@@ -76,7 +78,7 @@ impl<B: Ledger, R: Wait> Post<'_, B, R> {
     /// What the station told the gate that is booked when the worker had left.
     fn answer_audited(&mut self, number: u64) -> Result<String, Fail> {
         let till = self.tills.last_mut().ok_or("there is a till")?;
-        let booked = audited(self.rt, &self.station, till, number);
+        let (_, [_, booked]) = audited(self.rt, &self.station, till, number);
         text(self.alloc, &booked)
     }
 
@@ -113,6 +115,7 @@ impl<B: Ledger, R: Wait> Post<'_, B, R> {
             Fate::Lost => self.give_up(number, false),
             Fate::RefusedAndLost => self.give_up_late(number),
             Fate::RefusedAndSettled => self.book_late(number),
+            Fate::RefusedTwice => self.use_up(number),
         }
     }
 
@@ -156,6 +159,15 @@ impl<B: Ledger, R: Wait> Post<'_, B, R> {
     fn give_up_late(&mut self, number: u64) -> Result<String, Fail> {
         let ticket = self.refused(number)?;
         let (is_taken, outcome) = self.ended(ticket.give_up(), false);
+        text(self.alloc, &(is_taken, outcome.number, outcome.result))
+    }
+
+    /// A ticket is refused twice, and has no try left then.
+    fn use_up(&mut self, number: u64) -> Result<String, Fail> {
+        let ticket = self.refused(number)?;
+        let tried = self.station.try_once(self.rt, ticket);
+        let (stub, _) = last_refused(tried).ok_or("it is refused to the last")?;
+        let (is_taken, outcome) = self.ended(stub, true);
         text(self.alloc, &(is_taken, outcome.number, outcome.result))
     }
 

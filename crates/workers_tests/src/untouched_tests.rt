@@ -5,6 +5,7 @@ use crate::busy::{BUSY, SEEN};
 use crate::finishing::Try;
 use crate::looks::{AtDesk, Look, Sight};
 use crate::plans::{Plan, runs};
+use crate::shifts::Shift;
 use crate::steps::{Row, Step};
 use crate::tickets::{Answer, Fate};
 use std::alloc::Global;
@@ -12,8 +13,59 @@ use std::sync::Wait;
 use std::test::Fail;
 use std::thread::Threads;
 
+/// What is seen in place of the sight with this place.
+type Change = (usize, Sight);
+
 /// A call, and what is seen then in place of the sights with these places.
-type Call = (Row, &'static [(usize, Sight)]);
+type Call = (Row, &'static [Change]);
+
+const SENT_3: Change = (
+    2,
+    (
+        Look::Desk(AtDesk::Sent(3)),
+        "Some(Sent { gateway: 1, start: 7000000, airtime: 991232 })",
+    ),
+);
+
+const ON_AIR_3: Change = (4, (Look::Desk(AtDesk::Answered(1)), "Some(1032448)"));
+
+const TAKEN_3: Change = (6, (Look::Desk(AtDesk::Take(3)), "Some(Taken)"));
+
+const KEPT_3: Change = (
+    17,
+    (
+        Look::Kept(0, 1),
+        "Some(Reservation { number: 3, start: 7000000, freq_hz: 869525000, rate: Dr0, len: 12 })",
+    ),
+);
+
+const TOTALS_3: Change = (
+    19,
+    (
+        Look::Totals(0),
+        "Totals { booked: 1032448, cancelled: 0, retired: 0, kept_airtime: 1032448, kept: 2, floor: 3 }",
+    ),
+);
+
+const BOOKED_3: Change = (24, (Look::Booked, "1073664"));
+
+/// Number 3 is answered in RX2, since RX1 is taken, and nothing else is done.
+const ANSWERED_3: &[Change] = &[SENT_3, ON_AIR_3, TAKEN_3, KEPT_3, TOTALS_3, BOOKED_3];
+
+/// The ticket of number 3 is lost.
+const LOST_3: &[Change] = &[
+    TAKEN_3,
+    (
+        13,
+        (Look::Desk(AtDesk::Probe(3, 0)), "(0, true, Err(Engaged))"),
+    ),
+];
+
+/// Number 3 is booked by its second try, and settled.
+const BOOK_3: Row = (
+    Step::Take(3, Fate::RefusedAndSettled),
+    "(true, 3, Answered { gateway: 1, window: Rx2, start: 7000000, airtime: 991232, carried: false })",
+);
 
 /// The answer to number 1 is cancelled.
 const CANCELLED: Call = (
@@ -30,7 +82,7 @@ const CANCELLED: Call = (
     ],
 );
 
-static CALLS: [Call; 18] = [
+static CALLS: [Call; 23] = [
     (
         (Step::Ask(Ask::Queue(5, &[2])), "Ok(2)"),
         &[(
@@ -61,61 +113,51 @@ static CALLS: [Call; 18] = [
             (8, (Look::Desk(AtDesk::Pass(2_000_000)), "None")),
         ],
     ),
-    (
-        (Step::Take(3, Fate::Lost), "(false, 3, GivenUp)"),
-        &[
-            (6, (Look::Desk(AtDesk::Take(3)), "Some(Taken)")),
-            (
-                13,
-                (Look::Desk(AtDesk::Probe(3, 0)), "(0, true, Err(Engaged))"),
-            ),
-        ],
-    ),
+    ((Step::Take(3, Fate::Lost), "(false, 3, GivenUp)"), LOST_3),
     (
         (Step::Take(3, Fate::GivenUp), "(true, 3, GivenUp)"),
-        &[(6, (Look::Desk(AtDesk::Take(3)), "Some(Taken)"))],
+        &[TAKEN_3],
     ),
     (
         (Step::Take(3, Fate::RefusedAndLost), "(false, 3, GivenUp)"),
-        &[
-            (6, (Look::Desk(AtDesk::Take(3)), "Some(Taken)")),
-            (
-                13,
-                (Look::Desk(AtDesk::Probe(3, 0)), "(0, true, Err(Engaged))"),
-            ),
-        ],
+        LOST_3,
+    ),
+    (BOOK_3, ANSWERED_3),
+    // Whoever answers number 3 books it in RX2; 1 and 2 were taken, and 4 isn't ready.
+    (
+        (
+            Step::Answer(3, Answer::Freely),
+            "(Some(Answered { gateway: 1, window: Rx2, start: 7000000, airtime: 991232, carried: false }), 0)",
+        ),
+        ANSWERED_3,
     ),
     (
         (
-            Step::Take(3, Fate::RefusedAndSettled),
-            "(true, 3, Answered { gateway: 1, window: Rx2, start: 7000000, airtime: 991232, carried: false })",
+            Step::Work(Shift::Alone(4, &[1, 2, 3, 4])),
+            "(1, [], [(1, Taken), (2, Taken), (4, NotReady)], 0, [None, None])",
         ),
-        &[
-            (
-                2,
-                (
-                    Look::Desk(AtDesk::Sent(3)),
-                    "Some(Sent { gateway: 1, start: 7000000, airtime: 991232 })",
-                ),
-            ),
-            (4, (Look::Desk(AtDesk::Answered(1)), "Some(1032448)")),
-            (6, (Look::Desk(AtDesk::Take(3)), "Some(Taken)")),
-            (
-                17,
-                (
-                    Look::Kept(0, 1),
-                    "Some(Reservation { number: 3, start: 7000000, freq_hz: 869525000, rate: Dr0, len: 12 })",
-                ),
-            ),
-            (
-                19,
-                (
-                    Look::Totals(0),
-                    "Totals { booked: 1032448, cancelled: 0, retired: 0, kept_airtime: 1032448, kept: 2, floor: 3 }",
-                ),
-            ),
-            (24, (Look::Booked, "1073664")),
-        ],
+        ANSWERED_3,
+    ),
+    (
+        (
+            Step::Work(Shift::Crew(1, 4, 1)),
+            "(1, [1, 1], ([], 3, 0), 0, false)",
+        ),
+        ANSWERED_3,
+    ),
+    (
+        (
+            Step::Work(Shift::Crew(1, 4, 2)),
+            "(2, [1, 1], ([], 3, 0), 0, false)",
+        ),
+        ANSWERED_3,
+    ),
+    (
+        (
+            Step::Work(Shift::Crew(3, 3, 3)),
+            "(3, [1, 1], ([], 0, 0), 0, true)",
+        ),
+        ANSWERED_3,
     ),
     CANCELLED,
     (
@@ -145,7 +187,7 @@ static CALLS: [Call; 18] = [
     ((Step::Ask(Ask::Tick(9, 9)), "None"), &[]),
     (
         (
-            Step::Ask(Ask::Totals(1, 41_217)),
+            Step::Ask(Ask::Totals(2, 1_000_000)),
             "Err(Behind { booked: 41216 })",
         ),
         &[],
@@ -153,19 +195,19 @@ static CALLS: [Call; 18] = [
     ((Step::Ask(Ask::Totals(9, 0)), "Err(UnknownGateway)"), &[]),
 ];
 
-/// A busy station is called once, and finished in so many tries.
-fn calls_once<R: Threads + Wait + Sync>(
+/// A busy station is called, and finished in so many tries.
+fn calls<R: Threads + Wait + Sync>(
     rt: &R,
     alloc: Global,
-    call: &Call,
+    steps: &[Row],
+    changes: &[Change],
     tries: &[Try],
 ) -> Result<(), Fail> {
-    let (step, changes) = *call;
     let plan = Plan {
         gateways: &[2, 1],
         devices: 5,
         before: &BUSY,
-        steps: &[step],
+        steps,
         tries,
         sights: &SEEN,
         changes,
@@ -173,12 +215,50 @@ fn calls_once<R: Threads + Wait + Sync>(
     runs(rt, alloc, &plan)
 }
 
+/// It is finished at once.
+static AT_ONCE: [Try; 1] = [(1, 0, "None")];
+
 #[test]
 fn each_call_takes_its_own_step_alone(rt: HostRuntime) -> Result<(), Fail> {
-    for call in CALLS.iter() {
-        calls_once(&rt, rt.alloc(), call, &[(1, 0, "None")])?;
+    for (step, changes) in CALLS.iter() {
+        calls(&rt, rt.alloc(), &[*step], changes, &AT_ONCE)?;
     }
     Ok(())
+}
+
+/// An uplink that was heard as number 1 was finds both windows taken once number 3 is booked.
+static USED_UP: [Row; 4] = [
+    (Step::Hear(Heard::Of(5, 0)), OPENED_5),
+    (Step::Ask(Ask::Pass(200_001)), "Some(5)"),
+    BOOK_3,
+    (
+        Step::Take(5, Fate::RefusedTwice),
+        "(true, 5, Unanswered(Taken { start: 7000000 }))",
+    ),
+];
+
+/// What was refused to the last uses its counter up, and its payload waits on.
+const LEFT_5: &[Change] = &[
+    SENT_3,
+    ON_AIR_3,
+    TAKEN_3,
+    (9, (Look::Desk(AtDesk::Sent(5)), "None")),
+    (10, (Look::Desk(AtDesk::Take(5)), "Some(Taken)")),
+    (
+        15,
+        (
+            Look::Desk(AtDesk::Probe(5, 0)),
+            "(1, true, Ok((1, 14, 48)))",
+        ),
+    ),
+    KEPT_3,
+    TOTALS_3,
+    BOOKED_3,
+];
+
+#[test]
+fn the_last_refusal_takes_no_step_at_the_book(rt: HostRuntime) -> Result<(), Fail> {
+    calls(&rt, rt.alloc(), &USED_UP, LEFT_5, &AT_ONCE)
 }
 
 /// It isn't finished without its till, nor with the receipt of what was cancelled.
@@ -190,5 +270,6 @@ static REFUSED_TWICE: [Try; 3] = [
 
 #[test]
 fn a_refused_finish_takes_no_step(rt: HostRuntime) -> Result<(), Fail> {
-    calls_once(&rt, rt.alloc(), &CANCELLED, &REFUSED_TWICE)
+    let (step, changes) = CANCELLED;
+    calls(&rt, rt.alloc(), &[step], changes, &REFUSED_TWICE)
 }

@@ -69,8 +69,8 @@ fn one_to_sixteen_workers_serve(rt: HostRuntime) -> Result<(), Fail> {
 }
 
 /// With room for one number it is given two; the second is left. No gate lets it in, and it goes on. With room for two it
-/// answers one of each of two channels, though it stopped at the end of the first.
-static ONE_OF_TWO: [Row; 3] = [
+/// answers one of each of two channels, though it stopped at the end of the first. All three answers stay booked.
+static ONE_OF_TWO: [Row; 5] = [
     (Step::Hear(Heard::All(4)), "4"),
     (
         Step::Work(Shift::One(1, &[1, 2], &[])),
@@ -79,6 +79,14 @@ static ONE_OF_TWO: [Row; 3] = [
     (
         Step::Work(Shift::One(2, &[3], &[4])),
         "(2, [], [], 2, [None, None])",
+    ),
+    (
+        Step::Ask(Ask::Totals(1, 0)),
+        "Ok(Totals { booked: 41216, cancelled: 0, retired: 0, kept_airtime: 41216, kept: 1, floor: 0 })",
+    ),
+    (
+        Step::Ask(Ask::Totals(2, 0)),
+        "Ok(Totals { booked: 82432, cancelled: 0, retired: 0, kept_airtime: 82432, kept: 2, floor: 0 })",
     ),
 ];
 

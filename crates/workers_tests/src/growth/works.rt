@@ -1,6 +1,6 @@
 // What is done at a station: a ticket is tried, and an uplink is answered.
 
-use crate::gates::Log;
+use crate::gates::audited;
 use crate::growth::stations::{AtWork, takes};
 use crate::growth::tickets::{Gone, booked_in, is_wanted, shown_by};
 use crate::posts::totals_at;
@@ -72,8 +72,8 @@ fn a_ticket_is_tried(rt: HostRuntime) -> Result<(), Fail> {
     takes(&rt, rt.alloc(), 2, &Tries, 2)
 }
 
-/// An uplink is answered at a gate that notes who goes where: who has a ticket goes to gateway 1 and leaves it, whether the try
-/// found memory or not.
+/// An uplink is answered at a gate that notes who goes where, and asks what is booked: who has a ticket goes to gateway 1 and
+/// leaves it, with its lock free, whether the try found memory or not.
 #[derive(Drop)]
 struct Answers;
 
@@ -88,15 +88,15 @@ impl AtWork for Answers {
         number: u64,
     ) -> Result<bool, Fail> {
         let mut till = till;
-        let log = Log::new();
         alloc.refuse(number);
-        let handled = station.answer(rt, &log, 2, &mut till, &mut 0);
+        let (handled, noted) = audited(rt, &station, &mut till, 2);
         let asked = asked_of(alloc);
-        let (is_starved, calls) = match handled {
-            Handled::NotTaken(_) => (true, 0),
-            Handled::Settled(_, receipt) | Handled::Stray(_, receipt) => (receipt.is_none(), 16),
+        let (is_starved, wanted) = match handled {
+            Handled::Settled(_, Some(_)) | Handled::Stray(_, Some(_)) => (false, [16, 41_216]),
+            Handled::Settled(_, None) | Handled::Stray(_, None) => (true, [16, 0]),
+            Handled::NotTaken(_) => (true, [0, 0]),
         };
-        same(log.calls(), calls)?;
+        same(noted, wanted)?;
         is_as_asked(asked, number, is_starved, false)
     }
 }
