@@ -8,6 +8,12 @@ use crate::saved_words::SavedWords;
 use radio_airtime::DataRate;
 use text_lines::{is_word, number_u8, number_u16, number_u32, number_u64};
 
+/// The version of a saved book that is written.
+pub(crate) const VERSION: u32 = 2;
+
+/// The version before it, which has no gap, and is read too.
+pub(crate) const WITHOUT_GAP: u32 = 1;
+
 /// What the gateway's line says.
 #[derive(Clone, Copy, Debug, PartialEq, Eq)]
 pub(crate) struct SavedGateway {
@@ -81,8 +87,8 @@ fn gap_in(version: u32, words: &[&[u8]]) -> Option<u32>
     ensures { result ≡ gap_in version (map (λ word. word.now) words.now) }
 {
     match words {
-        [] if version == 1 => Some(0),
-        [gap] if version != 1 => plain(gap, number_u32(gap)),
+        [] if version == WITHOUT_GAP => Some(0),
+        [gap] if version != WITHOUT_GAP => plain(gap, number_u32(gap)),
         _ => None,
     }
 }

@@ -8,7 +8,9 @@ ghost use Rattle.gateway_book.specs.SavedLines.{Leads, IsFault, gateway_from, me
 
 use crate::LoadFault;
 use crate::opening::fault_of;
-use crate::saved_line::{Entry, SavedGateway, entry_said, gateway_said, version_said};
+use crate::saved_line::{
+    Entry, SavedGateway, VERSION, WITHOUT_GAP, entry_said, gateway_said, version_said,
+};
 use crate::saved_reader::next_line;
 use text_lines::{ByteIn, HeldLine};
 
@@ -60,7 +62,7 @@ pub(crate) fn read_version<I: ByteIn>(reader: &mut I, line: &mut HeldLine) -> Re
 fn is_known(version: u32) -> bool
     ensures { result ≡ (version == 1 || version == 2) }
 {
-    version == 1 || version == 2
+    version == WITHOUT_GAP || version == VERSION
 }
 
 /// Reads the second line: a gateway whose book may be opened.

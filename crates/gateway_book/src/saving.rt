@@ -7,6 +7,7 @@ ghost use Rattle.text_lines.specs.Writing.{WritesAllBut, WritesFront};
 ghost use Rattle.gateway_book.specs.Saved.{saved_of, saved_text, version_words, gateway_words, member_words, members_text};
 
 use crate::GatewayBook;
+use crate::saved_line::VERSION;
 use resv_list::{Reservation, Roster};
 use text_lines::{ByteOut, CallFailed, TextLine, WriteBehind, add_number};
 use thiserror::Error;
@@ -71,7 +72,7 @@ impl<R: Roster> GatewayBook<R> {
     {
         text.clear();
         text.text(b"airbook");
-        add_number(text, 2);
+        add_number(text, u64::from(VERSION));
         text.text(b"\ngateway");
         add_number(text, u64::from(self.id()));
         add_number(text, u64::from(self.cap()));

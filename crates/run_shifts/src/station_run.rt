@@ -22,7 +22,7 @@ use std::thread::Threads;
 /// books.
 #[derive(Drop)]
 pub struct Played {
-    /// The lines, each with the place of its event, counted from 0.
+    /// The lines, each with the place of its event: a run counts these from 0, a server that listens from 1.
     pub entries: Vec<Entry<Global>>,
     /// By the gateways' numbers; for the clauses alone, which speak of them.
     pub totals: Vec<(u16, Totals)>,
@@ -124,8 +124,8 @@ where
         self.answer_all_but_pass(rt, place, &event)
     }
 
-    /// Does what the event at this place, counted from 0, asks for: its lines go behind those that were told. Err(NoMemory)
-    /// where a growth was refused; the shift is gone then.
+    /// Does what this event asks for: its lines go behind those that were told, each with this place. Err(NoMemory) where a
+    /// growth was refused; the shift is gone then.
     pub fn answer<R: Threads + Wait + Sync>(
         self,
         rt: &R,
