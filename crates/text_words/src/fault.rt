@@ -16,8 +16,9 @@ pub enum TextFault {
     /// The input has more than 268,435,456 bytes.
     #[error("the input has more than 268435456 bytes")]
     TooMuch,
-    /// A setting was refused, by the name of its fault.
-    #[error("the settings were refused: {0}")]
+    /// An argument, the settings or a saved book was refused, or the books don't go with the answers given; by the name of the
+    /// fault.
+    #[error("the arguments, the settings or the books were refused: {0}")]
     Settings(&'static str),
     /// There was no memory.
     #[error("there is not enough memory")]
