@@ -9,7 +9,7 @@ use std::marker::Model;
 pub const LINE_LIMIT: usize = 1024;
 
 /// The most bytes of a line that are kept: one more than a line may have, and its carriage return.
-pub const KEPT_LIMIT: usize = 1026;
+pub const KEPT_LIMIT: usize = LINE_LIMIT + 2;
 
 /// The bytes of one line, as far as they are kept, in a buffer that is used again for the next.
 #[derive(Debug, Drop)]

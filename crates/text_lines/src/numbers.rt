@@ -2,11 +2,13 @@
 ghost use Rattle.std.specs.Prelude.{◌≡◌, ◌^◌};
 ghost use Rattle.text_lines.specs.Number.{is_digit, is_digits, number_below, number_signed, NumbersReadBack};
 
+use super::text_line::NUMBER_DIGITS;
+
 /// Whether the byte is one of `0` to `9`.
 fn is_digit(byte: u8) -> bool
     ensures { result ≡ is_digit byte }
 {
-    b'0' <= byte && byte <= b'9'
+    byte.is_ascii_digit()
 }
 
 /// Whether the word is digits alone, at least one and at most `most`.
@@ -28,7 +30,7 @@ fn is_digits(word: &[u8], most: usize) -> bool
 pub fn number_u64(word: &[u8]) -> Option<u64>
     ensures { result ≡ number_below (2 ^ 64) word.now }
 {
-    if !is_digits(word, 20) {
+    if !is_digits(word, NUMBER_DIGITS) {
         return None;
     }
     let mut value = 0_u64;

@@ -7,7 +7,7 @@ use std::marker::Model;
 /// The most bytes of a `TextLine`: no line of output has so many, and no report of a book.
 pub const TEXT_LIMIT: usize = 1024;
 
-/// The most digits that `number` adds.
+/// The most digits of a number of 64 bits, as `number` adds it and as a word is read.
 pub const NUMBER_DIGITS: usize = 20;
 
 /// A text of one line or of a few, which is put together piece by piece, of at most 1,024 bytes.

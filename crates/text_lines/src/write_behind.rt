@@ -11,6 +11,9 @@ use std::marker::Model;
 /// From how many bytes on what was gathered is written.
 pub const WRITE_SIZE: usize = 4096;
 
+/// The room in bytes: for what is gathered, fewer than `WRITE_SIZE`, and what one call adds, at most as many.
+const WRITE_ROOM: usize = 2 * WRITE_SIZE;
+
 /// Writes all the bytes, in as many calls as the writer wants. After an Err a front of them was taken.
 pub fn write_all<W: ByteOut>(writer: &mut W, bytes: &[u8]) -> Result<(), CallFailed>
     ensures ok { OnOk result (Appends (W.taken writer.old) (W.taken writer.new) bytes.now) }
@@ -30,7 +33,7 @@ pub fn write_all<W: ByteOut>(writer: &mut W, bytes: &[u8]) -> Result<(), CallFai
 /// Bytes that are to be written, gathered until there are 4,096.
 #[derive(Debug, Drop)]
 pub struct WriteBehind {
-    buffer: [u8; 8192],
+    buffer: [u8; WRITE_ROOM],
     len: usize,
 }
 
@@ -48,7 +51,7 @@ impl WriteBehind {
         ensures { result ≡ [] }
     {
         WriteBehind {
-            buffer: [0; 8192],
+            buffer: [0; WRITE_ROOM],
             len: 0,
         }
     }
