@@ -1,12 +1,10 @@
 -- Lemmas on the numbers that words are.
-use Rattle.std.proofs.Common.{◌≡◌, ℕ, suc, ◌+◌, ◌-◌, ◌*◌, ◌^◌, ◌<◌, ◌≤◌, List, length, drop, get_or, true, cond, ◌&&◌, ltb, None}
+use Rattle.std.proofs.Common.{◌≡◌, ℕ, suc, ◌+◌, ◌-◌, ◌*◌, ◌^◌, ◌<◌, List, length, drop, get_or, true, cond, ◌&&◌, ltb, None}
 use Rattle.std.proofs.Common.{Some, ap, subst, ◌∙◌, ⊎_elim, arith, rules, decimal}
 use Rattle.std.proofs.Math.Nat.{le-mul_of_pos_right, one-le-pow, pow-succ'}
 use Rattle.std.proofs.Math.Seq.{drop-cons, drop-length}
 use Rattle.std.proofs.lemmas.Bool.{and_parts, and_from, leb-true, le-leb, lt-ltb, ltb-true, cases_Bool}
 use Rattle.std.proofs.lemmas.Fmt.{digits_decimal, digits_value-decimal, decimal_nonempty, length-decimal-le, decimal-digits_value}
-use Rattle.std.proofs.lemmas.List.{get_or_default}
-use Rattle.std.proofs.lemmas.List.Sums.{list_all-from_AllPass}
 use Rattle.std.proofs.lemmas.Str.Parse.{IsNumeralModel, numerals_by_weight}
 use Rattle.std.specs.List.{list_all}
 use Rattle.text_lines.specs.Number.{is_digit, is_digits, value_of, number_below, NumbersReadBack}
@@ -14,13 +12,6 @@ use Rattle.text_lines.specs.Number.{is_digit, is_digits, value_of, number_below,
 -- digits alone, told one by one, and their value, are what a numeral is
 own : IsNumeralModel (λ ds. list_all is_digit ds ≡ true) value_of
 own = numerals_by_weight _ (search rules) value_of (search rules)
-
--- digits at every place
-pub is_digits_at_each : (most : ℕ) (word : List ℕ) → 0 < length word → length word ≤ most
-    → ((k : ℕ) → k < length word → is_digit (get_or word k 0) ≡ true) → is_digits most word ≡ true
-is_digits_at_each most word some short each =
-    and_from _ _ (and_from _ _ (le-leb 1 (length word) (omega arith)) (le-leb (length word) most short))
-    (list_all-from_AllPass is_digit word (λ k d h. ap is_digit (get_or_default word k d 0 h) ∙ each k h))
 
 digits_alone : (most : ℕ) (word : List ℕ) → is_digits most word ≡ true → list_all is_digit word ≡ true
 digits_alone most word digits = (and_parts _ _ digits).1

@@ -1,29 +1,22 @@
 // The numbers that words are.
 ghost use Rattle.std.specs.Prelude.{◌≡◌, ◌^◌};
+ghost use Rattle.std.specs.List.{list_all};
 ghost use Rattle.text_lines.specs.Number.{is_digit, is_digits, number_below, number_signed, NumbersReadBack};
 
 use super::text_line::NUMBER_DIGITS;
-
-/// Whether the byte is one of `0` to `9`.
-fn is_digit(byte: u8) -> bool
-    ensures { result ≡ is_digit byte }
-{
-    byte.is_ascii_digit()
-}
 
 /// Whether the word is digits alone, at least one and at most `most`.
 fn is_digits(word: &[u8], most: usize) -> bool
     ensures { result ≡ is_digits most word.now }
 {
-    if word.is_empty() || word.len() > most {
-        return false;
-    }
-    for byte in word {
-        if !is_digit(*byte) {
-            return false;
-        }
-    }
-    true
+    !word.is_empty() && word.len() <= most && are_digits(word)
+}
+
+/// Whether all bytes of the word are digits.
+fn are_digits(word: &[u8]) -> bool
+    ensures { result ≡ list_all is_digit word.now }
+{
+    word.iter().all(|byte| byte.is_ascii_digit())
 }
 
 /// The number that a word of 1 to 20 digits is, zeros before it allowed; None for any other word, and above 2^64 - 1.

@@ -41,12 +41,9 @@ fn first_blank(line: &[u8]) -> usize
     ensures before { (k : ℕ) → k < result → is_blank (slice_index line.now k) ≡ false }
     ensures at { result < length line.now → is_blank (slice_index line.now result) ≡ true }
 {
-    for (place, byte) in line.iter().enumerate() {
-        if is_blank(*byte) {
-            return place;
-        }
-    }
-    line.len()
+    line.iter()
+        .position(|byte| is_blank(*byte))
+        .unwrap_or(line.len())
 }
 
 /// The first word of a line, and what follows it; None where the line has no word.
