@@ -45,8 +45,7 @@ fn begin_hour(text: &mut TextLine, gateway: Option<u16>)
     ensures len { length text.new ≤ length text.old + 28 }
 {
     text.text(b"busiest");
-    match gateway {
-        Some(id) => add_number(text, id as u64),
-        None => {}
+    if let Some(id) = gateway {
+        add_number(text, id as u64);
     }
 }
