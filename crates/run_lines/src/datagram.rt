@@ -10,10 +10,10 @@ use crate::run_events::line_event;
 use crate::run_input::next_line;
 use server_core::{DeviceSetting, Event, NoMemory};
 use std::alloc::Global;
-use text_lines::{first_word, is_passed_over};
+use text_lines::{LINE_LIMIT, first_word, is_passed_over};
 
 /// The room for a datagram in bytes: one byte more than the longest line has, with a carriage return and a line feed.
-pub const DATAGRAM_ROOM: usize = 1027;
+pub const DATAGRAM_ROOM: usize = LINE_LIMIT + 3;
 
 /// What the datagram of turn `number` asks for, by the devices of the settings; None where it is passed over. One that
 /// fills the room may have been cut off, and is malformed. Err(NoMemory) where a growth was refused, which comes only for

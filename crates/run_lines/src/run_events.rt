@@ -83,15 +83,11 @@ fn hear_event(
 ) -> Result<Option<Event<Global>>, NoMemory>
     ensures { IfOk result (λ event. event ≡ hear_event ring.now.devices.now (map (λ word. word.now) words.now)) }
 {
-    if words.len() != 8 {
-        return Ok(None);
-    }
     let [gateway, at, freq_hz, rate, snr, rssi, arrived, uplink] = words else {
         return Ok(None);
     };
     let heard = heard_with(gateway, at, freq_hz, rate, snr, rssi);
-    let event = hear_with(alloc, ring, heard, number_u64(arrived), uplink)?;
-    Ok(event)
+    hear_with(alloc, ring, heard, number_u64(arrived), uplink)
 }
 
 /// The copy with these numbers, and with the uplink that a word says.
