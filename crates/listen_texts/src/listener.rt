@@ -1,5 +1,5 @@
 // A server that listens, turn by turn.
-ghost use Rattle.std.specs.Prelude.{◌≡◌, ◌^◌, ◌||◌, [], Some, None, IfOk, IfErr};
+ghost use Rattle.std.specs.Prelude.{◌≡◌, ◌^◌, [], Some, None, IfOk, IfErr};
 ghost use Rattle.text_words.specs.Fault.{CountsWrites};
 ghost use Rattle.server_station.specs.Stations.{AreInOrder};
 ghost use Rattle.run_lines.specs.UplinkCounts.{AreCountsUpTo};
@@ -235,7 +235,7 @@ where
                 Ok(Listener {
                     shift,
                     counts,
-                    refused: either(refused, bad),
+                    refused: refused | bad,
                 })
             }
         }
@@ -267,11 +267,4 @@ where
             Ok(()) => Ok(refused),
         }
     }
-}
-
-/// Whether one or the other is true.
-fn either(first: bool, second: bool) -> bool
-    ensures { result ≡ first || second }
-{
-    first || second
 }

@@ -50,7 +50,7 @@ returns-in-Ok-write_entries-clause-ok g c =
       record {
         counts = c.add.ensures ∙ ap (counts_sum c.args.self.counts) counted;
         small = subst (AreCountsUpTo (2 ^ 64)) counted c.of.ensures.small;
-        refused = c.either.ensures ∙ ap (λ t. c.args.self.refused || t)
+        refused = ap (λ t. c.args.self.refused || t)
             (wrote.told ∙ ap (λ l. has_refusal (entry_lines l)) c.as_slice.ensures.value);
         written = subst (λ l. Appends (g.W.ByteOut.taken c.args.writer.now) (g.W.ByteOut.taken c.write_entries.new.writer)
             (text_of (entry_lines l))) c.as_slice.ensures.value wrote.ok;
