@@ -42,7 +42,10 @@ pub fn program<'a>(alloc: Global) -> Result<Command<'a>, AllocError> {
              duty cycle lets it.",
         )
         .after_help(
-            "Examples:\n  airbook toa 5 12\n  airbook book < examples/two-bookings.txt\
+            "Statuses:\n  0  no line of the output begins with no or bad\n  1  one does\n  2  the arguments were refused, \
+             with a text on standard error; or the run stopped, with a last line airbook: NAME there (docs/FORMATS.md \
+             lists the names)\n\n\
+             Examples:\n  airbook toa 5 12\n  airbook book < examples/two-bookings.txt\
              \n  airbook plan < examples/plan.txt\n  airbook run < examples/two-gateways.txt\
              \n  airbook listen --port 1700 --turns 1 < examples/settings.toml",
         )
@@ -58,7 +61,10 @@ pub fn program<'a>(alloc: Global) -> Result<Command<'a>, AllocError> {
 fn toa<'a>(alloc: Global) -> Result<Command<'a>, AllocError> {
     Command::new(alloc, "toa")
         .about("Writes the time on air of a frame, in microseconds")
-        .after_help("Example:\n  $ airbook toa 5 12\n  41216")
+        .after_help(
+            "It answers no NoRate for a DR above 6, and no TooLong for a LEN above the rate's greatest. Statuses: see \
+             airbook --help.\n\nExample:\n  $ airbook toa 5 12\n  41216",
+        )
         .arg(rate(alloc))?
         .arg(len(alloc))
 }
@@ -87,8 +93,9 @@ fn book<'a>(alloc: Global) -> Result<Command<'a>, AllocError> {
              NUMBER START, tick NOW, earliest NUMBER NOT_BEFORE LAST FREQ DR LEN",
         )
         .after_help(
-            "START, NOW, NOT_BEFORE and LAST are microseconds of the gateway's clock, FREQ is the centre of the \
-             channel in Hz, DR the data rate 0 to 6, and LEN the length of the PHYPayload in bytes, 0 to 255.\n\n\
+            "NUMBER is the caller's own for a transmission, below 2^64; two may have the same. START, NOW, NOT_BEFORE and \
+             LAST are microseconds of the gateway's clock, FREQ is the centre of the channel in Hz, DR the data rate 0 to \
+             6, and LEN the length of the PHYPayload in bytes, 0 to 255. Statuses: see airbook --help.\n\n\
              Examples:\n  $ echo book 1 10000000 868100000 5 12 | airbook book\n  ok 1 10000000 10041216\
              \n  booked 41216\n  cancelled 0\n  retired 0\n  kept 1 41216\n  floor 0\n  busiest M 10000000 41216\
              \n  $ echo book 1 10000000 868100000 5 12 | airbook book --save\n  ok 1 10000000 10041216\n  airbook 2\
@@ -112,8 +119,8 @@ fn plan<'a>(alloc: Global) -> Result<Command<'a>, AllocError> {
              the next",
         )
         .after_help(
-            "START, NOW, NOT_BEFORE and LAST are microseconds of the gateway's clock, FREQ is the centre of the \
-             channel in Hz, DR the data rate 0 to 6, and LEN the length of the PHYPayload in bytes, 0 to 255.\n\n\
+            "The words are those of book: see airbook book --help. A line that begins with if doesn't make the status \
+             1. Statuses: see airbook --help.\n\n\
              Example:\n  $ airbook plan < examples/plan.txt\n  ok 1 10000000 10041216\n  if no 8 Taken 10000000\
              \n  if ok 9 10041216 10082432\n  if no 10 Taken 10000000\n  booked 41216\n  cancelled 0\n  retired 0\
              \n  kept 1 41216\n  floor 0\n  busiest M 10000000 41216",
@@ -181,12 +188,13 @@ fn run<'a>(alloc: Global) -> Result<Command<'a>, AllocError> {
              cancel N",
         )
         .after_help(
-            "AT is microseconds of the gateway's clock, and so is NOW of tick; ARRIVED and NOW of pass are \
-             microseconds of the server's. FREQ is the centre of the channel in Hz, DR the data rate 0 to 6, SNR \
-             tenths of a dB, RSSI dBm. ADDR is a DevAddr and HEX bytes in hexadecimal: an FRMPayload after queue, a \
-             PHYPayload after hear. There @KIND:ADDR:COUNTER stands for an uplink of that device and counter which \
-             is made here: KIND is c for confirmed, u for unconfirmed, a for one that asks for an answer by \
-             ADRACKReq.\n\nExample:\n  $ airbook run < examples/two-gateways.txt\n  opened 1\n  joined 1 2\
+            "GATEWAY is the id of a gateway of the settings, and N the number of an uplink, which opened N tells. AT is \
+             microseconds of the gateway's clock, and so is NOW of tick; ARRIVED and NOW of pass are microseconds of the \
+             server's. FREQ is the centre of the channel in Hz, DR the data rate 0 to 6, SNR tenths of a dB, RSSI dBm. ADDR \
+             is a DevAddr, PORT the FPort, 1 to 223, and HEX bytes in hexadecimal, or - for none: an FRMPayload after queue, \
+             a PHYPayload after hear. There @KIND:ADDR:COUNTER stands for an uplink of that device and counter which is \
+             made here: KIND is c for confirmed, u for unconfirmed, a for one that asks for an answer by ADRACKReq. \
+             Statuses: see airbook --help.\n\nExample:\n  $ airbook run < examples/two-gateways.txt\n  opened 1\n  joined 1 2\
              \n  send 1 2 RX1 10000000 868100000 5 12\n  frame 1 60da1b0126200000240347ca\
              \n  gateway 1 booked 0 cancelled 0 retired 0 kept 0\
              \n  gateway 2 booked 41216 cancelled 0 retired 0 kept 1\n  busiest 2 M 10000000 41216\

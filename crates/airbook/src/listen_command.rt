@@ -12,7 +12,7 @@ pub fn listen<'a>(alloc: Global) -> Result<Command<'a>, AllocError> {
              settings in TOML",
         )
         .after_help(
-            "The words are those of run: see airbook run --help.\n\nExample:\
+            "The words are those of run: see airbook run --help. Statuses: see airbook --help.\n\nExample:\
              \n  $ airbook listen --port 1700 --turns 1 < examples/settings.toml &\
              \n  $ python3 -c \"import socket; socket.socket(type=socket.SOCK_DGRAM).sendto(b'tick 1 5', ('127.0.0.1', \
              1700))\"\n  floor 1 5\n  gateway 1 booked 0 cancelled 0 retired 0 kept 0\

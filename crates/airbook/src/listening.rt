@@ -9,12 +9,16 @@ use std::random::RandomSource;
 use std::sync::Wait;
 use std::thread::Threads;
 use text_lines::{ByteIn, ByteOut};
+use thiserror::Error;
 
 /// Why a server did not listen to its end.
+#[derive(Clone, Copy, Debug, PartialEq, Eq, Error)]
 pub enum Stopped {
     /// The socket could not be bound.
+    #[error("the socket could not be bound")]
     Bind,
     /// The text call stopped.
+    #[error(transparent)]
     Text(TextFault),
 }
 
