@@ -1,7 +1,7 @@
 // What the keys of a gateway and of a device say in the settings.
 ghost use Rattle.std.specs.Prelude.{◌≡◌, ◌^◌, Result};
-ghost use Rattle.std.specs.Option.{option_map};
-ghost use Rattle.toml.specs.Data.{Data, get_member};
+ghost use Rattle.std.specs.Option.{option_map, ok_or};
+ghost use Rattle.toml.specs.Data.{Data, as_integer, get_member};
 ghost use Rattle.toml.specs.View.{view, table_view};
 ghost use Rattle.settings_text.specs.declared.settings_fault.ReadFault.{ReadFault};
 ghost use Rattle.settings_text.specs.SettingsFields as fields;
@@ -10,6 +10,9 @@ use crate::ReadFault;
 use hex::FromHex;
 use server_desk::DataRate;
 use toml::{Table, Value};
+
+/// How many transmissions a gateway's book may keep where the settings don't say it.
+const DEFAULT_CAP: u32 = 4_096;
 
 /// What a value may say.
 trait FromValue: Copy {
@@ -20,12 +23,18 @@ trait FromValue: Copy {
         ensures { result ≡ of (view value.now) };
 }
 
+/// The whole number that a value is.
+fn integer_in(value: &Value) -> Result<i64, ReadFault>
+    ensures { result ≡ ok_or (as_integer (view value.now)) ReadFault.Kind }
+{
+    value.as_integer().ok_or(ReadFault::Kind)
+}
+
 impl FromValue for u8 {
     ghost of = { fields.whole_below (2 ^ 8) };
 
     fn from_value(value: &Value) -> Result<Self, ReadFault> {
-        let number = value.as_integer().ok_or(ReadFault::Kind)?;
-        u8::try_from(number).map_err(|_| ReadFault::Kind)
+        u8::try_from(integer_in(value)?).map_err(|_| ReadFault::Kind)
     }
 }
 
@@ -33,8 +42,7 @@ impl FromValue for u16 {
     ghost of = { fields.whole_below (2 ^ 16) };
 
     fn from_value(value: &Value) -> Result<Self, ReadFault> {
-        let number = value.as_integer().ok_or(ReadFault::Kind)?;
-        u16::try_from(number).map_err(|_| ReadFault::Kind)
+        u16::try_from(integer_in(value)?).map_err(|_| ReadFault::Kind)
     }
 }
 
@@ -42,8 +50,7 @@ impl FromValue for u32 {
     ghost of = { fields.whole_below (2 ^ 32) };
 
     fn from_value(value: &Value) -> Result<Self, ReadFault> {
-        let number = value.as_integer().ok_or(ReadFault::Kind)?;
-        u32::try_from(number).map_err(|_| ReadFault::Kind)
+        u32::try_from(integer_in(value)?).map_err(|_| ReadFault::Kind)
     }
 }
 
@@ -52,8 +59,7 @@ impl FromValue for u64 {
     ghost of = { fields.whole_below (2 ^ 64) };
 
     fn from_value(value: &Value) -> Result<Self, ReadFault> {
-        let number = value.as_integer().ok_or(ReadFault::Kind)?;
-        u64::try_from(number).map_err(|_| ReadFault::Kind)
+        u64::try_from(integer_in(value)?).map_err(|_| ReadFault::Kind)
     }
 }
 
@@ -123,7 +129,7 @@ pub(crate) fn id_of(gateway: &Table) -> Result<u16, ReadFault>
 pub(crate) fn cap_of(gateway: &Table) -> Result<u32, ReadFault>
     ensures { result ≡ fields.cap_of (table_view gateway.now) }
 {
-    optional(gateway, "cap", 4_096)
+    optional(gateway, "cap", DEFAULT_CAP)
 }
 
 /// How long a gateway needs between two transmissions, in microseconds.
