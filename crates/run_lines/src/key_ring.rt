@@ -4,7 +4,7 @@ ghost use Rattle.std.specs.Option.{ForSome};
 ghost use Rattle.run_lines.specs.RunWords.{keys_for, bare_uplink};
 ghost use Rattle.run_lines.specs.KeyRing.{KeepsKeys};
 
-use crate::run_words::bare_uplink;
+use crate::run_words::{UplinkKind, bare_uplink};
 use answer_ticket::Bytes;
 use indexmap::IndexMap;
 use lora_frame::Keys;
@@ -50,11 +50,12 @@ impl<'a> KeyRing<'a> {
     pub(crate) fn bare_uplink(
         &self,
         alloc: Global,
-        kind: (bool, bool),
+        kind: UplinkKind,
         addr: u32,
         counter: u32,
     ) -> Result<Bytes<Global>, NoMemory>
-        ensures { IfOk result (λ bytes. bytes ≡ bare_uplink (keys_for addr self.now.devices.now) kind addr counter) }
+        ensures { IfOk result (λ bytes. bytes ≡ bare_uplink (keys_for addr self.now.devices.now)
+            (kind.confirmed, kind.adr_ack_req) addr counter) }
     {
         match &self.keys {
             Some(keys) => bare_uplink(alloc, keys.get(&addr), kind, addr, counter),

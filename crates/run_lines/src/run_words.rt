@@ -3,7 +3,7 @@ ghost use Rattle.std.specs.Prelude.{◌≡◌, ◌<◌, [], ◌∷◌, ◌++◌,
 ghost use Rattle.run_lines.specs.RunWords.{addr_word, hex_word, kind_of, bare_message, bare_uplink, made_word};
 ghost use Rattle.run_lines.specs.RunWords.{uplink_word};
 ghost use Rattle.lora_frame.specs.Frame.{with_mic, bit_worth, up_control};
-ghost use Rattle.std.specs.Option.{option_copied};
+ghost use Rattle.std.specs.Option.{option_copied, option_map};
 
 use crate::key_ring::KeyRing;
 use answer_ticket::Bytes;
@@ -35,27 +35,41 @@ pub(crate) fn hex_word(alloc: Global, word: &[u8]) -> Result<Option<Bytes<Global
     }
 }
 
-/// A kind of uplink: whether it is confirmed, and whether it has ADRACKReq.
-fn kind_of(byte: u8) -> Option<(bool, bool)>
-    ensures { result ≡ kind_of byte }
+/// A kind of uplink.
+#[derive(Clone, Copy)]
+pub(crate) struct UplinkKind {
+    /// Whether it is confirmed.
+    pub(crate) confirmed: bool,
+    /// Whether it has ADRACKReq.
+    pub(crate) adr_ack_req: bool,
+}
+
+/// The kind of uplink that KIND says: `c` confirmed, `u` unconfirmed, `a` unconfirmed with ADRACKReq.
+fn kind_of(byte: u8) -> Option<UplinkKind>
+    ensures { option_map (λ kind. (kind.confirmed, kind.adr_ack_req)) result ≡ kind_of byte }
 {
-    match byte {
-        b'c' => Some((true, false)),
-        b'u' => Some((false, false)),
-        b'a' => Some((false, true)),
-        _ => None,
-    }
+    let (confirmed, adr_ack_req) = match byte {
+        b'c' => (true, false),
+        b'u' => (false, false),
+        b'a' => (false, true),
+        _ => return None,
+    };
+    Some(UplinkKind {
+        confirmed,
+        adr_ack_req,
+    })
 }
 
 /// An uplink of a device without FOpts, FPort and FRMPayload, made with its keys; without keys its MIC is four zeros.
 pub(crate) fn bare_uplink(
     alloc: Global,
     keys: Option<&Keys>,
-    kind: (bool, bool),
+    kind: UplinkKind,
     addr: u32,
     counter: u32,
 ) -> Result<Bytes<Global>, NoMemory>
-    ensures { IfOk result (λ bytes. bytes ≡ bare_uplink (option_copied keys.entry) kind addr counter) }
+    ensures { IfOk result (λ bytes. bytes ≡ bare_uplink (option_copied keys.entry) (kind.confirmed, kind.adr_ack_req) addr
+        counter) }
 {
     match keys {
         Some(keys) => made_uplink(alloc, keys, kind, addr, counter),
@@ -64,17 +78,18 @@ pub(crate) fn bare_uplink(
 }
 
 /// An uplink of a device without FOpts, FPort and FRMPayload.
-fn bare_up(kind: (bool, bool), addr: u32, counter: u32) -> Up<'static>
-    ensures fields { (result.confirmed ≡ kind.0) × (result.addr ≡ addr) × (result.counter ≡ counter) × (result.options.now ≡ []) }
-    ensures control { up_control result ≡ bit_worth kind.1 0x40 }
+fn bare_up(kind: UplinkKind, addr: u32, counter: u32) -> Up<'static>
+    ensures fields { (result.confirmed ≡ kind.confirmed) × (result.addr ≡ addr) × (result.counter ≡ counter)
+        × (result.options.now ≡ []) }
+    ensures control { up_control result ≡ bit_worth kind.adr_ack_req 0x40 }
     ensures body { result.body ≡ None }
 {
     Up {
-        confirmed: kind.0,
+        confirmed: kind.confirmed,
         addr,
         counter,
         adr: false,
-        adr_ack_req: kind.1,
+        adr_ack_req: kind.adr_ack_req,
         ack: false,
         options: &[],
         body: None,
@@ -86,11 +101,12 @@ fn bare_up(kind: (bool, bool), addr: u32, counter: u32) -> Up<'static>
 fn made_uplink(
     alloc: Global,
     keys: &Keys,
-    kind: (bool, bool),
+    kind: UplinkKind,
     addr: u32,
     counter: u32,
 ) -> Result<Bytes<Global>, NoMemory>
-    ensures { IfOk result (λ bytes. bytes ≡ with_mic keys.now 0 addr counter (bare_message kind addr counter)) }
+    ensures { IfOk result (λ bytes. bytes ≡ with_mic keys.now 0 addr counter
+        (bare_message (kind.confirmed, kind.adr_ack_req) addr counter)) }
 {
     match uplink_bytes(alloc, &bare_up(kind, addr, counter), keys) {
         Ok(bytes) => Ok(Bytes::new(bytes)),
@@ -101,11 +117,11 @@ fn made_uplink(
 /// The uplink, with four zeros for its MIC.
 fn unsigned_uplink(
     alloc: Global,
-    kind: (bool, bool),
+    kind: UplinkKind,
     addr: u32,
     counter: u32,
 ) -> Result<Bytes<Global>, NoMemory>
-    ensures { IfOk result (λ bytes. bytes ≡ bare_message kind addr counter ++ 0 ∷ 0 ∷ 0 ∷ 0 ∷ []) }
+    ensures { IfOk result (λ bytes. bytes ≡ bare_message (kind.confirmed, kind.adr_ack_req) addr counter ++ 0 ∷ 0 ∷ 0 ∷ 0 ∷ []) }
 {
     let mut bytes = Vec::with_capacity(alloc, 12)?;
     bytes.extend_from_slice(&uplink_header(&bare_up(kind, addr, counter)))?;
