@@ -129,7 +129,7 @@ fn plan<'a>(alloc: Global) -> Result<Command<'a>, AllocError> {
         .arg(gap(alloc))
 }
 
-/// How many transmissions a book keeps at most.
+/// How many transmissions a book keeps at most; where it isn't said, as many as a gateway's in the settings.
 fn cap<'a>(alloc: Global) -> Arg<'a> {
     Arg::new(alloc, "cap")
         .help("How many transmissions the book keeps at most, 1 to 65536")
