@@ -1,7 +1,6 @@
 // The lines that answer events.
 ghost use Rattle.std.specs.Prelude.{◌≡◌, ◌+◌, ◌≤◌, [], ◌∷◌, ◌++◌, length, decimal, OnOk, OnErr, codes};
 ghost use Rattle.hex.specs.Hex.{encode_lower};
-ghost use Rattle.rx_windows.specs.Window.{window_text};
 ghost use Rattle.text_lines.specs.Calls.{CountsFailure};
 ghost use Rattle.text_lines.specs.Writing.{WritesAllBut, WritesFront};
 ghost use Rattle.text_words.specs.Words.{spaced, is_refusal};
@@ -9,7 +8,7 @@ ghost use Rattle.run_lines.specs.EntryLine.{addr_digits, hex_digits, heard_words
 
 use crate::entry_name::{hear_name, queue_name, take_name};
 use hex::encode_to_slice;
-use rx_windows::{Candidate, Window};
+use rx_windows::Candidate;
 use server_core::{DeskHeard, Line};
 use std::alloc::Allocator;
 use text_lines::{ByteOut, CallFailed, TextLine, WriteBehind};
@@ -156,22 +155,11 @@ fn add_send(text: &mut TextLine, number: u64, candidate: &Candidate)
 {
     add_numbered(text, b"send", number);
     add_number(text, candidate.gateway as u64);
-    add_word(text, window_name(candidate.window));
+    add_word(text, candidate.window.name().as_bytes());
     add_number(text, candidate.start);
     add_number(text, candidate.freq_hz as u64);
     add_number(text, candidate.rate.number() as u64);
     add_number(text, candidate.len as u64);
-}
-
-/// A receive window as it is written.
-fn window_name(window: Window) -> &'static [u8]
-    ensures name { result.now ≡ window_text window }
-    ensures len { length result.now ≡ 3 }
-{
-    match window {
-        Window::Rx1 => b"RX1",
-        Window::Rx2 => b"RX2",
-    }
 }
 
 /// Makes the empty `text` how many payloads wait for the device with an address.
