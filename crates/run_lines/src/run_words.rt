@@ -13,6 +13,9 @@ use server_core::NoMemory;
 use std::alloc::{AllocError, Global};
 use text_lines::number_u32;
 
+/// How many digits ADDR has.
+const ADDR_DIGITS: usize = 8;
+
 /// ADDR: an address of 8 hexadecimal digits, the most significant first.
 pub(crate) fn addr_word(word: &[u8]) -> Option<u32>
     ensures { result ≡ addr_word word.now }
@@ -137,16 +140,19 @@ fn made_word(
 ) -> Result<Option<Bytes<Global>>, NoMemory>
     ensures { IfOk result (λ bytes. bytes ≡ made_word ring.now.devices.now word.now) }
 {
-    if word.len() <= 12 || word[2] != b':' || word[11] != b':' {
-        return Ok(None);
-    }
-    let Some(kind) = kind_of(word[1]) else {
+    let [_, kind, b':', rest @ ..] = word else {
         return Ok(None);
     };
-    let Some(addr) = addr_word(&word[3..11]) else {
+    let Some((addr, [b':', counter @ ..])) = rest.split_at_checked(ADDR_DIGITS) else {
         return Ok(None);
     };
-    let Some(counter) = number_u32(&word[12..]) else {
+    let Some(kind) = kind_of(*kind) else {
+        return Ok(None);
+    };
+    let Some(addr) = addr_word(addr) else {
+        return Ok(None);
+    };
+    let Some(counter) = number_u32(counter) else {
         return Ok(None);
     };
     let bytes = ring.bare_uplink(alloc, kind, addr, counter)?;
