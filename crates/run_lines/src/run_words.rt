@@ -8,7 +8,7 @@ ghost use Rattle.std.specs.Option.{option_copied, option_map};
 use crate::key_ring::KeyRing;
 use answer_ticket::Bytes;
 use hex::{FromHex, FromHexError};
-use lora_frame::{Keys, Up, uplink_bytes, uplink_header};
+use lora_frame::{EMPTY_LEN, Keys, MIC_LEN, Up, uplink_bytes, uplink_header};
 use server_core::NoMemory;
 use std::alloc::{AllocError, Global};
 use text_lines::number_u32;
@@ -126,9 +126,9 @@ fn unsigned_uplink(
 ) -> Result<Bytes<Global>, NoMemory>
     ensures { IfOk result (λ bytes. bytes ≡ bare_message (kind.confirmed, kind.adr_ack_req) addr counter ++ 0 ∷ 0 ∷ 0 ∷ 0 ∷ []) }
 {
-    let mut bytes = Vec::with_capacity(alloc, 12)?;
+    let mut bytes = Vec::with_capacity(alloc, EMPTY_LEN)?;
     bytes.extend_from_slice(&uplink_header(&bare_up(kind, addr, counter)))?;
-    bytes.extend_from_slice(&[0; 4])?;
+    bytes.extend_from_slice(&[0; MIC_LEN])?;
     Ok(Bytes::new(bytes))
 }
 
