@@ -6,9 +6,9 @@ Usage: tests/unused.py [ROOT]      (ROOT: the repository's top; none: that of th
 Prints a line for each item of a .antt file below crates/ whose name stands nowhere else in the sources, specs and proofs than
 in the item itself, and for each item of a crate's specs/ that only that crate's proofs/ name. Names are compared as text, so a
 name that stands for two things counts as used where either is. A record's fields are a part of it. Answers, invariants and
-proofs of functions, whose names the checker fixes, are left out, and so are proofs/**/*Worked*.antt and StandardFacts.antt,
-whose lemmas are worked examples and what a standard says in numbers. The status is 0 where nothing is found, 1 where something
-is, 2 where there are no crates.
+proofs of functions, whose names the checker fixes, are left out, and so are proofs/**/*Worked*.antt, the crate worked_laws and
+StandardFacts.antt, whose lemmas are worked examples and what a standard says in numbers. The status is 0 where nothing is found,
+1 where something is, 2 where there are no crates.
 """
 import collections
 import pathlib
@@ -17,7 +17,7 @@ import sys
 
 TOP = pathlib.Path(sys.argv[1] if len(sys.argv) > 1 else pathlib.Path(__file__).resolve().parent.parent)
 FIXED = {"Answers.antt", "Invariants.antt", "Proof.antt", "Lib.antt"}
-FACTS = re.compile(r".*Worked.*|StandardFacts\.antt")
+FACTS = re.compile(r".*/(worked_laws/.*|[^/]*Worked[^/]*|StandardFacts\.antt)")
 NAME = re.compile(r"[^\s(){},.;:⟦⟧\[\]]+")
 SIGNED = re.compile(r"( *)(?:(?:pub|abbrev|unfoldable|opaque) )*([^\s(){},.;:]+)(?: (?:\{[^}]*\}|\([^()]*\)))* :(?:\s|$)")
 MADE = re.compile(r"( *)(?:(?:pub|abbrev) )*(data|record|ruleset) ([^\s(){},.;:]+)")
@@ -61,7 +61,7 @@ def main():
     found = []
     for path, text in texts.items():
         _, crate, part, *_ = path.relative_to(TOP).parts
-        if path.suffix != ".antt" or path.name in FIXED or FACTS.match(path.name):
+        if path.suffix != ".antt" or path.name in FIXED or FACTS.fullmatch(path.as_posix()):
             continue
         for name, own in items_of(text):
             others = everywhere[name] - own

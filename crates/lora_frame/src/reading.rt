@@ -50,7 +50,7 @@ pub enum FrameFault {
     /// The type in MHDR is neither 2, unconfirmed data up, nor 4, confirmed data up (LoRaWAN L2 1.0.4 section 4.2.1).
     #[error("the frame is no data uplink: its type is neither 2 nor 4")]
     NotData,
-    /// Major in MHDR is not 0, LoRaWAN R1 (LoRaWAN L2 1.0.4 section 4.2.2).
+    /// Major in MHDR is not 0, the one that there is (LoRaWAN L2 1.0.4 section 4.2.2).
     #[error("the frame's Major is not 0")]
     Major,
     /// FOptsLen, 0 to 15 bytes, leads past the place of the MIC (LoRaWAN L2 1.0.4 section 4.3.1).
