@@ -9,17 +9,17 @@ use radio_airtime::DataRate;
 use std::alloc::{AllocError, Allocator};
 use uplink_gather::HeardCopy;
 
-/// There was no memory for a list of candidates.
+/// A growth was refused: there was no memory.
 pub type NoMemory = AllocError;
 
 /// A second, in microseconds.
 const SECOND: u64 = 1_000_000;
 
-/// The bytes of a frame without FOpts, FPort and payload: MHDR (1), FHDR (7) and MIC (4).
-const EMPTY_LEN: u8 = 12;
+/// The bytes of a frame without FOpts, FPort and payload, as a length on air.
+const EMPTY_LEN: u8 = lora_frame::EMPTY_LEN as u8;
 
-/// The bytes of a frame without FOpts beside its payload: MHDR (1), FHDR (7), FPort (1) and MIC (4).
-const BESIDE_PAYLOAD: u8 = 13;
+/// The bytes of a frame without FOpts beside its payload.
+const BESIDE_PAYLOAD: u8 = lora_frame::BESIDE_PAYLOAD as u8;
 
 /// What could be sent to a device, in the order of the copies given: RX1 of each copy and then RX2 of each copy,
 /// each on the gateway that heard that copy (LoRaWAN L2 1.0.4, section 3.3), in one growth of their number. A

@@ -11,7 +11,7 @@ use std::alloc::{AllocError, Allocator, Global};
 use std::hash::BuildHasher;
 use std::marker::Model;
 
-/// There was no memory.
+/// A growth was refused: there was no memory.
 pub type NoMemory = AllocError;
 
 /// The gatherings of a desk: the copies of one uplink, those with equal bytes, that its gateways heard
