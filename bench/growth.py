@@ -63,7 +63,12 @@ def cost(crate):
     """The processor seconds of a crate with its tests, and of the same without the module."""
     with tempfile.TemporaryDirectory() as work:
         checks = [begun(crate, pathlib.Path(work) / name, name == "whole") for name in ("whole", "rest")]
-        return [seconds(check) for check in checks]
+        try:
+            return [seconds(check) for check in checks]
+        finally:
+            for check in checks:
+                if check.returncode is None:
+                    check.kill()
 
 
 def main():

@@ -72,8 +72,9 @@ def input_of(case, broken, folder):
     """What the program reads."""
     if b"input" in broken:
         return os.open(folder, os.O_RDONLY)
-    given = [case / "stdin"] + [TOP / path.decode() for path in words_in(case / "from")]
-    return os.open(next((path for path in given if path.is_file()), os.devnull), os.O_RDONLY)
+    named = words_in(case / "from")
+    given = TOP / named[0].decode() if named else case / "stdin"
+    return os.open(given if named or given.is_file() else os.devnull, os.O_RDONLY)
 
 
 def output_of(broken):
@@ -108,6 +109,9 @@ def faults_of(program, case, more, folder):
     if strange:
         return [f"no case has a file {' '.join(strange)}"]
     status = int((case / "status").read_text()) if (case / "status").is_file() else 0
+    lacking = [path.decode() for path in words_in(case / "from") if not (TOP / path.decode()).is_file()]
+    if lacking:
+        return [f"there is no file {' '.join(lacking)}"]
     try:
         ran = run(program, case, more, folder)
     except subprocess.TimeoutExpired:

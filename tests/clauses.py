@@ -6,8 +6,8 @@ Usage: tests/clauses.py OLD [NEW]      (OLD, NEW: commits; no NEW: the working t
 A clause is a `requires`, an `ensures`, a ghost member of a trait or type, or an invariant; it is compared by the function or
 type that it belongs to, by its name and by its text, without regard to the crate and the file that it stands in and to how its
 lines are laid out. A definition of specs/ is compared in the same way. Prints a line for each that only OLD has ('-') and each
-that only NEW has ('+'). The status is 0 where no clause differs, 1 where one does; definitions, among them the lemmas of specs/,
-don't change it.
+that only NEW has ('+'). The status is 0 where no clause differs, 1 where one does, 2 where there is no such commit; definitions,
+among them the lemmas of specs/, don't change it.
 """
 import collections
 import pathlib
@@ -71,7 +71,7 @@ def without_comments(text):
 def clauses_of(text):
     """Each clause of a source, with what it belongs to."""
     text, owner = without_comments(text), ""
-    for line in re.finditer(r"(?m)^(\s*)(.*)$", text):
+    for line in re.finditer(r"(?m)^([ \t]*)(.*)$", text):
         head = line[2]
         owned = re.match(r"(?:pub(?:\(\w+\))? )?(?:unsafe )?(impl|trait|struct|enum)\b(.*?)\s*(?:\{|;|where|\Z)", head)
         if owned and not line[1]:
@@ -119,7 +119,10 @@ def main():
     if len(sys.argv) not in (2, 3):
         print(__doc__.strip(), file=sys.stderr)
         return 2
-    old, new = listed(texts_of(sys.argv[1])), listed(texts_of(sys.argv[2] if len(sys.argv) == 3 else None))
+    try:
+        old, new = listed(texts_of(sys.argv[1])), listed(texts_of(sys.argv[2] if len(sys.argv) == 3 else None))
+    except subprocess.CalledProcessError:
+        return 2
     differs = told("clauses", old[0], new[0])
     told("definitions", old[1], new[1])
     return 1 if differs else 0

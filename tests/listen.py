@@ -285,7 +285,10 @@ def tell(trials):
     """Makes these trials, and prints what failed, and how many did: the status."""
     failed = 0
     for name, trial in trials:
-        fault = trial()
+        try:
+            fault = trial()
+        except subprocess.TimeoutExpired as late:
+            fault = f"it did not end within {late.timeout} seconds"
         if fault:
             failed += 1
             print(f"failed: {name}: {fault}")

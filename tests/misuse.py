@@ -44,7 +44,7 @@ def errors_of(uses, source):
         ran = subprocess.run(
             words, cwd=room, stdout=subprocess.PIPE, stderr=subprocess.STDOUT, text=True, timeout=SECONDS
         )
-    return [line for line in ran.stdout.splitlines() if re.search(r"\berror\[", line)]
+    return [line for line in ran.stdout.splitlines() if re.search(r"\berror(\[|:)", line)]
 
 
 def faults_of(path):

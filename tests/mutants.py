@@ -42,7 +42,8 @@ def build_below(folder, crates):
             place = folder / "crates" / crate
             ran = subprocess.run(["rt", "lib"], cwd=place, stdin=subprocess.DEVNULL, capture_output=True, text=True)
             if ran.returncode:
-                raise SystemExit(f"mutants.py: {crate} is not built: {(ran.stdout + ran.stderr)[-300:]}")
+                print(f"mutants.py: {crate} is not built: {(ran.stdout + ran.stderr)[-300:]}", file=sys.stderr)
+                raise SystemExit(2)
 
     for crate in crates:
         for other in stands_on[crate]:

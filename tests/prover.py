@@ -4,6 +4,7 @@ For the scripts of this repository; it needs the toolchain's command rt.
 """
 import pathlib
 import shutil
+import sys
 
 TOP = pathlib.Path(__file__).resolve().parent.parent
 KIT = pathlib.Path(shutil.which("rt") or "rt").resolve().parent.parent
@@ -39,12 +40,13 @@ def rlib(name, uses):
 
 
 def check(crate, root, libraries):
-    """The words that check a crate with this root file, over these libraries; SystemExit where the gate has not built one."""
+    """The words that check a crate with this root file, over these libraries; SystemExit with 2 where the gate has not built one."""
     uses = crates()
     own = below(libraries, uses)
     lacking = [name for name in own if not rlib(name, uses).is_dir()]
     if lacking:
-        raise SystemExit(f"not built: {', '.join(lacking)}; run the gate (rt ci) here first")
+        print(f"not built: {', '.join(lacking)}; run the gate (rt ci) here first", file=sys.stderr)
+        raise SystemExit(2)
     words = [KIT / "bin" / "rattle", "check", "--crate-name", crate, root]
     for name in ["std", *libraries]:
         words += ["--extern", f"{name}={rlib(name, uses)}"]

@@ -140,7 +140,11 @@ def answers_alike(program, name, plain, lines, wanted):
     """Whether a book with the plain one's cap and gap answers the lines as wanted; each answer that differs has a line."""
     arguments = ["book", "--cap", str(plain.cap), "--gap", str(plain.gap)]
     given = "".join(line + "\n" for line in lines)
-    ran = subprocess.run([program, *arguments], input=given, capture_output=True, text=True, timeout=SECONDS)
+    try:
+        ran = subprocess.run([program, *arguments], input=given, capture_output=True, text=True, timeout=SECONDS)
+    except subprocess.TimeoutExpired:
+        print(f"{name}: it did not end within {SECONDS} seconds")
+        return False
     written = ran.stdout.splitlines()
     differs = [(i, w, g) for i, (w, g) in enumerate(zip(wanted, written)) if w != g]
     for place, want, got in differs[:10]:

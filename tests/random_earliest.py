@@ -5,9 +5,11 @@ Usage: tests/random_earliest.py [PROGRAM [BOOKS [SEED]]]     (the program that t
 
 Each book has its own gap and a dozen commands at most; then it is asked for earliest starts within narrow bounds about the
 moments at which the answer can change: its floor, the ends of its transmissions and an hour after their starts. What is
-wanted is found by trying each start in the bounds on a plain list (random_books.py). Each answer that differs has a line; the
-last line is 'N passed, M failed', of the books. The status is 0 where none failed, 1 where one did, 2 where there is no program.
+wanted is found by trying each start in the bounds on a plain list (random_books.py). Each answer that differs has a line, and so
+has it where no earliest start of all stands right behind a transmission, or behind a full hour; the last line is
+'N passed, M failed', of the books. The status is 0 where none failed, 1 where one did, 2 where there is no program.
 """
+import collections
 import random
 import sys
 
@@ -15,52 +17,57 @@ sys.dont_write_bytecode = True
 from random_books import HOUR, K, M, P, Book, answers_alike, asked_for, status_of
 
 ASKS, WIDTH = 4, 60
+ENOUGH = 1_000      # so many books have each kind of start
 
 
 def drawn(chance):
-    """A book with a gap, and the lines that made it, each with its answer."""
-    book = Book(chance.choice([3, 4096]), chance.choice([0, 0, 1, 1_000, 100_000]))
-    lines = []
+    """A book with a gap, the channels that it is used on, and the lines that made it, each with its answer."""
+    book = Book(chance.choice([3, 4096, 4096]), chance.choice([0, 0, 1, 1_000, 100_000]))
+    channels, spread, lines = chance.choice([[K], [K, M, P]]), chance.choice([3_000_000, 60_000_000]), []
     for number in range(chance.randrange(1, 13)):
         if chance.random() < 0.1:
             now = book.floor + chance.randrange(2 * HOUR)
             lines.append((f"tick {now}", book.tick(now)))
             continue
-        channel = chance.choice([K, K, M, P])
+        channel = chance.choice(channels)
         rate, length, airtime = chance.choice(channel[3])
-        near = chance.randrange(3_000_000)
-        start = book.floor + chance.choice([near, HOUR + near, chance.randrange(HOUR)])
+        near = chance.randrange(spread)
+        start = book.floor + chance.choice([near, near, HOUR + near, chance.randrange(HOUR)])
         lines.append((f"book {number} {start} {channel[0]} {rate} {length}", book.book(number, start, channel, airtime)))
-    return book, lines
+    return book, channels, lines
 
 
 def turns(book, airtime):
-    """Moments about which the earliest start can lie."""
+    """Moments about which the earliest start can lie; more of them stand where an hour opens no more than behind a member, since
+    few of those hours are full."""
     found = [book.floor]
     for start, end, *_ in book.members:
-        found += [end + book.gap, start + HOUR, start - airtime - book.gap]
+        found += [end + book.gap, start - airtime - book.gap, *[start + HOUR] * 4]
     return found
 
 
-def question(chance, book, number):
-    """A line that asks for the earliest start in narrow bounds, with the answer of a search that tries each start."""
-    channel = chance.choice([K, M, P])
+def question(chance, book, channels, number):
+    """A line that asks for the earliest start in narrow bounds, with the answer of a search that tries each start; and why the
+    start before that is refused, if it is looked at."""
+    channel = chance.choice(channels)
     rate, length, airtime = chance.choice(channel[3])
     low = max(chance.choice(turns(book, airtime)) - chance.randrange(WIDTH), 0)
     high = max(low + chance.randrange(-1, WIDTH), 0)
     least = next((s for s in range(low, high + 1) if book.refusal(s, channel, airtime) is None), None)
     told = f"no {number} NoStart" if least is None else f"at {number} {least}"
-    return f"earliest {number} {low} {high} {channel[0]} {rate} {length}", told
+    before = book.refusal(least - 1, channel, airtime) if least is not None and least > low else ""
+    return f"earliest {number} {low} {high} {channel[0]} {rate} {length}", told, before.split(" ")[0]
 
 
 def compared(program, seed):
-    """Whether the program answers as the search does, and how many starts were found."""
+    """Whether the program answers as the search does, how many starts were found, and what refuses the starts before these."""
     chance = random.Random(seed)
-    book, told = drawn(chance)
-    told += [question(chance, book, 100 + n) for n in range(ASKS)]
+    book, channels, told = drawn(chance)
+    asked = [question(chance, book, channels, 100 + n) for n in range(ASKS)]
+    told += [(line, answer) for line, answer, _ in asked]
     wanted = [answer for _, answer in told] + book.report()
     alike = answers_alike(program, f"book {seed}", book, [line for line, _ in told], wanted)
-    return alike, sum(answer.startswith("at") for _, answer in told)
+    return alike, sum(answer.startswith("at") for _, answer in told), collections.Counter(before for *_, before in asked)
 
 
 def main(words):
@@ -69,8 +76,13 @@ def main(words):
         return 2
     program, count, seed = asked
     done = [compared(program, seed + i) for i in range(count)]
-    print(f"{count * ASKS} asks, {sum(found for _, found in done)} with a start")
-    return status_of([right for right, _ in done])
+    behind = sum((before for *_, before in done), collections.Counter())
+    print(f"{count * ASKS} asks, {sum(found for _, found, _ in done)} with a start, {behind['Taken']} of these right behind a "
+          f"transmission and {behind['DutyFull']} behind a full hour")
+    untried = [name for name in ("Taken", "DutyFull") if count >= ENOUGH and not behind[name]]
+    for name in untried:
+        print(f"failed: no start behind what is {name}")
+    return status_of([right for right, *_ in done] + [False for _ in untried])
 
 
 if __name__ == "__main__":

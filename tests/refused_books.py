@@ -75,7 +75,7 @@ PARTLY = [planned(count) for count in range(4)]
 
 def place_of(how, answers):
     """Which answer a run gave; -1 where it named want of memory and wrote nothing, None where it ended otherwise."""
-    if how.status == 2 and not how.out and re.search(rb"(?m)^(airbook: NoMemory|error: .*)$", how.err):
+    if how.status == 2 and not how.out and re.search(rb"(?m)^(airbook: NoMemory|error: out of memory)$", how.err):
         return -1
     if how.out not in answers or how.status != int(re.search(rb"(?m)^no ", how.out) is not None):
         return None

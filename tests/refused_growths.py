@@ -9,8 +9,9 @@ that of CC. Each growth is refused alone, and then with all that follow, until t
 to end within SECONDS, by no signal, and
     as with memory   it may always end
     with status 2    want of memory is named on standard error, and what was written is a front of what is written with memory
-    with 0 or 1      a line of the output ends in NoMemory; with workers only the report has to be as with memory, since what a
-                     worker finds no memory for is answered after the others
+    with 0 or 1      a line of the output ends in NoMemory, and the status is 1 where a line begins with no or bad, else 0; with
+                     workers only the report and the status have to be as with memory, since what a worker finds no memory for
+                     is answered after the others
 Prints a line for each run that ends otherwise, and one for each case with the number of its growths and how often each answer
 came. A case in which no growth was refused, or in which there is no end of them, has failed. The status is 0 where none has
 failed or ended otherwise, 1 where one has, 2 where nothing could be run.
@@ -162,12 +163,12 @@ def answer(case, how, ordinary):
     if how == ordinary:
         return "as with memory"
     if how.status == 2:
-        fault = re.search(rb"(?m)^(airbook: NoMemory|error: .*)$", how.err)
+        fault = re.search(rb"(?m)^(airbook: NoMemory|error: out of memory)$", how.err)
         return fault[1].decode() if fault and ordinary.out.startswith(how.out) else None
     if how.status not in (0, 1):
         return None
     if re.search(rb"(?m) NoMemory$", how.out):
-        return "a line with NoMemory"
+        return "a line with NoMemory" if how.status == int(re.search(rb"(?m)^(no|bad) ", how.out) is not None) else None
     is_moved = "--workers" in case[1] and how.status == ordinary.status and report_of(how.out) == report_of(ordinary.out)
     return "in another order" if is_moved else None
 
@@ -209,6 +210,10 @@ def main(words):
     program = pathlib.Path(words[0] if words else TOP / "crates/airbook/out/airbook").resolve()
     if not program.is_file():
         print(f"refused_growths.py: no program at {program}", file=sys.stderr)
+        return 2
+    unknown = [name for name in words[1:] if name != "listen" and not (FOLDER / name).is_dir()]
+    if unknown:
+        print(f"refused_growths.py: no case {' '.join(unknown)}", file=sys.stderr)
         return 2
     chosen = [(name, "") for name in words[1:]] or CASES
     wrong = 0
