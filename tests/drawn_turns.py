@@ -13,8 +13,10 @@ SESSION = "2b7e151628aed2a6abf7158809cf4f3c", "000102030405060708090a0b0c0d0e0f"
 KEYS = f'nwkskey = "{SESSION[0]}"\nappskey = "{SESSION[1]}"\n'
 SETTINGS = f'[[gateway]]\nid = 1\n[[gateway]]\nid = 2\n[[device]]\naddr = "26011bda"\n{KEYS}'
 UPLINK = "80da1b012600070009c89141"
-# Each event of this case takes a step that shows, beside a gathering that is open, what is booked and what is queued.
-STEPS = pathlib.Path(__file__).resolve().parent.parent / "cases" / "run_each_event_takes_its_own_step_alone"
+# In the first of these cases each event takes a step that shows, beside a gathering that is open, what is booked and what is
+# queued; in the second one the copies' signals decide, strong ones and weak ones. Both have the settings above.
+CASES = pathlib.Path(__file__).resolve().parent.parent / "cases"
+STEPS = ["run_each_event_takes_its_own_step_alone", "run_signals_of_all_strengths"]
 
 
 class Alone:
@@ -105,15 +107,15 @@ def turns_of(gateways, devices, lines):
     return turns, model.report()
 
 
-def run_of_steps():
-    """The settings of that case, and its datagrams and report; none where the model answers otherwise than the case."""
-    settings, events = (STEPS / "stdin").read_text().split("---\n")
+def run_of_steps(case):
+    """The settings of such a case, and its datagrams and report; none where the model answers otherwise than the case."""
+    settings, events = (CASES / case / "stdin").read_text().split("---\n")
     gateways = [{"id": one, "cap": 4_096, "gap": 0} for one in (1, 2)]
     device = {"addr": 0x26011BDA, "keys": tuple(bytes.fromhex(key) for key in SESSION), "delay": 1, "offset": 0}
     device |= {"rx2_freq": 869_525_000, "rx2_dr": 0, "up": None, "down": 0}
     turns, report = turns_of(gateways, [device], events.encode().splitlines())
     told = [answer for _, answers in turns for answer in answers] + report
-    return (settings, turns, report) if told == (STEPS / "stdout").read_text().splitlines() else None
+    return (settings, turns, report) if told == (CASES / case / "stdout").read_text().splitlines() else None
 
 
 def drawn_run(seed):

@@ -23,8 +23,8 @@ import time
 sys.dont_write_bytecode = True
 import lorawan
 import plain_server
-from drawn_turns import KEYS, SESSION, SETTINGS, UPLINK, Alone, drawn_run, run_of_steps
-from preloaded import COUNTING, FAILING_RECEIVE, NO_RANDOM_BYTES, NO_THREADS, Counter, library_of, over
+from drawn_turns import KEYS, SESSION, SETTINGS, STEPS, UPLINK, Alone, drawn_run, run_of_steps
+from preloaded import COUNTING, FAILING_RECEIVE, NO_RANDOM_BYTES, NO_THREADS, NO_TIME_LIMIT, Counter, library_of, over
 
 SECONDS = 60
 EXAMPLE = pathlib.Path(__file__).resolve().parent.parent / "examples" / "settings.toml"
@@ -50,13 +50,13 @@ def is_bound(port):
 
 
 class Server:
-    """A program that listens, and the end that sends to it."""
+    """A program that listens, and two senders, who take turns."""
 
     def __init__(self, program, turns, more=(), settings=SETTINGS, options=None):
         self.port = free_port()
         self.ends = time.monotonic() + SECONDS
         self.read = b""
-        self.sender = socket.socket(type=socket.SOCK_DGRAM)
+        self.senders = [socket.socket(type=socket.SOCK_DGRAM) for _ in range(2)]
         words = [program, "listen", "--port", str(self.port), "--turns", str(turns), *more]
         pipes = {"stdin": subprocess.PIPE, "stdout": subprocess.PIPE, "stderr": subprocess.PIPE}
         self.child = subprocess.Popen(words, **pipes, **(options or {}))
@@ -72,12 +72,14 @@ class Server:
         if self.child.poll() is None:
             self.child.kill()
         self.child.wait()
-        self.sender.close()
+        for sender in self.senders:
+            sender.close()
         self.child.stdout.close()
         self.child.stderr.close()
 
     def send(self, datagram):
-        self.sender.sendto(datagram, ("127.0.0.1", self.port))
+        self.senders[0].sendto(datagram, ("127.0.0.1", self.port))
+        self.senders.reverse()
 
     def lines(self, count):
         """The next lines that are written, so many of them; fewer where no more come."""
@@ -219,6 +221,12 @@ def receive_failed(program):
     return f"{first}, then {lines}, status {status}, {errors!r}"
 
 
+def waits_for_ever(program):
+    """No time is set in which a datagram has to come: who sets one is stopped."""
+    with over(NO_TIME_LIMIT) as options:
+        return exchange(program, [(b"tick 1 5", ["floor 1 5"])], NO_REPORT, 0, options=options)
+
+
 def no_random_bytes(program):
     """Hashes can't be keyed."""
     with over(NO_RANDOM_BYTES) as options:
@@ -231,9 +239,9 @@ def run_of_turns(program, settings, turns, report, more=()):
     return exchange(program, turns, report, int(refused), more, settings=settings)
 
 
-def steps(program):
-    """Each event takes its own step alone: what is booked is cancelled, and a payload sent, beside a gathering that is open."""
-    run = run_of_steps()
+def steps(program, case):
+    """A case's lines: what is booked is cancelled, and a payload sent, beside a gathering that is open; signals decide."""
+    run = run_of_steps(case)
     if run is None:
         return "the model answers otherwise than the case"
     return run_of_turns(program, *run) or run_of_turns(program, *run, ["--workers", "16"])
@@ -308,10 +316,12 @@ def main():
         ("threads", lambda: threads_started(program)),
         ("no threads", lambda: threads_refused(program)),
         ("settings of its own", lambda: own_settings(program)),
-        ("a step for each event", lambda: steps(program)),
+        ("a step for each event", lambda: steps(program, STEPS[0])),
+        ("signals of all strengths", lambda: steps(program, STEPS[1])),
         (f"{RUNS} runs", lambda: drawn_runs(program, seed)),
         ("turns above 16 bits", lambda: turns_above_16_bits(program)),
         ("a receive that fails", lambda: receive_failed(program)),
+        ("a receive without a time limit", lambda: waits_for_ever(program)),
         ("no random bytes", lambda: no_random_bytes(program)),
         (f"{datagrams} random datagrams", lambda: at_random(program, datagrams, seed)),
         ("a port that is taken", lambda: port_taken(program)),

@@ -4,8 +4,8 @@
 Usage: tests/lorawan.py     (the checks alone)
 
 All is written from docs/FORMATS.md, docs/MODEL.md and the standards that these name, by hand and without any library of ciphers.
-`checked` compares it with published values; those who use this call it first. The last line is 'N passed, M failed'; the status
-is 0 where none failed, 1 where one did.
+`checked` compares it with values of the standards, of a published frame and of docs/FORMATS.md; those who use this call it first.
+The last line is 'N passed, M failed'; the status is 0 where none failed, 1 where one did.
 """
 import functools
 import sys
@@ -190,7 +190,7 @@ def inferred(last, low):
 
 
 def published():
-    """A name, a value that is published, and what is found here."""
+    """A name, a value that is published, or stands in docs/FORMATS.md, and what is found here."""
     text = bytes.fromhex
     yield "FIPS 197, 5.1.1, S(53)", 0xED, BOX[0x53]
     yield "FIPS 197, 4.2, a product", 0xC1, times(0x57, 0x83)
@@ -217,6 +217,7 @@ def published():
     # docs/FORMATS.md, "airbook toa".
     for rate, time in enumerate([991_232, 577_536, 288_768, 144_384, 72_192, 41_216, 20_608]):
         yield f"time on air of 12 bytes at data rate {rate}", time, airtime(rate, 12)
+    # docs/FORMATS.md, the table of sub-bands: an hour times the duty cycle.
     yield "limits", [3_600_000, 36_000_000, 36_000_000, 3_600_000, 360_000_000, 36_000_000], [LIMITS[b[0]] for b in BANDS]
 
 

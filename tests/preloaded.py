@@ -55,6 +55,20 @@ ssize_t recv(int from, void *into, size_t count, int flags) {
     return real(from, into, count, flags);
 }
 """
+# Whoever sets a time in which a receive has to end is stopped.
+NO_TIME_LIMIT = r"""
+#define _GNU_SOURCE
+#include <dlfcn.h>
+#include <stdlib.h>
+#include <sys/socket.h>
+
+int setsockopt(int at, int level, int name, const void *value, socklen_t size) {
+    int (*real)(int, int, int, const void *, socklen_t);
+    real = (int (*)(int, int, int, const void *, socklen_t))dlsym(RTLD_NEXT, "setsockopt");
+    if (level == SOL_SOCKET && name == SO_RCVTIMEO) abort();
+    return real(at, level, name, value, size);
+}
+"""
 # No thread can be started, as where there are too many; each that was asked for is told.
 NO_THREADS = TELLING + r"""
 #include <errno.h>

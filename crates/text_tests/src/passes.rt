@@ -41,7 +41,7 @@ const TWICE: &[u8] =
 /// The answer to its second uplink while the ticket of its first is out.
 const ENGAGED: &[u8] = b"no 2 Engaged\nanswered 0 unanswered 0 silent 0\n";
 
-/// The answer to it once that ticket was settled.
+/// The answer to it once that ticket was settled. Frames here are as the model in tests/lorawan.py writes them.
 const SENT_LATER: &[u8] =
     b"send 2 1 RX1 16000000 868100000 5 12\nframe 2 60da1b01262001002e22e36b\nanswered 1 unanswered 0 silent 0\n";
 
