@@ -6,8 +6,8 @@ use radio_bands::{Band, limit_us};
 use std::alloc::Global;
 use std::test::Fail;
 
-/// How many transmissions are kept here.
-pub(crate) const CAP: u32 = 24;
+/// How many transmissions are kept here: few enough that a book is full now and then.
+pub(crate) const CAP: u32 = 12;
 
 /// All that was ever booked and not cancelled.
 #[derive(Drop)]

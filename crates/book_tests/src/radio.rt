@@ -1,4 +1,4 @@
-// Times on air of published calculators, edges of sub-bands, and what is fit for a reservation.
+// Times on air, which the model in tests/lorawan.py gives too, edges of sub-bands, and what is fit for a reservation.
 
 use radio_airtime::{DataRate, airtime};
 use radio_bands::{Band, limit_us};

@@ -155,7 +155,7 @@ fn is_book<R: Roster + Drop>(alloc: Global, roster: R, text: &[u8]) -> Result<bo
     }
 }
 
-/// How many other bytes at this place of the second text make a book.
+/// How many of some bytes, among them its own, at this place of the second text make a book.
 fn books_changed_at(alloc: Global, place: usize) -> Result<u64, Fail>
     requires { place < 91 }
 {
@@ -176,7 +176,8 @@ fn a_changed_byte_makes_a_fault_or_another_saved_book(rt: HostRuntime) -> Result
     for place in 0..91 {
         books = books.saturating_add(books_changed_at(rt.alloc(), place)?);
     }
-    holds(books > 91)
+    // As many as a reader in Python finds (tests/random_saved.py): in 79 places the byte itself, and 268 others.
+    equal(&books, &347)
 }
 
 /// Books what is accepted of 200 random asks, while time goes on.

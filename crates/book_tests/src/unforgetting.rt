@@ -3,12 +3,15 @@ ghost use Rattle.std.specs.Prelude.{◌≡◌, []};
 
 use crate::asks::drawn_after;
 use crate::plain_book::{CAP, Plain, drawn_ask};
-use gateway_book::{GatewayBook, HOUR};
+use gateway_book::{Ask, CancelFault, GatewayBook, HOUR, Refusal};
 use resv_list::{Roster, VecRoster};
 use resv_tree::TreeRoster;
 use std::alloc::Global;
 use std::test::Fail;
-use test_asserts::{equal_at, holds};
+use test_asserts::{equal_at, holds, holds_at};
+
+/// How many kinds of answers there are here: a tick's, a cancel's and an ask's, by `Told` and by what refused it.
+const KINDS: usize = 9;
 
 /// What both are told next: a tick, a cancel, or an ask by its start.
 enum Told {
@@ -17,11 +20,17 @@ enum Told {
     Book(u64),
 }
 
-/// One of these by chance: within four hours round the floor, or beside a member, which is cancelled as often.
+/// What was booked so many bookings before the last one.
+fn booked_before(plain: &Plain, back: usize) -> Option<Ask> {
+    let place = plain.asks.len().checked_sub(back.saturating_add(1))?;
+    plain.asks.get(place).copied()
+}
+
+/// One of these by chance: within four hours round the floor, or beside one of the last 32 members, which is cancelled as often.
 fn drawn_command(plain: &Plain, drawn: u64) -> Told {
     let ahead = (drawn >> 40) % 1_440 * 10_000_000;
     let start = plain.floor.saturating_add(ahead).saturating_sub(HOUR / 8);
-    let member = plain.asks.get((drawn >> 24) as usize % 32).copied();
+    let member = booked_before(plain, (drawn >> 24) as usize % 32);
     match ((drawn >> 33) % 8, member) {
         (0, _) => Told::Tick(start.saturating_sub(HOUR + HOUR / 2)),
         (1 | 2, Some(ask)) => Told::Cancel(ask.number, ask.start),
@@ -31,31 +40,59 @@ fn drawn_command(plain: &Plain, drawn: u64) -> Told {
     }
 }
 
-/// Tells both.
+/// The kind of a cancel's answer.
+fn kind_of_cancel(answer: &Result<u64, CancelFault>) -> usize {
+    match answer {
+        Ok(_) => 1,
+        Err(CancelFault::Begun) => 2,
+        Err(CancelFault::NotHere) => 3,
+    }
+}
+
+/// The kind of an ask's answer; none that can't come here.
+fn kind_of_booking(refusal: &Option<Refusal>) -> usize {
+    match refusal {
+        None => 4,
+        Some(Refusal::Passed) => 5,
+        Some(Refusal::Taken { .. }) => 6,
+        Some(Refusal::DutyFull { .. }) => 7,
+        Some(Refusal::Full) => 8,
+        Some(_) => KINDS,
+    }
+}
+
+/// Tells both, who answer alike; the kind of the answer.
 fn tell<R: Roster>(
     book: &mut GatewayBook<R>,
     plain: &mut Plain,
     number: u64,
     told: Told,
-) -> Result<(), Fail> {
+) -> Result<usize, Fail> {
     match told {
         Told::Tick(now) => {
             book.tick(now);
             plain.floor = plain.floor.max(now);
-            Ok(())
+            Ok(0)
         }
         Told::Cancel(named, start) => {
-            equal_at(
-                &number,
-                &book.cancel(named, start),
-                &plain.cancel(named, start),
-            )
+            let wanted = plain.cancel(named, start);
+            equal_at(&number, &book.cancel(named, start), &wanted)?;
+            Ok(kind_of_cancel(&wanted))
         }
         Told::Book(start) => {
             let wanted = plain.book(drawn_ask(number, start))?;
-            equal_at(&number, &book.book(drawn_ask(number, start)).err(), &wanted)
+            equal_at(&number, &book.book(drawn_ask(number, start)).err(), &wanted)?;
+            Ok(kind_of_booking(&wanted))
         }
     }
+}
+
+/// Each kind of answer came, and no other.
+fn came_each(came: &[bool]) -> Result<(), Fail> {
+    for (kind, has_come) in came.iter().enumerate() {
+        holds_at(&kind, *has_come)?;
+    }
+    Ok(())
 }
 
 /// What the book has counted is what the list comes to.
@@ -86,12 +123,18 @@ fn answers_alike<R: Roster + Drop>(roster: R, alloc: Global) -> Result<(), Fail>
         cancelled: 0,
     };
     let mut drawn = 1;
+    let mut came = [false; KINDS];
     for number in 0..600 {
         drawn = drawn_after(drawn);
         let told = drawn_command(&plain, drawn);
-        tell(&mut book, &mut plain, number, told)?;
+        let kind = tell(&mut book, &mut plain, number, told)?;
+        holds_at(&number, kind < KINDS)?;
+        if let Some(has_come) = came.get_mut(kind) {
+            *has_come = true;
+        }
         counts_alike(&book, &plain)?;
     }
+    came_each(&came)?;
     // Some was retired, so the two lists were not the same.
     holds(plain.kept().0 < plain.asks.len())
 }
