@@ -1,4 +1,4 @@
-"""Random settings of gateways and devices for `airbook run`, and their text as TOML, with or without a fault."""
+"""Settings of gateways and devices for `airbook run`: random ones, their text as TOML, with or without a fault, and read again."""
 from plain_server import COUNTERS
 
 # Where devices listen in RX2.
@@ -76,3 +76,19 @@ def spoiled(chance, rows):
 
 def table_text(rows):
     return "".join(f"[[{kind}]]\n" + "".join(f"{key} = {value}\n" for key, value in said.items()) for kind, said in rows)
+
+
+def said_in(text):
+    """The gateways and devices of such a text without a fault, in which a line may be empty."""
+    tables = {"gateway": [], "device": []}
+    for line in filter(None, text.splitlines()):
+        key, _, value = line.partition(" = ")
+        if not value:
+            table = dict(UNSAID)
+            tables[line.strip("[]")].append(table)
+        else:
+            table[key] = value.strip('"') if value.startswith('"') else int(value)
+    for one in tables["device"]:
+        one["keys"] = bytes.fromhex(one["nwkskey"]), bytes.fromhex(one["appskey"])
+        one["addr"] = int(one["addr"], 16)
+    return tables["gateway"], tables["device"]

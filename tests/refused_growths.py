@@ -9,9 +9,11 @@ that of CC. Each growth is refused alone, and then with all that follow, until t
 to end within SECONDS, by no signal, and
     as with memory   it may always end
     with status 2    want of memory is named on standard error, and what was written is a front of what is written with memory
-    with 0 or 1      a line of the output ends in NoMemory, and the status is 1 where a line begins with no or bad, else 0; with
-                     workers only the report and the status have to be as with memory, since what a worker finds no memory for
-                     is answered after the others
+    with 0 or 1      a line of the output ends in NoMemory, and the status is 1 where a line begins with no or bad, else 0; all of
+                     a run's output is what a plain model of the server (starved_server.py) writes, in which a number that finds
+                     no memory books nothing (texts of a book are compared by refused_books.py). With workers it may also be
+                     that the report and the status alone are as with memory, since what a worker finds no memory for is
+                     answered last
 Prints a line for each run that ends otherwise, and one for each case with the number of its growths and how often each answer
 came. A case in which no growth was refused, or in which there is no end of them, has failed. The status is 0 where none has
 failed or ended otherwise, 1 where one has, 2 where nothing could be run.
@@ -28,15 +30,17 @@ import time
 
 sys.dont_write_bytecode = True
 from cases import CASES as FOLDER, TOP, input_of, words_in
+from drawn_settings import said_in
 from listen import SETTINGS, UPLINK, free_port, is_bound
 from preloaded import library_of
+from starved_server import is_followed
 
 CASES = [
     ("run_two_gateways", ""), ("run_two_gateways", "--workers 1"), ("run_two_gateways", "--workers 2"),
     ("run_three_devices_at_once", ""), ("run_three_devices_at_once", "--workers 1"), ("run_payload_in_rx1", "--workers 1"),
-    ("run_queue_refusals", ""), ("run_settings_alone", ""), ("run_settings_not_toml", ""), ("book_two_bookings_example", ""),
-    ("book_resume_example", ""), ("plan_earliest_example", ""), ("toa_dr5_12_bytes", ""), ("listen", "--workers 1"),
-    ("run_in_two_parts", "--workers 2"),
+    ("run_each_line_again", ""), ("run_each_line_again", "--workers 1"), ("run_queue_refusals", ""),
+    ("run_settings_alone", ""), ("run_settings_not_toml", ""), ("book_two_bookings_example", ""), ("book_resume_example", ""),
+    ("plan_earliest_example", ""), ("toa_dr5_12_bytes", ""), ("listen", "--workers 1"), ("run_in_two_parts", "--workers 2"),
 ]
 # Where the lists that workers begin with, five for each, find no memory, the thread that runs answers all: so many growths at
 # least may be refused, each alone, and nothing of it is seen.
@@ -158,6 +162,16 @@ def report_of(out):
     return [line for line in out.splitlines() if line.startswith((b"gateway ", b"busiest ", b"answered "))]
 
 
+def asked_in(name):
+    """The gateways, the devices and the events of a case; nothing where it is no run."""
+    if name == "listen":
+        return *said_in(SETTINGS), "\n".join(DATAGRAMS).encode()
+    if not name.startswith("run_"):
+        return None
+    settings, _, events = (FOLDER / name / "stdin").read_bytes().partition(b"---\n")
+    return *said_in(settings.decode()), events
+
+
 def answer(case, how, ordinary):
     """What a run answered, in a word or two; nothing where it had to end otherwise."""
     if how == ordinary:
@@ -168,7 +182,9 @@ def answer(case, how, ordinary):
     if how.status not in (0, 1):
         return None
     if re.search(rb"(?m) NoMemory$", how.out):
-        return "a line with NoMemory" if how.status == int(re.search(rb"(?m)^(no|bad) ", how.out) is not None) else None
+        asked, is_told = asked_in(case[0]), how.status == int(re.search(rb"(?m)^(no|bad) ", how.out) is not None)
+        is_told = is_told and (asked is None or is_followed(*asked, how.out.decode().splitlines()))
+        return "a line with NoMemory" if is_told else None
     is_moved = "--workers" in case[1] and how.status == ordinary.status and report_of(how.out) == report_of(ordinary.out)
     return "in another order" if is_moved else None
 
