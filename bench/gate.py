@@ -3,9 +3,12 @@
 
 Usage: bench/gate.py [COMMIT]      (COMMIT: what is checked out in the clone; none: HEAD)
 
-For each crate it prints the processor seconds of its proof, of its tests and of its must-fail edits, how many edits
-there are, and its chain: the proofs of the crates below it that have to end first, then its own proof, tests and edits,
-one after another. Last it prints the sum, the longest chain, and the time that went by. The status is that of `make test`.
+For each crate it prints the processor seconds of its proof, of its tests, of the base that its must-fail edits begin with
+(the crate proved once more, and looked at again at the end) and of these edits, the dearest of them, how many there are, and
+its chain: the proofs of the crates below it that have to end first, then the longest of its own proof, tests and base, which
+go on side by side, and then its dearest edit, since the edits too go on side by side. So it is the time that a gate takes
+on as many processors as it can use. Last it prints the sum, the longest chain, and the time that went by. The status is that
+of `make test`.
 
 Nothing else should run on the machine meanwhile: processor time hardly depends on that, but the time that goes by does.
 It needs git, python3, Linux's /proc and the toolchain's command rt.
@@ -21,7 +24,7 @@ import time
 TOP = pathlib.Path(__file__).resolve().parent.parent
 TICKS = os.sysconf("SC_CLK_TCK")
 POLL_SECONDS = 0.2
-PARTS = ("proof", "tests", "edits")
+PARTS = ("proof", "tests", "base", "edits")
 
 sys.path.insert(0, str(TOP / "tests"))
 sys.dont_write_bytecode = True
@@ -49,8 +52,15 @@ def task_of(pid):
         return None
     if os.path.basename(words[0]) != "rattle" or "--crate-name" not in words:
         return None
-    part = "edits" if folder.startswith("rt-edit-") else "tests" if "--test" in words else "proof"
-    return words[words.index("--crate-name") + 1], part
+    return words[words.index("--crate-name") + 1], part_of(words, folder)
+
+
+def part_of(words, folder):
+    """Which part of the gate a run of the prover is, by its words and the folder that it runs in."""
+    if folder.startswith("rt-edit-"):
+        over = words[words.index("--incremental") + 1] if "--incremental" in words else ""
+        return "base" if os.path.basename(over) == "seed" else "edits"
+    return "tests" if "--test" in words else "proof"
 
 
 class Meter:
@@ -88,23 +98,37 @@ class Meter:
             sums[task] += seconds
         return sums
 
+    def dearest(self):
+        """The dearest edit of each crate."""
+        found = collections.Counter()
+        for (crate, part), seconds in self.runs.values():
+            if part == "edits":
+                found[crate] = max(found[crate], seconds)
+        return found
+
 
 def chain_of_proofs(crate, below, sums):
     return sums[crate, "proof"] + max([chain_of_proofs(it, below, sums) for it in below[crate]], default=0)
 
 
-def print_table(folder, sums):
+def chain(crate, below, sums, dearest):
+    first = max((chain_of_proofs(it, below, sums) for it in below[crate]), default=0)
+    return first + max(sums[crate, part] for part in ("proof", "tests", "base")) + dearest[crate]
+
+
+def print_table(folder, sums, dearest):
     below = prover.stands_on(folder)
-    chains = {it: chain_of_proofs(it, below, sums) + sums[it, "tests"] + sums[it, "edits"] for it in below}
-    print("| Crate | Proof | Tests | Edits | Number of edits | Own | Chain |")
-    print("|---|---|---|---|---|---|---|")
+    chains = {it: chain(it, below, sums, dearest) for it in below}
+    print("| Crate | Proof | Tests | Base | Edits | Dearest edit | Number of edits | Own | Chain |")
+    print("|---|---|---|---|---|---|---|---|---|")
     for crate in sorted(below, key=lambda it: -chains[it]):
         parts = [sums[crate, part] for part in PARTS]
         edits = len(list((folder / "crates" / crate / "must-fail").glob("*.edit")))
-        shown = " | ".join(f"{seconds:.0f}" for seconds in parts)
+        shown = " | ".join(f"{seconds:.0f}" for seconds in [*parts, dearest[crate]])
         print(f"| `{crate}` | {shown} | {edits} | {sum(parts):.0f} | {chains[crate]:.0f} |")
     whole = [sum(sums[crate, part] for crate in below) for part in PARTS]
-    print(f"| all | {' | '.join(f'{seconds:.0f}' for seconds in whole)} | | {sum(whole):.0f} | {max(chains.values()):.0f} |")
+    shown = " | ".join(f"{seconds:.0f}" for seconds in [*whole, max(dearest.values(), default=0)])
+    print(f"| all | {shown} | | {sum(whole):.0f} | {max(chains.values()):.0f} |")
     longest = max(chains, key=chains.get)
     print(f"In processor seconds. Sum: {sum(whole) / 60:.0f} min. Longest chain: {chains[longest] / 60:.0f} min ({longest}).")
 
@@ -127,7 +151,7 @@ def main():
                 time.sleep(POLL_SECONDS)
             said.seek(0)
             lines = said.read().splitlines()
-        print_table(folder, meter.sums())
+        print_table(folder, meter.sums(), meter.dearest())
         print(f"{(time.monotonic() - started) / 60:.0f} minutes went by. The last line of make test: {lines[-1] if lines else ''}")
         if gate.returncode:
             print("\n".join(lines), file=sys.stderr)
