@@ -1,4 +1,4 @@
-"""Settings of gateways and devices for `airbook run`: random ones, their text as TOML, with or without a fault, and read again."""
+"""Settings of gateways and devices for `airbook run`: random ones, with a fault or without, as TOML, and read from that."""
 from plain_server import COUNTERS
 
 # Where devices listen in RX2.

@@ -1,6 +1,6 @@
 #!/usr/bin/env python3
 """Gives a program inputs of as many bytes as one may have, and of one more, and as many uplinks as a server gathers, and one
-more, and compares what it writes and how it ends.
+more, and a book of nearly as many transmissions as one keeps, and compares what it writes and how it ends.
 
 Usage: limits.py PROGRAM
 
@@ -8,8 +8,9 @@ The bytes are those of docs/FORMATS.md, 2^28. An input has a front and then line
 no answer, or lines of 1,026 bytes, each of which is `bad N Syntax`. It is made while it is written, block by block. With one byte
 more the program ends with TooMuch, and has written a front of the answers, of which only the last ones may be missing. The
 uplinks are those of docs/FORMATS.md too, a million, of one device and unconfirmed, so that none is answered; the one more is
-Crowded. Every program that is started ends within a minute, or is stopped. A failing trial has a line; the last line is 'N
-passed, M failed'. The status is 0 where none failed, 1 where one did, 2 where nothing could be run.
+Crowded. The book keeps 65,535 of 65,536 transmissions: a plan on it, its saved text, and the book that is read from that have
+room for one more. Every program that is started ends within a minute, or is stopped. A failing trial has a line; the last line
+is 'N passed, M failed'. The status is 0 where none failed, 1 where one did, 2 where nothing could be run.
 """
 import contextlib
 import functools
@@ -39,6 +40,9 @@ EMPTY_BOOK = b"booked 0\ncancelled 0\nretired 0\nkept 0 0\nfloor 0\n"
 PLAN = b"book 1 10000000 868100000 5 12\nplan\nbook 2 10041216 868100000 5 12\n"
 PLANNED = b"ok 1 10000000 10041216\nif ok 2 10041216 10082432\n"
 KEPT_ONE = b"booked 41216\ncancelled 0\nretired 0\nkept 1 41216\nfloor 0\nbusiest M 10000000 41216\n"
+# When the transmissions of a book begin, in microseconds: one fewer than it may keep.
+STARTS = range(0, 65_535 * 420_000, 420_000)
+ON_AIR = 41_216
 SERVED = SETTINGS.encode() + b"---\n"
 NO_SENDS = "".join(line + "\n" for line in NO_REPORT).encode()
 
@@ -132,6 +136,36 @@ def fault_of_uplinks(program, words):
     return f"{UPLINKS + 1} uplinks: status {status}, {len(written)} bytes that end {written[-160:]}, {errors}"
 
 
+def report_of(count, fullest):
+    """The report of a book of so many such transmissions, and of so many in its busiest hour."""
+    airtime = count * ON_AIR
+    lines = [f"booked {airtime}", "cancelled 0", "retired 0", f"kept {count} {airtime}", "floor 0"]
+    lines += [f"busiest P 0 {fullest * ON_AIR}"]
+    return "".join(line + "\n" for line in lines).encode()
+
+
+def fault_of_books(program):
+    """What is wrong with how a book of so many transmissions is planned on, saved and read again; None where nothing is."""
+    booked = b"".join(b"book %d %d 869525000 5 12\n" % (place, start) for place, start in enumerate(STARTS))
+    told = b"".join(b"ok %d %d %d\n" % (place, start, start + ON_AIR) for place, start in enumerate(STARTS))
+    kept = b"".join(b"r %d %d 869525000 5 12\n" % (place, start) for place, start in enumerate(STARTS))
+    saved = b"airbook 2\ngateway 1 65536 0 0\n" + kept + b"end %d\n" % len(STARTS)
+    more = b"book 70000 %d 869525000 5 12\nbook 70001 %d 869525000 5 12\n" % (STARTS.stop, STARTS.stop + STARTS.step)
+    answers = b"ok 70000 %d %d\n" % (STARTS.stop, STARTS.stop + ON_AIR), b"no 70001 Full\n"
+    planned = b"".join(b"if " + answer for answer in answers)
+    fullest = 3_600_000_000 // STARTS.step + 1
+    trials = [
+        (["plan"], booked + b"plan\n" + more, 0, told + planned, report_of(len(STARTS), fullest)),
+        (["book", "--save"], booked, 0, told, saved),
+        (["book", "--resume"], saved + more, 1, b"".join(answers), report_of(len(STARTS) + 1, fullest)),
+    ]
+    for words, given, status, lines, last in trials:
+        got = ended(program, [*words, "--cap", "65536"], [given])
+        if got != (status, lines + last, b""):
+            return f"{' '.join(words)}: status {got[0]}, {len(got[1])} bytes that end {got[1][-160:]}, {got[2]}"
+    return None
+
+
 def rows(port):
     """The arguments, the front and the lines of the input, the answers, what is written at the end, and the faults."""
     long_run = bad_lines(SERVED) + NO_SENDS
@@ -161,6 +195,7 @@ def main():
         trials = [(" ".join(words), functools.partial(fault_of, program, words, *row)) for words, *row in rows(port)]
         for words in (["run"], ["run", "--workers", "1"]):
             trials.append((" ".join(words), functools.partial(fault_of_uplinks, program, words)))
+        trials.append(("a book that is nearly full", functools.partial(fault_of_books, program)))
         return tell(trials)
 
 

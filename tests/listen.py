@@ -59,7 +59,7 @@ class Server:
         self.senders = [socket.socket(type=socket.SOCK_DGRAM) for _ in range(2)]
         words = [program, "listen", "--port", str(self.port), "--turns", str(turns), *more]
         pipes = {"stdin": subprocess.PIPE, "stdout": subprocess.PIPE, "stderr": subprocess.PIPE}
-        self.child = subprocess.Popen(words, **pipes, **(options or {}))
+        self.child = subprocess.Popen(words, **(pipes | (options or {})))
         self.child.stdin.write(settings.encode())
         self.child.stdin.close()
 
@@ -74,7 +74,8 @@ class Server:
         self.child.wait()
         for sender in self.senders:
             sender.close()
-        self.child.stdout.close()
+        if self.child.stdout is not None:
+            self.child.stdout.close()
         self.child.stderr.close()
 
     def send(self, datagram):
@@ -153,8 +154,7 @@ def shared_out(program, workers, options):
 
 
 def threads_started(program):
-    """Two workers are two threads where they have enough to do, and of sixteen, three have enough; one is the thread that listens.
-    Hashes are keyed at random."""
+    """Two workers are two threads where they have enough to do, of sixteen three have. Hashes are keyed at random."""
     with tempfile.TemporaryDirectory() as folder:
         library = library_of(COUNTING, pathlib.Path(folder))
         for workers, threads in ((1, 0), (2, 2), (16, 3)):
@@ -183,7 +183,7 @@ def own_settings(program):
             [("gateway", gateways[0]), ("gateway", gateways[1]), ("device", device | {"addr": '"26011bda"'})]]
     keys = [bytes.fromhex(key) for key in SESSION]
     model = plain_server.Server(gateways, [device | {"keys": keys}])
-    # The first has a counter that is past. RX1 of the third lies in the gap behind the second, and the last finds both books full.
+    # The first has a counter that is past. RX1 of the third lies in the gap behind the second; the last finds both books full.
     copies = [(1, 4_000_000), (1, 5_000_000), (1, 5_100_000), (2, 30_000_000), (1, 60_000_000), (2, 60_000_000)]
     lines = []
     for counter, (gateway, at) in zip([5, 7, 8, 9, 10, 10], copies):
@@ -219,6 +219,17 @@ def receive_failed(program):
     if first == ["bad 1 Read"] and lines == ["floor 1 5", *NO_REPORT] and status == 1 and is_warned:
         return None
     return f"{first}, then {lines}, status {status}, {errors!r}"
+
+
+def write_failed(program):
+    """An output that takes nothing, and one that nobody reads, end it at the first answer."""
+    found = []
+    with open("/dev/full", "wb") as full, Server(program, 2, options={"stdout": full}) as one, Server(program, 2) as other:
+        other.child.stdout.close()
+        for server in (one, other):
+            server.send(b"tick 1 5")
+            found.append((server.child.wait(SECONDS), server.child.stderr.read()))
+    return None if found == [(2, b"airbook: Write\n")] * 2 else f"a full device and a closed pipe: {found}"
 
 
 def waits_for_ever(program):
@@ -321,6 +332,7 @@ def main():
         (f"{RUNS} runs", lambda: drawn_runs(program, seed)),
         ("turns above 16 bits", lambda: turns_above_16_bits(program)),
         ("a receive that fails", lambda: receive_failed(program)),
+        ("a write that fails", lambda: write_failed(program)),
         ("a receive without a time limit", lambda: waits_for_ever(program)),
         ("no random bytes", lambda: no_random_bytes(program)),
         (f"{datagrams} random datagrams", lambda: at_random(program, datagrams, seed)),

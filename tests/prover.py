@@ -40,7 +40,7 @@ def rlib(name, uses):
 
 
 def check(crate, root, libraries):
-    """The words that check a crate with this root file, over these libraries; SystemExit with 2 where the gate has not built one."""
+    """The words that check a crate with this root file over these libraries; SystemExit with 2 where one isn't built."""
     uses = crates()
     own = below(libraries, uses)
     lacking = [name for name in own if not rlib(name, uses).is_dir()]

@@ -97,8 +97,9 @@ def crammed():
 
 
 def crowded():
-    """One device is heard with more uplinks than are gathered at a time."""
-    return settings(1, 1) + "\n".join(hear(0, 1, 0, counter) for counter in range(OPEN_AT_MOST + 2)) + "\n"
+    """One device is heard with more uplinks than are gathered at a time, none owed an answer; one `pass` closes them all."""
+    lines = [hear(0, 1, 0, counter).replace("@c", "@u") for counter in range(OPEN_AT_MOST + 2)]
+    return settings(1, 1) + "\n".join([*lines, f"pass {LONG_AGO + 1_000_000}"]) + "\n"
 
 
 def written(program, text, workers, options=None):
@@ -127,8 +128,8 @@ def alike(program, text, is_wanted):
 
 
 def threads_started(program):
-    """With no worker and with one all is done by the thread that runs; two or more are threads. Hashes are keyed at random in each
-    run."""
+    """With no worker and with one all is done by the thread that runs; two or more are threads. Each run keys its hashes at
+    random."""
     with tempfile.TemporaryDirectory() as folder:
         library = library_of(COUNTING, pathlib.Path(folder))
         for workers in (0, 1, 2, 4):
@@ -169,7 +170,7 @@ def thread_of_events(program):
 
 
 def threads_of_lines(program):
-    """Where there are enough answers one thread more makes the lines of half of them; here they answer lines that are no events."""
+    """Where there are enough answers one thread more makes the lines of half of them; here they answer lines that ask nothing."""
     texts = [settings(1, 1) + "hear\n" * count for count in (IN_HALVES - 1, IN_HALVES)]
     return threads_by(program, [(16, texts[0], 0), (16, texts[1], 1), (1, texts[1], 0)], 1)
 
@@ -221,9 +222,9 @@ def is_full(wanted):
 
 
 def is_crowded(wanted):
-    """As many gatherings open as may, and no more."""
-    opened = [f"opened {number}" for number in range(1, OPEN_AT_MOST + 1)]
-    return wanted[1][: OPEN_AT_MOST + 2] == opened + ["no hear Crowded"] * 2
+    """As many gatherings open as may, and no more, and as many are closed."""
+    opened, silent = ([f"{word} {number}" for number in range(1, OPEN_AT_MOST + 1)] for word in ("opened", "silent"))
+    return wanted[1][: 2 * OPEN_AT_MOST + 2] == opened + ["no hear Crowded"] * 2 + silent
 
 
 def is_numbered(wanted):
