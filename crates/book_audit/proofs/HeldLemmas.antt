@@ -1,11 +1,12 @@
 -- Lemmas on what some books keep, one after another, and on numbers of which none stands twice.
-use Rattle.std.proofs.Common.{◌≡◌, ◌≢◌, ℕ, zero, suc, ◌+◌, ◌-◌, ◌<◌, ◌≤◌, Bool, true, false, cond, List, [], ◌∷◌, ◌++◌, inl, inr}
-use Rattle.std.proofs.Common.{drop, length-drop, map, length, get_or, take, refl, sym, ap, subst, ◌∙◌, arith}
+use Rattle.std.proofs.Common.{◌≡◌, ◌≢◌, ℕ, zero, suc, ◌+◌, ◌<◌, ◌≤◌, Bool, true, false, cond, List, [], ◌∷◌, ◌++◌, inl, inr}
+use Rattle.std.proofs.Common.{add-one, drop, length-drop, map, zip, length, get_or, take, refl, sym, ap, subst, ◌∙◌, arith}
 use Rattle.std.specs.Prelude.{◌==◌, Contains, count_by, sum_by}
+use Rattle.std.specs.List.{AllAdjacentBelow, AllWithin, HoldsAt}
 use Rattle.std.specs.List.Sorted.{IsPermutation, IsNonDecreasingBy}
 use Rattle.std.proofs.lemmas.Bool.Decides.{nat_tests}
 use Rattle.std.proofs.lemmas.List.{get_or-take, get_or-drop, length-take, take-append-drop, take_more, append-nil, get_or-map}
-use Rattle.std.proofs.lemmas.List.{length-map, map-append}
+use Rattle.std.proofs.lemmas.List.{length-map, map-append, get_or_default}
 use Rattle.std.proofs.lemmas.Simd.{map-map}
 use Rattle.std.proofs.lemmas.Grind.{flat_map-append}
 use Rattle.std.proofs.lemmas.List.Elements.{Contains-append_cases}
@@ -13,12 +14,13 @@ use Rattle.std.proofs.lemmas.List.Sorted.{IsPermutation-sym, IsPermutation-map, 
 use Rattle.std.proofs.lemmas.List.Sorted.{IsNonDecreasingBy-take, IsPermutation-refl, IsPermutation-trans, IsPermutation-cons}
 use Rattle.std.proofs.lemmas.List.Sorted.{IsPermutation-middle}
 use Rattle.std.proofs.lemmas.List.Sums.{sum_by-append, sum_by-cons}
+use Rattle.std.proofs.lemmas.Slice.Zip.{get_or-zip, length-zip}
 use Rattle.radio_bands.specs.Band.{hour}
 use Rattle.resv_list.specs.declared.reservation.Reservation.{Reservation}
 use Rattle.gateway_book.specs.Book.{Book}
 use Rattle.book_audit.specs.Audit.{Shelved, held_by, HasBook, IsKeptOrPast, kept_numbers, EachStandsOnce, books_of, IsDoubled}
 use Rattle.book_audit.specs.Audit.{times_of}
-use Rattle.book_audit.specs.Held.{Kept, AllDiffer, NeighboursDiffer, AreAlike}
+use Rattle.book_audit.specs.Held.{Kept, AllDiffer, AreAlike}
 
 counted-cons : (m v : ℕ) (l : List ℕ) (t : Bool) → (v == m) ≡ t
     → count_by (λ k. k == m) (v ∷ l) ≡ cond t 1 0 + count_by (λ k. k == m) l
@@ -44,11 +46,11 @@ counted_on m v l false e none rest = omega (arith, counted-cons m v l false e, r
 
 -- numbers in rising order of which no neighbours are equal
 pub once-rising : {X : Type 0} (n : X → ℕ) (xs : List X) → IsNonDecreasingBy n xs
-    → ((k : ℕ) → 0 < k → k < length xs → (d : X) → n (get_or xs (k - 1) d) ≢ n (get_or xs k d)) → EachStandsOnce (map n xs)
+    → AllAdjacentBelow (λ x y. n x ≢ n y) xs (length xs) → EachStandsOnce (map n xs)
 once-rising n [] s a m = omega arith
 once-rising n (x ∷ xs) s a m =
     let above : (k : ℕ) (d : _) → k < length xs → n x < n (get_or xs k d) = λ k d l.
-    let differ : n x ≢ n (get_or xs 0 d) = a 1 (omega arith) (omega arith) d in
+    let differ : n x ≢ n (get_or xs 0 d) = a 0 d (omega arith) in
     let first : n x ≤ n (get_or xs 0 d) = s 0 1 d (omega arith) (omega arith) in
     let next : n (get_or xs 0 d) ≤ n (get_or xs k d) = s 1 (suc k) d (omega arith) (omega arith) in
     omega arith in
@@ -56,9 +58,7 @@ once-rising n (x ∷ xs) s a m =
     (λ e. above_none n m xs (λ k d l. subst (λ v. v < n (get_or xs k d)) e (above k d l)))
     (once-rising n xs
     (λ i j d h l. s (suc i) (suc j) d (omega arith) (omega arith))
-    (λ k p l d.
-    let back : suc k - 1 ≡ suc (k - 1) = omega arith in
-    subst (λ i. n (get_or (x ∷ xs) i d) ≢ n (get_or xs k d)) back (a (suc k) (omega arith) (omega arith) d)) m)
+    (λ k d l. rw add-one (rw add-one at (a (suc k) d (omega (arith, l))))) m)
 
 -- the same in another order
 pub once-permutation : {X : Type 0} (n : X → ℕ) (xs ys : List X) → IsPermutation xs ys → EachStandsOnce (map n ys)
@@ -135,50 +135,61 @@ once_kept shelf held seen p e once =
     (once-permutation (λ (h : ℕ × Reservation). h.1.number) (held_by shelf) held p
     (subst (λ l. EachStandsOnce (map (λ (h : ℕ × Reservation). h.1.number) l)) e once))
 
--- neighbours in rising order that differ: all differ
-pub all_differ : (held : List Kept) → IsNonDecreasingBy (λ (h : Kept). h.1.number) held → NeighboursDiffer held (length held)
-    → AllDiffer held
-all_differ held s a i j d l h e =
-    let differ = a j (omega arith) h d in
-    let first = s i (j - 1) d (omega arith) (omega arith) in
-    let next = s (j - 1) j d (omega arith) h in
-    omega (arith, differ, first, next, e)
-
--- two neighbours, and then the others
-pub two_first : {X : Type 0} (xs : List X) (i : ℕ) → suc i < length xs → (a b : X) × (rest : List X)
-    × IsPermutation xs (a ∷ b ∷ rest) × ((d : X) → get_or xs i d ≡ a) × ((d : X) → get_or xs (suc i) d ≡ b)
-two_first [] i h = absurd (omega arith)
-two_first (x ∷ []) i h = absurd (omega arith)
-two_first (x ∷ y ∷ xs) zero h = (x, y, xs, IsPermutation-refl (x ∷ y ∷ xs), λ d. refl, λ d. refl)
-two_first (x ∷ y ∷ xs) (suc i) h =
-    let r = two_first (y ∷ xs) i (omega arith) in
-    let a = r.0 in
-    let b = r.1 in
-    let moved = IsPermutation-sym (a ∷ b ∷ x ∷ r.2) (x ∷ a ∷ b ∷ r.2) (IsPermutation-middle (a ∷ b ∷ []) x r.2) in (
-      a,
-      b,
-      x ∷ r.2,
-      IsPermutation-trans (x ∷ y ∷ xs) (x ∷ a ∷ b ∷ r.2) (a ∷ b ∷ x ∷ r.2)
-          (IsPermutation-cons x (y ∷ xs) (a ∷ b ∷ r.2) r.3) moved,
-      r.4,
-      r.5,
-    )
-
 abbrev pub number_of : Kept → ℕ
 number_of h = h.1.number
 
+abbrev pub do_differ : Kept → Kept → Type 0
+do_differ x y = number_of x ≢ number_of y
+
+-- neighbours differ as far as a walk over them came
+neighbours_differ : (held : List Kept) (n m : ℕ) → m ≤ n + 1 → m ≤ length held
+    → AllWithin (λ (p : Kept × Kept). do_differ p.0 p.1) (zip held (drop 1 held)) 0 n → AllAdjacentBelow do_differ held m
+neighbours_differ held n m h within a k d l =
+    let here = get_or-zip held (drop 1 held) k (d, d) (omega arith) (omega (arith, l, within, length-drop 1 held)) in
+    let next : get_or (drop 1 held) k d ≡ get_or held (k + 1) d =
+    get_or-drop 1 held k d ∙ ap (λ i. get_or held i d) (omega arith) in
+    let differ = a k (d, d) (omega arith) (omega arith) in rw next at (rw here at differ)
+
+-- where a walk found none alike, all differ
+pub all_differ : (held : List Kept) → IsNonDecreasingBy number_of held
+    → AllWithin (λ (p : Kept × Kept). do_differ p.0 p.1) (zip held (drop 1 held)) 0 (length (zip held (drop 1 held)))
+    → AllDiffer held
+all_differ held s a i zero d l h e = absurd (omega (arith, l))
+all_differ held s a i (suc j) d l h e =
+    let reach : length held ≤ length (zip held (drop 1 held)) + 1 =
+    omega (arith, length-zip held (drop 1 held), length-drop 1 held) in
+    let differ : number_of (get_or held j d) ≢ number_of (get_or held (suc j) d) =
+    rw add-one at (neighbours_differ held _ (length held) reach (omega arith) a j d (omega (arith, h))) in
+    let first = s i j d (omega (arith, l)) (omega (arith, h)) in
+    let next = s j (suc j) d (omega arith) h in
+    omega (arith, differ, first, next, e)
+
+-- two neighbours, and then the others
+two_first : {X : Type 0} (xs : List X) (i : ℕ) (a b : X) → suc i < length xs → get_or xs i a ≡ a → get_or xs (suc i) b ≡ b
+    → (rest : List X) × IsPermutation xs (a ∷ b ∷ rest)
+two_first [] i a b h e f = absurd (omega arith)
+two_first (x ∷ []) i a b h e f = absurd (omega arith)
+two_first (x ∷ y ∷ xs) zero a b h e f = (xs, rw (← e, ← f) (IsPermutation-refl (x ∷ y ∷ xs)))
+two_first (x ∷ y ∷ xs) (suc i) a b h e f =
+    let (rest, same) = two_first (y ∷ xs) i a b (omega arith) e f in
+    let moved = IsPermutation-sym (a ∷ b ∷ x ∷ rest) (x ∷ a ∷ b ∷ rest) (IsPermutation-middle (a ∷ b ∷ []) x rest) in (
+      x ∷ rest,
+      IsPermutation-trans (x ∷ y ∷ xs) (x ∷ a ∷ b ∷ rest) (a ∷ b ∷ x ∷ rest) (IsPermutation-cons x (y ∷ xs) (a ∷ b ∷ rest) same)
+          moved,
+    )
+
 -- a number below one at a place of a list in rising order stands before this place
 times_before : (held : List Kept) → IsNonDecreasingBy number_of held → (p n : ℕ) → p + 1 < length held
-    → ((d : Kept) → n < number_of (get_or held (p + 1) d)) → NeighboursDiffer held (p + 1)
+    → ((d : Kept) → n < number_of (get_or held (p + 1) d)) → AllAdjacentBelow do_differ held (p + 1)
     → times_of n (map number_of held) ≤ 1
 times_before held s p n h above before =
     let front = take (p + 1) held in
     let rest = drop (p + 1) held in
     let once = once-rising number_of front (IsNonDecreasingBy-take number_of (p + 1) held s)
-    (λ k q l d.
-    let within : k < p + 1 = omega (arith, l, length-take (p + 1) held) in
-    let earlier : k - 1 < p + 1 = omega arith in
-    rw (get_or-take (p + 1) held (k - 1) d earlier, get_or-take (p + 1) held k d within) (before k q within d)) n in
+    (λ k d l.
+    let within : k + 1 < p + 1 = omega (arith, l, length-take (p + 1) held) in
+    let earlier : k < p + 1 = omega (arith, within) in
+    rw (get_or-take (p + 1) held k d earlier, get_or-take (p + 1) held (k + 1) d within) (before k d within)) n in
     let later = above_none number_of n rest (λ k d l.
     let within : p + 1 + k < length held = omega (arith, l, length-drop (p + 1) held) in
     let rising = s (p + 1) (p + 1 + k) d (omega arith) within in
@@ -188,30 +199,50 @@ times_before held s p n h above before =
     let count : ℕ → ℕ = λ m. cond (m == n) 1 0 in
     omega (arith, ap (sum_by count) parted ∙ sum_by-append count (map number_of front) (map number_of rest), once, later)
 
--- the first two neighbours with one number are two of what the books keep, and no smaller number stands twice
-pub doubled_kept : (shelf : List Shelved) (held seen : List Kept) (number gateway other : ℕ) → IsPermutation (held_by shelf) held
-    → IsNonDecreasingBy number_of held → seen ≡ held → AreAlike seen number gateway other → IsDoubled shelf number gateway other
-doubled_kept shelf held seen number gateway other p s e found =
-    let a = subst (λ l. AreAlike l number gateway other) e found in
-    let two = two_first held a.place (omega (arith, a.within)) in
-    let x = two.0 in
-    let y = two.1 in
-    let at_x : get_or held a.place x ≡ x = two.4 x in
-    let one : a.place + 1 ≡ suc a.place = omega arith in
-    let at_y : get_or held (a.place + 1) y ≡ y = ap (λ i. get_or held i y) one ∙ two.5 y in
-    let first : x ≡ (gateway, x.1) = ap (λ (g : ℕ). (g, x.1)) (ap (λ (h : Kept). h.0) (sym at_x) ∙ a.keeps x) in
-    let second : y ≡ (other, y.1) = ap (λ (g : ℕ). (g, y.1)) (ap (λ (h : Kept). h.0) (sym at_y) ∙ a.too y) in
+-- the first two neighbours that a walk found alike
+pub first_alike : (held : List Kept) → IsNonDecreasingBy number_of held → (u v : Kept)
+    → (number_of u ≡ number_of v) × (i : ℕ) × (i < length (zip held (drop 1 held)))
+    × HoldsAt (λ (p : Kept × Kept). p ≡ (u, v)) (zip held (drop 1 held)) i
+    × AllWithin (λ (p : Kept × Kept). do_differ p.0 p.1) (zip held (drop 1 held)) 0 i
+    → AreAlike held (number_of u) u.0 v.0
+first_alike held s (gateway, one) (other, two) (e, i, l, at, before) =
+    let u : Kept = (gateway, one) in
+    let v : Kept = (other, two) in
+    let within : i + 1 < length held = omega (arith, l, length-zip held (drop 1 held), length-drop 1 held) in
+    let pair = sym (get_or-zip held (drop 1 held) i (u, v) (omega arith) (omega (arith, within, length-drop 1 held))) ∙ at (u, v) in
+    let first : get_or held i u ≡ u = ap (λ (p : Kept × Kept). p.0) pair in
+    let next : suc i ≡ 1 + i = omega arith in
+    let second : get_or held (suc i) v ≡ v =
+    ap (λ k. get_or held k v) next ∙ sym (get_or-drop 1 held i v) ∙ ap (λ (p : Kept × Kept). p.1) pair in
+    let (others, same) = two_first held i u v (omega (arith, within)) first second in
     record {
-      one = x.1;
-      two = y.1;
-      others = two.2;
-      kept = IsPermutation-trans (held_by shelf) held ((gateway, x.1) ∷ (other, y.1) ∷ two.2) p
-          (subst (λ h. IsPermutation held (h ∷ (other, y.1) ∷ two.2)) first
-          (subst (λ h. IsPermutation held (x ∷ h ∷ two.2)) second two.3));
-      first = ap (λ (h : Kept). h.1.number) (sym at_x) ∙ a.numbered x;
-      second = ap (λ (h : Kept). h.1.number) (sym at_y) ∙ a.alike y;
+      one = one;
+      two = two;
+      others = others;
+      kept = same;
+      first = refl;
+      second = sym e;
+      least = λ n less.
+          times_before held s i n within
+          (λ d. let here = get_or_default held (suc i) d v (omega (arith, within)) ∙ second in
+          rw add-one (rw here (omega (arith, less, e))))
+          (neighbours_differ held i (i + 1) (omega arith) (omega (arith, within)) before);
+    }
+
+-- two alike among all that books keep are two of what the books keep
+pub doubled_kept : (shelf : List Shelved) (held seen : List Kept) (number gateway other : ℕ) → IsPermutation (held_by shelf) held
+    → seen ≡ held → AreAlike seen number gateway other → IsDoubled shelf number gateway other
+doubled_kept shelf held seen number gateway other p e found =
+    let a = subst (λ l. AreAlike l number gateway other) e found in
+    record {
+      one = a.one;
+      two = a.two;
+      others = a.others;
+      kept = IsPermutation-trans (held_by shelf) held ((gateway, a.one) ∷ (other, a.two) ∷ a.others) p a.kept;
+      first = a.first;
+      second = a.second;
       least = λ n l.
-          let seldom = times_before held s a.place n a.within (λ d. omega (arith, a.alike d, l)) a.before in
+          let seldom = a.least n l in
           let count : ℕ → ℕ = λ m. cond (m == n) 1 0 in
           let same = sum_by-IsPermutation count (map number_of (held_by shelf)) (map number_of held)
           (IsPermutation-map number_of (held_by shelf) held p) in
@@ -223,4 +254,4 @@ pub once_differ : (shelf : List Shelved) (held seen : List Kept) → IsPermutati
     → IsNonDecreasingBy number_of held → seen ≡ held → AllDiffer seen → EachStandsOnce (kept_numbers (books_of shelf))
 once_differ shelf held seen p s e differ =
     let d = subst AllDiffer e differ in
-    once_kept shelf held held p refl (once-rising number_of held s (λ k q l x. d (k - 1) k x (omega arith) l))
+    once_kept shelf held held p refl (once-rising number_of held s (λ k x l. d k (k + 1) x (omega arith) l))

@@ -1,42 +1,39 @@
 -- Lemmas on receipts that are marked once a book keeps their reservations.
-use Rattle.std.proofs.Common.{◌≡◌, ◌≢◌, ℕ, zero, suc, ◌+◌, ◌<◌, ◌≤◌, Bool, true, false, cond, List, [], ◌∷◌, ◌++◌}
-use Rattle.std.proofs.Common.{map, take, length, get_or, refl, sym, ap, subst, ◌∙◌, arith, inl, inr, ◌⊎◌}
-use Rattle.std.specs.Prelude.{◌==◌, Contains, slice_set, sum_by}
+use Rattle.std.proofs.Common.{◌≡◌, ◌≢◌, ℕ, zero, suc, ◌+◌, ◌<◌, ◌≤◌, Bool, true, false, cond, nat_lt, List, [], ◌∷◌, ◌++◌}
+use Rattle.std.proofs.Common.{map, take, zip, length, get_or, refl, sym, ap, subst, ◌∙◌, arith, inl, inr, ◌⊎◌}
+use Rattle.std.specs.Prelude.{◌==◌, All, Contains, MatchBool, slice_set, sum_by}
 use Rattle.std.proofs.lemmas.Bool.Decides.{nat_tests}
+use Rattle.std.specs.List.{AllWithin, IsAllAdjacentAnswer}
 use Rattle.std.proofs.lemmas.List.{get_or-set_same, get_or-set_other, length-set, map-append, append_assoc, take_more}
+use Rattle.std.proofs.lemmas.List.{get_or-map, length-map}
+use Rattle.std.proofs.lemmas.List.Kept.{AllPairs-from_increasing}
 use Rattle.std.proofs.lemmas.List.Elements.{Contains-append_left, Contains-append_right}
+use Rattle.std.proofs.lemmas.List.Sorted.{IsPermutation-refl}
+use Rattle.std.proofs.lemmas.Slice.Zip.{get_or-zip, length-zip}
 use Rattle.std.proofs.lemmas.List.Sums.{sum_by-append, sum_by-cons}
+use Rattle.radio_bands.specs.Band.{hour}
 use Rattle.resv_list.specs.declared.reservation.Reservation.{Reservation}
 use Rattle.answer_ticket.specs.declared.tried.Receipt.{Receipt}
-use Rattle.book_audit.specs.Audit.{times_of}
+use Rattle.book_audit.specs.Audit.{Shelved, HasBook, IsAccountedFor, held_by, times_of}
 use Rattle.book_audit.specs.Held.{Kept}
 use Rattle.book_audit.specs.Marks.{DoRise, told_by, AreMarked}
-use Rattle.book_audit.proofs.HeldLemmas.{number_of}
+use Rattle.book_audit.proofs.HeldLemmas.{number_of, accounted_held, accounted_past}
 use Rattle.book_audit.proofs.LostLemmas.{unless}
 
--- of the first so many, each neighbour has a greater number than the one before
-abbrev pub NeighboursRise : {A : Type 0} → List (Receipt A) → ℕ → Type 0
-NeighboursRise {A} receipts n = (k : ℕ) → k + 1 < n → (d : Receipt A)
-    → (get_or receipts k d).reservation.number < (get_or receipts (k + 1) d).reservation.number
-
--- where all neighbours rise, all do
-pub all_rise : {A : Type 0} (receipts : List (Receipt A)) → NeighboursRise receipts (length receipts) → DoRise receipts
-all_rise receipts a i zero d l h = absurd (omega (arith, l))
-all_rise receipts a i (suc j) d l h =
-    let one : j + 1 ≡ suc j = omega arith in
-    let next : (get_or receipts j d).reservation.number < (get_or receipts (suc j) d).reservation.number =
-    subst (λ k. (get_or receipts j d).reservation.number < (get_or receipts k d).reservation.number) one
-    (a j (omega (arith, h)) d) in
-    elim (nearer i j l) [
-      | inl same ↦
-          subst (λ k. (get_or receipts k d).reservation.number < (get_or receipts (suc j) d).reservation.number) (sym same) next
-      | inr below ↦ let before = all_rise receipts a i j d below (omega (arith, h)) in omega (arith, before, next)
-    ] where
-      nearer : (i j : ℕ) → i < suc j → (i ≡ j) ⊎ (i < j)
-      nearer i j l = by_test i j l (i == j) refl where
-        by_test : (i j : ℕ) → i < suc j → (t : Bool) → (i == j) ≡ t → (i ≡ j) ⊎ (i < j)
-        by_test i j l true e = inl (grind (arith, nat_tests, e))
-        by_test i j l false e = inr (grind (arith, nat_tests, e, l))
+-- where all neighbours rise, as `is_sorted_by` tells it, all do
+pub all_rise : {A : Type 0} (receipts : List (Receipt A)) (told : Bool)
+    → IsAllAdjacentAnswer (λ (r s : Receipt A) b. b ≡ nat_lt r.reservation.number s.reservation.number) receipts told
+    → told ≡ true → DoRise receipts
+all_rise receipts false answer e i j d l h = absurd (cc (e))
+all_rise {A} receipts true answer e i j d l h =
+    let number : Receipt A → ℕ = λ r. r.reservation.number in
+    let first : i < length receipts = omega arith in
+    let rise = AllPairs-from_increasing (map number receipts) (λ k l.
+    let next : k + 1 < length receipts = omega (arith, l, length-map receipts number) in
+    let here : k < length receipts = omega (arith, next) in
+    rw (get_or-map number receipts k d 0, get_or-map number receipts (k + 1) d 0) (grind (arith, nat_tests, answer k d next))) in
+    let far = rise i j 0 l (omega (arith, h, length-map receipts number)) in
+    rw (get_or-map number receipts i d 0, get_or-map number receipts j d 0) at far
 
 -- where no receipt is marked, nothing is held
 pub none_held : {A : Type 0} (receipts : List (Receipt A)) (marks : List Bool) → length marks ≡ length receipts
@@ -156,3 +153,23 @@ next_marked receipts held g members i r marks h e =
     append_assoc held (map own (take i members)) ((g, r) ∷ [])
     ∙ ap (λ l. held ++ l) (sym (map-append own (take i members) (r ∷ [])) ∙ ap (map own) one) in
     subst (λ l. AreMarked receipts l marks) more
+
+-- a receipt is marked, or its gateway's book is past it
+abbrev pub IsMarkedOrPast : {A : Type 0} → List Shelved → Receipt A × Bool → Type 0
+IsMarkedOrPast shelf (receipt, marked) =
+    (marked ≡ true) ⊎ HasBook shelf receipt.gateway (λ b. receipt.reservation.start + hour < b.floor)
+
+-- where each is, each is accounted for
+pub all_accounted : {A : Type 0} (shelf : List Shelved) (receipts : List (Receipt A)) (marks : List Bool) (told : Bool)
+    (No : Type 0) → AreMarked receipts (held_by shelf) marks
+    → MatchBool told (AllWithin (IsMarkedOrPast shelf) (zip receipts marks) 0 (length (zip receipts marks))) No
+    → told ≡ true → All (IsAccountedFor shelf) receipts
+all_accounted shelf receipts marks false No m answer e k d l = absurd (cc (e))
+all_accounted shelf receipts marks true No m answer e k d l =
+    let each = m.each in
+    let here = get_or-zip receipts marks k (d, false) l (omega (arith, l, each)) in
+    let either = answer k (d, false) (omega arith) (omega (arith, l, each, length-zip receipts marks)) in
+    elim (subst (IsMarkedOrPast shelf) here either) [
+      | inl marked ↦ accounted_held shelf (held_by shelf) _ _ (IsPermutation-refl (held_by shelf)) (m.kept k l marked d)
+      | inr past ↦ accounted_past shelf _ _ past
+    ]

@@ -1,5 +1,7 @@
-use Rattle.std.specs.Prelude.{ℕ, ◌≡◌, ◌≢◌, ◌+◌, ◌-◌, ◌<◌, List, length, get_or, AllPairs}
+use Rattle.std.specs.Prelude.{ℕ, ◌≡◌, ◌≢◌, ◌<◌, ◌≤◌, List, ◌∷◌, length, get_or, map, AllPairs}
+use Rattle.std.specs.List.Sorted.{IsPermutation}
 use Rattle.resv_list.specs.declared.reservation.Reservation.{Reservation}
+use Rattle.book_audit.specs.Audit.{times_of}
 
 -- What books keep, as one list in the order of the numbers.
 
@@ -11,20 +13,15 @@ Kept = ℕ × Reservation
 abbrev pub AllDiffer : List Kept → Type 0
 AllDiffer held = AllPairs (λ (a b : Kept). a.1.number ≢ b.1.number) held
 
--- of the first so many, no two neighbours have one number
-abbrev pub NeighboursDiffer : List Kept → ℕ → Type 0
-NeighboursDiffer held n =
-    (k : ℕ) → 0 < k → k < n → (d : Kept) → (get_or held (k - 1) d).1.number ≢ (get_or held k d).1.number
-
--- the first two neighbours with one number have this number, and stand with these gateways
+-- two of these have this number, one with each of these gateways; and no smaller number stands twice
 pub record AreAlike (held : List Kept) (number gateway other : ℕ) : Type 0 where
-  pub place : ℕ
-  pub within : place + 1 < length held
-  pub keeps : (d : Kept) → (get_or held place d).0 ≡ gateway
-  pub numbered : (d : Kept) → (get_or held place d).1.number ≡ number
-  pub too : (d : Kept) → (get_or held (place + 1) d).0 ≡ other
-  pub alike : (d : Kept) → (get_or held (place + 1) d).1.number ≡ number
-  pub before : NeighboursDiffer held (place + 1)
+  pub one : Reservation
+  pub two : Reservation
+  pub others : List Kept
+  pub kept : IsPermutation held ((gateway, one) ∷ (other, two) ∷ others)
+  pub first : one.number ≡ number
+  pub second : two.number ≡ number
+  pub least : (n : ℕ) → n < number → times_of n (map (λ (h : Kept). h.1.number) held) ≤ 1
 
 -- this stands at a place of the list
 abbrev pub StandsAt : List Kept → ℕ → Kept → Type 0

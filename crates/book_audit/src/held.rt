@@ -32,14 +32,11 @@ pub(crate) fn first_doubled(held: &[Held]) -> Option<(u64, u16, u16)>
     ensures none { IsNone result → AllDiffer held.now }
     ensures twice { IfSome result (λ told. AreAlike held.now told.0 told.1 told.2) }
 {
-    for i in 1..held.len() {
-        let (gateway, member) = held[i - 1];
-        let (other, next) = held[i];
-        if member.number == next.number {
-            return Some((member.number, gateway, other));
-        }
-    }
-    None
+    let ((gateway, member), (other, _)) = held
+        .iter()
+        .zip(held.iter().skip(1))
+        .find(|((_, member), (_, next))| member.number == next.number)?;
+    Some((member.number, *gateway, *other))
 }
 
 /// What all books keep, one after another.
@@ -59,11 +56,10 @@ fn held_of<A: Allocator + Copy>(
 
 /// For how many members there is room to be had before they are listed, so that the list grows once: as many as the books keep.
 fn count_of<A: Allocator + Copy>(shelf: &[(u16, Book<A>)]) -> usize {
-    let mut count: usize = 0;
-    for (_, book) in shelf {
-        count = count.saturating_add(book.totals().kept);
-    }
-    count
+    shelf
+        .iter()
+        .map(|(_, book)| book.totals().kept)
+        .fold(0, usize::saturating_add)
 }
 
 /// Adds what one book keeps.

@@ -73,10 +73,8 @@ fn is_held(held: &[Held], likely: &mut usize, gateway: u16, reservation: &Reserv
 fn stands_at(held: &[Held], at: usize, gateway: u16, reservation: &Reservation) -> bool
     ensures { IsTrue result ↔ StandsAt held.now at (gateway, reservation.now) }
 {
-    match held.get(at) {
-        Some((keeper, member)) => *keeper == gateway && is_same(member, reservation),
-        None => false,
-    }
+    held.get(at)
+        .is_some_and(|(keeper, member)| *keeper == gateway && is_same(member, reservation))
 }
 
 /// Whether the book of the gateway with this number has a floor more than an hour past the reservation's start.
@@ -99,13 +97,9 @@ pub(crate) fn is_past<A: Allocator + Copy>(
     false
 }
 
-/// Whether two reservations have the same fields.
+/// Whether two reservations are the same. Proofs read this clause in place of what a derived `==` computes.
 pub(crate) fn is_same(one: &Reservation, other: &Reservation) -> bool
     ensures { IsTrue result ↔ (one.now ≡ other.now) }
 {
-    one.number == other.number
-        && one.start == other.start
-        && one.freq_hz == other.freq_hz
-        && one.rate.number() == other.rate.number()
-        && one.len == other.len
+    one == other
 }

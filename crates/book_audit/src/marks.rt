@@ -35,12 +35,7 @@ pub(crate) fn are_told<A: Allocator + Copy>(
 fn do_rise<A: Allocator>(receipts: &[Receipt<A>]) -> bool
     ensures { IsTrue result → DoRise receipts.now }
 {
-    for at in 1..receipts.len() {
-        if receipts[at - 1].reservation.number >= receipts[at].reservation.number {
-            return false;
-        }
-    }
-    true
+    receipts.is_sorted_by(|one, next| one.reservation.number < next.reservation.number)
 }
 
 /// A mark for each of these receipts, set where a book keeps its reservation; nothing where a book keeps what none of them
@@ -136,11 +131,8 @@ fn are_past<A: Allocator + Copy>(
     requires { AreMarked receipts.now (held_by shelf.now) marks.now }
     ensures { IsTrue result → All (IsAccountedFor shelf.now) receipts.now }
 {
-    for at in 0..receipts.len() {
-        let receipt = &receipts[at];
-        if !marks[at] && !is_past(shelf, receipt.gateway, &receipt.reservation) {
-            return false;
-        }
-    }
-    true
+    receipts
+        .iter()
+        .zip(marks)
+        .all(|(receipt, marked)| *marked || is_past(shelf, receipt.gateway, &receipt.reservation))
 }

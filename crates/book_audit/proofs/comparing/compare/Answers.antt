@@ -17,7 +17,7 @@ first_doubled-requires g c =
 pub returns-in-Some-first_doubled-clause-cause : goal.returns-in-Some-first_doubled-clause-cause
 returns-in-Some-first_doubled-clause-cause g c = (
   c.in_default.ensures.together refl,
-  doubled_kept c.args.shelf.now _ _ _ _ _ c.in-Ok.ensures.same c.in-Ok.ensures.rising c.deref.ensures.value
+  doubled_kept c.args.shelf.now _ _ _ _ _ c.in-Ok.ensures.same c.deref.ensures.value
       c.in-Some-first_doubled.ensures.twice,
 )
 
