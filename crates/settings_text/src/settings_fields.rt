@@ -14,6 +14,21 @@ use toml::{Table, Value};
 /// How many transmissions a gateway's book may keep where the settings don't say it.
 const DEFAULT_CAP: u32 = 4_096;
 
+// The receive windows of a device whose settings don't name its own, as the regional parameters have them (LoRaWAN RP002, EU863-870,
+// receive windows).
+
+/// How many seconds after an uplink's end RX1 opens.
+const DEFAULT_DELAY_S: u8 = 1;
+
+/// By how many steps RX1 is slower than the uplink.
+const DEFAULT_OFFSET: u8 = 0;
+
+/// The frequency of RX2 in Hz.
+const DEFAULT_RX2_FREQ_HZ: u32 = 869_525_000;
+
+/// The data rate of RX2.
+const DEFAULT_RX2_RATE: DataRate = DataRate::Dr0;
+
 /// What a value may say.
 trait FromValue: Copy {
     ghost of: { Data → Result Self ReadFault };
@@ -165,28 +180,28 @@ pub(crate) fn app_of(device: &Table) -> Result<[u8; 16], ReadFault>
 pub(crate) fn delay_of(device: &Table) -> Result<u8, ReadFault>
     ensures { result ≡ fields.delay_of (table_view device.now) }
 {
-    optional(device, "delay", 1)
+    optional(device, "delay", DEFAULT_DELAY_S)
 }
 
 /// RX1DROffset.
 pub(crate) fn offset_of(device: &Table) -> Result<u8, ReadFault>
     ensures { result ≡ fields.offset_of (table_view device.now) }
 {
-    optional(device, "offset", 0)
+    optional(device, "offset", DEFAULT_OFFSET)
 }
 
 /// The frequency of RX2 in Hz.
 pub(crate) fn rx2_freq_of(device: &Table) -> Result<u32, ReadFault>
     ensures { result ≡ fields.rx2_freq_of (table_view device.now) }
 {
-    optional(device, "rx2_freq", 869_525_000)
+    optional(device, "rx2_freq", DEFAULT_RX2_FREQ_HZ)
 }
 
 /// The data rate of RX2.
 pub(crate) fn rx2_rate_of(device: &Table) -> Result<DataRate, ReadFault>
     ensures { result ≡ fields.rx2_rate_of (table_view device.now) }
 {
-    optional(device, "rx2_dr", DataRate::Dr0)
+    optional(device, "rx2_dr", DEFAULT_RX2_RATE)
 }
 
 /// The last uplink counter, if there is one.

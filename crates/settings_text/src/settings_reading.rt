@@ -72,9 +72,7 @@ fn each_in<S: FromTable>(alloc: Global, values: &[Value]) -> Result<Vec<S>, Read
     let mut settings = Vec::new(alloc);
     for value in values {
         let setting = setting_in(value)?;
-        if settings.push(setting).is_err() {
-            return Err(ReadFault::NoMemory);
-        }
+        settings.push(setting).map_err(|_| ReadFault::NoMemory)?;
     }
     Ok(settings)
 }
@@ -116,8 +114,5 @@ pub fn read_settings(alloc: Global, text: &str) -> Result<Settings<Global>, Read
     let document = document_of(alloc, text)?;
     let gateways = list_at(alloc, &document, "gateway")?;
     let devices = list_at(alloc, &document, "device")?;
-    match Settings::new(gateways, devices) {
-        Ok(settings) => Ok(settings),
-        Err(fault) => Err(ReadFault::Checked(fault)),
-    }
+    Settings::new(gateways, devices).map_err(ReadFault::Checked)
 }
