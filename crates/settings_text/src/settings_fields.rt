@@ -14,8 +14,8 @@ use toml::{Table, Value};
 /// How many transmissions a gateway's book may keep where the settings don't say it.
 const DEFAULT_CAP: u32 = 4_096;
 
-// The receive windows of a device whose settings don't name its own, as the regional parameters have them (LoRaWAN RP002, EU863-870,
-// receive windows).
+// The receive windows of a device whose settings don't name its own, as the regional parameters have them (LoRaWAN RP002,
+// EU863-870, receive windows).
 
 /// How many seconds after an uplink's end RX1 opens.
 const DEFAULT_DELAY_S: u8 = 1;
