@@ -6,3 +6,4 @@ pub mod LawLemmas
 pub mod Worked
 pub mod TurnLemmas
 pub mod TryingLemmas
+pub mod OpeningLemmas

@@ -1,5 +1,5 @@
 -- The report of a book is that of what stands in it.
-use Rattle.std.proofs.Common.{◌≡◌, ◌≤◌, ◌+◌, Bool, [], refl}
+use Rattle.std.proofs.Common.{◌≡◌, ◌≤◌, ◌+◌, Bool, refl}
 use Rattle.resv_list.specs.Reservations.{net}
 use Rattle.gateway_book.specs.Kept.{kept, retired_of}
 use Rattle.gateway_book.specs.Step.{State}
@@ -14,7 +14,7 @@ use Rattle.gateway_book.proofs.RememberedLaws.{remembers_own}
 use Rattle.gateway_book.proofs.StandingLaws.{stands_retired}
 use Rattle.book_texts.specs.Report.{report_of}
 use Rattle.book_texts.specs.Output.{Standing, opened, report_at, saved_at}
-use Rattle.book_texts.specs.Opening.{empty_standing}
+use Rattle.book_texts.specs.Opening.{empty_book, empty_standing}
 use Rattle.book_texts.specs.Progress.{StandsIn, StandsToEnd}
 
 pub report_stands : (book : Book) (s : State) → book.booked ≡ book.cancelled + book.retired + net book.list → StandsFor book s
@@ -29,9 +29,8 @@ pub saved_stands : (book : Book) (at : Standing) → StandsIn book at → saved_
 saved_stands book at h = rw (h.id, h.rules, h.stands.remembers.floor, h.stands.remembers.list) refl
 
 -- an empty book stands for the state in which nothing is reserved
-pub stands_opened : (rules : Rules) (save : Bool) → rules.gap ≤ most_gap → StandsToEnd
-    (record { id = 1; rules = rules; floor = 0; list = []; booked = 0; cancelled = 0; retired = 0 }) save
-    (empty_standing save rules)
+pub stands_opened : (rules : Rules) (save : Bool) → rules.gap ≤ most_gap
+    → StandsToEnd (empty_book rules) save (empty_standing save rules)
 unfolding net
 stands_opened rules save h =
     record {

@@ -3,6 +3,7 @@ use Rattle.std.specs.Str.Lines.{lines}
 use Rattle.text_lines.specs.Turns.{output_of}
 use Rattle.resv_list.specs.Reservations.{net}
 use Rattle.gateway_book.specs.Answer.{Rules}
+use Rattle.gateway_book.specs.Book.{Book}
 use Rattle.gateway_book.specs.Loading.{Loaded, loaded}
 use Rattle.gateway_book.specs.Saved.{Saved}
 use Rattle.gateway_book.specs.Step.{State}
@@ -10,6 +11,11 @@ use Rattle.book_texts.specs.Output.{Standing, book_turns, opened}
 
 -- What the bytes of a text of `airbook book` are: lines, or with `--resume` a saved book and then lines; and the output for
 -- them, which with `--save` ends with the saved book.
+
+-- the empty book of gateway 1
+abbrev pub empty_book : Rules → Book
+empty_book rules =
+    record { id = 1; rules = rules; floor = 0; list = []; booked = 0; cancelled = 0; retired = 0 }
 
 -- before the first line: an empty book of gateway 1
 abbrev pub empty_standing : Bool → Rules → Standing

@@ -9,6 +9,7 @@ use Rattle.text_lines.specs.Line.{is_too_long, kept}
 use Rattle.text_lines.specs.Number.{number_below}
 use Rattle.text_lines.specs.Words.{words_of, is_passed_over}
 use Rattle.gateway_book.specs.declared.ask.Ask.{Ask}
+use Rattle.gateway_book.specs.Loading.{member_with}
 use Rattle.book_texts.specs.declared.command.Command.{Command}
 use Rattle.book_texts.specs.declared.command.Command.TheVariants.{Book, Cancel, Tick, Earliest}
 use Rattle.book_texts.specs.declared.command.Said.{Said}
@@ -22,16 +23,10 @@ use Rattle.text_words.specs.Words.{is_named}
 abbrev pub rate_word : List ℕ → Option DataRate
 rate_word word = option_and_then known_rate (number_below (2 ^ 8) word)
 
--- an ask of these fields, where each is there
-abbrev pub ask_with : Option ℕ → Option ℕ → Option ℕ → Option DataRate → Option ℕ → Option Ask
-ask_with (Some number) (Some start) (Some freq_hz) (Some rate) (Some len) =
-    Some (record { number = number; start = start; freq_hz = freq_hz; rate = rate; len = len })
-ask_with _ _ _ _ _ = None
-
 -- the ask that these words are
 abbrev pub ask_words : List ℕ → List ℕ → List ℕ → List ℕ → List ℕ → Option Ask
 ask_words number start freq_hz rate len =
-    ask_with (number_below (2 ^ 64) number) (number_below (2 ^ 64) start) (number_below (2 ^ 32) freq_hz) (rate_word rate)
+    member_with (number_below (2 ^ 64) number) (number_below (2 ^ 64) start) (number_below (2 ^ 32) freq_hz) (rate_word rate)
     (number_below (2 ^ 8) len)
 
 -- what follows the word `book`: NUMBER START FREQ DR LEN

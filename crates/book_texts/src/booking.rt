@@ -5,10 +5,11 @@ ghost use Rattle.gateway_book.specs.EarliestValue.{earliest_of};
 ghost use Rattle.text_lines.specs.Progress.{IsTurn};
 ghost use Rattle.text_words.specs.Fault.{CountsReads, CountsWrites};
 ghost use Rattle.book_texts.specs.Answering.{reply_of, start_reply};
+ghost use Rattle.book_texts.specs.Opening.{empty_book};
 ghost use Rattle.book_texts.specs.Output.{book_turns};
 ghost use Rattle.book_texts.specs.Progress.{IsCarriedOut, IsReplied, StandsIn};
 ghost use Rattle.book_texts.specs.Promise.{AnswersAll, AnswersFront, AnswersRead, KeepsLimit, MayOpen, is_unopened};
-ghost use Rattle.book_texts.specs.Promise.{IsOpeningOf, IsSettingOf};
+ghost use Rattle.book_texts.specs.Promise.{IsOpeningOf, IsRulesFault, IsSettingOf};
 
 use crate::command::{Command, Said, read_line};
 use crate::reply::Reply;
@@ -22,7 +23,7 @@ use text_lines::{ByteIn, ByteOut, CallFailed, LineAnswerer, TextLine, WriteBehin
 use text_words::TextFault;
 
 /// The number of the gateway whose book the lines speak of, where they speak of an empty one.
-pub(crate) const GATEWAY: u16 = 1;
+const GATEWAY: u16 = 1;
 
 /// Books what the lines of the input ask for, and writes an answer to each line, and at the end a report. It answers whether a
 /// line of the output begins with `no` or `bad`.
@@ -67,6 +68,7 @@ pub fn book_text<A: Allocator + Clone, R: ByteIn, W: ByteOut>(
 }
 
 /// The same on an empty book.
+#[tactic(auto, using(crate::proofs::OpeningLemmas::ended_early))]
 fn opened_text<A: Allocator + Clone, R: ByteIn, W: ByteOut>(
     alloc: A,
     cap: u32,
@@ -88,14 +90,22 @@ fn opened_text<A: Allocator + Clone, R: ByteIn, W: ByteOut>(
     ensures read { CountsReads (R.failed_calls reader.old) (R.failed_calls reader.new) result }
     ensures write { CountsWrites (W.failed_calls writer.old) (W.failed_calls writer.new) result }
 {
-    let book = match GatewayBook::new(TreeRoster::new(alloc), GATEWAY, cap, gap) {
-        Ok(book) => book,
-        Err(fault) => return Err(TextFault::Settings(fault.name())),
-    };
-    match answer_text(BookLines { book, save }, reader, writer) {
-        Err(fault) => Err(TextFault::from(fault)),
-        Ok(refused) => Ok(refused),
-    }
+    let book = empty_book(alloc, cap, gap)?;
+    Ok(answer_text(BookLines { book, save }, reader, writer)?)
+}
+
+/// The empty book that the lines speak of. `Settings`: none can be opened with this cap or gap, by the name BadCap or BadGap.
+pub(crate) fn empty_book<A: Allocator + Clone>(
+    alloc: A,
+    cap: u32,
+    gap: u32,
+) -> Result<GatewayBook<TreeRoster<A>>, TextFault>
+    ensures opened { IfOk result (λ _. MayOpen (record { cap = cap; gap = gap })) }
+    ensures empty { IfOk result (λ book. book ≡ empty_book (record { cap = cap; gap = gap })) }
+    ensures fault { IfErr result (IsRulesFault (record { cap = cap; gap = gap })) }
+{
+    let opened = GatewayBook::new(TreeRoster::new(alloc), GATEWAY, cap, gap);
+    opened.map_err(|fault| TextFault::Settings(fault.name()))
 }
 
 /// A book that answers lines.
@@ -170,7 +180,7 @@ fn carry_out<B: Roster>(book: &mut GatewayBook<B>, command: Command) -> Reply
         Command::Book(ask) => reserve(book, ask),
         Command::Cancel { number, start } => take_out(book, number, start),
         Command::Tick { now } => advance(book, now),
-        Command::Earliest { ask, last } => look_for_start(book, ask, last),
+        Command::Earliest { ask, last } => earliest_start(book, ask, last),
     }
 }
 
@@ -216,13 +226,6 @@ fn advance<B: Roster>(book: &mut GatewayBook<B>, now: u64) -> Reply
     Reply::Floor {
         floor: book.totals().floor,
     }
-}
-
-/// Looks for the earliest start of what is asked for, from its own start to `last`, and gives the answer.
-fn look_for_start<B: Roster>(book: &mut GatewayBook<B>, ask: Ask, last: u64) -> Reply
-    ensures { IsCarriedOut book.old book.new (Command.Earliest ask last) result }
-{
-    earliest_start(book, ask, last)
 }
 
 /// What is told of the earliest start of what is asked for, from its own start to `last`.

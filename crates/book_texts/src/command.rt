@@ -9,7 +9,7 @@ use radio_airtime::DataRate;
 use text_lines::{Words, is_passed_over, is_too_long, is_word, number_u8, number_u32, number_u64};
 
 /// What is asked of a gateway's book.
-#[derive(Clone, Copy, Debug, PartialEq, Eq)]
+#[derive(Clone, Copy)]
 pub(crate) enum Command {
     /// `book NUMBER START FREQ DR LEN`: reserve a transmission.
     Book(Ask),
@@ -22,7 +22,7 @@ pub(crate) enum Command {
 }
 
 /// What a line of input says.
-#[derive(Clone, Copy, Debug, PartialEq, Eq)]
+#[derive(Clone, Copy)]
 pub(crate) enum Said {
     /// Nothing: the line is passed over.
     Nothing,

@@ -7,7 +7,7 @@ ghost use Rattle.book_texts.specs.Planning.{plan_output};
 ghost use Rattle.book_texts.specs.Promise.{IsSettingOf, KeepsLimit, MayOpen};
 ghost use Rattle.book_texts.specs.Trying.{IsCopied, IsSoughtOn, IsTriedOn, IsTrialTurn};
 
-use crate::booking::{GATEWAY, answer_line, earliest_start, told};
+use crate::booking::{answer_line, earliest_start, empty_book, told};
 use crate::command::{Command, Said, opens_plan, read_line};
 use crate::reply::Reply;
 use crate::report::put_report;
@@ -28,6 +28,7 @@ use text_words::TextFault;
 /// `Settings`: no book can be opened with this cap or gap, by the name BadCap or BadGap, and nothing was read then. `Read`,
 /// `TooMuch` and `Write` as of `book_text`; `NoMemory` never comes. Want of memory refuses one booking, by a line of the output;
 /// where the book can't be copied for want of it, each booking of the plan, and each question for the earliest start.
+#[tactic(auto, using(crate::proofs::OpeningLemmas::ended_early))]
 pub fn plan_text<A: Allocator + Clone + Copy, R: ByteIn, W: ByteOut>(
     alloc: A,
     cap: u32,
@@ -47,10 +48,7 @@ pub fn plan_text<A: Allocator + Clone + Copy, R: ByteIn, W: ByteOut>(
     ensures read { CountsReads (R.failed_calls reader.old) (R.failed_calls reader.new) result }
     ensures write { CountsWrites (W.failed_calls writer.old) (W.failed_calls writer.new) result }
 {
-    let book = match GatewayBook::new(TreeRoster::new(alloc), GATEWAY, cap, gap) {
-        Ok(book) => book,
-        Err(fault) => return Err(TextFault::Settings(fault.name())),
-    };
+    let book = empty_book(alloc, cap, gap)?;
     let arena = Bump::new(alloc);
     let lines = PlanLines {
         book,
@@ -59,10 +57,7 @@ pub fn plan_text<A: Allocator + Clone + Copy, R: ByteIn, W: ByteOut>(
         is_planned: false,
         copy: None,
     };
-    match answer_text(lines, reader, writer) {
-        Err(fault) => Err(TextFault::from(fault)),
-        Ok(refused) => Ok(refused),
-    }
+    Ok(answer_text(lines, reader, writer)?)
 }
 
 /// A book that answers lines, and from a line `plan` on a copy of it that does.

@@ -6,7 +6,7 @@ use text_lines::TextLine;
 use text_words::{add_fault, add_number, add_numbered, add_refusal, add_word};
 
 /// The answer to a line of input.
-#[derive(Clone, Copy, Debug, PartialEq, Eq)]
+#[derive(Clone, Copy)]
 pub(crate) enum Reply {
     /// `ok NUMBER START END`: it was reserved, from `start` on and before `end`, in microseconds.
     Booked { number: u64, start: u64, end: u64 },

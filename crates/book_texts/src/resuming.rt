@@ -43,10 +43,7 @@ pub(crate) fn resumed_text<A: Allocator + Clone, R: ByteIn, W: ByteOut>(
         Ok(book) => book,
         Err(fault) => return Err(stopped_by(fault)),
     };
-    match answer_rest(BookLines { book, save }, input, reader, writer) {
-        Err(fault) => Err(TextFault::from(fault)),
-        Ok(refused) => Ok(refused),
-    }
+    Ok(answer_rest(BookLines { book, save }, input, reader, writer)?)
 }
 
 /// What is told of a saved text that was not read.
