@@ -1,16 +1,16 @@
 -- Lemmas on the lines of an input, and on its two parts.
-use Rattle.std.proofs.Common.{◌≡◌, ◌≢◌, ◌==◌, ℕ, zero, suc, ◌+◌, ◌<◌, ◌≤◌, Bool, true, false, if◌then◌else◌, List, [], ◌∷◌, ◌++◌}
+use Rattle.std.proofs.Common.{◌≡◌, ◌≢◌, ◌==◌, ℕ, zero, suc, ◌+◌, ◌-◌, ◌<◌, ◌≤◌, Bool, true, false, if◌then◌else◌, List, [], ◌∷◌, ◌++◌}
 use Rattle.std.proofs.Common.{length, take, drop, get_or, refl, sym, ap, ◌∙◌, arith, append_assoc, append-nil}
 use Rattle.std.specs.Prelude.{slice_index}
 use Rattle.std.specs.List.{concat}
 use Rattle.std.proofs.Math.Seq.{split_at, drop-append_seam, take-append_seam, take-length}
 use Rattle.std.proofs.lemmas.Bool.Decides.{nat_tests}
-use Rattle.std.proofs.lemmas.List.{get_or-take, get_or_default, length-take, length-append, length-take-le, drop-drop}
+use Rattle.std.proofs.lemmas.List.{take_more, get_or_push, get_or-take, get_or_default, length-take, length-append, length-take-le, drop-drop}
 use Rattle.std.proofs.lemmas.List.{length-drop, take-append-drop}
 use Rattle.std.specs.Str.Lines.{lines, strip_carriage_return}
 use Rattle.text_lines.specs.Line.{lines-first, lines-last}
 use Rattle.run_lines.specs.RunInput.{NoFeedBefore, onto_first, raw_lines, is_rule, before_rule, after_rule, settings_part}
-use Rattle.run_lines.specs.RunInput.{event_part}
+use Rattle.run_lines.specs.RunInput.{event_part, without_end}
 
 -- there is a byte where the length isn't 0
 pub some-byte : (bytes : List ℕ) → false ≡ (length bytes == 0) → 0 < length bytes
@@ -51,19 +51,30 @@ unbroken-front bytes k i d before j e =
     let low : i < k = omega (arith, length-take k bytes, j) in
     before i low (sym (get_or-take k bytes i 0 low) ∙ get_or_default (take k bytes) i 0 d j ∙ e)
 
+-- a line that a line feed ends
+without_end-feed : (line : List ℕ) → without_end (line ++ 10 ∷ []) ≡ strip_carriage_return line
+without_end-feed line =
+    let last : length (line ++ 10 ∷ []) - 1 ≡ length line = omega (arith, length-append line (10 ∷ [])) in
+    rw (last, get_or_push line 10 0 (length line) refl, take-append_seam line (10 ∷ [])) refl
+
 -- the same of lines without their ends
 pub lines-feed : (bytes : List ℕ) (k : ℕ) → k < length bytes → NoFeedBefore k bytes → slice_index bytes k ≡ 10
-    → lines bytes ≡ strip_carriage_return (take k bytes) ∷ lines (drop (k + 1) bytes)
+    → lines bytes ≡ without_end (take (k + 1) bytes) ∷ lines (drop (k + 1) bytes)
 lines-feed bytes k h before at =
     let e : suc k ≡ k + 1 = omega arith in
     let cut : bytes ≡ take k bytes ++ 10 ∷ drop (suc k) bytes =
     split_at bytes k 0 h ∙ ap (λ b. take k bytes ++ b ∷ drop (suc k) bytes) at in
+    let line : take (k + 1) bytes ≡ take k bytes ++ 10 ∷ [] = take_more bytes k 0 h ∙ ap (λ b. take k bytes ++ b ∷ []) at in
     ap lines cut ∙ lines-first (take k bytes) (drop (suc k) bytes) (λ i d j. unbroken-front bytes k i d before j)
-    ∙ ap (λ n. strip_carriage_return (take k bytes) ∷ lines (drop n bytes)) e
+    ∙ ap (λ l. l ∷ lines (drop (suc k) bytes)) (sym (ap without_end line ∙ without_end-feed (take k bytes)))
+    ∙ ap (λ n. without_end (take (k + 1) bytes) ∷ lines (drop n bytes)) e
 
 -- bytes without a line feed are one line, if there is a byte
-pub lines-alone : (bytes : List ℕ) → 0 < length bytes → NoFeedBefore (length bytes) bytes → lines bytes ≡ bytes ∷ []
-lines-alone bytes h none = lines-last bytes h (λ i d j e. none i j (get_or_default bytes i 0 d j ∙ e))
+pub lines-alone : (bytes : List ℕ) → 0 < length bytes → NoFeedBefore (length bytes) bytes → lines bytes ≡ without_end bytes ∷ []
+lines-alone bytes h none =
+    let other : (slice_index bytes (length bytes - 1) == 10) ≡ false =
+    grind (arith, nat_tests, none (length bytes - 1) (omega arith)) in
+    rw other (lines-last bytes h (λ i d j e. none i j (get_or_default bytes i 0 d j ∙ e)))
 
 concat-onto : (byte : ℕ) (ls : List (List ℕ)) → concat (onto_first byte ls) ≡ byte ∷ concat ls
 concat-onto byte [] = refl

@@ -1,7 +1,8 @@
-use Rattle.std.specs.Prelude.{ℕ, ◌≢◌, ◌<◌, ◌≤◌, ⊤, length, slice_index, Option, Some, None, Result, Ok, Err, ◌==◌, Bool, ◌||◌}
+use Rattle.std.specs.Prelude.{ℕ, ◌≢◌, ◌<◌, ◌≤◌, ◌-◌, take, ⊤, length, slice_index, Option, Some, None, Result, Ok, Err, ◌==◌, Bool}
 use Rattle.std.specs.Prelude.{if◌then◌else◌, List, [], ◌∷◌, codes}
 use Rattle.std.specs.List.{concat}
 use Rattle.std.specs.Str.{bytes_eq}
+use Rattle.std.specs.Str.Lines.{strip_carriage_return}
 use Rattle.text_lines.specs.Ahead.{most_input}
 use Rattle.text_words.specs.declared.fault.TextFault.{TextFault}
 use Rattle.text_words.specs.declared.fault.TextFault.TheVariants.{Read, Write, TooMuch, Settings, NoMemory}
@@ -22,10 +23,14 @@ abbrev pub raw_lines : List ℕ → List (List ℕ)
 raw_lines [] = []
 raw_lines (byte ∷ bytes) = if byte == 10 then (byte ∷ []) ∷ raw_lines bytes else onto_first byte (raw_lines bytes)
 
--- the line that parts them: three hyphens, and its end
+-- a line without the line feed that ends it, if one does, and without the carriage return before that
+abbrev pub without_end : List ℕ → List ℕ
+without_end line =
+    if slice_index line (length line - 1) == 10 then strip_carriage_return (take (length line - 1) line) else line
+
+-- the line that parts them: three hyphens, whatever its end
 abbrev pub is_rule : List ℕ → Bool
-is_rule line =
-    bytes_eq line (codes "---") || (bytes_eq line (codes "---\n") || bytes_eq line (codes "---\r\n"))
+is_rule line = bytes_eq (without_end line) (codes "---")
 
 -- the lines before the first of these; all, where there is none
 abbrev pub before_rule : List (List ℕ) → List (List ℕ)

@@ -5,7 +5,7 @@ ghost use Rattle.std.specs.Io.KnownBytes.{Consumes};
 ghost use Rattle.text_words.specs.Fault.{CountsReads};
 ghost use Rattle.std.specs.Str.Lines.{lines, strip_carriage_return};
 ghost use Rattle.run_lines.specs.RunInput.{NoFeedBefore, raw_lines, is_rule, settings_part, event_part, KeepsInputLimit};
-ghost use Rattle.run_lines.specs.RunInput.{IsInputFault};
+ghost use Rattle.run_lines.specs.RunInput.{IsInputFault, without_end};
 
 use memchr::memchr;
 use std::alloc::Global;
@@ -24,6 +24,8 @@ pub(crate) fn feed_at(bytes: &[u8]) -> Option<usize>
 
 /// The first line with its end, and what follows it; None where there are no bytes.
 fn first_line(bytes: &[u8]) -> Option<(&[u8], &[u8])>
+    ensures bare { MatchOption result (lines bytes.now ≡ [])
+        (λ parts. lines bytes.now ≡ without_end parts.0.now ∷ lines parts.1.now) }
     ensures line { MatchOption result (bytes.now ≡ []) (λ parts. raw_lines bytes.now ≡ parts.0.now ∷ raw_lines parts.1.now) }
     ensures whole { IfSome result (λ parts. bytes.now ≡ parts.0.now ++ parts.1.now) }
     ensures some { IfSome result (λ parts. 0 < length parts.0.now) }
@@ -39,7 +41,7 @@ fn first_line(bytes: &[u8]) -> Option<(&[u8], &[u8])>
 fn is_rule(line: &[u8]) -> bool
     ensures { result ≡ is_rule line.now }
 {
-    line == b"---".as_slice() || line == b"---\n".as_slice() || line == b"---\r\n".as_slice()
+    without_end(line) == b"---".as_slice()
 }
 
 /// The text of the settings, and that of the event lines.
@@ -62,10 +64,17 @@ pub(crate) fn next_line(bytes: &[u8]) -> Option<(&[u8], &[u8])>
     ensures line { MatchOption result (lines bytes.now ≡ []) (λ parts. lines bytes.now ≡ parts.0.now ∷ lines parts.1.now) }
     ensures shorter { IfSome result (λ parts. length parts.1.now < length bytes.now) }
 {
-    match feed_at(bytes) {
-        Some(end) => Some((without_return(&bytes[..end]), &bytes[end + 1..])),
-        None if bytes.is_empty() => None,
-        None => Some((bytes, &[])),
+    let (line, rest) = first_line(bytes)?;
+    Some((without_end(line), rest))
+}
+
+/// A line without the line feed that ends it, if one does, and without the carriage return before that.
+fn without_end(line: &[u8]) -> &[u8]
+    ensures { result.now ≡ without_end line.now }
+{
+    match line {
+        [rest @ .., b'\n'] => without_return(rest),
+        _ => line,
     }
 }
 
