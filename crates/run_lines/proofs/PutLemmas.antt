@@ -1,5 +1,5 @@
 -- Texts that are put behind what is gathered, one after the other.
-use Rattle.std.proofs.Common.{◌≡◌, ℕ, ◌+◌, ◌-◌, ◌≤◌, arith, zero, suc, ◌/◌, ◌%◌, ◌<◌, slice_index, List, [], ◌∷◌, ◌++◌}
+use Rattle.std.proofs.Common.{◌≡◌, ℕ, ◌+◌, ◌/◌, ◌%◌, ◌<◌, slice_index, List, [], ◌∷◌, ◌++◌}
 use Rattle.std.proofs.Common.{length, take, drop, get_or, codes}
 use Rattle.std.proofs.Common.{Option, Result, Ok, Err, OnOk, OnErr, refl, sym, ap, ◌∙◌, append_assoc, append-nil}
 use Rattle.std.proofs.lemmas.List.{take_more, take-append-drop}
@@ -41,19 +41,6 @@ pub OnErr-both : {T E : Type 0} (r : Result T E) (a b c : Option (List ℕ)) (ou
 OnErr-both (Ok done) a b c out x mid y first second = tt
 OnErr-both (Err fault) a b c out x mid y first second = put-front a b c out x mid y first second
 
-take-none : {X : Type 0} (n : ℕ) → take {A = X} n [] ≡ []
-take-none zero = refl
-take-none (suc n) = refl
-
--- the items up to a place, and those between it and another
-take-further : {X : Type 0} (xs : List X) (i j : ℕ) → i ≤ j → take j xs ≡ take i xs ++ take (j - i) (drop i xs)
-take-further xs zero j h = let all : j ≡ j - 0 = omega arith in ap (λ n. take n xs) all
-take-further xs (suc i) zero h = absurd (omega (arith, h))
-take-further [] (suc i) (suc j) h = sym (take-none (suc j - suc i))
-take-further (x ∷ xs) (suc i) (suc j) h =
-    let more : suc j - suc i ≡ j - i = omega arith in
-    rw more (ap (λ l. x ∷ l) (take-further xs i j (omega (arith, h))))
-
 -- the text of items is that of each, one after the other
 module _ {X : Type 0} (text : List X → List ℕ) (joins : (xs ys : List X) → text (xs ++ ys) ≡ text xs ++ text ys) where
   -- one item more was put
@@ -76,32 +63,6 @@ module _ {X : Type 0} (text : List X → List ℕ) (joins : (xs ys : List X) →
       let front : WritesFront a c (out ++ text (take (i + 1) xs)) =
       rw one (put-front a b c out (text (take i xs)) mid (text (get_or xs i d ∷ [])) first second) in
       rw whole (front-of_both a c out (text (take (i + 1) xs)) (text (drop (i + 1) xs)) front)
-
-  -- the items up to another place were put
-  pub put-further : (a b c : Option (List ℕ)) (out mid now : List ℕ) (xs : List X) (i j : ℕ) → i ≤ j
-      → WritesAllBut a b (out ++ text (take i xs)) mid → WritesAllBut b c (mid ++ text (take (j - i) (drop i xs))) now
-      → WritesAllBut a c (out ++ text (take j xs)) now
-  put-further a b c out mid now xs i j h first second =
-      rw (take-further xs i j h, joins (take i xs) (take (j - i) (drop i xs)))
-      (put-both a b c out (text (take i xs)) mid (text (take (j - i) (drop i xs))) now first second)
-
-  -- of the items up to another place a front was put, and the rest is not put
-  pub put-halted : (a b c : Option (List ℕ)) (out mid : List ℕ) (xs : List X) (i j : ℕ) → i ≤ j
-      → WritesAllBut a b (out ++ text (take i xs)) mid → WritesFront b c (mid ++ text (take (j - i) (drop i xs)))
-      → WritesFront a c (out ++ text xs)
-  put-halted a b c out mid xs i j h first second =
-      let some : text (take j xs) ≡ text (take i xs) ++ text (take (j - i) (drop i xs)) =
-      ap text (take-further xs i j h) ∙ joins (take i xs) (take (j - i) (drop i xs)) in
-      let whole : text xs ≡ text (take j xs) ++ text (drop j xs) =
-      sym (ap text (take-append-drop j xs)) ∙ joins (take j xs) (drop j xs) in
-      let front : WritesFront a c (out ++ text (take j xs)) =
-      rw some (put-front a b c out (text (take i xs)) mid (text (take (j - i) (drop i xs))) first second) in
-      rw whole (front-of_both a c out (text (take j xs)) (text (drop j xs)) front)
-
--- the digits of no bytes
-pub digits-none : (a : Option (List ℕ)) (out : List ℕ) → WritesAllBut a a (out ++ encode_lower []) out
-unfolding encode_with
-digits-none a out = put-none a out
 
 -- the digits of some bytes and then of others
 pub digits-append : (xs ys : List ℕ) → encode_lower (xs ++ ys) ≡ encode_lower xs ++ encode_lower ys

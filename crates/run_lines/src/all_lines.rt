@@ -14,7 +14,7 @@ use crate::replay_text::{has_refused, write_lines};
 use crate::uplink_counts::UplinkCounts;
 use gateway_book::GatewayBook;
 use resv_list::Roster;
-use server_core::{Entry, NoMemory};
+use server_core::Entry;
 use std::alloc::{AllocError, Global};
 use std::thread::{Threads, join};
 use text_lines::{ByteOut, CallFailed, MemoryOut, write_all};
@@ -95,7 +95,7 @@ fn texts_between<R: Threads + Sync>(
     alloc: Global,
     entries: &[Entry<Global>],
     threads: u8,
-) -> Result<Vec<Vec<u8>>, NoMemory>
+) -> Result<Vec<Vec<u8>>, AllocError>
     ensures { IfOk result (λ texts. bytes_of texts.items ≡ text_of (entry_lines entries.now)) }
 {
     if threads < 2 || entries.len() < ENTRIES_EACH {
@@ -104,11 +104,11 @@ fn texts_between<R: Threads + Sync>(
     let (front, back) = entries.split_at(entries.len() / 2);
     let some = threads / 2;
     let others = threads - some;
-    let first_texts = move || -> Result<Vec<Vec<u8>>, NoMemory>
+    let first_texts = move || -> Result<Vec<Vec<u8>>, AllocError>
         requires { IsSync R.row }
         ensures { IfOk result (λ texts. bytes_of texts.items ≡ text_of (entry_lines front.entry.now)) }
     { texts_between(rt, alloc, front, some) };
-    let second_texts = move || -> Result<Vec<Vec<u8>>, NoMemory>
+    let second_texts = move || -> Result<Vec<Vec<u8>>, AllocError>
         requires { IsSync R.row }
         ensures { IfOk result (λ texts. bytes_of texts.items ≡ text_of (entry_lines back.entry.now)) }
     { texts_between(rt, alloc, back, others) };
@@ -117,7 +117,7 @@ fn texts_between<R: Threads + Sync>(
 }
 
 /// The text of some entries, as one part.
-fn text_alone(alloc: Global, entries: &[Entry<Global>]) -> Result<Vec<Vec<u8>>, NoMemory>
+fn text_alone(alloc: Global, entries: &[Entry<Global>]) -> Result<Vec<Vec<u8>>, AllocError>
     ensures { IfOk result (λ texts. bytes_of texts.items ≡ text_of (entry_lines entries.now)) }
 {
     let mut writer = MemoryOut::new(alloc);
@@ -131,11 +131,9 @@ fn text_alone(alloc: Global, entries: &[Entry<Global>]) -> Result<Vec<Vec<u8>>, 
 }
 
 /// These texts, and those that follow them.
-fn joined(first: Vec<Vec<u8>>, second: Vec<Vec<u8>>) -> Result<Vec<Vec<u8>>, NoMemory>
-    ensures { IfOk result (λ texts. texts.items ≡ first.items ++ second.items) }
+fn joined(mut texts: Vec<Vec<u8>>, mut more: Vec<Vec<u8>>) -> Result<Vec<Vec<u8>>, AllocError>
+    ensures { IfOk result (λ joined. joined.items ≡ texts.items ++ more.items) }
 {
-    let mut texts = first;
-    let mut second = second;
-    texts.append(&mut second)?;
+    texts.append(&mut more)?;
     Ok(texts)
 }

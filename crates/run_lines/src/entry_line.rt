@@ -246,12 +246,10 @@ fn put_digits<W: ByteOut>(
     ensures err { OnErr result (WritesFront (W.taken writer.old) (W.taken writer.new) (output.old ++ encode_lower bytes.now)) }
     ensures failed { CountsFailure (W.failed_calls writer.old) (W.failed_calls writer.new) result }
 {
-    let mut place = 0;
-    while place < bytes.len() {
-        let end = bytes.len().min(place.saturating_add(BYTES_AT_ONCE));
-        match put_few(&bytes[place..end], output, writer) {
+    for few in bytes.chunks(BYTES_AT_ONCE) {
+        match put_few(few, output, writer) {
             Err(failed) => return Err(failed),
-            Ok(()) => place = end,
+            Ok(()) => {}
         }
     }
     Ok(())

@@ -9,7 +9,6 @@ use crate::key_ring::KeyRing;
 use answer_ticket::Bytes;
 use hex::{FromHex, FromHexError};
 use lora_frame::{EMPTY_LEN, Keys, MIC_LEN, Up, uplink_bytes, uplink_header};
-use server_core::NoMemory;
 use std::alloc::{AllocError, Global};
 use text_lines::number_u32;
 
@@ -25,7 +24,7 @@ pub(crate) fn addr_word(word: &[u8]) -> Option<u32>
 }
 
 /// HEX: two hexadecimal digits for each byte, or `-` for none.
-pub(crate) fn hex_word(alloc: Global, word: &[u8]) -> Result<Option<Bytes<Global>>, NoMemory>
+pub(crate) fn hex_word(alloc: Global, word: &[u8]) -> Result<Option<Bytes<Global>>, AllocError>
     ensures { IfOk result (λ bytes. bytes ≡ hex_word word.now) }
 {
     if let [b'-'] = word {
@@ -70,7 +69,7 @@ pub(crate) fn bare_uplink(
     kind: UplinkKind,
     addr: u32,
     counter: u32,
-) -> Result<Bytes<Global>, NoMemory>
+) -> Result<Bytes<Global>, AllocError>
     ensures { IfOk result (λ bytes. bytes ≡ bare_uplink (option_copied keys.entry) (kind.confirmed, kind.adr_ack_req) addr
         counter) }
 {
@@ -107,7 +106,7 @@ fn made_uplink(
     kind: UplinkKind,
     addr: u32,
     counter: u32,
-) -> Result<Bytes<Global>, NoMemory>
+) -> Result<Bytes<Global>, AllocError>
     ensures { IfOk result (λ bytes. bytes ≡ with_mic keys.now 0 addr counter
         (bare_message (kind.confirmed, kind.adr_ack_req) addr counter)) }
 {
@@ -123,7 +122,7 @@ fn unsigned_uplink(
     kind: UplinkKind,
     addr: u32,
     counter: u32,
-) -> Result<Bytes<Global>, NoMemory>
+) -> Result<Bytes<Global>, AllocError>
     ensures { IfOk result (λ bytes. bytes ≡ bare_message (kind.confirmed, kind.adr_ack_req) addr counter ++ 0 ∷ 0 ∷ 0 ∷ 0 ∷ []) }
 {
     let mut bytes = Vec::with_capacity(alloc, EMPTY_LEN)?;
@@ -137,7 +136,7 @@ fn made_word(
     alloc: Global,
     ring: &KeyRing<'_>,
     word: &[u8],
-) -> Result<Option<Bytes<Global>>, NoMemory>
+) -> Result<Option<Bytes<Global>>, AllocError>
     ensures { IfOk result (λ bytes. bytes ≡ made_word ring.now.devices.now word.now) }
 {
     let [_, kind, b':', rest @ ..] = word else {
@@ -164,7 +163,7 @@ pub(crate) fn uplink_word(
     alloc: Global,
     ring: &KeyRing<'_>,
     word: &[u8],
-) -> Result<Option<Bytes<Global>>, NoMemory>
+) -> Result<Option<Bytes<Global>>, AllocError>
     ensures { IfOk result (λ bytes. bytes ≡ uplink_word ring.now.devices.now word.now) }
 {
     match word {

@@ -1,29 +1,55 @@
-use Rattle.std.proofs.Common.{rules, arith}
-use Rattle.hex.specs.Hex.{encode_lower}
-use Rattle.run_lines.proofs.PutLemmas.{put-further, put-halted, digits-none, digits-append}
+use Rattle.std.proofs.Common.{rules, List, ℕ, [], ◌≡◌, ◌++◌, ap, sym, ◌∙◌, append_assoc, append-nil}
+use Rattle.std.proofs.lemmas.List.{nil_from_length}
+use Rattle.std.specs.Slice.Iter.{chunks_rest}
+use Rattle.hex.specs.Hex.{encode_with, encode_lower}
+use Rattle.run_lines.proofs.PutLemmas.{put-none, put-both, put-front, front-of_both, digits-append}
 use Rattle.run_lines.proofs.entry_line.put_digits.Goals as goal
 
-pub loop-place-init : goal.loop-place-init
-loop-place-init g c = record {
-  within = search rules;
-  written = digits-none (g.W.ByteOut.taken c.args.writer.now) c.args.output.now;
+-- what is put, the first of what is left, and then the others
+next_digits : (done few rest all whole : List ℕ) → all ≡ few ++ rest → done ++ encode_lower all ≡ whole
+    → (done ++ encode_lower few) ++ encode_lower rest ≡ whole
+next_digits done few rest all whole parts e =
+    append_assoc done (encode_lower few) (encode_lower rest)
+    ∙ ap (λ l. done ++ l) (sym (digits-append few rest) ∙ ap encode_lower (sym parts)) ∙ e
+
+pub loop-few-init : goal.loop-few-init
+loop-few-init g c = record {
+  next = search rules;
+  ends = tt;
+  size = search rules;
+  done = [];
+  whole = search rules;
+  written = put-none (g.W.ByteOut.taken c.args.writer.now) c.args.output.now;
   calls = search rules;
 }
 
 pub returns-in-Err-clause-err : goal.returns-in-Err-clause-err
 returns-in-Err-clause-err g c =
-    put-halted encode_lower digits-append (g.W.ByteOut.taken c.args.writer.now) (g.W.ByteOut.taken c.loop-place.writer)
-    (g.W.ByteOut.taken c.put_few.new.writer) c.args.output.now c.loop-place.output c.args.bytes.now c.loop-place.place
-    c.min-end.result (omega (arith, c.min-end.ensures, c.saturating_add.ensures, c.loop-place-test.true))
-    c.loop-place.invariant.written c.in-Err.ensures.err
+    let was = c.loop-few.invariant in
+    let digits = encode_lower c.in-Some.few.now in
+    let rest = chunks_rest c.next.new.self in
+    rw (← next_digits was.done c.in-Some.few.now rest _ _ c.in-Some.ensures.steps.1.0 was.whole)
+    (front-of_both _ _ c.args.output.now (was.done ++ digits) (encode_lower rest)
+    (put-front _ _ _ c.args.output.now was.done c.loop-few.output digits was.written c.in-Err.ensures.err))
 
-pub loop-place-preserved : goal.loop-place-preserved
-loop-place-preserved g c = record {
-  within = omega (arith, c.min-end.ensures);
-  written = put-further encode_lower digits-append (g.W.ByteOut.taken c.args.writer.now)
-      (g.W.ByteOut.taken c.loop-place.writer) (g.W.ByteOut.taken c.put_few.new.writer) c.args.output.now c.loop-place.output
-      c.put_few.new.output c.args.bytes.now c.loop-place.place c.min-end.result
-      (omega (arith, c.min-end.ensures, c.saturating_add.ensures, c.loop-place-test.true))
-      c.loop-place.invariant.written c.in-Ok.ensures.ok;
-  calls = search rules;
-}
+pub loop-few-preserved : goal.loop-few-preserved
+loop-few-preserved g c =
+    let was = c.loop-few.invariant in
+    let few = c.in-Some.few.now in
+    let steps = c.in-Some.ensures.steps in
+    record {
+      next = search rules;
+      ends = tt;
+      size = steps.0 ∙ was.size;
+      done = was.done ++ encode_lower few;
+      whole = next_digits was.done few (chunks_rest c.next.new.self) _ _ steps.1.0 was.whole;
+      written = put-both _ _ _ c.args.output.now was.done c.loop-few.output (encode_lower few) c.put_few.new.output was.written
+          c.in-Ok.ensures.ok;
+      calls = search rules;
+    }
+
+pub returns-clause-ok : goal.returns-clause-ok
+unfolding encode_with
+returns-clause-ok g c =
+    let none = nil_from_length _ c.in-None.ensures.steps.1.0 in
+    rw (← (rw (none, append-nil) at c.loop-few.invariant.whole)) c.loop-few.invariant.written
