@@ -48,7 +48,7 @@ IsSettingOf rules _ = MayOpen rules
 
 -- no book may be opened, and the fault names what is wrong
 abbrev pub IsRulesFault : Rules → TextFault → Type 0
-IsRulesFault rules (Settings name) = (¬ MayOpen rules) × (option_map name_of (open_fault rules) ≡ Some name.now)
+IsRulesFault rules (Settings name) = IsSettingOf rules (Err (Settings name))
 IsRulesFault rules _ = ⊥
 
 -- the name that a program prints of a saved book's fault
