@@ -3,8 +3,10 @@ use Rattle.std.proofs.Common.{◌≡◌, ◌≢◌, ℕ, zero, suc, ◌+◌, ◌
 use Rattle.std.proofs.Common.{Bool, true, false, List, [], ◌∷◌, length, get_or, None, find}
 use Rattle.std.proofs.Common.{refl, sym, ap, ◌∙◌, arith, nat_lt, add-one}
 use Rattle.std.specs.Prelude.{slice_get}
-use Rattle.std.specs.List.{AllWithin}
-use Rattle.std.specs.List.Sorted.{IsNonDecreasingBy, IsPartitionPoint}
+use Rattle.std.specs.List.{AllWithin, IsAllAdjacentAnswer}
+use Rattle.std.specs.List.Sorted.{IsNonDecreasingBy, IsPartitionPoint, IsStrictlyIncreasing}
+use Rattle.std.specs.Bool.{then_some}
+use Rattle.std.specs.Option.{option_and_then}
 use Rattle.std.proofs.lemmas.Bool.Decides.{nat_tests}
 use Rattle.run_passes.specs.Numbered.{IsEndOfLesser}
 
@@ -16,7 +18,7 @@ module _ {X : Type 0} (key : X → ℕ) (n : ℕ) where
   greater_is_other a l = grind (arith, nat_tests, l)
 
   -- what stands behind all lesser numbers and has this number is the first that has it
-  pub found_here : (xs : List X) (at : ℕ) (x : X) → AllWithin (λ y. key y < n) xs 0 at → at < length xs
+  found_here : (xs : List X) (at : ℕ) (x : X) → AllWithin (λ y. key y < n) xs 0 at → at < length xs
       → ((d : X) → x ≡ get_or xs at d) → key x ≡ n → slice_get xs at ≡ find (λ y. key y == n) xs
   found_here [] at x lesser within there e = absurd (omega (arith, within))
   found_here (y ∷ xs) zero x lesser within there e =
@@ -87,7 +89,19 @@ module _ {X : Type 0} (key : X → ℕ) (n : ℕ) where
             strictly a b le ne = grind (arith, nat_tests, le, ne)
 
       -- where the first that isn't lesser is another
-      pub all_others : (x : X) → at < length xs → ((d : X) → x ≡ get_or xs at d) → key x ≢ n
+      all_others : (x : X) → at < length xs → ((d : X) → x ≡ get_or xs at d) → key x ≢ n
           → None ≡ find (λ y. key y == n) xs
       all_others x within there other =
           found_nowhere xs (λ k d l. split k d (nat_lt k at) refl within (λ e. other (ap key (there d) ∙ e)) l)
+
+      -- what stands there is told if it has the number
+      pub told_by : (x : X) (t : Bool) → (key x == n) ≡ t → at < length xs → ((d : X) → x ≡ get_or xs at d)
+          → option_and_then (slice_get xs) (then_some t at) ≡ find (λ y. key y == n) xs
+      told_by x true e within there = found_here xs at x end.lesser within there (grind (arith, nat_tests, e))
+      told_by x false e within there = all_others x within there (λ q. absurd (grind (arith, nat_tests, e, q)))
+
+-- what `is_sorted_by` tells of numbers
+pub increasing : (xs : List ℕ) (told : Bool) → IsAllAdjacentAnswer (λ x y b. b ≡ nat_lt x y) xs told → told ≡ true
+    → IsStrictlyIncreasing xs
+increasing xs false answer e k l = absurd (cc (e))
+increasing xs true answer e k l = grind (arith, nat_tests, answer k 0 l)

@@ -74,15 +74,7 @@ pub fn place_of<T: Numbered>(items: &[T], likely: usize, number: u64) -> Option<
     ensures found { option_and_then (slice_get items.now) result ≡ find (λ x. T.number_of x == number) items.now }
 {
     let at = end_of_lesser(items, likely, number);
-    match items.get(at) {
-        Some(item) => {
-            if item.number() == number {
-                return Some(at);
-            }
-            None
-        }
-        None => None,
-    }
+    (items.get(at)?.number() == number).then_some(at)
 }
 
 /// Where those of these items end that have lesser numbers; they are by number. The likely place is looked at first.

@@ -141,10 +141,5 @@ impl Ends {
 fn do_rise(numbers: &[u64]) -> bool
     ensures { IsTrue result → IsStrictlyIncreasing numbers.now }
 {
-    for at in 1..numbers.len() {
-        if numbers[at - 1] >= numbers[at] {
-            return false;
-        }
-    }
-    true
+    numbers.is_sorted_by(|one, next| one < next)
 }
