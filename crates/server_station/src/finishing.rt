@@ -130,7 +130,7 @@ fn compared<B: Ledger, S: BuildHasher, A: Allocator + Copy>(
 fn shut<B: Ledger, S: BuildHasher, A: Allocator + Copy>(
     desk: Desk<S, A>,
     tally: Tally<B>,
-    mut shelf: Shelf<A>,
+    shelf: Shelf<A>,
     mut places: Vec<Place<A>, A>,
 ) -> Station<B, S, A>
     requires tally { tally ≡ total_of desk }
@@ -139,7 +139,7 @@ fn shut<B: Ledger, S: BuildHasher, A: Allocator + Copy>(
     requires rising { IsStrictlyIncreasing (map (λ s. s.0) shelf.items) }
     ensures { result ≡ map (λ s. s.0) shelf.items }
 {
-    put_back(&mut shelf, &mut places);
+    put_back(shelf, &mut places);
     let office = Mutex::new(Office::new(desk, tally));
     Station { office, places }
 }
@@ -164,11 +164,11 @@ fn close<B: Ledger, S: BuildHasher, A: Allocator + Copy>(
     ensures books { result.books.items ≡ map (λ s. s.1) lists.shelf.items }
 {
     let ClosingLists {
-        mut shelf,
+        shelf,
         mut totals,
         mut books,
     } = lists;
-    part(&mut shelf, &mut totals, &mut books);
+    part(shelf, &mut totals, &mut books);
     Closing {
         booked: audited(tally, tills),
         totals,
@@ -195,8 +195,5 @@ fn audited<B: Ledger, A: Allocator + Copy>(mut tally: Tally<B>, tills: Vec<Till<
 fn are_all_in<B: Ledger>(tills: &[Till<B>]) -> bool
     ensures { MatchBool result (parts_of tills.now ≡ all_parts) (parts_of tills.now ≢ all_parts) }
 {
-    match Till::parts_together(tills) {
-        Some(parts) => parts == PARTS,
-        None => false,
-    }
+    Till::parts_together(tills) == Some(PARTS)
 }

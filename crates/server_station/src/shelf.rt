@@ -45,20 +45,18 @@ pub(crate) fn take_out<A: Allocator + Copy>(places: &mut Vec<Place<A>, A>, shelf
     ensures emptied { places.new.items ≡ [] }
     ensures kept_room { vec_len shelf.new ≤ vec_capacity places.new }
 {
-    places.reverse();
-    while let Some(place) = places.pop() {
+    for place in places.drain(..) {
         shelf.push_reserved((place.id, place.book.into_inner()));
     }
 }
 
 /// Puts all books behind locks, in the order of the shelf.
-pub(crate) fn put_back<A: Allocator + Copy>(shelf: &mut Shelf<A>, places: &mut Vec<Place<A>, A>)
+pub(crate) fn put_back<A: Allocator + Copy>(shelf: Shelf<A>, places: &mut Vec<Place<A>, A>)
     requires empty { places.old.items ≡ [] }
-    requires room { vec_len shelf.old ≤ vec_capacity places.old }
-    ensures { places.new.items ≡ map (λ s. s.0) shelf.old.items }
+    requires room { vec_len shelf ≤ vec_capacity places.old }
+    ensures { places.new.items ≡ map (λ s. s.0) shelf.items }
 {
-    shelf.reverse();
-    while let Some((id, book)) = shelf.pop() {
+    for (id, book) in shelf {
         places.push_reserved(Place {
             id,
             book: Mutex::new(book),
@@ -68,19 +66,18 @@ pub(crate) fn put_back<A: Allocator + Copy>(shelf: &mut Shelf<A>, places: &mut V
 
 /// Parts the books from their gateways' numbers; what each has counted stands beside its number.
 pub(crate) fn part<A: Allocator + Copy>(
-    shelf: &mut Shelf<A>,
+    shelf: Shelf<A>,
     totals: &mut Vec<(u16, Totals), A>,
     books: &mut Vec<Book<A>, A>,
 )
     requires no_totals { totals.old.items ≡ [] }
     requires no_books { books.old.items ≡ [] }
-    requires totals_room { vec_len shelf.old ≤ vec_capacity totals.old }
-    requires books_room { vec_len shelf.old ≤ vec_capacity books.old }
-    ensures totals { totals.new.items ≡ map with_totals shelf.old.items }
-    ensures books { books.new.items ≡ map (λ s. s.1) shelf.old.items }
+    requires totals_room { vec_len shelf ≤ vec_capacity totals.old }
+    requires books_room { vec_len shelf ≤ vec_capacity books.old }
+    ensures totals { totals.new.items ≡ map with_totals shelf.items }
+    ensures books { books.new.items ≡ map (λ s. s.1) shelf.items }
 {
-    shelf.reverse();
-    while let Some((id, book)) = shelf.pop() {
+    for (id, book) in shelf {
         totals.push_reserved((id, book.totals()));
         books.push_reserved(book);
     }

@@ -101,9 +101,7 @@ impl<B: Ledger, S: BuildHasher, A: Allocator + Copy> Station<B, S, A> {
     {
         self.office.lock(rt).take(n)
     }
-}
 
-impl<B: Ledger, S: BuildHasher, A: Allocator + Copy> Station<B, S, A> {
     /// Closes the least gathering that is due, as the desk's `pass`. Takes no memory.
     pub fn pass<R: Wait>(&self, rt: &R, now: u64) -> Option<u64>
         ensures { WasPassed now result }
@@ -122,9 +120,7 @@ impl<B: Ledger, S: BuildHasher, A: Allocator + Copy> Station<B, S, A> {
     {
         self.office.lock(rt).settle(stub, till)
     }
-}
 
-impl<B: Ledger, S: BuildHasher, A: Allocator + Copy> Station<B, S, A> {
     /// Tries a ticket once on the book of its gateway, as `Ticket::try_on`; `Wrong` where the station has no such gateway.
     pub fn try_once<R: Wait>(&self, rt: &R, ticket: Ticket<A>) -> Tried<A>
         ensures { MatchBool (is_among self.now (gateway_to_try ticket)) (WasTried ticket result)
@@ -156,9 +152,7 @@ impl<B: Ledger, S: BuildHasher, A: Allocator + Copy> Station<B, S, A> {
         }
         Some(book)
     }
-}
 
-impl<B: Ledger, S: BuildHasher, A: Allocator + Copy> Station<B, S, A> {
     /// Cancels what a receipt names, as the book's `cancel`, and answers its airtime in microseconds; `NotHere` where the
     /// station has no such gateway. Takes no memory.
     pub fn cancel<R: Wait>(&self, rt: &R, receipt: &Receipt<A>) -> Result<u64, CancelFault>
