@@ -2,6 +2,7 @@
 use Rattle.std.proofs.Common.{ℕ, ◌≡◌, ◌==◌, ◌+◌, ◌<◌, ◌≤◌, ◌++◌, List, [], ◌∷◌, Some, None, Option, Bool, true, false}
 use Rattle.std.proofs.Common.{length, Vec, if◌then◌else◌, refl, sym, ap, subst, ◌∙◌, ◌^◌, append-nil, arith, get_or}
 use Rattle.std.proofs.Math.Logic.{∥∥₁_map}
+use Rattle.std.specs.Option.{option_to_list}
 use Rattle.std.specs.List.{flat_map}
 use Rattle.std.specs.List.Sorted.{IsPermutation}
 use Rattle.std.proofs.lemmas.List.{length-append, map-append}
@@ -16,7 +17,7 @@ use Rattle.server_workers.specs.declared.worked.Worked.{Worked}
 use Rattle.server_workers.specs.Alone.{HasRoomForAll, HasTakenUp, IsServedAlone}
 use Rattle.server_workers.specs.Served.{IsIdle, IsServed}
 use Rattle.server_workers.specs.Serving.{Fits, IsSummedUp}
-use Rattle.server_workers.specs.Working.{IsMore, HasFiled, items_of, may_come_later}
+use Rattle.server_workers.specs.Working.{IsMore, HasFiled, may_come_later}
 use Rattle.server_workers.specs.Working.{receipts_of, outcomes_of, skipped_of, refused_of, strays_of}
 use Rattle.server_workers.specs.Works.{IsLonger}
 use Rattle.server_workers.proofs.ServedLemmas.{each_told}
@@ -32,7 +33,7 @@ one_of : {X : Type 0} (b : Bool) (xs ys : List X) → length xs ≤ 1 → length
 one_of true xs ys first second = first
 one_of false xs ys first second = second
 
-one_item : {X : Type 0} (o : Option X) → length (items_of o) ≤ 1
+one_item : {X : Type 0} (o : Option X) → length (option_to_list o) ≤ 1
 one_item None = omega arith
 one_item (Some x) = omega arith
 

@@ -1,4 +1,5 @@
-use Rattle.std.specs.Prelude.{ℕ, ◌≡◌, ◌≤◌, Bool, true, false, if◌then◌else◌, List, [], ◌∷◌, ◌++◌, Option, Some, None}
+use Rattle.std.specs.Prelude.{ℕ, ◌≡◌, ◌≤◌, Bool, true, false, if◌then◌else◌, List, [], ◌∷◌, ◌++◌}
+use Rattle.std.specs.Option.{option_to_list}
 use Rattle.answer_ticket.specs.declared.outcome.Outcome.{Outcome}
 use Rattle.answer_ticket.specs.declared.tried.Receipt.{Receipt}
 use Rattle.server_desk.specs.declared.faults.TakeFault.{TakeFault}
@@ -37,16 +38,11 @@ may_come_later taking.Engaged = true
 may_come_later taking.CounterSpent = false
 may_come_later taking.NoMemory = true
 
--- what may be there, as a list
-abbrev pub items_of : {X : Type 0} → Option X → List X
-items_of None = []
-items_of (Some x) = x ∷ []
-
 -- what each list of a worker gets, by what became of number n
 abbrev pub receipts_of : {A : Type 0} → Handled A → List (Receipt A)
 receipts_of (NotTaken fault) = []
-receipts_of (Settled outcome receipt) = items_of receipt
-receipts_of (Stray outcome receipt) = items_of receipt
+receipts_of (Settled outcome receipt) = option_to_list receipt
+receipts_of (Stray outcome receipt) = option_to_list receipt
 
 abbrev pub outcomes_of : {A : Type 0} → Handled A → List Outcome
 outcomes_of (NotTaken fault) = []

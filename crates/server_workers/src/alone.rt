@@ -24,7 +24,7 @@ pub(crate) fn serve_alone<R: Wait, B: Ledger, S: BuildHasher, A: Allocator + Cop
     alloc: A,
     station: &Station<B, S, A>,
     numbers: &[u64],
-    till: Till<B>,
+    mut till: Till<B>,
     gate: &G,
 ) -> Result<Served<B, A>, ServeFault<B>>
     requires { 16 < till.parts }
@@ -41,7 +41,6 @@ pub(crate) fn serve_alone<R: Wait, B: Ledger, S: BuildHasher, A: Allocator + Cop
     let Ok(lists) = Lists::new(alloc, numbers.len()) else {
         return Err(fault(ServeCause::NoMemory, till));
     };
-    let mut till = till;
     prove!(till.parts() <= PARTS); // So the worker's part fits when it is joined again.
     let mut worked = Worked::idle(till.split(), lists);
     worked.answer_all(rt, station, gate, numbers);

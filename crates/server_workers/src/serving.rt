@@ -212,7 +212,7 @@ fn lists_for<A: Allocator + Copy>(
 fn hired<K: Room, B: Ledger, A: Allocator>(
     till: &mut Till<B>,
     lists: Vec<Lists<A>, A>,
-    crew: Vec<Member<K, B, A>, A>,
+    mut crew: Vec<Member<K, B, A>, A>,
 ) -> Vec<Member<K, B, A>, A>
     requires empty { All (λ own. AreEmptyFor K.room own) lists.items }
     requires nobody { vec_len crew ≡ 0 }
@@ -221,9 +221,7 @@ fn hired<K: Room, B: Ledger, A: Allocator>(
     ensures till { till.new ≡ record till.old { parts = till.old.parts - vec_len lists } }
     ensures count { vec_len result ≡ vec_len lists }
 {
-    let mut lists = lists;
-    let mut crew = crew;
-    while let Some(own) = lists.pop() {
+    for own in lists {
         crew.push_reserved(Member::new(Worked::idle(till.split(), own)));
     }
     crew

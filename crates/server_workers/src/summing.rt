@@ -124,7 +124,7 @@ pub(crate) fn summed_up<K: Room, B: Ledger, A: Allocator>(
 /// Adds what a crew did, and counts those who have begun.
 fn gather<K: Room, B: Ledger, A: Allocator>(
     served: &mut Served<B, A>,
-    crew: Vec<Member<K, B, A>, A>,
+    mut crew: Vec<Member<K, B, A>, A>,
 )
     requires room { HasRoomFor (vec_len crew * K.room) served.old }
     requires parts { served.old.till.parts + vec_len crew ≤ all_parts }
@@ -137,7 +137,6 @@ fn gather<K: Room, B: Ledger, A: Allocator>(
     ensures most { served.new.ran ≤ served.old.ran + vec_len crew }
     ensures nobody { served.new.ran ≡ 0 → served.new.outcomes.items ≡ served.old.outcomes.items }
 {
-    let mut crew = crew;
     while let Some(member) = crew.pop() {
         let (has_begun, worked) = member.parted();
         served.take_in(worked);

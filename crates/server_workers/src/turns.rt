@@ -1,9 +1,10 @@
 // Each number that a channel or a list gives is answered once, and what becomes of it is filed.
 ghost use Rattle.std.specs.Prelude.{◌≡◌, ◌≤◌, false, None, IfOk};
+ghost use Rattle.std.specs.Option.{option_to_list};
 ghost use Rattle.server_station.specs.Handling.{IsHandled, was_taken};
 ghost use Rattle.server_workers.specs.Turns.{IsOneOf};
 ghost use Rattle.server_workers.specs.Works.{IsOpen, HasMore};
-ghost use Rattle.server_workers.specs.Working.{items_of, receipts_of, outcomes_of, skipped_of, refused_of, strays_of};
+ghost use Rattle.server_workers.specs.Working.{receipts_of, outcomes_of, skipped_of, refused_of, strays_of};
 
 use crate::{Gate, Handled, Ledger, Station, Till};
 use answer_ticket::{Outcome, Receipt};
@@ -137,7 +138,7 @@ impl<A: Allocator> Turn<A> {
 /// Keeps what was booked.
 fn keep<A: Allocator>(receipts: &mut Vec<Receipt<A>, A>, receipt: Option<Receipt<A>>)
     requires { IsOpen receipts.old }
-    ensures { HasMore (items_of receipt) receipts.old receipts.new }
+    ensures { HasMore (option_to_list receipt) receipts.old receipts.new }
 {
     if let Some(receipt) = receipt {
         receipts.push_reserved(receipt);

@@ -21,7 +21,7 @@ pub fn work<R: Wait, B: Ledger, S: BuildHasher, A: Allocator + Copy, G: Gate>(
     station: &Station<B, S, A>,
     numbers: &Receiver<u64, A>,
     gate: &G,
-    worked: Worked<B, A>,
+    mut worked: Worked<B, A>,
 ) -> Worked<B, A>
     ensures more { IsMore worked result }
     ensures till { (more : List Ends) × (result.outcomes.items ≡ worked.outcomes.items ++ more)
@@ -29,7 +29,6 @@ pub fn work<R: Wait, B: Ledger, S: BuildHasher, A: Allocator + Copy, G: Gate>(
     ensures turns { HasWorked None station.now worked result }
     ensures stopped { HasStopped result }
 {
-    let mut worked = worked;
     work_on(rt, station, numbers, gate, &mut worked);
     worked
 }

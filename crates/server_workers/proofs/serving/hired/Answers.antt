@@ -1,20 +1,31 @@
-use Rattle.std.proofs.Common.{Some, ap, arith, vec_capacity, ◌∙◌}
-use Rattle.std.proofs.lemmas.List.Elements.{All-pop}
+use Rattle.std.proofs.Common.{refl, ap, arith, vec_capacity, ◌∙◌}
+use Rattle.std.proofs.lemmas.List.Elements.{All-head, All-tail}
+use Rattle.std.specs.Vec.Iter.{into_iter_items}
 use Rattle.server_workers.specs.EmptyLists.{AreEmptyFor}
 use Rattle.server_workers.proofs.serving.hired.Goals as goal
 
+pub loop-own-init : goal.loop-own-init
+loop-own-init g c =
+    let given = c.into_iter-own-iterator.ensures.into_iter_gives in
+    record {
+      amount = refl;
+      parts = omega (arith, given.1);
+      some = c.requires.parts;
+      count = omega (arith, given.1, c.requires.nobody);
+      places = c.requires.places;
+      empty = rw given.0 c.requires.empty;
+    }
+
 pub idle-requires-clause-outcomes : goal.idle-requires-clause-outcomes
 idle-requires-clause-outcomes g c =
-    let own : AreEmptyFor g.K.Room.room c.in-Some.own = (All-pop
-    (λ own. AreEmptyFor g.K.Room.room own) c.loop-own.lists.items c.pop.new.self.items
-    (Some c.in-Some.own) c.in-Some.ensures.items c.loop-own.invariant.empty).1 in
+    let own = All-head (λ own. AreEmptyFor g.K.Room.room own) c.in-Some.own (into_iter_items c.next.new.self)
+    (rw c.in-Some.ensures.steps.0 at c.loop-own.invariant.empty) in
     own.outcomes.none
 
 pub new-requires-clause-within : goal.new-requires-clause-within
 new-requires-clause-within g c =
-    let own : AreEmptyFor g.K.Room.room c.in-Some.own = (All-pop
-    (λ own. AreEmptyFor g.K.Room.room own) c.loop-own.lists.items c.pop.new.self.items
-    (Some c.in-Some.own) c.in-Some.ensures.items c.loop-own.invariant.empty).1 in
+    let own = All-head (λ own. AreEmptyFor g.K.Room.room own) c.in-Some.own (into_iter_items c.next.new.self)
+    (rw c.in-Some.ensures.steps.0 at c.loop-own.invariant.empty) in
     let made = c.idle.ensures in
     record {
       receipts = omega (arith, own.receipts.fits, ap (λ v. vec_capacity v) made.receipts);
@@ -26,9 +37,8 @@ new-requires-clause-within g c =
 
 pub new-requires-clause-none : goal.new-requires-clause-none
 new-requires-clause-none g c =
-    let own : AreEmptyFor g.K.Room.room c.in-Some.own = (All-pop
-    (λ own. AreEmptyFor g.K.Room.room own) c.loop-own.lists.items c.pop.new.self.items
-    (Some c.in-Some.own) c.in-Some.ensures.items c.loop-own.invariant.empty).1 in
+    let own = All-head (λ own. AreEmptyFor g.K.Room.room own) c.in-Some.own (into_iter_items c.next.new.self)
+    (rw c.in-Some.ensures.steps.0 at c.loop-own.invariant.empty) in
     let made = c.idle.ensures in
     record {
       receipts = ap (λ v. v.items) made.receipts ∙ own.receipts.none;
@@ -45,10 +55,10 @@ loop-own-preserved g c =
     let left = ap (λ t. t.parts) c.split.ensures.left in
     record {
       amount = ap (λ t. t.amount) c.split.ensures.left ∙ before.amount;
-      parts = omega (arith, left, before.parts, before.some, c.in-Some.ensures.len);
+      parts = omega (arith, left, before.parts, before.some, c.in-Some.ensures.steps.1);
       some = before.some;
-      count = omega (arith, before.count, c.in-Some.ensures.len, c.push_reserved.ensures.len);
+      count = omega (arith, before.count, c.in-Some.ensures.steps.1, c.push_reserved.ensures.len);
       places = omega (arith, before.places, c.push_reserved.ensures.capacity);
-      empty = (All-pop (λ own. AreEmptyFor g.K.Room.room own) c.loop-own.lists.items c.pop.new.self.items
-          (Some c.in-Some.own) c.in-Some.ensures.items before.empty).0;
+      empty = All-tail (λ own. AreEmptyFor g.K.Room.room own) c.in-Some.own (into_iter_items c.next.new.self)
+          (rw c.in-Some.ensures.steps.0 at before.empty);
     }
