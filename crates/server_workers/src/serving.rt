@@ -69,10 +69,7 @@ where
     ensures back { IfErr result (λ fault. fault.till ≡ till) }
     ensures outside { IsErrAnd result (λ fault. fault.cause ≡ ServeCause.Workers) ↔ IsOutside workers }
 {
-    if workers == 0 {
-        return Err(fault(ServeCause::Workers, till));
-    }
-    if workers > MAX_WORKERS {
+    if workers == 0 || workers > MAX_WORKERS {
         return Err(fault(ServeCause::Workers, till));
     }
     if workers == 1 {
