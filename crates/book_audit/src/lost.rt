@@ -73,8 +73,7 @@ fn is_held(held: &[Held], likely: &mut usize, gateway: u16, reservation: &Reserv
 fn stands_at(held: &[Held], at: usize, gateway: u16, reservation: &Reservation) -> bool
     ensures { IsTrue result ↔ StandsAt held.now at (gateway, reservation.now) }
 {
-    held.get(at)
-        .is_some_and(|(keeper, member)| *keeper == gateway && is_same(member, reservation))
+    held.get(at).is_some_and(|(keeper, member)| *keeper == gateway && is_same(member, reservation))
 }
 
 /// Whether the book of the gateway with this number has a floor more than an hour past the reservation's start.

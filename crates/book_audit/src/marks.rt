@@ -131,8 +131,6 @@ fn are_past<A: Allocator + Copy>(
     requires { AreMarked receipts.now (held_by shelf.now) marks.now }
     ensures { IsTrue result → All (IsAccountedFor shelf.now) receipts.now }
 {
-    receipts
-        .iter()
-        .zip(marks)
-        .all(|(receipt, marked)| *marked || is_past(shelf, receipt.gateway, &receipt.reservation))
+    receipts.iter().zip(marks).all(|(receipt, marked)| *marked
+        || is_past(shelf, receipt.gateway, &receipt.reservation))
 }
