@@ -97,7 +97,7 @@ impl<B: Ledger, R: Wait> Post<'_, B, R> {
 }
 
 /// The copy of a device's uplink that the gateway `1 + addr mod 2` heard, until a million microseconds for each address.
-fn copy_of(addr: u32) -> Heard1 {
+pub(crate) fn copy_of(addr: u32) -> Heard1 {
     Heard1 {
         gateway: 1 + (addr % 2) as u16,
         at: 1_000_000 * addr as u64,

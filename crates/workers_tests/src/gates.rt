@@ -46,6 +46,47 @@ impl Gate for Shut {
     fn left(&self, _gateway: u16) {}
 }
 
+/// For so many looks who asks keeps the gate: long enough for another worker to come.
+const LOOKS: u32 = 10_000_000;
+
+/// Lets everybody in, slowly, and notes whether two ask at once. Who asks has the gateway's lock, so at one gateway nobody meets
+/// another.
+#[derive(Drop)]
+pub(crate) struct Narrow {
+    asking: AtomicU64,
+    crowded: AtomicU64,
+}
+
+impl Narrow {
+    /// A gate at which nobody has asked.
+    pub(crate) fn new() -> Self {
+        Narrow {
+            asking: AtomicU64::new(0),
+            crowded: AtomicU64::new(0),
+        }
+    }
+
+    /// Whether two asked at once.
+    pub(crate) fn was_crowded(&self) -> bool {
+        self.crowded.load(Ordering::SeqCst) > 0
+    }
+}
+
+impl Gate for Narrow {
+    fn inside(&self, _gateway: u16) -> bool {
+        if self.asking.fetch_add(1, Ordering::SeqCst) > 0 {
+            self.crowded.store(1, Ordering::SeqCst);
+        }
+        for _ in 0..LOOKS {
+            self.asking.load(Ordering::SeqCst);
+        }
+        self.asking.fetch_sub(1, Ordering::SeqCst);
+        true
+    }
+
+    fn left(&self, _gateway: u16) {}
+}
+
 /// Notes who goes where, on one thread: a digit for each call, the gateway's number for `inside` and 5 more for `left`.
 #[derive(Drop)]
 pub(crate) struct Log {

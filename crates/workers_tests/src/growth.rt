@@ -1,6 +1,5 @@
 // Want of memory: tickets, a station and its calls, and its workers.
 
-mod at_station;
 mod calls;
 mod cases;
 mod desk_cases;

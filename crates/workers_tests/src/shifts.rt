@@ -1,6 +1,6 @@
 // Workers at a station, and what they tell.
 
-use crate::gates::Shut;
+use crate::gates::{Narrow, Shut};
 use crate::meeting::Meeting;
 use crate::posts::{Post, text};
 use answer_ticket::{Ending, Outcome};
@@ -18,6 +18,8 @@ pub(crate) enum Shift {
     Crew(u64, u64, u8),
     /// So many workers, 2 or 3, who meet at as many gateways, at the numbers from the one to the other.
     Meeting(u64, u64, u8),
+    /// So many workers at a gate where each takes its time, at the numbers from the one to the other.
+    Slow(u64, u64, u8),
     /// So many workers whom no gate lets in, at the numbers from the one to the other.
     ShutOut(u64, u64, u8),
     /// One with room for so many numbers, at these.
@@ -32,6 +34,7 @@ impl<B: Ledger + Send + Sync, R: Threads + Wait + Sync> Post<'_, B, R> {
         match shift {
             Shift::Crew(first, last, workers) => self.serve(first, last, workers, &NoGate),
             Shift::Meeting(first, last, workers) => self.meet(first, last, workers),
+            Shift::Slow(first, last, workers) => self.ask_slowly(first, last, workers),
             Shift::ShutOut(first, last, workers) => self.serve(first, last, workers, &Shut::new(0)),
             Shift::Alone(room, numbers) => self.work(room, numbers, &[], &NoGate),
             Shift::One(room, numbers, others) => self.work(room, numbers, others, &Shut::new(0)),
@@ -56,6 +59,14 @@ impl<B: Ledger + Send + Sync, R: Threads + Wait + Sync> Post<'_, B, R> {
         let told = self.serve(first, last, workers, &meeting)?;
         let met = meeting.told();
         Ok(format!(in self.alloc; "{told} {met:?}")?)
+    }
+
+    /// Workers ask slowly: what they tell, and whether two asked at once.
+    fn ask_slowly(&mut self, first: u64, last: u64, workers: u8) -> Result<String, Fail> {
+        let narrow = Narrow::new();
+        let told = self.serve(first, last, workers, &narrow)?;
+        let was_crowded = narrow.was_crowded();
+        Ok(format!(in self.alloc; "{told} {was_crowded:?}")?)
     }
 
     /// Workers serve.

@@ -133,8 +133,11 @@ fn workers_skip_an_engaged_device(rt: HostRuntime) -> Result<(), Fail> {
 }
 
 /// Each lets the other go on: they are inside at once, and each leaves its gateway once.
-static MET: [Row; 2] = [
-    (Step::Hear(Heard::All(2)), "2"),
+static MET: [Row; 5] = [
+    (Step::Hear(Heard::Of(1, 0)), OPENED_1),
+    (Step::Hear(Heard::By(2, 2, 0)), OPENED_2),
+    (Step::Ask(Ask::Pass(200_001)), "Some(1)"),
+    (Step::Ask(Ask::Pass(200_001)), "Some(2)"),
     (
         Step::Work(Shift::Meeting(1, 2, 2)),
         "(2, [2, 2], ([], 0, 0), 0, true) [1, 1, 1, 0]",
@@ -144,6 +147,23 @@ static MET: [Row; 2] = [
 #[test]
 fn two_workers_are_at_two_gateways_at_once(rt: HostRuntime) -> Result<(), Fail> {
     tells(&rt, rt.alloc(), 2, &MET)
+}
+
+/// Two have the same gateway to ask, of whom the second is refused once.
+static ONE_GATEWAY: [Row; 5] = [
+    (Step::Hear(Heard::Of(1, 0)), OPENED_1),
+    (Step::Hear(Heard::Of(2, 0)), OPENED_2),
+    (Step::Ask(Ask::Pass(200_001)), "Some(1)"),
+    (Step::Ask(Ask::Pass(200_001)), "Some(2)"),
+    (
+        Step::Work(Shift::Slow(1, 2, 2)),
+        "(2, [2, 2], ([], 0, 0), 0, true) false",
+    ),
+];
+
+#[test]
+fn a_worker_has_the_lock_while_it_asks_the_gate(rt: HostRuntime) -> Result<(), Fail> {
+    tells(&rt, rt.alloc(), 2, &ONE_GATEWAY)
 }
 
 /// Each waits until all three are inside, which takes a thread for each.

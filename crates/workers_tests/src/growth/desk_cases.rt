@@ -1,33 +1,33 @@
-// The calls of a station whose growths are refused.
+// The calls of a station whose growths are refused, amid others.
 
 use crate::growth::calls::{ADDR, Answer, Call, Row};
 use crate::growth::cases::Case;
 use crate::growth::cases::Turn::{Again, Plain, Refused};
 
-const SAME_GATEWAY: Answer = ("same gateway", [0; 3]);
+const SAME_GATEWAY: Answer = ("same gateway", [0; 2]);
 
-const NOT_READY: Answer = ("not ready", [0; 3]);
+const NOT_READY: Answer = ("not ready", [0; 2]);
 
-const IS_TAKEN: Answer = ("is taken", [0; 3]);
+const IS_TAKEN: Answer = ("is taken", [0; 2]);
 
 /// The uplink with counter 0 is heard by gateway 1.
-const OPENS_1: Row = (Call::Hear(1, ADDR, 0), ("opened", [1, 0, 0]));
+const OPENS_1: Row = (Call::Hear(1, ADDR, 0), ("opened", [1, 0]));
 
 /// The uplink with counter 1 is heard by gateway 1, after that one.
-const OPENS_2: Row = (Call::Hear(1, ADDR, 1), ("opened", [2, 0, 0]));
+const OPENS_2: Row = (Call::Hear(1, ADDR, 1), ("opened", [2, 0]));
 
-const OPENS_3: Row = (Call::Hear(1, ADDR, 2), ("opened", [3, 0, 0]));
+const OPENS_3: Row = (Call::Hear(1, ADDR, 2), ("opened", [3, 0]));
 
-const OPENS_4: Row = (Call::Hear(1, ADDR, 3), ("opened", [4, 0, 0]));
+const OPENS_4: Row = (Call::Hear(1, ADDR, 3), ("opened", [4, 0]));
 
-const OPENS_5: Row = (Call::Hear(1, ADDR, 4), ("opened", [5, 0, 0]));
+const OPENS_5: Row = (Call::Hear(1, ADDR, 4), ("opened", [5, 0]));
 
 /// The second device's uplink is heard, as the second of all.
-const OPENS_OTHER_2: Row = (Call::Hear(1, 2, 0), ("opened", [2, 0, 0]));
+const OPENS_OTHER_2: Row = (Call::Hear(1, 2, 0), ("opened", [2, 0]));
 
-const OPENS_OTHER_3: Row = (Call::Hear(1, 2, 0), ("opened", [3, 0, 0]));
+const OPENS_OTHER_3: Row = (Call::Hear(1, 2, 0), ("opened", [3, 0]));
 
-const OPENS_OTHER_6: Row = (Call::Hear(1, 2, 0), ("opened", [6, 0, 0]));
+const OPENS_OTHER_6: Row = (Call::Hear(1, 2, 0), ("opened", [6, 0]));
 
 /// Gateway 1 heard the uplink with counter 0 before.
 const HEARD_1: Row = (Call::Hear(1, ADDR, 0), SAME_GATEWAY);
@@ -35,72 +35,49 @@ const HEARD_1: Row = (Call::Hear(1, ADDR, 0), SAME_GATEWAY);
 const HEARD_2: Row = (Call::Hear(1, ADDR, 1), SAME_GATEWAY);
 
 /// Gateway 2 hears the uplink with counter 0.
-const JOINS_1: Row = (Call::Hear(2, ADDR, 0), ("joined", [1, 2, 0]));
+const JOINS_1: Row = (Call::Hear(2, ADDR, 0), ("joined", [1, 2]));
 
-const CLOSES_1: Row = (Call::Pass(200_001), ("closed", [1, 0, 0]));
+const CLOSES_1: Row = (Call::Pass(200_001), ("closed", [1, 0]));
 
-const CLOSES_2: Row = (Call::Pass(200_001), ("closed", [2, 0, 0]));
+const CLOSES_2: Row = (Call::Pass(200_001), ("closed", [2, 0]));
 
-const CLOSES_3: Row = (Call::Pass(200_001), ("closed", [3, 0, 0]));
+const CLOSES_3: Row = (Call::Pass(200_001), ("closed", [3, 0]));
 
-const CLOSES_4: Row = (Call::Pass(200_001), ("closed", [4, 0, 0]));
+const CLOSES_4: Row = (Call::Pass(200_001), ("closed", [4, 0]));
 
-const CLOSES_5: Row = (Call::Pass(200_001), ("closed", [5, 0, 0]));
+const CLOSES_5: Row = (Call::Pass(200_001), ("closed", [5, 0]));
 
-const CLOSES_6: Row = (Call::Pass(200_001), ("closed", [6, 0, 0]));
+const CLOSES_6: Row = (Call::Pass(200_001), ("closed", [6, 0]));
 
-const CLOSES_NONE: Row = (Call::Pass(200_001), ("none", [0; 3]));
+const CLOSES_NONE: Row = (Call::Pass(200_001), ("none", [0; 2]));
 
-const NOT_READY_1: Row = (Call::Take(1, false), NOT_READY);
+const QUEUES_1: Row = (Call::Queue, ("queued", [1, 0]));
 
-/// The first ticket, with downlink counter 0.
-const GIVES_1: Row = (Call::Take(1, false), ("given", [1, 1, 0]));
+const QUEUES_2: Row = (Call::Queue, ("queued", [2, 0]));
 
-/// The second ticket, with downlink counter 1.
-const GIVES_2: Row = (Call::Take(2, false), ("given", [2, 1, 1]));
+const QUEUES_3: Row = (Call::Queue, ("queued", [3, 0]));
 
-/// The second device's first ticket, with downlink counter 0.
-const GIVES_OTHER_2: Row = (Call::Take(2, false), ("given", [2, 1, 0]));
+const QUEUES_4: Row = (Call::Queue, ("queued", [4, 0]));
 
-const GIVES_OTHER_3: Row = (Call::Take(3, false), ("given", [3, 1, 0]));
+const QUEUES_5: Row = (Call::Queue, ("queued", [5, 0]));
 
-const GIVES_OTHER_6: Row = (Call::Take(6, false), ("given", [6, 1, 0]));
+const QUEUES_6: Row = (Call::Queue, ("queued", [6, 0]));
 
-const SILENT_1: Row = (Call::Airtime(1), ("on air", [0, 0, 0]));
-
-/// Gateway 1 was on air for 12 bytes at DR5.
-const ON_AIR_1: Row = (Call::Airtime(1), ("on air", [41_216, 0, 0]));
-
-const QUEUES_1: Row = (Call::Queue, ("queued", [1, 0, 0]));
-
-const QUEUES_2: Row = (Call::Queue, ("queued", [2, 0, 0]));
-
-const QUEUES_3: Row = (Call::Queue, ("queued", [3, 0, 0]));
-
-const QUEUES_4: Row = (Call::Queue, ("queued", [4, 0, 0]));
-
-const QUEUES_5: Row = (Call::Queue, ("queued", [5, 0, 0]));
-
-const QUEUES_6: Row = (Call::Queue, ("queued", [6, 0, 0]));
-
-/// Each call of its desk that may take memory, amid others: to queue, to hear and to take.
-pub(crate) static CASES: [Case; 8] = [
+/// Each call that may take memory, amid others: to queue and to hear.
+pub(crate) static CASES: [Case; 6] = [
     // A payload is queued: the first, and one behind others.
     Case {
         name: "the first payload",
         growths: 2,
         rows: &[
             (Plain, CLOSES_NONE),
-            (Plain, NOT_READY_1),
             (Refused, QUEUES_1),
             (Again, CLOSES_NONE),
-            (Again, NOT_READY_1),
             (Again, QUEUES_1),
             (Plain, QUEUES_2),
             (Plain, OPENS_1),
             (Plain, CLOSES_1),
-            (Plain, (Call::Take(1, true), ("sent", [16, 0, 0]))),
-            (Plain, QUEUES_2),
+            (Plain, QUEUES_3),
         ],
     },
     Case {
@@ -112,10 +89,8 @@ pub(crate) static CASES: [Case; 8] = [
             (Plain, QUEUES_3),
             (Plain, QUEUES_4),
             (Plain, CLOSES_NONE),
-            (Plain, NOT_READY_1),
             (Refused, QUEUES_5),
             (Again, CLOSES_NONE),
-            (Again, NOT_READY_1),
             (Again, QUEUES_5),
             (Plain, QUEUES_6),
         ],
@@ -126,10 +101,8 @@ pub(crate) static CASES: [Case; 8] = [
         growths: 10,
         rows: &[
             (Plain, CLOSES_NONE),
-            (Plain, NOT_READY_1),
             (Refused, OPENS_1),
             (Again, CLOSES_NONE),
-            (Again, NOT_READY_1),
             (Again, OPENS_1),
             (Plain, HEARD_1),
             (Plain, JOINS_1),
@@ -137,8 +110,6 @@ pub(crate) static CASES: [Case; 8] = [
             (Plain, CLOSES_1),
             (Plain, CLOSES_2),
             (Plain, CLOSES_NONE),
-            (Plain, GIVES_1),
-            (Plain, GIVES_OTHER_2),
         ],
     },
     Case {
@@ -146,10 +117,8 @@ pub(crate) static CASES: [Case; 8] = [
         growths: 2,
         rows: &[
             (Plain, OPENS_1),
-            (Plain, NOT_READY_1),
             (Plain, HEARD_1),
             (Refused, OPENS_2),
-            (Again, NOT_READY_1),
             (Again, HEARD_1),
             (Again, OPENS_2),
             (Plain, HEARD_2),
@@ -158,9 +127,6 @@ pub(crate) static CASES: [Case; 8] = [
             (Plain, CLOSES_2),
             (Plain, CLOSES_3),
             (Plain, CLOSES_NONE),
-            (Plain, GIVES_1),
-            (Plain, GIVES_2),
-            (Plain, GIVES_OTHER_3),
         ],
     },
     Case {
@@ -183,9 +149,6 @@ pub(crate) static CASES: [Case; 8] = [
             (Plain, CLOSES_5),
             (Plain, CLOSES_6),
             (Plain, CLOSES_NONE),
-            (Plain, GIVES_1),
-            (Plain, GIVES_2),
-            (Plain, GIVES_OTHER_6),
         ],
     },
     // A copy of an uplink joins a gathering.
@@ -194,60 +157,13 @@ pub(crate) static CASES: [Case; 8] = [
         growths: 1,
         rows: &[
             (Plain, OPENS_1),
-            (Plain, NOT_READY_1),
             (Plain, HEARD_1),
             (Refused, JOINS_1),
-            (Again, NOT_READY_1),
             (Again, HEARD_1),
             (Again, JOINS_1),
             (Plain, (Call::Hear(2, ADDR, 0), SAME_GATEWAY)),
             (Plain, CLOSES_1),
             (Plain, CLOSES_NONE),
-            (Plain, GIVES_1),
-        ],
-    },
-    // A ticket is taken: the first, and one with a payload after an answer.
-    Case {
-        name: "the first ticket",
-        growths: 2,
-        rows: &[
-            (Plain, OPENS_1),
-            (Plain, CLOSES_1),
-            (Plain, SILENT_1),
-            (Plain, CLOSES_NONE),
-            (Refused, GIVES_1),
-            (Again, SILENT_1),
-            (Again, CLOSES_NONE),
-            (Again, GIVES_1),
-            (Plain, (Call::Take(1, false), IS_TAKEN)),
-            (Plain, OPENS_2),
-            (Plain, CLOSES_2),
-            (Plain, GIVES_2),
-            (Plain, QUEUES_1),
-            (Plain, SILENT_1),
-        ],
-    },
-    Case {
-        name: "a ticket with a payload",
-        growths: 3,
-        rows: &[
-            (Plain, OPENS_1),
-            (Plain, CLOSES_1),
-            (Plain, (Call::Take(1, true), ("sent", [12, 0, 0]))),
-            (Plain, OPENS_2),
-            (Plain, CLOSES_2),
-            (Plain, QUEUES_1),
-            (Plain, ON_AIR_1),
-            (Plain, CLOSES_NONE),
-            (Plain, (Call::Take(1, false), IS_TAKEN)),
-            (Refused, GIVES_2),
-            (Again, ON_AIR_1),
-            (Again, CLOSES_NONE),
-            (Again, (Call::Take(1, false), IS_TAKEN)),
-            (Again, GIVES_2),
-            (Plain, ON_AIR_1),
-            (Plain, QUEUES_2),
-            (Plain, (Call::Take(2, false), IS_TAKEN)),
         ],
     },
 ];

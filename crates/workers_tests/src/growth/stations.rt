@@ -1,15 +1,16 @@
 // Work at stations whose growths are refused.
 ghost use Rattle.std.specs.Prelude.{◌≡◌, ◌<◌, IfOk};
 
+use crate::asks::copy_of;
 use crate::posts::settings_of;
 use refusing_alloc::{MOST_GROWTHS, Refuser, Refusing, same, was_refused};
-use server_core::{Heard1, Settings};
+use server_core::Settings;
 use server_workers::{Blank, Ledger, PARTS, Station, Till};
 use std::alloc::{Allocator, Global};
 use std::marker::Brand;
 use std::sync::Wait;
 use std::test::Fail;
-use worked_inputs::{COPY, WorkedHasher, hasher, uplink};
+use worked_inputs::{WorkedHasher, hasher, uplink};
 
 /// Some work takes so many growths at a new station of gateways 1 and 2, which heard an uplink of each of so many devices; each
 /// is refused once.
@@ -79,12 +80,7 @@ fn hears_one<B: Ledger, A: Allocator + Copy, R: Wait>(
     station: &Station<B, WorkedHasher, A>,
     addr: u32,
 ) -> Result<(), Fail> {
-    let copy = Heard1 {
-        gateway: 1 + (addr % 2) as u16,
-        at: 1_000_000 * addr as u64,
-        ..COPY
-    };
-    station.hear(rt, &uplink(memory, true, addr, 0)?, copy, 0)?;
+    station.hear(rt, &uplink(memory, true, addr, 0)?, copy_of(addr), 0)?;
     same(station.pass(rt, 200_001), Some(addr as u64))
 }
 

@@ -1,27 +1,51 @@
-// What is done at a station: a ticket is tried, and an uplink is answered.
+// What is done at a station: a ticket is taken and tried, and an uplink is answered.
 
 use crate::gates::audited;
 use crate::growth::stations::{AtWork, takes};
 use crate::growth::tickets::{Gone, booked_in, is_wanted, shown_by};
 use crate::posts::totals_at;
 use answer_ticket::{Ticket, Tried};
+use gateway_book::Totals;
 use refusing_alloc::{Refuser, asked_of, is_as_asked, same};
+use server_core::TakeFault;
 use server_workers::{Handled, Ledger, Station, Till};
 use std::alloc::Allocator;
 use std::sync::Wait;
 use std::test::Fail;
 use worked_inputs::WorkedHasher;
 
-/// Tries a ticket with the growth of this number refused, and once more if it comes back.
+/// Takes the ticket of the second uplink and tries it with the growth of this number refused; once more what found no memory.
 fn tried_at<B: Ledger, A: Allocator + Copy, R: Wait>(
     rt: &R,
     alloc: &Refuser,
     station: &Station<B, WorkedHasher, A>,
-    ticket: Ticket<A>,
     number: u64,
-) -> Gone {
+) -> Result<Gone, Fail> {
     let before = totals_at(rt, station);
     alloc.refuse(number);
+    match station.take(rt, 2) {
+        Ok(ticket) => Ok(tried_once(rt, alloc, station, ticket, before)),
+        Err(fault) => {
+            let asked = asked_of(alloc);
+            let ticket = station.take(rt, 2)?;
+            let is_told = fault == TakeFault::NoMemory;
+            let seen = (
+                shown_by(&ticket),
+                is_told && totals_at(rt, station) == before,
+            );
+            Ok((asked, Some(seen), booked_in(station.try_once(rt, ticket))))
+        }
+    }
+}
+
+/// Tries a ticket, and once more if it comes back; the books were so before.
+fn tried_once<B: Ledger, A: Allocator + Copy, R: Wait>(
+    rt: &R,
+    alloc: &Refuser,
+    station: &Station<B, WorkedHasher, A>,
+    ticket: Ticket<A>,
+    before: [Option<Totals>; 2],
+) -> Gone {
     let tried = station.try_once(rt, ticket);
     let asked = asked_of(alloc);
     match tried {
@@ -33,23 +57,24 @@ fn tried_at<B: Ledger, A: Allocator + Copy, R: Wait>(
     }
 }
 
-/// The same of the ticket of the second uplink, which is booked in the end: whether there was such a growth.
+/// The second uplink's answer, which carries a payload, is booked in the end: whether there was such a growth.
 fn is_tried_without<B: Ledger, A: Allocator + Copy, R: Wait>(
     rt: &R,
     alloc: &Refuser,
     station: &Station<B, WorkedHasher, A>,
     number: u64,
 ) -> Result<bool, Fail> {
-    let gone = tried_at(rt, alloc, station, station.take(rt, 2)?, number);
+    station.queue(rt, 2, 9, &[1, 2, 3])?;
+    let gone = tried_at(rt, alloc, station, number)?;
     let booked = match totals_at(rt, station) {
         [Some(first), Some(second)] => (first.booked, second.booked),
         _ => (0, 0),
     };
-    same(booked, (41_216, 0))?;
-    is_wanted(number, gone, ((2, 1, 0), 12))
+    same(booked, (46_336, 0))?;
+    is_wanted(number, gone, ((2, 1, 0), 16))
 }
 
-/// A ticket is tried until it is booked.
+/// A ticket is taken, and tried until it is booked.
 #[derive(Drop)]
 struct Tries;
 
@@ -67,9 +92,10 @@ impl AtWork for Tries {
     }
 }
 
+/// It takes three growths to take it, of which one is the payload's, and two to try it.
 #[test]
-fn a_ticket_is_tried(rt: HostRuntime) -> Result<(), Fail> {
-    takes(&rt, rt.alloc(), 2, &Tries, 2)
+fn a_ticket_is_taken_and_tried(rt: HostRuntime) -> Result<(), Fail> {
+    takes(&rt, rt.alloc(), 2, &Tries, 5)
 }
 
 /// An uplink is answered at a gate that notes who goes where, and asks what is booked: who has a ticket goes to gateway 1 and
