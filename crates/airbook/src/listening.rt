@@ -12,14 +12,14 @@ use text_lines::{ByteIn, ByteOut};
 use thiserror::Error;
 
 /// Why a server did not listen to its end.
-#[derive(Clone, Copy, Debug, PartialEq, Eq, Error)]
+#[derive(Clone, Copy, Debug, Error)]
 pub enum Stopped {
     /// The socket could not be bound.
     #[error("the socket could not be bound")]
     Bind,
     /// The text call stopped.
     #[error(transparent)]
-    Text(TextFault),
+    Text(#[from] TextFault),
 }
 
 /// How a server listens.
@@ -63,23 +63,17 @@ pub fn listen<
     I: ByteIn,
     W: ByteOut,
 >(rt: &R, listening: Listening, reader: &mut I, writer: &mut W) -> Result<bool, Stopped> {
-    let settings = match read_whole_settings(rt.alloc(), reader) {
-        Ok(settings) => settings,
-        Err(fault) => return Err(Stopped::Text(fault)),
-    };
-    let Ok(hasher) = RandomState::new(rt) else {
-        return Err(Stopped::Text(TextFault::Read));
-    };
-    let Ok(socket) = UdpSocket::bind(rt, (Ipv4Addr::LOCALHOST, listening.port)) else {
-        return Err(Stopped::Bind);
-    };
+    let settings = read_whole_settings(rt.alloc(), reader)?;
+    let hasher = RandomState::new(rt).map_err(|_| TextFault::Read)?;
+    let address = (Ipv4Addr::LOCALHOST, listening.port);
+    let socket = UdpSocket::bind(rt, address).map_err(|_| Stopped::Bind)?;
     let mut source = Datagrams {
         rt,
         socket,
         receives: 0,
     };
     let Listening { turns, workers, .. } = listening;
-    match listen_text(
+    Ok(listen_text(
         rt,
         rt.alloc(),
         hasher,
@@ -88,8 +82,5 @@ pub fn listen<
         &mut source,
         turns,
         writer,
-    ) {
-        Ok(refused) => Ok(refused),
-        Err(fault) => Err(Stopped::Text(fault)),
-    }
+    )?)
 }
