@@ -7,8 +7,8 @@ For each crate it prints the processor seconds of its proof, of its tests, of th
 (the crate proved once more, and looked at again at the end) and of these edits, the dearest of them, how many there are, and
 its chain: the proofs of the crates below it that have to end first, then the longest of its own proof, tests and base, which
 go on side by side, and then its dearest edit, since the edits too go on side by side. So it is the time that a gate takes
-on as many processors as it can use. Last it prints the sum, the longest chain, and the time that went by. The status is that
-of `make test`.
+on as many processors as it can use. Behind the table it prints the sum, the longest chain, the time that went by, and the
+dearest edits. The status is that of `make test`.
 
 Nothing else should run on the machine meanwhile: processor time hardly depends on that, but the time that goes by does.
 It needs git, python3, Linux's /proc and the toolchain's command rt.
@@ -25,6 +25,7 @@ TOP = pathlib.Path(__file__).resolve().parent.parent
 TICKS = os.sysconf("SC_CLK_TCK")
 POLL_SECONDS = 0.2
 PARTS = ("proof", "tests", "base", "edits")
+DEAREST = 40
 
 sys.path.insert(0, str(TOP / "tests"))
 sys.dont_write_bytecode = True
@@ -44,7 +45,8 @@ def processes():
 
 
 def task_of(pid):
-    """Which crate a process of the prover works on, and for which part of the gate; None for any other process."""
+    """Which crate a process of the prover works on, for which part of the gate, and for which of its edits, by their order, if
+    that part is one; None for any other process."""
     try:
         words = pathlib.Path(f"/proc/{pid}/cmdline").read_bytes().decode(errors="replace").split("\0")
         folder = os.path.basename(os.readlink(f"/proc/{pid}/cwd"))
@@ -52,15 +54,15 @@ def task_of(pid):
         return None
     if os.path.basename(words[0]) != "rattle" or "--crate-name" not in words:
         return None
-    return words[words.index("--crate-name") + 1], part_of(words, folder)
+    return words[words.index("--crate-name") + 1], *part_of(words, folder)
 
 
 def part_of(words, folder):
-    """Which part of the gate a run of the prover is, by its words and the folder that it runs in."""
+    """Which part of the gate a run of the prover is, and which edit, by its words and the folder that it runs in."""
     if folder.startswith("rt-edit-"):
-        over = words[words.index("--incremental") + 1] if "--incremental" in words else ""
-        return "base" if os.path.basename(over) == "seed" else "edits"
-    return "tests" if "--test" in words else "proof"
+        over = os.path.basename(words[words.index("--incremental") + 1]) if "--incremental" in words else ""
+        return ("base", None) if over == "seed" else ("edits", int(over) if over.isdigit() else None)
+    return "tests" if "--test" in words else "proof", None
 
 
 class Meter:
@@ -95,15 +97,15 @@ class Meter:
     def sums(self):
         sums = collections.Counter()
         for task, seconds in self.runs.values():
-            sums[task] += seconds
+            sums[task[:2]] += seconds
         return sums
 
-    def dearest(self):
-        """The dearest edit of each crate."""
+    def edits(self):
+        """The seconds of each edit, by its crate and its place in the order of their names."""
         found = collections.Counter()
-        for (crate, part), seconds in self.runs.values():
+        for (crate, part, edit), seconds in self.runs.values():
             if part == "edits":
-                found[crate] = max(found[crate], seconds)
+                found[crate, edit] += seconds
         return found
 
 
@@ -116,16 +118,38 @@ def chain(crate, below, sums, dearest):
     return first + max(sums[crate, part] for part in ("proof", "tests", "base")) + dearest[crate]
 
 
-def print_table(folder, sums, dearest):
+def dearest_of(edits):
+    """The seconds of each crate's dearest edit."""
+    found = collections.Counter()
+    for (crate, _), seconds in edits.items():
+        found[crate] = max(found[crate], seconds)
+    return found
+
+
+def names_of(folder, crate):
+    return sorted(path.stem for path in (folder / "crates" / crate / "must-fail").glob("*.edit"))
+
+
+def print_edits(folder, edits):
+    """The dearest edits, and how the seconds of all of them are spread."""
+    seconds = sorted(edits.values())
+    spread = ", ".join(f"{part}% take up to {seconds[len(seconds) * part // 100]:.0f}" for part in (10, 25, 50, 75, 90))
+    print(f"Seconds of an edit: {spread}." if seconds else "No edit was tried.")
+    for (crate, edit), cost in edits.most_common(DEAREST):
+        print(f"  {cost:.0f} s: {crate}, {'from nothing' if edit is None else names_of(folder, crate)[edit]}")
+
+
+def print_table(folder, sums, edits):
     below = prover.stands_on(folder)
+    dearest = dearest_of(edits)
     chains = {it: chain(it, below, sums, dearest) for it in below}
     print("| Crate | Proof | Tests | Base | Edits | Dearest edit | Number of edits | Own | Chain |")
     print("|---|---|---|---|---|---|---|---|---|")
     for crate in sorted(below, key=lambda it: -chains[it]):
         parts = [sums[crate, part] for part in PARTS]
-        edits = len(list((folder / "crates" / crate / "must-fail").glob("*.edit")))
+        count = len(names_of(folder, crate))
         shown = " | ".join(f"{seconds:.0f}" for seconds in [*parts, dearest[crate]])
-        print(f"| `{crate}` | {shown} | {edits} | {sum(parts):.0f} | {chains[crate]:.0f} |")
+        print(f"| `{crate}` | {shown} | {count} | {sum(parts):.0f} | {chains[crate]:.0f} |")
     whole = [sum(sums[crate, part] for crate in below) for part in PARTS]
     shown = " | ".join(f"{seconds:.0f}" for seconds in [*whole, max(dearest.values(), default=0)])
     print(f"| all | {shown} | | {sum(whole):.0f} | {max(chains.values()):.0f} |")
@@ -151,8 +175,9 @@ def main():
                 time.sleep(POLL_SECONDS)
             said.seek(0)
             lines = said.read().splitlines()
-        print_table(folder, meter.sums(), meter.dearest())
+        print_table(folder, meter.sums(), meter.edits())
         print(f"{(time.monotonic() - started) / 60:.0f} minutes went by. The last line of make test: {lines[-1] if lines else ''}")
+        print_edits(folder, meter.edits())
         if gate.returncode:
             print("\n".join(lines), file=sys.stderr)
     return gate.returncode

@@ -1,6 +1,7 @@
 // The command line.
 use crate::listen_command::listen;
 use crate::listening::Listening;
+use airbook_text::MAX_WORKERS;
 use clap::{Arg, ArgAction, ArgMatches, Command, value_parser};
 use std::alloc::{AllocError, Global};
 
@@ -176,7 +177,7 @@ fn workers<'a>(alloc: Global) -> Arg<'a> {
         .long("workers")
         .value_name("N")
         .default_value("0")
-        .value_parser(value_parser!(u8).range(0..=16))
+        .value_parser(value_parser!(u8).range(0..=i64::from(MAX_WORKERS)))
 }
 
 /// The arguments of `run`.

@@ -1,5 +1,5 @@
 // The arguments of `listen`.
-use airbook_text::TURN_LIMIT;
+use airbook_text::{MAX_WORKERS, TURN_LIMIT};
 use clap::{Arg, Command, value_parser};
 use std::alloc::{AllocError, Global};
 
@@ -52,5 +52,5 @@ fn workers<'a>(alloc: Global) -> Arg<'a> {
         .long("workers")
         .value_name("N")
         .default_value("1")
-        .value_parser(value_parser!(u8).range(1..=16))
+        .value_parser(value_parser!(u8).range(1..=i64::from(MAX_WORKERS)))
 }

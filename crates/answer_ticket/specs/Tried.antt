@@ -1,4 +1,4 @@
-use Rattle.std.specs.Prelude.{ℕ, ◌≡◌, ◌≢◌, ◌+◌, List, Option, Some, None, IsSome}
+use Rattle.std.specs.Prelude.{ℕ, ◌≡◌, ◌≢◌, ◌+◌, Bool, List, Option, Some, None, IsSome}
 use Rattle.std.specs.Option.{IsSomeAnd}
 use Rattle.resv_list.specs.declared.reservation.Reservation.{Reservation}
 use Rattle.gateway_book.specs.declared.refusal.Refusal.{Refusal}
@@ -36,6 +36,19 @@ pub record IsReceipt {A : Type 0} (job : Job) (c : Candidate) (receipt : Receipt
   pub window : receipt.window ≡ c.window
   pub reservation : IsAsked (ask_for job c) receipt.reservation
   pub frame : receipt.frame ≡ frame_for job c
+
+-- what a receipt says was booked
+abbrev pub booked_candidate : {A : Type 0} → Receipt A → Bool → Candidate
+booked_candidate r carries =
+    record {
+      gateway = r.gateway;
+      window = r.window;
+      start = r.reservation.start;
+      freq_hz = r.reservation.freq_hz;
+      rate = r.reservation.rate;
+      len = r.reservation.len;
+      carries = carries;
+    }
 
 -- the book accepted the candidate, and has its reservation
 pub record IsBooked {A : Type 0} (t : Standing) (c : Candidate) (old new : Book) (stub : Outcome)

@@ -1,7 +1,7 @@
 use crate::{Bytes, Stub, Ticket};
 use gateway_book::Refusal;
 use resv_list::Reservation;
-use rx_windows::Window;
+use rx_windows::{Candidate, Window};
 use std::alloc::Allocator;
 
 /// What was booked: the transmission, and the bytes that the gateway is to send.
@@ -17,6 +17,26 @@ pub struct Receipt<A: Allocator> {
     pub reservation: Reservation,
     /// The frame: the bytes of PHYPayload.
     pub frame: Bytes<A>,
+}
+
+impl<A: Allocator> Receipt<A> {
+    ghost use Rattle.std.specs.Prelude.{◌≡◌};
+    ghost use Rattle.answer_ticket.specs.Tried.{booked_candidate};
+
+    /// The candidate that was booked, which carries the payload at the head of the device's queue or doesn't.
+    pub fn candidate(&self, carries: bool) -> Candidate
+        ensures { result ≡ booked_candidate self.now carries }
+    {
+        Candidate {
+            gateway: self.gateway,
+            window: self.window,
+            start: self.reservation.start,
+            freq_hz: self.reservation.freq_hz,
+            rate: self.reservation.rate,
+            len: self.reservation.len,
+            carries,
+        }
+    }
 }
 
 /// What is left of a ticket that was tried for as long as it could be, with the receipt where it was booked. It can't be dropped.

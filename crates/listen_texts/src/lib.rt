@@ -8,5 +8,6 @@ mod source;
 mod unread;
 
 pub use listen::{TURN_LIMIT, listen_text};
+pub use server_workers::MAX_WORKERS;
 pub use settings::read_whole_settings;
 pub use source::Source;

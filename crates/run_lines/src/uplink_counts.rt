@@ -4,7 +4,8 @@ ghost use Rattle.std.specs.List.{count_by};
 ghost use Rattle.text_lines.specs.Calls.{CountsFailure};
 ghost use Rattle.text_lines.specs.Line.{text_of};
 ghost use Rattle.text_lines.specs.Writing.{WritesAllBut, WritesFront};
-ghost use Rattle.run_lines.specs.UplinkCounts.{is_sent, is_unanswered, is_silent, counts_of, counts_sum, counts_text, AreCountsUpTo};
+ghost use Rattle.run_lines.specs.UplinkCounts.{is_sent, is_unanswered, is_silent, counts_of, counts_sum, counts_text};
+ghost use Rattle.run_lines.specs.UplinkCounts.{AreCountsUpTo};
 
 use itoa::Buffer;
 use server_core::{Entry, Line};

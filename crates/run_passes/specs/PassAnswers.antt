@@ -4,8 +4,8 @@ use Rattle.std.specs.Option.{option_map_or}
 use Rattle.std.specs.List.{flat_map}
 use Rattle.answer_ticket.specs.declared.outcome.Ending.TheVariants.{Answered, Unanswered, GivenUp}
 use Rattle.answer_ticket.specs.declared.tried.Receipt.{Receipt}
+use Rattle.answer_ticket.specs.Tried.{booked_candidate}
 use Rattle.gateway_book.specs.declared.refusal.Refusal.TheVariants as refusals
-use Rattle.rx_windows.specs.declared.candidate.Candidate.{Candidate}
 use Rattle.server_core.specs.declared.entry.Line.{Line}
 use Rattle.server_core.specs.declared.entry.Line.TheVariants as lines
 use Rattle.server_core.specs.Entries.{not_taken}
@@ -26,19 +26,6 @@ line_alone number line = record { number = number; line = line; frame = None }
 -- no ticket was given: none is owed, or one was refused
 abbrev pub refused_answer : ℕ → TakeFault → Answer
 refused_answer number fault = line_alone number (not_taken number fault)
-
--- what a receipt says was booked
-abbrev pub booked_candidate : Receipt Global → Bool → Candidate
-booked_candidate r carries =
-    record {
-      gateway = r.gateway;
-      window = r.window;
-      start = r.reservation.start;
-      freq_hz = r.reservation.freq_hz;
-      rate = r.reservation.rate;
-      len = r.reservation.len;
-      carries = carries;
-    }
 
 -- the transmission that a receipt names, and its frame
 abbrev pub sent_answer : ℕ → Bool → Receipt Global → Answer

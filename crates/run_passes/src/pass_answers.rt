@@ -7,7 +7,6 @@ use crate::numbered::place_of;
 use crate::pass_ends::End;
 use answer_ticket::{Bytes, Ending, Receipt};
 use gateway_book::Refusal;
-use rx_windows::Candidate;
 use server_core::{Line, NoMemory, refused_line};
 use std::alloc::Global;
 use std::mem::replace;
@@ -79,15 +78,7 @@ fn sent(
     ensures answer { IfOk result (λ answer. answer ≡ sent_answer number carries receipt.old) }
     ensures told { receipt.new ≡ told_receipt is_moved receipt.old }
 {
-    let candidate = Candidate {
-        gateway: receipt.gateway,
-        window: receipt.window,
-        start: receipt.reservation.start,
-        freq_hz: receipt.reservation.freq_hz,
-        rate: receipt.reservation.rate,
-        len: receipt.reservation.len,
-        carries,
-    };
+    let candidate = receipt.candidate(carries);
     let frame = frame_of(alloc, receipt, is_moved)?;
     Ok(Answer {
         number,

@@ -38,10 +38,13 @@ HasMore receipts old new = IsPermutation (old ++ map booking_of receipts) new
 abbrev pub booked_for : ℕ → List Booking → Option Booking
 booked_for n bookings = find (λ (b : Booking). b.receipt.number == n) bookings
 
--- the booking at this place is cancelled, and all others are as they were
+-- this booking, which is at this place, is cancelled, and all others are as they were
+abbrev pub IsCancelledAt : ℕ → Booking → List Booking → List Booking → Type 0
+IsCancelledAt at b old new = (slice_get old at ≡ Some b) × (new ≡ slice_set old at (record b { is_cancelled = true }))
+
+-- the booking at this place is cancelled
 abbrev pub IsMarkedAt : ℕ → List Booking → List Booking → Type 0
-IsMarkedAt at old new =
-    (b : Booking) × (slice_get old at ≡ Some b) × (new ≡ slice_set old at (record b { is_cancelled = true }))
+IsMarkedAt at old new = (b : Booking) × IsCancelledAt at b old new
 
 -- the receipts of what was not cancelled
 abbrev pub open_receipts : List Booking → List (Receipt Global)
@@ -56,8 +59,7 @@ IsCancelAnswer ids r answer =
 
 -- a booking is cancelled exactly where the answer is no fault
 abbrev pub IsMarked : Booking → Result ℕ CancelFault → List Booking → List Booking → Type 0
-IsMarked b (Ok airtime) old new =
-    (at : ℕ) × (slice_get old at ≡ Some b) × (new ≡ slice_set old at (record b { is_cancelled = true }))
+IsMarked b (Ok airtime) old new = (at : ℕ) × IsCancelledAt at b old new
 IsMarked b (Err fault) old new = new ≡ old
 
 -- the line for one who cancels what was booked for number n at a station of these gateways, and the bookings then; where nothing

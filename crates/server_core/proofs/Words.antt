@@ -8,7 +8,7 @@ pub use Rattle.std.proofs.lemmas.List.Kept.{AllPairs-cons}
 pub use Rattle.std.specs.Prelude.{All, AllPairs, Bool, Contains, Err, IfOk, IsOkUnless, IsSome, IsTrue, List, MatchResult, None}
 pub use Rattle.std.specs.Prelude.{Ok, OnErr, OnOk, Option, Result, Some, [], cond, drop, false, find, get_or, if◌then◌else◌}
 pub use Rattle.std.specs.Prelude.{length, map, nat_le, nat_lt, not, refl, slice_get, slice_set, suc, true, zero, ℕ, ⊤, ◌++◌, ◌+◌}
-pub use Rattle.std.specs.Prelude.{◌-◌, ◌<◌, ◌==◌, ◌∷◌, ◌≡◌, ◌≢◌, ◌≤◌, ◌⊎◌}
+pub use Rattle.std.specs.Prelude.{is_none, ◌-◌, ◌<◌, ◌==◌, ◌∷◌, ◌≡◌, ◌≢◌, ◌≤◌, ◌⊎◌}
 pub use Rattle.std.specs.List.{AllZip, position_from}
 pub use Rattle.std.specs.Option.{IsSomeAnd, option_and_then, option_map, option_map_or}
 pub use Rattle.resv_list.specs.Reservations.{airtime_us, place, start_of, without}
@@ -61,7 +61,7 @@ pub use Rattle.server_desk.proofs.Places.{map_there, found_there, is_placed, pla
 pub use Rattle.server_desk.proofs.Decided.{join_decided, open_decided}
 pub use Rattle.server_core.specs.Promise.{EveryInterleavingIsSafe, HaveOwnCounters, IsMember, IsOwnWindow, IsSafe, jobs_given}
 pub use Rattle.server_core.specs.Promise.{setting_of, with_given}
-pub use Rattle.server_core.specs.Schedule.{answer_steps, closing_steps, due_from, due_numbers, given_steps, is_accepted, is_none}
+pub use Rattle.server_core.specs.Schedule.{answer_steps, closing_steps, due_from, due_numbers, given_steps, is_accepted}
 pub use Rattle.server_core.specs.Schedule.{reached, schedule, step_of, up_to_first}
 pub use Rattle.server_opening.specs.UsualLimits.{usual_limits}
 pub use Rattle.server_core.specs.Server.{AreBooksOf, AreHeard, AreHere, Does, HasHeard, IsAt, IsBookOf, IsCancelled, IsIdle}

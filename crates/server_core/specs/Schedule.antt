@@ -1,4 +1,4 @@
-use Rattle.std.specs.Prelude.{ℕ, ◌+◌, Bool, true, false, if◌then◌else◌, List, [], ◌∷◌, ◌++◌, map, Option, Some, None, Ok}
+use Rattle.std.specs.Prelude.{ℕ, ◌+◌, Bool, true, false, if◌then◌else◌, List, [], ◌∷◌, ◌++◌, map, is_none, Option, Some, None, Ok}
 use Rattle.std.specs.Option.{option_map_or}
 use Rattle.gateway_book.specs.Answer.{refusal_of}
 use Rattle.uplink_gather.specs.Gatherings.{Gathering, is_due}
@@ -32,10 +32,6 @@ due_numbers now l = due_from 1 now l
 abbrev pub up_to_first : {X : Type 0} → (X → Bool) → List X → List X
 up_to_first test [] = []
 up_to_first test (x ∷ xs) = x ∷ (if test x then [] else up_to_first test xs)
-
-abbrev pub is_none : {X : Type 0} → Option X → Bool
-is_none None = true
-is_none (Some x) = false
 
 -- whether a gateway's book would accept an ask
 abbrev pub accepts : Job → Candidate → Gateway → Bool

@@ -5,7 +5,7 @@ use Rattle.answer_ticket.specs.declared.outcome.Ending.TheVariants.{Answered, Un
 use Rattle.answer_ticket.specs.declared.tried.Receipt.{Receipt}
 use Rattle.answer_ticket.specs.Job.{Job, candidates}
 use Rattle.answer_ticket.specs.Ticket.{Standing, candidate_of}
-use Rattle.answer_ticket.specs.Tried.{next_of}
+use Rattle.answer_ticket.specs.Tried.{booked_candidate, next_of}
 use Rattle.answer_ticket.specs.declared.tried.TriedOut.{TriedOut}
 use Rattle.server_core.specs.declared.trying.Attempt.{Attempt}
 use Rattle.server_core.specs.declared.trying.Attempt.TheVariants.{Over, On}
@@ -33,18 +33,7 @@ tries_from w t = map (λ c. Try t.job.number) (up_to_first (is_accepted w t.job)
 -- the lines for an answer that ended so: the candidate that its receipt is for, and the frame, or why none was booked
 abbrev pub end_lines : {A : Type 0} → ℕ → Ending → Option (Receipt A) → List (Line A)
 end_lines n (Answered gateway window start airtime carried) (Some receipt) =
-    says.Send n
-    (record {
-      gateway = gateway;
-      window = window;
-      start = start;
-      freq_hz = receipt.reservation.freq_hz;
-      rate = receipt.reservation.rate;
-      len = receipt.reservation.len;
-      carries = carried;
-    })
-    ∷ says.Frame n receipt.frame
-    ∷ []
+    says.Send n (booked_candidate receipt carried) ∷ says.Frame n receipt.frame ∷ []
 end_lines n (Unanswered refusal) receipt = says.Unanswered n refusal ∷ []
 end_lines n ending receipt = []
 

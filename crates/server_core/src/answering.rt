@@ -10,7 +10,6 @@ use crate::lines::not_taken_line;
 use crate::server::Server;
 use crate::{Line, NoMemory, Step};
 use answer_ticket::{Ending, Outcome, Receipt, Ticket, TriedOut};
-use rx_windows::Candidate;
 use std::alloc::Allocator;
 use std::hash::BuildHasher;
 
@@ -75,25 +74,8 @@ impl<S: BuildHasher, A: Allocator + Copy> Server<S, A> {
     {
         let number = outcome.number;
         match (outcome.result, receipt) {
-            (
-                Ending::Answered {
-                    gateway,
-                    window,
-                    start,
-                    airtime: _,
-                    carried,
-                },
-                Some(receipt),
-            ) => {
-                let candidate = Candidate {
-                    gateway,
-                    window,
-                    start,
-                    freq_hz: receipt.reservation.freq_hz,
-                    rate: receipt.reservation.rate,
-                    len: receipt.reservation.len,
-                    carries: carried,
-                };
+            (Ending::Answered { carried, .. }, Some(receipt)) => {
+                let candidate = receipt.candidate(carried);
                 self.told(place, Line::Send { number, candidate })?;
                 self.told(
                     place,

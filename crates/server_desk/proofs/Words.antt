@@ -8,9 +8,9 @@ pub use Rattle.std.proofs.Common.{◌≢◌, ◌≤◌, ◌⊎◌}
 pub use Rattle.std.proofs.lemmas.List.Elements.{All-cons, All-drop, All-head, All-map, All-nil, All-push, All-set, All-tail}
 pub use Rattle.std.proofs.lemmas.List.Elements.{All-weaker}
 pub use Rattle.std.proofs.lemmas.List.{get_or-map, get_or_default, length-map, length_push, map-set, map_more, map_push}
-pub use Rattle.std.proofs.lemmas.Option.{get_or_from_slice_get, same_Some, slice_get-map, slice_get_cases, slice_get_read, slice_get_within}
-pub use Rattle.std.proofs.{lemmas.List.Folds.list_any_at, lemmas.List.Folds.list_any_none, lemmas.Bool.Decides.nat_tests}
-pub use Rattle.std.proofs.{lemmas.Simd.map-map}
+pub use Rattle.std.proofs.lemmas.Option.{get_or_from_slice_get, same_Some, slice_get-map, slice_get_cases, slice_get_read}
+pub use Rattle.std.proofs.lemmas.{Option.slice_get_within, List.Folds.list_any_at, List.Folds.list_any_none}
+pub use Rattle.std.proofs.lemmas.{Bool.Decides.nat_tests, Simd.map-map}
 pub use Rattle.std.specs.{Option.ForSome, Option.option_map, Option.option_or, List.list_any, List.position_from}
 pub use Rattle.lora_frame.specs.Reading.{addr_of, uplink_of, uplink_record}
 pub use Rattle.uplink_gather.specs.Hearing.{after_hearing, has_gateway, hear_answer, hear_step, is_crowded, place_by, place_of}

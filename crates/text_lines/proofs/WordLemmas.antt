@@ -1,6 +1,6 @@
 -- Lemmas on the words of a line.
-use Rattle.std.proofs.Common.{◌≡◌, ℕ, ◌+◌, ◌<◌, ◌≤◌, List, [], ◌∷◌, ◌++◌, length, take, drop, get_or, true, false, map, sym, ap}
-use Rattle.std.proofs.Common.{◌∙◌, ◌⊎◌, ⊎_elim, arith, rules}
+use Rattle.std.proofs.Common.{◌≡◌, ℕ, zero, suc, ◌+◌, ◌<◌, ◌≤◌, List, [], ◌∷◌, ◌++◌, length, take, drop, get_or, true, false, map}
+use Rattle.std.proofs.Common.{refl, sym, ap, ◌∙◌, ◌⊎◌, ⊎_elim, arith, rules}
 use Rattle.std.proofs.lemmas.Bool.{cases_lt}
 use Rattle.std.proofs.lemmas.List.{drop_all, take_all, drop_more, take_at, length-take-le, length-map, append-nil, get_or_default}
 use Rattle.std.proofs.lemmas.List.Splits.{slice_split-cons_yes, slice_split_none, slice_split_first}
@@ -11,6 +11,14 @@ use Rattle.text_lines.specs.Words.{is_blank, has_bytes, words_of}
 -- a blank before a line changes none of its words
 pub words_of-blank : (byte : ℕ) (line : List ℕ) → is_blank byte ≡ true → words_of (byte ∷ line) ≡ words_of line
 words_of-blank byte line blank = ap (filter has_bytes) (slice_split-cons_yes is_blank byte line blank)
+
+-- nor do as many as a line begins with
+pub words_of-blanks : (line : List ℕ) (start : ℕ) → ((k : ℕ) → k < start → is_blank (get_or line k 0) ≡ true)
+    → words_of (drop start line) ≡ words_of line
+words_of-blanks line zero blank = refl
+words_of-blanks [] (suc start) blank = refl
+words_of-blanks (byte ∷ line) (suc start) blank =
+    words_of-blanks line start (λ k h. blank (suc k) (omega arith)) ∙ sym (words_of-blank byte line (blank 0 (omega arith)))
 
 filter-part : (part : List ℕ) (parts : List (List ℕ)) → 0 < length part
     → filter has_bytes (part ∷ parts) ≡ part ∷ filter has_bytes parts
@@ -40,6 +48,14 @@ words_of-first line end some within before at =
     ap (filter has_bytes) parts ∙ ap (λ l. filter has_bytes (l ∷ [])) (sym (take_all end line whole))
     ∙ filter-part (take end line) [] part ∙ ap (λ l. take end line ∷ l) (sym rest))
     (cases_lt end (length line))
+
+-- where a line begins with no blank, that is so
+pub words_of-word : (line : List ℕ) (end : ℕ) → 0 < length line → is_blank (get_or line 0 0) ≡ false → end ≤ length line
+    → ((k : ℕ) → k < end → is_blank (get_or line k 0) ≡ false) → (end < length line → is_blank (get_or line end 0) ≡ true)
+    → words_of line ≡ take end line ∷ words_of (drop end line)
+words_of-word line zero some first within before at = absurd (cc (first, at some))
+words_of-word line (suc end) some first within before at =
+    words_of-first line (suc end) (omega arith) within before at
 
 -- as many words as there is room for, or all of them, are the first words
 pub first_words : (found rest all : List (List ℕ)) (room : ℕ) → all ≡ found ++ rest → length found ≤ room

@@ -82,12 +82,9 @@ KeepsLimitFrom taken (Some bytes) (Ok _) = taken + length bytes ≤ most_input
 KeepsLimitFrom taken (Some bytes) (Err TooMuch) = most_input < taken + length bytes
 KeepsLimitFrom taken (Some bytes) (Err _) = ⊤
 
--- the input's length, where it is known: at most 2^28 bytes on `Ok`, and more where `TooMuch` is answered
+-- the length of a whole input
 abbrev pub KeepsLimit : Option (List ℕ) → Result Bool LineFault → Type 0
-KeepsLimit None result = ⊤
-KeepsLimit (Some bytes) (Ok _) = length bytes ≤ most_input
-KeepsLimit (Some bytes) (Err TooMuch) = most_input < length bytes
-KeepsLimit (Some bytes) (Err _) = ⊤
+KeepsLimit left result = KeepsLimitFrom 0 left result
 
 abbrev pub is_read : LineFault → Bool
 is_read Read = true

@@ -106,7 +106,7 @@ impl ReadAhead {
     }
 
     /// Takes the first byte that was read and not yet taken, if there is one.
-    pub fn take_first(&mut self) -> Option<u8>
+    pub(crate) fn take_first(&mut self) -> Option<u8>
         ensures first { MatchOption result (self.old.pending ≡ []) (λ byte. self.old.pending ≡ byte ∷ self.new.pending) }
         ensures counted { MatchOption result (self.new ≡ self.old) (λ _. self.new.taken ≡ self.old.taken + 1) }
         ensures bound { read_count self.new ≤ INPUT_LIMIT + READ_SIZE }
@@ -179,7 +179,7 @@ impl ReadAhead {
     /// Takes the bytes up to the next line feed, and that, and holds the front of them in `part`, at most 1,026 bytes
     /// and the line feed left out. A carriage return stays. `Read`, `TooMuch`: as of `next_byte`; what was taken by then stays
     /// in `part`.
-    pub fn next_part<R: ByteIn>(
+    pub(crate) fn next_part<R: ByteIn>(
         &mut self,
         reader: &mut R,
         part: &mut HeldLine,

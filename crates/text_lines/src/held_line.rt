@@ -60,7 +60,7 @@ impl HeldLine {
     }
 
     /// Adds a byte, if fewer than 1,026 are held.
-    pub fn push(&mut self, byte: u8)
+    pub(crate) fn push(&mut self, byte: u8)
         ensures { self.new ≡ take KEPT_LIMIT (self.old ++ byte ∷ []) }
     {
         if self.len < KEPT_LIMIT {
@@ -71,7 +71,7 @@ impl HeldLine {
 
     /// Takes what is held for the bytes before a line feed: drops the carriage return at their end, and keeps what is
     /// kept of a line.
-    pub fn end_line(&mut self)
+    pub(crate) fn end_line(&mut self)
         ensures { self.new ≡ kept (strip_carriage_return self.old) }
     {
         if self.len > LINE_LIMIT + 1 {
@@ -82,7 +82,7 @@ impl HeldLine {
     }
 
     /// Takes what is held for the bytes before the end of the input: all are the line's own.
-    pub fn end_input(&mut self)
+    pub(crate) fn end_input(&mut self)
         ensures { self.new ≡ kept self.old }
     {
         self.len = self.len.min(LINE_LIMIT + 1);

@@ -27,5 +27,5 @@ pub use numbers::{
     law_numbers_read_back, number_i16, number_u8, number_u16, number_u32, number_u64,
 };
 pub use text_line::{NUMBER_DIGITS, TEXT_LIMIT, TextLine, add_number, add_word};
-pub use words::{WORD_LIMIT, Words, first_word, is_blank, is_passed_over, is_too_long, is_word};
+pub use words::{WORD_LIMIT, Words, first_word, is_passed_over, is_too_long, is_word};
 pub use write_behind::{WRITE_SIZE, WriteBehind, write_all};

@@ -12,7 +12,7 @@ use std::marker::Model;
 pub const WORD_LIMIT: usize = 10;
 
 /// Whether the byte parts words: a space or a tab.
-pub fn is_blank(byte: u8) -> bool
+fn is_blank(byte: u8) -> bool
     ensures { result ≡ is_blank byte }
 {
     byte == b' ' || byte == b'\t'
@@ -46,21 +46,30 @@ fn first_blank(line: &[u8]) -> usize
         .unwrap_or(line.len())
 }
 
+/// What is left of a line behind the blanks that it begins with.
+fn behind_blanks(line: &[u8]) -> &[u8]
+    ensures words { words_of result.now ≡ words_of line.now }
+    ensures shorter { length result.now ≤ length line.now }
+    ensures first { 0 < length result.now → is_blank (slice_index result.now 0) ≡ false }
+{
+    let start = line
+        .iter()
+        .position(|byte| !is_blank(*byte))
+        .unwrap_or(line.len());
+    &line[start..]
+}
+
 /// The first word of a line, and what follows it; None where the line has no word.
 pub fn first_word(line: &[u8]) -> Option<(&[u8], &[u8])>
     ensures word { MatchOption result (words_of line.now ≡ [])
         (λ parts. words_of line.now ≡ parts.0.now ∷ words_of parts.1.now) }
     ensures shorter { IfSome result (λ parts. length parts.1.now < length line.now) }
 {
-    let mut rest = line;
-    while !rest.is_empty() {
-        let end = first_blank(rest);
-        if end > 0 {
-            return Some((&rest[..end], &rest[end..]));
-        }
-        rest = &rest[1..];
+    let rest = behind_blanks(line);
+    if rest.is_empty() {
+        return None;
     }
-    None
+    Some(rest.split_at(first_blank(rest)))
 }
 
 /// Whether the word is this one, byte by byte.

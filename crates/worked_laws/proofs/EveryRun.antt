@@ -81,7 +81,8 @@ module _ (settings : SettingLists) (accepted : AreSettings settings.gateways set
     lawful_with_its_gap : (i : ℕ) (g : Gateway) → slice_get r.world.gateways i ≡ Some g → IsLawful g.rules.gap g.state.list
     lawful_with_its_gap = (law settings accepted limits steps).lawful
 
-    counted : (i : ℕ) (g : Gateway) → slice_get r.world.gateways i ≡ Some g → g.state.booked ≡ g.state.cancelled + net g.state.list
+    counted : (i : ℕ) (g : Gateway) → slice_get r.world.gateways i ≡ Some g
+        → g.state.booked ≡ g.state.cancelled + net g.state.list
     counted = (law settings accepted limits steps).counted
 
     held_once : (i j k l : ℕ) (g h : Gateway) (a b : Reservation) → has i k g a → has j l h b → a.number ≡ b.number

@@ -13,7 +13,8 @@ returns-clause-lines c =
     let within : feed < length (drop quarter text) = rw take_rest at c.in_ok-end.ensures.within in
     let at : get_or (drop quarter text) feed 0 ≡ 10 = rw take_rest at c.in_ok-end.ensures.feed in
     rw (c.split_at.ensures.front, c.split_at.ensures.back)
-    (lines-cut text (quarter + feed) (omega (arith, within, length-drop quarter text)) (sym (get_or-drop quarter text feed 0) ∙ at))
+    (lines-cut text (quarter + feed) (omega (arith, within, length-drop quarter text))
+    (sym (get_or-drop quarter text feed 0) ∙ at))
 
 pub returns-clause-count : goal.returns-clause-count
 returns-clause-count c =
@@ -25,4 +26,5 @@ returns-clause-count c =
     let at : get_or (drop quarter text) feed 0 ≡ 10 = rw take_rest at c.in_ok-end.ensures.feed in
     c.count.ensures ∙ ap length c.memchr_iter.ensures.value ∙ length-places (is_byte 10) front
     ∙ rw c.split_at.ensures.front
-    (count-cut text (quarter + feed) (omega (arith, within, length-drop quarter text)) (sym (get_or-drop quarter text feed 0) ∙ at))
+    (count-cut text (quarter + feed) (omega (arith, within, length-drop quarter text))
+    (sym (get_or-drop quarter text feed 0) ∙ at))

@@ -2,7 +2,8 @@ use Rattle.std.proofs.Common.{◌-◌, ◌<◌, ◌≤◌, length, arith}
 use Rattle.std.proofs.lemmas.Bool.Decides.{nat_tests}
 use Rattle.std.proofs.lemmas.List.Elements.{at_read}
 use Rattle.run_passes.proofs.NumberLemmas.{between}
-use Rattle.run_passes.proofs.numbered.is_end_of_lesser.Goals.{else-at-gt0-via-then-at-gt0+else-number, else-at-gt0-via-else-at-gt0}
+use Rattle.run_passes.proofs.numbered.is_end_of_lesser.Goals.{else-at-gt0-via-then-at-gt0+else-number}
+use Rattle.run_passes.proofs.numbered.is_end_of_lesser.Goals.{else-at-gt0-via-else-at-gt0}
 use Rattle.run_passes.proofs.numbered.is_end_of_lesser.Goals as goal
 
 pub returns-else-at-items : goal.returns-else-at-items
