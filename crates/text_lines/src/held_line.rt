@@ -60,7 +60,7 @@ impl HeldLine {
     }
 
     /// Adds a byte, if fewer than 1,026 are held.
-    pub(crate) fn push(&mut self, byte: u8)
+    pub fn push(&mut self, byte: u8)
         ensures { self.new ≡ take KEPT_LIMIT (self.old ++ byte ∷ []) }
     {
         if self.len < KEPT_LIMIT {
