@@ -1,3 +1,5 @@
-// Want of memory: asks that are tried on a copy of a book.
+// Want of memory: asks that are tried on a copy of a book, and texts of books and of plans.
 
+mod plans;
+mod texts;
 mod trials;

@@ -1,13 +1,10 @@
-//! Tests of the texts of `airbook` and of a server that listens: of what no clause says and no worked case shows. Those of
-//! `growth` refuse each growth of a text in turn.
+//! Tests of the texts of `airbook` and of a server that listens: of what no clause says and no worked case shows.
 #![tactic(auto)]
 
 #[cfg(test)]
 mod datagrams;
 #[cfg(test)]
 mod failing_calls;
-#[cfg(test)]
-mod growth;
 #[cfg(test)]
 mod loopback;
 #[cfg(test)]

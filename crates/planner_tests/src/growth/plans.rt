@@ -1,11 +1,12 @@
 // Texts with a plan: what is planned on a copy of the book, and each growth of the book and of the copy is refused in turn.
 
-use airbook_text::{TextFault, plan_text};
+use book_texts::plan_text;
 use refusing_alloc::{MOST_GROWTHS, Refused, Refuser, Refusing, refuse};
 use std::alloc::Global;
 use std::test::Fail;
 use test_asserts::equal_at;
 use text_lines::{MemoryIn, MemoryOut};
+use text_words::TextFault;
 
 const PLAN: &[u8] =
     b"book 1 10000000 868100000 5 12\nplan\nbook 2 20000000 868100000 5 12\nbook 3 30000000 868100000 5 12\n\

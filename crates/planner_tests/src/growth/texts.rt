@@ -1,12 +1,13 @@
 // Texts of books: a booking that finds no memory is refused by a line, and a saved book that finds none by a fault, with nothing
 // written.
 
-use airbook_text::{TextFault, book_text};
+use book_texts::book_text;
 use refusing_alloc::{Refused, Refusing, refuse};
 use std::alloc::Global;
 use std::test::Fail;
 use test_asserts::equal_at;
 use text_lines::{MemoryIn, MemoryOut};
+use text_words::TextFault;
 
 /// The first growth is refused, the second, both, or none.
 const FIRST: Refused = (1, false);

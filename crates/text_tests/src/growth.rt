@@ -1,4 +1,0 @@
-// Want of memory: texts of books, and of plans.
-
-mod plans;
-mod texts;
