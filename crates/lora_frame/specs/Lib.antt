@@ -1,6 +1,7 @@
 pub use Rattle.aes_cmac.specs.Aes
 pub use Rattle.aes_cmac.specs.Mac
 pub mod Types
+pub mod Ports
 pub mod Blocks
 pub mod Counter
 pub mod Reading

@@ -1,5 +1,8 @@
 // Places, lengths, ports and types of data frames (LoRaWAN L2 1.0.4 section 4).
 
+ghost use Rattle.std.specs.Prelude.{◌≡◌};
+ghost use Rattle.lora_frame.specs.Ports.{is_application_port};
+
 /// The place of DevAddr, after MHDR.
 pub(crate) const ADDR_AT: usize = 1;
 
@@ -35,6 +38,13 @@ pub const MAX_PAYLOAD: usize = MAX_LEN - BESIDE_PAYLOAD;
 
 /// The greatest FPort that an application's payload may have; the least is 1 (LoRaWAN L2 1.0.4 section 4.3.2).
 pub const MAX_PORT: u8 = 223;
+
+/// Whether an application's payload may have this FPort, 1 to 223 (LoRaWAN L2 1.0.4 section 4.3.2). Needs no memory.
+pub fn is_application_port(port: u8) -> bool
+    ensures { result ≡ is_application_port port }
+{
+    (1..=MAX_PORT).contains(&port)
+}
 
 /// What the type is multiplied by in MHDR, whose top three bits it is (LoRaWAN L2 1.0.4 section 4.2.1).
 pub(crate) const TYPE: u8 = 32;

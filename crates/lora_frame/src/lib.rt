@@ -13,7 +13,7 @@ mod writing;
 pub use aes_cmac::Key;
 pub use counting::{infer, law_infer_is_least};
 pub use laws::{law_device_decrypts, law_uplink_reads_back};
-pub use layout::{BESIDE_PAYLOAD, EMPTY_LEN, MAX_PAYLOAD, MAX_PORT, MIC_LEN};
+pub use layout::{BESIDE_PAYLOAD, EMPTY_LEN, MAX_PAYLOAD, MAX_PORT, MIC_LEN, is_application_port};
 pub use parts::{Body, Down, Keys, Up};
 pub use reading::{FrameFault, Uplink, check_mic, read_uplink};
 pub use writing::{DownFault, UpFault, downlink, uplink_bytes, uplink_header};

@@ -10,7 +10,7 @@ ghost use Rattle.lora_frame.specs.Faults.{down_fault, up_fault, has_high_port};
 use crate::blocks::{DOWN, UP, append, append_crypted, mic};
 use crate::layout::{
     ACK, ADR, ADR_ACK_REQ, CONFIRMED_UP, EMPTY_LEN, F_PENDING, MAX_LEN, MAX_OPTIONS, MAX_PAYLOAD,
-    MAX_PORT, TYPE, UNCONFIRMED_DOWN, UNCONFIRMED_UP,
+    TYPE, UNCONFIRMED_DOWN, UNCONFIRMED_UP, is_application_port,
 };
 use crate::parts::{Body, Down, Keys, Up};
 use aes_cmac::Key;
@@ -49,7 +49,7 @@ fn down_refusal(down: &Down) -> Option<DownFault>
     ensures { result ≡ down_fault down.now }
 {
     let body = down.body?;
-    if body.port == 0 || body.port > MAX_PORT {
+    if !is_application_port(body.port) {
         return Some(DownFault::Port);
     }
     if body.payload.len() > MAX_PAYLOAD {
@@ -76,10 +76,7 @@ fn up_refusal(up: &Up) -> Option<UpFault>
 fn has_high_port(body: Option<Body>) -> bool
     ensures { result ≡ has_high_port body.entry }
 {
-    match body {
-        Some(body) => body.port > MAX_PORT,
-        None => false,
-    }
+    body.is_some_and(|body| body.port != 0 && !is_application_port(body.port))
 }
 
 // Whether FPort and FRMPayload have more bytes than that.
