@@ -1,5 +1,6 @@
 use Rattle.std.specs.Prelude.{ℕ, ◌≡◌, ◌+◌, ◌^◌, ◌<◌, ◌≤◌, ◌==◌, Bool, ◌&&◌, if◌then◌else◌, List, [], ◌∷◌, map, length, slice_get}
 use Rattle.std.specs.Prelude.{All, Some, None, Result, Ok, Err}
+use Rattle.lora_frame.specs.Ports.{longest_payload}
 use Rattle.uplink_gather.specs.Gatherings.{Gathering, numbered}
 use Rattle.rx_windows.specs.Rank.{HaveDistinctGateways}
 use Rattle.rx_windows.specs.Windows.{IsHeard}
@@ -32,7 +33,7 @@ outs kepts = map (λ k. k.out) kepts
 -- a payload that may be sent
 pub record IsSendable (payload : Payload) : Type 0 where
   pub port : IsPort payload.0
-  pub len : length payload.1 ≤ 242
+  pub len : length payload.1 ≤ longest_payload
 
 -- a device whose numbers and whose payloads are in their ranges
 pub record IsServable (d : Device) : Type 0 where

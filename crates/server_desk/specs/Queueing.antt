@@ -1,5 +1,6 @@
-use Rattle.std.specs.Prelude.{ℕ, ◌+◌, nat_lt, nat_le, ◌==◌, ◌||◌, if◌then◌else◌, [], ◌∷◌, ◌++◌, length, slice_set, Option, Some}
+use Rattle.std.specs.Prelude.{ℕ, ◌+◌, not, nat_lt, nat_le, if◌then◌else◌, [], ◌∷◌, ◌++◌, length, slice_set, Option, Some}
 use Rattle.std.specs.Prelude.{None, Result, Ok, Err}
+use Rattle.lora_frame.specs.Ports.{is_application_port, longest_payload}
 use Rattle.answer_ticket.specs.Job.{Payload}
 use Rattle.server_desk.specs.declared.faults.QueueFault.{QueueFault}
 use Rattle.server_desk.specs.declared.faults.QueueFault.TheVariants.{UnknownDevice, Port, Long, QueueFull}
@@ -15,8 +16,8 @@ queue_limit = 16
 -- why a payload isn't queued for this device
 abbrev pub queue_fault : Device → Payload → Option QueueFault
 queue_fault device payload =
-    if payload.0 == 0 || nat_lt 223 payload.0 then Some Port
-    else if nat_lt 242 (length payload.1) then Some Long
+    if not (is_application_port payload.0) then Some Port
+    else if nat_lt longest_payload (length payload.1) then Some Long
     else if nat_le queue_limit (length device.queue) then Some QueueFull
     else None
 

@@ -28,9 +28,7 @@ impl<S: BuildHasher, A: Allocator> Desk<S, A> {
     pub fn answered(&self, gateway: u16) -> Option<u64>
         ensures { result ≡ answered_for self.now.ids self.now.known gateway }
     {
-        let Some(place) = place_in(&self.gateways, gateway) else {
-            return None;
-        };
+        let place = place_in(&self.gateways, gateway)?;
         Some(self.answered[place])
     }
 }
@@ -54,10 +52,5 @@ fn place_in(ids: &[u16], gateway: u16) -> Option<usize>
     ensures found { result ≡ option_map (λ found. found.0) (first_at (λ id. id == gateway) ids.now) }
     ensures within { IfSome result (λ place. place < length ids.now) }
 {
-    for (place, id) in ids.iter().enumerate() {
-        if *id == gateway {
-            return Some(place);
-        }
-    }
-    None
+    ids.iter().position(|id| *id == gateway)
 }

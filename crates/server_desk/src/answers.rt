@@ -42,10 +42,7 @@ impl Known {
     pub(crate) fn is_not_given(self) -> bool
         ensures { result ≡ is_not_given self }
     {
-        match self {
-            Known::NotGiven => true,
-            Known::Pending | Known::Done(_) => false,
-        }
+        matches!(self, Known::NotGiven)
     }
 }
 

@@ -10,7 +10,7 @@ use crate::answers::Asked;
 use crate::device::KnownDevice;
 use crate::{DeviceSetting, QueueFault, TakeFault, keys_of};
 use answer_ticket::{Bytes, Copies, Job};
-use lora_frame::{Key, MAX_PAYLOAD, MAX_PORT};
+use lora_frame::{Key, MAX_PAYLOAD, is_application_port};
 use rx_windows::Plan;
 use std::alloc::{AllocError, Allocator};
 
@@ -63,7 +63,7 @@ impl<A: Allocator + Copy> KnownDevice<A> {
     fn queue_fault(&self, port: u8, payload: &[u8]) -> Option<QueueFault>
         ensures { result ≡ queue_fault (shown self.now) (port, payload.now) }
     {
-        if port == 0 || port > MAX_PORT {
+        if !is_application_port(port) {
             return Some(QueueFault::Port);
         }
         if payload.len() > MAX_PAYLOAD {

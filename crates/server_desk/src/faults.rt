@@ -28,7 +28,7 @@ pub enum QueueFault {
 #[derive(Clone, Copy, Debug, PartialEq, Eq, Error)]
 pub enum DeskFault {
     /// The bytes are no data uplink, for the frame's own reason (LoRaWAN L2 1.0.4, section 4).
-    #[error("{0}")]
+    #[error(transparent)]
     Frame(FrameFault),
     /// The settings name no gateway with this id.
     #[error("no gateway has this number")]

@@ -79,10 +79,7 @@ pub(crate) fn named_fault(fault: HearFault) -> DeskFault
 pub(crate) fn is_last(last: Option<u32>, counter: u32) -> bool
     ensures { result ≡ option_map_or (λ x. x == counter) last false }
 {
-    match last {
-        Some(last) => last == counter,
-        None => false,
-    }
+    last.is_some_and(|last| last == counter)
 }
 
 /// The gathering's answer, as the desk gives it.

@@ -49,14 +49,11 @@ impl<S: BuildHasher, A: Allocator> Desk<S, A> {
     fn may_settle(&self, stub: &Stub) -> bool
         ensures { result ≡ may_settle self.now.ids self.now.known stub.now.number stub.now.result }
     {
-        match numbered(&self.known, stub.number()) {
-            Some(Known::Pending) => {}
-            _ => return false,
-        }
-        match stub.gateway() {
-            Some(gateway) => has_gateway(&self.gateways, gateway),
-            None => true,
-        }
+        let is_out = matches!(numbered(&self.known, stub.number()), Some(Known::Pending));
+        is_out
+            && stub
+                .gateway()
+                .is_none_or(|gateway| has_gateway(&self.gateways, gateway))
     }
 
     /// The answer is settled that ended so.

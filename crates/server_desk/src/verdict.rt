@@ -2,7 +2,7 @@ use crate::DeskFault;
 use crate::answers::Asked;
 
 /// An uplink that opens a gathering.
-#[derive(Clone, Copy, Debug, PartialEq, Eq)]
+#[derive(Clone, Copy)]
 pub(crate) struct NewUplink {
     /// Its whole counter.
     pub(crate) counter: u32,
@@ -12,7 +12,7 @@ pub(crate) struct NewUplink {
 }
 
 /// What is to be done with a copy of an uplink.
-#[derive(Clone, Copy, Debug, PartialEq, Eq)]
+#[derive(Clone, Copy)]
 pub(crate) enum Verdict {
     /// It is refused.
     Refuse(DeskFault),

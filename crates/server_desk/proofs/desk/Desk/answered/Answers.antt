@@ -4,11 +4,11 @@ use Rattle.server_desk.proofs.desk.Desk.answered.Goals as goal
 
 pub returns : goal.returns
 returns g c =
-    let found = rw c.deref.ensures.value at c.in-Some.ensures.found in
+    let found = rw c.deref.ensures.value at c.in_ok-place.ensures.found in
     rw (← c.self.view_is)
-    (rw c.index.ensures (answered_is _ _ _ _ c.self.invariant.1 c.args.gateway _ (Some c.in-Some.place) found))
+    (rw c.index.ensures (answered_is _ _ _ _ c.self.invariant.1 c.args.gateway _ (Some c.in_ok-place.place) found))
 
-pub returns-in_default : goal.returns-in_default
-returns-in_default g c =
-    let found = rw (c.in_default.is, c.deref.ensures.value) at c.place_in.ensures.found in
-    rw (← c.self.view_is) (answered_is _ _ _ _ c.self.invariant.1 c.args.gateway 0 None found)
+pub returns-in_err-place : goal.returns-in_err-place
+returns-in_err-place g c =
+    let found = rw c.deref.ensures.value at c.in_err-place.ensures.found in
+    rw (← c.self.view_is, c.from_residual.ensures) (answered_is _ _ _ _ c.self.invariant.1 c.args.gateway 0 None found)
