@@ -58,7 +58,7 @@ shifted_all out bs v len width is done =
     same_all (set out 15 v) (shifted_left bs) 16 (length-set out 15 v ∙ len) (length-shifted_left bs ∙ width)
     (same_more out (shifted_left bs) 15 v (omega arith) (shifted_byte bs 15 v (omega arith) (omega arith)) done)
 
--- ---- sums of lists of bytes
+-- ---- xored lists of bytes
 
 pub get_or-xor_bytes : (a b : List ℕ) (k : ℕ) → k < length a → k < length b
     → get_or (xor_bytes a b) k 0 ≡ bit_xor (get_or a k 0) (get_or b k 0)

@@ -190,7 +190,7 @@ cmac-filled s key m x held short ex =
     ∙ take_all 16 last (omega arith) in
     rw (test, padded, count, chain, block, ex, held.same_key) refl
 
--- the cipher of the last sum, from what the state holds and the sum of the last block and its subkey
+-- the cipher of the last block, from what the state holds and the last block xored with its subkey
 pub cmac-last : (s : Progress) (key m x k y : List ℕ) → HasTaken s key m → k ≡ s.key → y ≡ s.chain
     → (length s.tail ≡ 16 → x ≡ xor_bytes s.tail (first_subkey s.key))
     → (length s.tail < 16 → x ≡ xor_bytes (s.tail ++ 0x80 ∷ replicate (15 - length s.tail) 0) (second_subkey s.key))

@@ -10,13 +10,13 @@ use Rattle.aes_cmac.proofs.TableFacts.{S_BOX-below, get_or-S_BOX, get_or-FIRST_C
 use Rattle.aes_cmac.proofs.TableFacts.{get_or-FOURTH_COLUMN}
 use Rattle.aes_cmac.proofs.WordFacts.{four_equal, word_bytes-xor, word_bytes-from}
 
--- the sum of four columns of the matrix, each times a byte, and a word of the round key
-pub mixed-sum : (w x y z k a b c d : ℕ) → word_bytes w ≡ product 2 a ∷ a ∷ a ∷ product 3 a ∷ []
+-- four columns of the matrix, each times a byte, and a word of the round key, all xored
+pub mixed-xor : (w x y z k a b c d : ℕ) → word_bytes w ≡ product 2 a ∷ a ∷ a ∷ product 3 a ∷ []
     → word_bytes x ≡ product 3 b ∷ product 2 b ∷ b ∷ b ∷ []
     → word_bytes y ≡ c ∷ product 3 c ∷ product 2 c ∷ c ∷ []
     → word_bytes z ≡ d ∷ d ∷ product 3 d ∷ product 2 d ∷ []
     → word_bytes (bit_xor (bit_xor (bit_xor (bit_xor w x) y) z) k) ≡ xor_bytes (mixed_column a b c d) (word_bytes k)
-mixed-sum w x y z k a b c d ew ex ey ez =
+mixed-xor w x y z k a b c d ew ex ey ez =
     rw (
       word_bytes-xor (bit_xor (bit_xor (bit_xor w x) y) z) k,
       word_bytes-xor (bit_xor (bit_xor w x) y) z,
@@ -38,7 +38,7 @@ pub mixed-tables : (a b c d k : ℕ) → a < 2 ^ 32
 unfolding byte_of
 mixed-tables a b c d k fits =
     let whole : a / 2 ^ 24 ≡ a / 2 ^ 24 % 256 = omega arith in
-    mixed-sum _ _ _ _ k _ _ _ _ (ap (λ (i : ℕ). word_bytes (get_or FIRST_COLUMN i 0)) whole
+    mixed-xor _ _ _ _ k _ _ _ _ (ap (λ (i : ℕ). word_bytes (get_or FIRST_COLUMN i 0)) whole
     ∙ get_or-FIRST_COLUMN (a / 2 ^ 24 % 256) (omega arith))
     (get_or-SECOND_COLUMN (b / 2 ^ 16 % 256) (omega arith))
     (get_or-THIRD_COLUMN (c / 2 ^ 8 % 256) (omega arith)) (get_or-FOURTH_COLUMN (d % 256) (omega arith))
@@ -96,11 +96,11 @@ pub last_round-columns : (p q r s j k l m w x y z : ℕ)
 unfolding word_bytes byte_of
 last_round-columns p q r s j k l m w x y z ew ex ey ez = append_four _ _ _ _ _ _ _ _ ew ex ey ez
 
--- the sum of four columns and four words
-pub first_sum-columns : (p q r s j k l m : ℕ)
+-- four columns xored with four words
+pub first_xor-columns : (p q r s j k l m : ℕ)
     → word_bytes (bit_xor p j) ++ word_bytes (bit_xor q k) ++ word_bytes (bit_xor r l) ++ word_bytes (bit_xor s m)
     ≡ xor_bytes (word_bytes p ++ word_bytes q ++ word_bytes r ++ word_bytes s)
     (word_bytes j ++ word_bytes k ++ word_bytes l ++ word_bytes m)
 unfolding word_bytes
-first_sum-columns p q r s j k l m =
+first_xor-columns p q r s j k l m =
     append_four _ _ _ _ _ _ _ _ (word_bytes-xor p j) (word_bytes-xor q k) (word_bytes-xor r l) (word_bytes-xor s m)

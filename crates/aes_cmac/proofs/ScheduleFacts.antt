@@ -30,7 +30,7 @@ pub key_words-more : (key ws : List ℕ) (i v t : ℕ) → length ws ≡ 44 → 
     → word_bytes t ≡ added_word (word_bytes (get_or ws (i - 1) 0)) i
     → map word_bytes (take (i + 1) (set ws i v)) ≡ key_words key (i + 1 - 4)
 unfolding key_words
-key_words-more key ws i v t len low high done is_sum is_added =
+key_words-more key ws i v t len low high done is_xor is_added =
     let next : i + 1 - 4 ≡ suc (i - 4) = omega arith in
     let back : i - 4 + 4 ≡ i = omega arith in
     let first : word_at (key_words key (i - 4)) (i - 4) ≡ word_bytes (get_or ws (i - 4) 0) =
@@ -38,7 +38,7 @@ key_words-more key ws i v t len low high done is_sum is_added =
     let second : word_at (key_words key (i - 4)) (i - 1) ≡ word_bytes (get_or ws (i - 1) 0) =
     ap (λ (w : List (List ℕ)). word_at w (i - 1)) (sym done) ∙ word_at-map ws i (i - 1) (omega arith) (omega arith) in
     let word : word_bytes v ≡ next_word (key_words key (i - 4)) (i - 4 + 4) =
-    ap word_bytes is_sum ∙ word_bytes-xor (get_or ws (i - 4) 0) t
+    ap word_bytes is_xor ∙ word_bytes-xor (get_or ws (i - 4) 0) t
     ∙ ap (λ (x : List ℕ). xor_bytes (word_bytes (get_or ws (i - 4) 0)) x) is_added
     ∙ ap (λ (x : List ℕ). xor_bytes x (added_word (word_bytes (get_or ws (i - 1) 0)) i)) (sym first)
     ∙ ap (λ (x : List ℕ). xor_bytes (word_at (key_words key (i - 4)) (i - 4)) (added_word x i)) (sym second)

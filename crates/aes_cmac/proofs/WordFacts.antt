@@ -8,7 +8,7 @@ use Rattle.std.proofs.lemmas.Nat.{xor_shr, xor_mod, be_bytes_4}
 use Rattle.aes_cmac.specs.Aes.{xor_bytes}
 use Rattle.aes_cmac.specs.Words.{word_bytes}
 
--- one byte of a sum of words
+-- one byte of xored words
 byte-xor : (a b k : ℕ) → bit_xor a b / 2 ^ k % 2 ^ 8 ≡ bit_xor (a / 2 ^ k % 2 ^ 8) (b / 2 ^ k % 2 ^ 8)
 byte-xor a b k = ap (λ (n : ℕ). n % 2 ^ 8) (xor_shr a b k) ∙ xor_mod (a / 2 ^ k) (b / 2 ^ k) 8
 

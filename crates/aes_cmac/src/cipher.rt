@@ -6,11 +6,11 @@ ghost use Rattle.aes_cmac.specs.Words.{four_words, state_bytes, IsSchedule};
 
 use crate::keys::Key;
 use crate::rounds::{bytes_of, columns_of, last_round, middle_round};
-use crate::schedule::Schedule;
+use crate::schedule::{ROUNDS, Schedule};
 
 // AddRoundKey with the first round key.
 #[inline(always)]
-fn first_sum(v: [u32; 4], words: &Schedule) -> [u32; 4]
+fn first_xor(v: [u32; 4], words: &Schedule) -> [u32; 4]
     ensures { state_bytes result ≡ xor_bytes (state_bytes v) (four_words words.now 0) }
 {
     [
@@ -25,12 +25,12 @@ fn first_sum(v: [u32; 4], words: &Schedule) -> [u32; 4]
 pub(crate) fn encrypt_block(words: &Schedule, block: &[u8; 16]) -> [u8; 16]
     ensures { (key : List ℕ) → IsSchedule words.now key → result ≡ ciphertext key block.now }
 {
-    let mut v = first_sum(columns_of(block), words);
-    'rounds: for round in 1..10 {
+    let mut v = first_xor(columns_of(block), words);
+    'rounds: for round in 1..ROUNDS {
         let next = middle_round(v, words, 4 * round);
         v = next;
     }
-    bytes_of(last_round(v, words, 40))
+    bytes_of(last_round(v, words, 4 * ROUNDS))
 }
 
 /// The block that AES-128 gives of a block (FIPS 197 section 5.1). Needs no memory.

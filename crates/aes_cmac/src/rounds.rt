@@ -6,7 +6,7 @@ ghost use Rattle.aes_cmac.specs.Field.{s_box};
 ghost use Rattle.aes_cmac.specs.Aes.{xor_bytes, sub_bytes, shift_rows, mixed_column, mix_columns};
 ghost use Rattle.aes_cmac.specs.Words.{word_bytes, byte_of, four_words, state_bytes};
 
-use crate::schedule::Schedule;
+use crate::schedule::{SCHEDULE_LEN, Schedule};
 use crate::tables::{FIRST_COLUMN, FOURTH_COLUMN, S_BOX, SECOND_COLUMN, THIRD_COLUMN};
 
 // SubBytes, ShiftRows, MixColumns and AddRoundKey of one column, which ShiftRows makes of row 0 of
@@ -42,7 +42,7 @@ pub(crate) fn substituted(a: u32, b: u32, c: u32, d: u32, key: u32) -> u32
 /// A round, with the round key that begins at word `at`.
 #[inline(always)]
 pub(crate) fn middle_round(v: [u32; 4], words: &Schedule, at: usize) -> [u32; 4]
-    requires { at + 4 ≤ 44 }
+    requires { at + 4 ≤ SCHEDULE_LEN }
     ensures { state_bytes result
         ≡ xor_bytes (mix_columns (shift_rows (sub_bytes (state_bytes v)))) (four_words words.now at) }
 {
@@ -57,7 +57,7 @@ pub(crate) fn middle_round(v: [u32; 4], words: &Schedule, at: usize) -> [u32; 4]
 /// The last round, which leaves MixColumns out.
 #[inline(always)]
 pub(crate) fn last_round(v: [u32; 4], words: &Schedule, at: usize) -> [u32; 4]
-    requires { at + 4 ≤ 44 }
+    requires { at + 4 ≤ SCHEDULE_LEN }
     ensures { state_bytes result
         ≡ xor_bytes (shift_rows (sub_bytes (state_bytes v))) (four_words words.now at) }
 {

@@ -7,8 +7,11 @@ ghost use Rattle.aes_cmac.specs.Words.{word_bytes, IsSchedule};
 use crate::rounds::{substituted, word_from};
 use crate::tables::ROUND_CONSTANTS;
 
-/// The words of AES-128's key schedule: 4 of the key and 4 for each of 10 rounds (FIPS 197 section 5.2).
-pub(crate) const SCHEDULE_LEN: usize = 44;
+/// The rounds of AES-128 (FIPS 197 section 5).
+pub(crate) const ROUNDS: usize = 10;
+
+/// The words of AES-128's key schedule: 4 of the key and 4 for each round (FIPS 197 section 5.2).
+pub(crate) const SCHEDULE_LEN: usize = 4 * (ROUNDS + 1);
 
 /// The words of a key's schedule, each with its highest byte first.
 pub(crate) type Schedule = [u32; SCHEDULE_LEN];
@@ -16,7 +19,7 @@ pub(crate) type Schedule = [u32; SCHEDULE_LEN];
 // What word i - 4 is added to, to give word i, from word i - 1.
 fn added_to(word: u32, i: usize) -> u32
     requires low { 4 ≤ i }
-    requires high { i < 44 }
+    requires high { i < SCHEDULE_LEN }
     ensures { word_bytes result ≡ added_word (word_bytes word) i }
 {
     if i % 4 > 0 {
@@ -27,7 +30,7 @@ fn added_to(word: u32, i: usize) -> u32
     substituted(turned, turned, turned, turned, ROUND_CONSTANTS[i / 4 - 1])
 }
 
-/// The 44 words of a key's schedule.
+/// The words of a key's schedule.
 pub(crate) fn expanded(key: &[u8; 16]) -> Schedule
     ensures words { IsSchedule result key.now }
     ensures fits { (i : ℕ) → slice_index result i < 2 ^ 32 }

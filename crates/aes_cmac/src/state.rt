@@ -13,9 +13,9 @@ use std::marker::Model;
 /// The bytes of a block (RFC 4493 section 2.4).
 const BLOCK_LEN: usize = 16;
 
-// The sum of two blocks.
+// Two blocks, byte by byte xored.
 #[inline(always)]
-fn sum_of(a: &[u8; 16], b: &[u8; 16]) -> [u8; 16]
+fn xor_of(a: &[u8; 16], b: &[u8; 16]) -> [u8; 16]
     ensures { result ≡ xor_bytes a.now b.now }
 {
     let mut out = [0u8; BLOCK_LEN];
@@ -101,7 +101,7 @@ impl<'a> Cmac<'a> {
     pub fn finish(self) -> [u8; 16]
         ensures { (key m : List ℕ) → HasTaken self.entry key m → result ≡ cmac key m }
     {
-        encrypt(self.key, sum_of(&self.chain, &self.last_block()))
+        encrypt(self.key, xor_of(&self.chain, &self.last_block()))
     }
 
     // How many bytes may be held beside those that are.
@@ -128,7 +128,7 @@ impl<'a> Cmac<'a> {
           tail = self.old.tail;
         } }
     {
-        self.chain = encrypt(self.key, sum_of(&self.chain, block));
+        self.chain = encrypt(self.key, xor_of(&self.chain, block));
     }
 
     // Adds the block that is held to X.
@@ -145,18 +145,18 @@ impl<'a> Cmac<'a> {
         self.held = 0;
     }
 
-    // The sum of the last block and its subkey.
+    // The last block, xored with its subkey.
     fn last_block(&self) -> [u8; 16]
         ensures whole { length self.now.tail ≡ 16 → result ≡ xor_bytes self.now.tail (first_subkey self.now.key) }
         ensures filled { length self.now.tail < 16
             → result ≡ xor_bytes (self.now.tail ++ 0x80 ∷ replicate (15 - length self.now.tail) 0) (second_subkey self.now.key) }
     {
         if self.held == BLOCK_LEN {
-            return sum_of(&self.buffer, &self.key.first_subkey());
+            return xor_of(&self.buffer, &self.key.first_subkey());
         }
         let mut last = self.buffer;
         last[self.held] = 0x80;
         last[self.held + 1..].fill(0);
-        sum_of(&last, &self.key.second_subkey())
+        xor_of(&last, &self.key.second_subkey())
     }
 }

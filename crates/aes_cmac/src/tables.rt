@@ -1,5 +1,7 @@
 // The tables of the cipher: the S-box, and each of its bytes times a column of MixColumns' matrix.
 
+use crate::schedule::ROUNDS;
+
 // SubBytes of each byte (FIPS 197 section 5.1.1).
 pub(crate) const S_BOX: [u8; 256] = [
     0x63, 0x7c, 0x77, 0x7b, 0xf2, 0x6b, 0x6f, 0xc5, 0x30, 0x01, 0x67, 0x2b, 0xfe, 0xd7, 0xab, 0x76,
@@ -20,8 +22,8 @@ pub(crate) const S_BOX: [u8; 256] = [
     0x8c, 0xa1, 0x89, 0x0d, 0xbf, 0xe6, 0x42, 0x68, 0x41, 0x99, 0x2d, 0x0f, 0xb0, 0x54, 0xbb, 0x16,
 ];
 
-// Rcon of rounds 1 to 10 (FIPS 197 section 5.2), as words.
-pub(crate) const ROUND_CONSTANTS: [u32; 10] = [
+// Rcon of each round (FIPS 197 section 5.2), as words.
+pub(crate) const ROUND_CONSTANTS: [u32; ROUNDS] = [
     0x01000000, 0x02000000, 0x04000000, 0x08000000, 0x10000000, 0x20000000, 0x40000000, 0x80000000,
     0x1b000000, 0x36000000,
 ];

@@ -3,7 +3,7 @@ use Rattle.aes_cmac.proofs.ScheduleFacts.{state_after-none, state_after-more, ci
 use Rattle.aes_cmac.proofs.cipher.encrypt_block.Goals as goal
 
 pub rounds-init : goal.rounds-init
-rounds-init c = λ key is. state_after-none _ key _ _ _ is (omega arith) c.columns_of.ensures c.first_sum-v.ensures
+rounds-init c = λ key is. state_after-none _ key _ _ _ is (omega arith) c.columns_of.ensures c.first_xor-v.ensures
 
 pub rounds-preserved : goal.rounds-preserved
 rounds-preserved c = λ key is.

@@ -1,7 +1,7 @@
 use Rattle.std.proofs.Common.{sym, ◌∙◌, arith, rules}
 use Rattle.aes_cmac.proofs.Lengths.{length-xor_bytes}
 use Rattle.aes_cmac.proofs.MacFacts.{same_more, same_all, get_or-xor_bytes}
-use Rattle.aes_cmac.proofs.state.sum_of.Goals as goal
+use Rattle.aes_cmac.proofs.state.xor_of.Goals as goal
 
 pub bytes-preserved : goal.bytes-preserved
 bytes-preserved c = (
