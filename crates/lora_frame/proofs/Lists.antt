@@ -1,8 +1,20 @@
--- Facts on lists that several proofs share.
-use Rattle.std.proofs.Common.{◌≡◌, ℕ, ◌≤◌, List, [], ◌∷◌, length, take, get_or, Bool, refl, sym, ◌∙◌, arith}
-use Rattle.std.specs.Prelude.{IsTrue, nat_eq}
+-- Facts on bits and lists that several proofs share.
+use Rattle.std.proofs.Common.{◌≡◌, ℕ, zero, suc, ◌*◌, ◌/◌, ◌%◌, ◌^◌, ◌<◌, ◌≤◌, List, [], ◌∷◌, length, take, get_or, Bool, refl, sym, ◌∙◌, arith}
+use Rattle.std.specs.Prelude.{IsTrue, nat_eq, not, bit_and, ◌==◌}
+use Rattle.std.proofs.lemmas.Bool.Decides.{nat_tests}
+use Rattle.std.proofs.lemmas.Nat.{pow_pos}
+use Rattle.std.proofs.lemmas.Nat.Bits.{and_pow}
 use Rattle.std.specs.Cmp.Lexicographic.{pointwise}
 use Rattle.std.proofs.lemmas.Slice.Eq.{bytes_eq-Decides}
+
+-- a bit is 1 where its mask leaves something
+bit_left : (bit worth : ℕ) → bit < 2 → 0 < worth → not (bit * worth == 0) ≡ (bit == 1)
+bit_left zero worth h pos = grind (arith, nat_tests)
+bit_left (suc zero) worth h pos = grind (arith, nat_tests)
+bit_left (suc (suc bit)) worth h pos = absurd (omega arith)
+
+pub bit_test : (n k : ℕ) → not (bit_and n (2 ^ k) == 0) ≡ (n / 2 ^ k % 2 == 1)
+bit_test n k = rw (and_pow n k) (bit_left (n / 2 ^ k % 2) (2 ^ k) (omega arith) (pow_pos k))
 
 -- the first four elements
 pub take-four : (xs : List ℕ) → 4 ≤ length xs → get_or xs 0 0 ∷ get_or xs 1 0 ∷ get_or xs 2 0 ∷ get_or xs 3 0 ∷ [] ≡ take 4 xs

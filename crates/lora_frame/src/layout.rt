@@ -46,27 +46,26 @@ pub fn is_application_port(port: u8) -> bool
     (1..=MAX_PORT).contains(&port)
 }
 
-/// What the type is multiplied by in MHDR, whose top three bits it is (LoRaWAN L2 1.0.4 section 4.2.1).
-pub(crate) const TYPE: u8 = 32;
+/// The bits of MHDR below the type, which is its top three (LoRaWAN L2 1.0.4 section 4.2.1).
+pub(crate) const TYPE_SHIFT: u32 = 5;
 
-/// How many values Major has, the low two bits of MHDR, which are MHDR modulo this (LoRaWAN L2 1.0.4 section 4.2.2).
-pub(crate) const MAJORS: u8 = 4;
+/// The bits of Major in MHDR (LoRaWAN L2 1.0.4 section 4.2.2).
+pub(crate) const MAJOR_MASK: u8 = 0x03;
 
-/// What ADR is worth in FCtrl: the network may set the data rate (LoRaWAN L2 1.0.4 section 4.3.1).
+/// The bit of ADR in FCtrl: the network may set the data rate (LoRaWAN L2 1.0.4 section 4.3.1).
 pub(crate) const ADR: u8 = 0x80;
 
-/// What ADRACKReq is worth in an uplink's FCtrl: a downlink is asked for (LoRaWAN L2 1.0.4 section 4.3.1).
+/// The bit of ADRACKReq in an uplink's FCtrl: a downlink is asked for (LoRaWAN L2 1.0.4 section 4.3.1).
 pub(crate) const ADR_ACK_REQ: u8 = 0x40;
 
-/// What ACK is worth in FCtrl: a confirmed frame is acknowledged (LoRaWAN L2 1.0.4 section 4.3.1).
+/// The bit of ACK in FCtrl: a confirmed frame is acknowledged (LoRaWAN L2 1.0.4 section 4.3.1).
 pub(crate) const ACK: u8 = 0x20;
 
-/// What FPending is worth in a downlink's FCtrl: more downlinks wait (LoRaWAN L2 1.0.4 section 4.3.1).
+/// The bit of FPending in a downlink's FCtrl: more downlinks wait (LoRaWAN L2 1.0.4 section 4.3.1).
 pub(crate) const F_PENDING: u8 = 0x10;
 
-/// How many values FOptsLen has, 0 to 15 bytes: the low four bits of FCtrl, which are FCtrl modulo this (LoRaWAN L2 1.0.4
-/// section 4.3.1).
-pub(crate) const FOPTS_LENS: u8 = 16;
+/// The bits of FOptsLen in FCtrl, for 0 to 15 bytes (LoRaWAN L2 1.0.4 section 4.3.1).
+pub(crate) const FOPTS_LEN_MASK: u8 = 0x0f;
 
 /// The type of an unconfirmed data uplink, in the top three bits of MHDR.
 pub(crate) const UNCONFIRMED_UP: u8 = 2;

@@ -1,14 +1,14 @@
 // Uplinks are read.
 
-ghost use Rattle.std.specs.Prelude.{◌≡◌, ◌↔◌, ◌+◌, ◌≤◌, Some, None, IsOk, IsTrue, nat_lt, length, take, drop, slice_index};
+ghost use Rattle.std.specs.Prelude.{ℕ, ◌≡◌, ◌↔◌, ◌+◌, ◌%◌, ◌^◌, ◌≤◌, Some, None, IsOk, IsTrue, nat_lt, length, take, drop, slice_index};
 ghost use Rattle.std.specs.Prelude.{if◌then◌else◌};
 ghost use Rattle.std.specs.Int.{w16, from_le_bytes};
-ghost use Rattle.lora_frame.specs.Reading.{mic_place, options_end, uplink_of, uplink_record, HasMic, has_mic};
+ghost use Rattle.lora_frame.specs.Reading.{frame_type, control_of, control_bit, mic_place, options_end, uplink_of, uplink_record, HasMic, has_mic};
 
 use crate::blocks::{UP, mic};
 use crate::layout::{
-    ACK, ADDR_AT, ADR, ADR_ACK_REQ, CONFIRMED_UP, CONTROL_AT, COUNTER_AT, EMPTY_LEN, FOPTS_LENS,
-    MAJORS, MAX_LEN, MIC_LEN, OPTIONS_AT, TYPE, UNCONFIRMED_UP,
+    ACK, ADDR_AT, ADR, ADR_ACK_REQ, CONFIRMED_UP, CONTROL_AT, COUNTER_AT, EMPTY_LEN,
+    FOPTS_LEN_MASK, MAJOR_MASK, MAX_LEN, MIC_LEN, OPTIONS_AT, TYPE_SHIFT, UNCONFIRMED_UP,
 };
 use aes_cmac::Key;
 use thiserror::Error;
@@ -68,6 +68,30 @@ fn four_at(bytes: &[u8], at: usize) -> [u8; 4]
     out
 }
 
+// The type, in MHDR.
+fn frame_type(bytes: &[u8]) -> u8
+    requires { 12 ≤ length bytes.now }
+    ensures { result ≡ frame_type bytes.now }
+{
+    bytes[0] >> TYPE_SHIFT
+}
+
+// Whether a bit of FCtrl is set.
+fn control_bit(bytes: &[u8], bit: u8) -> bool
+    requires { 12 ≤ length bytes.now }
+    ensures { (k : ℕ) → bit ≡ 2 ^ k → result ≡ control_bit bytes.now bit }
+{
+    bytes[CONTROL_AT] & bit != 0
+}
+
+// FOptsLen, in FCtrl.
+fn options_len(bytes: &[u8]) -> u8
+    requires { 12 ≤ length bytes.now }
+    ensures { result ≡ control_of bytes.now % 16 }
+{
+    bytes[CONTROL_AT] & FOPTS_LEN_MASK
+}
+
 // FCnt.
 fn low_of(bytes: &[u8]) -> u16
     requires { 12 ≤ length bytes.now }
@@ -83,10 +107,7 @@ fn port_of(bytes: &[u8], options_end: usize, mic_at: usize) -> Option<u8>
     requires { mic_at ≤ length bytes.now }
     ensures { result ≡ (if nat_lt options_end mic_at then Some (slice_index bytes.now options_end) else None) }
 {
-    if options_end < mic_at {
-        return Some(bytes[options_end]);
-    }
-    None
+    bytes[..mic_at].get(options_end).copied()
 }
 
 // The place of the payload's first byte, or that of the MIC.
@@ -94,9 +115,10 @@ fn payload_place(options_end: usize, mic_at: usize) -> usize
     ensures { result ≡ (if nat_lt options_end mic_at then options_end + 1 else mic_at) }
 {
     if options_end < mic_at {
-        return options_end + 1;
+        options_end + 1
+    } else {
+        mic_at
     }
-    mic_at
 }
 
 // The place of the MIC.
@@ -112,7 +134,7 @@ fn options_end(bytes: &[u8]) -> usize
     requires { 12 ≤ length bytes.now }
     ensures { result ≡ options_end bytes.now }
 {
-    OPTIONS_AT + (bytes[CONTROL_AT] % FOPTS_LENS) as usize
+    OPTIONS_AT + options_len(bytes) as usize
 }
 
 // What an uplink says in which no fault was found.
@@ -121,16 +143,15 @@ fn uplink_from(bytes: &[u8]) -> Uplink
     ensures { result ≡ uplink_record bytes.now }
 {
     let mic_at = mic_place(bytes);
-    let control = bytes[CONTROL_AT];
     let options_end = options_end(bytes);
     Uplink {
-        confirmed: bytes[0] / TYPE == CONFIRMED_UP,
+        confirmed: frame_type(bytes) == CONFIRMED_UP,
         addr: u32::from_le_bytes(four_at(bytes, ADDR_AT)),
-        adr: control / ADR % 2 == 1,
-        adr_ack_req: control / ADR_ACK_REQ % 2 == 1,
-        ack: control / ACK % 2 == 1,
+        adr: control_bit(bytes, ADR),
+        adr_ack_req: control_bit(bytes, ADR_ACK_REQ),
+        ack: control_bit(bytes, ACK),
         low: low_of(bytes),
-        opts_len: control % FOPTS_LENS,
+        opts_len: options_len(bytes),
         port: port_of(bytes, options_end, mic_at),
         payload_at: payload_place(options_end, mic_at),
         mic: four_at(bytes, mic_at),
@@ -148,11 +169,11 @@ pub fn read_uplink(bytes: &[u8]) -> Result<Uplink, FrameFault>
     if bytes.len() > MAX_LEN {
         return Err(FrameFault::Long);
     }
-    let kind = bytes[0] / TYPE;
+    let kind = frame_type(bytes);
     if kind != UNCONFIRMED_UP && kind != CONFIRMED_UP {
         return Err(FrameFault::NotData);
     }
-    if bytes[0] % MAJORS != 0 {
+    if bytes[0] & MAJOR_MASK != 0 {
         return Err(FrameFault::Major);
     }
     let mic_at = mic_place(bytes);

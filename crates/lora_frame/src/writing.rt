@@ -10,7 +10,7 @@ ghost use Rattle.lora_frame.specs.Faults.{down_fault, up_fault, has_high_port};
 use crate::blocks::{DOWN, UP, append, append_crypted, mic};
 use crate::layout::{
     ACK, ADR, ADR_ACK_REQ, CONFIRMED_UP, EMPTY_LEN, F_PENDING, MAX_LEN, MAX_OPTIONS, MAX_PAYLOAD,
-    TYPE, UNCONFIRMED_DOWN, UNCONFIRMED_UP, is_application_port,
+    TYPE_SHIFT, UNCONFIRMED_DOWN, UNCONFIRMED_UP, is_application_port,
 };
 use crate::parts::{Body, Down, Keys, Up};
 use aes_cmac::Key;
@@ -52,10 +52,7 @@ fn down_refusal(down: &Down) -> Option<DownFault>
     if !is_application_port(body.port) {
         return Some(DownFault::Port);
     }
-    if body.payload.len() > MAX_PAYLOAD {
-        return Some(DownFault::Long);
-    }
-    None
+    (body.payload.len() > MAX_PAYLOAD).then_some(DownFault::Long)
 }
 
 fn up_refusal(up: &Up) -> Option<UpFault>
@@ -64,13 +61,9 @@ fn up_refusal(up: &Up) -> Option<UpFault>
     if has_high_port(up.body) {
         return Some(UpFault::Port);
     }
-    if up.options.len() > MAX_OPTIONS {
-        return Some(UpFault::Long);
-    }
-    if is_longer(up.body, MAX_LEN - EMPTY_LEN - up.options.len()) {
-        return Some(UpFault::Long);
-    }
-    None
+    let is_long = up.options.len() > MAX_OPTIONS
+        || is_longer(up.body, MAX_LEN - EMPTY_LEN - up.options.len());
+    is_long.then_some(UpFault::Long)
 }
 
 fn has_high_port(body: Option<Body>) -> bool
@@ -81,13 +74,9 @@ fn has_high_port(body: Option<Body>) -> bool
 
 // Whether FPort and FRMPayload have more bytes than that.
 fn is_longer(body: Option<Body>, most: usize) -> bool
-    requires { 0 < most }
     ensures { result ≡ nat_lt most (body_len body.entry) }
 {
-    match body {
-        Some(body) => body.payload.len() > most - 1,
-        None => false,
-    }
+    body.is_some_and(|body| body.payload.len() >= most)
 }
 
 // How many bytes FPort and FRMPayload have.
@@ -95,10 +84,7 @@ fn body_len(body: Option<Body>) -> usize
     requires { body_len body < 256 }
     ensures { result ≡ body_len body.entry }
 {
-    match body {
-        Some(body) => 1 + body.payload.len(),
-        None => 0,
-    }
+    body.map_or(0, |body| 1 + body.payload.len())
 }
 
 // What a bit of FCtrl is worth.
@@ -143,8 +129,8 @@ fn header(kind: u8, addr: u32, control: u8, counter: u32) -> [u8; 8]
     ensures { result ≡ header_bytes kind addr control counter }
 {
     let [a0, a1, a2, a3] = addr.to_le_bytes();
-    let [c0, c1] = ((counter % 0x1_0000) as u16).to_le_bytes();
-    [TYPE * kind, a0, a1, a2, a3, control, c0, c1]
+    let [c0, c1, ..] = counter.to_le_bytes();
+    [kind << TYPE_SHIFT, a0, a1, a2, a3, control, c0, c1]
 }
 
 fn payload_key(keys: &Keys, port: u8) -> &Key
