@@ -16,22 +16,22 @@ use Rattle.lora_frame.specs.declared.parts.Body.{Body}
 use Rattle.lora_frame.specs.declared.parts.Keys.{Keys}
 use Rattle.lora_frame.specs.declared.parts.Down.{Down}
 
--- the shorter list decides the length of a sum
-pub length-sum : (a b : List ℕ) → length a ≤ length b → length (xor_bytes a b) ≡ length a
-length-sum [] b h = refl
-length-sum (x ∷ xs) [] h = absurd (omega arith)
-length-sum (x ∷ xs) (y ∷ ys) h = ap suc (length-sum xs ys (omega arith))
+-- the shorter list decides the length of two that are xored
+pub length-xored : (a b : List ℕ) → length a ≤ length b → length (xor_bytes a b) ≡ length a
+length-xored [] b h = refl
+length-xored (x ∷ xs) [] h = absurd (omega arith)
+length-xored (x ∷ xs) (y ∷ ys) h = ap suc (length-xored xs ys (omega arith))
 
 xor_twice : (x y : ℕ) → bit_xor (bit_xor x y) y ≡ x
 xor_twice x y = xor_assoc x y y ∙ ap (bit_xor x) (xor_self y) ∙ xor_comm x 0
 
--- a sum that is added again
-pub sum_twice : (a b : List ℕ) → length a ≤ length b → xor_bytes (xor_bytes a b) b ≡ a
-sum_twice [] b h = refl
-sum_twice (x ∷ xs) [] h = absurd (omega arith)
-sum_twice (x ∷ xs) (y ∷ ys) h =
+-- what is xored twice
+pub xored_twice : (a b : List ℕ) → length a ≤ length b → xor_bytes (xor_bytes a b) b ≡ a
+xored_twice [] b h = refl
+xored_twice (x ∷ xs) [] h = absurd (omega arith)
+xored_twice (x ∷ xs) (y ∷ ys) h =
     ap (λ (n : ℕ). n ∷ xor_bytes (xor_bytes xs ys) ys) (xor_twice x y)
-    ∙ ap (λ (t : List ℕ). x ∷ t) (sum_twice xs ys (omega arith))
+    ∙ ap (λ (t : List ℕ). x ∷ t) (xored_twice xs ys (omega arith))
 
 pub length-key_stream : (key : List ℕ) (direction addr counter n : ℕ) → length key ≡ 16
     → length (key_stream key direction addr counter n) ≡ 16 * n
@@ -57,16 +57,16 @@ enough key payload direction addr counter h = omega (
 pub length-crypted : (key payload : List ℕ) (direction addr counter : ℕ) → length key ≡ 16
     → length (crypted key direction addr counter payload) ≡ length payload
 unfolding crypted
-length-crypted key payload direction addr counter h = length-sum payload _ (enough key payload direction addr counter h)
+length-crypted key payload direction addr counter h = length-xored payload _ (enough key payload direction addr counter h)
 
 pub crypted_twice : (key payload : List ℕ) (direction addr counter : ℕ) → length key ≡ 16
     → crypted key direction addr counter (crypted key direction addr counter payload) ≡ payload
 unfolding crypted
 crypted_twice key payload direction addr counter h =
-    let same = length-sum payload _ (enough key payload direction addr counter h) in
+    let same = length-xored payload _ (enough key payload direction addr counter h) in
     ap (λ (n : ℕ). xor_bytes (xor_bytes payload (key_stream key direction addr counter (block_count (length payload))))
     (key_stream key direction addr counter (block_count n))) same
-    ∙ sum_twice payload _ (enough key payload direction addr counter h)
+    ∙ xored_twice payload _ (enough key payload direction addr counter h)
 
 pub length-payload_key : (keys : Keys) (port : ℕ) → IsKeyPair keys → length (payload_key keys port) ≡ 16
 length-payload_key keys port pair = by_test (port == 0)

@@ -1,6 +1,6 @@
 // The blocks that a frame's payload and MIC are made with (LoRaWAN L2 1.0.4 sections 4.3.3 and 4.4).
 
-ghost use Rattle.std.specs.Prelude.{◌≡◌, ◌+◌, ◌-◌, ◌*◌, ◌≤◌, ◌<◌, ◌∷◌, [], ◌++◌, length, take, drop, min, replicate, vec_len};
+ghost use Rattle.std.specs.Prelude.{◌≡◌, ◌+◌, ◌≤◌, ◌<◌, ◌∷◌, [], ◌++◌, length, take, replicate, vec_len};
 ghost use Rattle.std.specs.Prelude.{vec_capacity};
 ghost use Rattle.std.specs.Int.{w32, to_le_bytes};
 ghost use Rattle.aes_cmac.specs.Aes.{xor_bytes, ciphertext};
@@ -9,6 +9,9 @@ ghost use Rattle.lora_frame.specs.Blocks.{stream_seed, crypted, mic_of};
 use crate::layout::MAX_PAYLOAD;
 use aes_cmac::{Cmac, Key, encrypt};
 use std::alloc::Allocator;
+
+/// The bytes of a block of AES (FIPS 197 section 5).
+const BLOCK_LEN: usize = 16;
 
 /// The byte of the blocks that says that a frame goes up.
 pub(crate) const UP: u8 = 0;
@@ -40,9 +43,9 @@ pub(crate) fn stream_block(key: &Key, direction: u8, addr: u32, counter: u32, i:
     encrypt(key, block_of(STREAM_FIRST, direction, addr, counter, i))
 }
 
-// The sum of a piece of a payload, of at most 16 bytes, and the block of the key stream that it meets;
+// A piece of a payload, of at most 16 bytes, xored with the block of the key stream that it meets;
 // what comes after the piece's length is not used.
-fn sum_with(block: [u8; 16], piece: &[u8]) -> [u8; 16]
+fn xored_with(block: [u8; 16], piece: &[u8]) -> [u8; 16]
     requires { length piece.now ≤ 16 }
     ensures { take (length piece.now) result ≡ xor_bytes piece.now block }
 {
@@ -63,29 +66,19 @@ pub(crate) fn append<A: Allocator>(frame: &mut Vec<u8, A>, bytes: &[u8])
     let _ = frame.extend_from_slice(bytes);
 }
 
-// Appends the sum of a piece of a payload and the block of the key stream that it meets.
-fn append_sum<A: Allocator>(frame: &mut Vec<u8, A>, block: [u8; 16], piece: &[u8])
+// Appends a piece of a payload, xored with the block of the key stream that it meets.
+fn append_xored<A: Allocator>(frame: &mut Vec<u8, A>, block: [u8; 16], piece: &[u8])
     requires short { length piece.now ≤ 16 }
     requires room { vec_len frame.old + length piece.now ≤ vec_capacity frame.old }
     ensures items { frame.new.items ≡ frame.old.items ++ xor_bytes piece.now block }
     ensures len { vec_len frame.new ≡ vec_len frame.old + length piece.now }
     ensures room { vec_capacity frame.old ≤ vec_capacity frame.new }
 {
-    let sum = sum_with(block, piece);
-    append(frame, &sum[..piece.len()]);
+    let xored = xored_with(block, piece);
+    append(frame, &xored[..piece.len()]);
 }
 
-// The piece of a payload that meets block i + 1 of the key stream.
-fn piece_at(payload: &[u8], i: usize) -> &[u8]
-    requires { 16 * i ≤ length payload.now }
-    ensures piece { result.now ≡ take 16 (drop (16 * i) payload.now) }
-    ensures len { length result.now ≡ min 16 (length payload.now - 16 * i) }
-{
-    let rest = &payload[16 * i..];
-    &rest[..rest.len().min(16)]
-}
-
-/// Appends a payload with the key stream added to it, for which there is room.
+/// Appends a payload, xored with the key stream, for which there is room.
 pub(crate) fn append_crypted<A: Allocator>(
     frame: &mut Vec<u8, A>,
     key: &Key,
@@ -100,10 +93,9 @@ pub(crate) fn append_crypted<A: Allocator>(
     ensures len { vec_len frame.new ≡ vec_len frame.old + length payload.now }
     ensures room { vec_capacity frame.old ≤ vec_capacity frame.new }
 {
-    let count = payload.len().div_ceil(16);
-    'blocks: for i in 0..count {
+    for (i, piece) in payload.chunks(BLOCK_LEN).enumerate() {
         let block = stream_block(key, direction, addr, counter, i as u8 + 1);
-        append_sum(frame, block, piece_at(payload, i));
+        append_xored(frame, block, piece);
     }
 }
 

@@ -1,12 +1,14 @@
-use Rattle.std.proofs.Common.{◌≡◌, ◌+◌, ◌*◌, ◌≤◌, ◌++◌, length, take, min, vec_len, vec_capacity}
-use Rattle.aes_cmac.specs.Aes.{xor_bytes}
-use Rattle.lora_frame.specs.Blocks.{key_stream}
+use Rattle.std.proofs.Common.{◌≡◌, ◌+◌, ◌≤◌, length, vec_len, vec_capacity}
+use Rattle.std.specs.Iterator.Adapters.{enumerate_source, enumerate_count}
+use Rattle.std.specs.Slice.Iter.{chunks_rest, chunks_size}
+use Rattle.lora_frame.proofs.Streams.{IsAfterBlocks}
 use Rattle.lora_frame.proofs.blocks.append_crypted.Given as goal
 
-abbrev pub invariant-blocks-2 : goal.invariant-blocks-2
-invariant-blocks-2 g l =
-    (l.frame.items ≡ l.fn.frame.items ++ xor_bytes (take (16 * l.i) l.payload)
-    (key_stream l.key l.direction l.addr l.counter l.i))
-    × (vec_len l.frame ≡ vec_len l.fn.frame + min (16 * l.i) (length l.payload))
-    × (vec_capacity l.fn.frame ≤ vec_capacity l.frame)
-    × (length (key_stream l.key l.direction l.addr l.counter l.i) ≡ 16 * l.i)
+abbrev pub invariant-loop-i : goal.invariant-loop-i
+invariant-loop-i g l = record {
+  size : chunks_size (enumerate_source l.i-iterator) ≡ 16;
+  done : IsAfterBlocks l.fn.frame.items l.payload l.key l.direction l.addr l.counter (enumerate_count l.i-iterator)
+      l.frame.items (chunks_rest (enumerate_source l.i-iterator));
+  len : vec_len l.frame + length (chunks_rest (enumerate_source l.i-iterator)) ≡ vec_len l.fn.frame + length l.payload;
+  room : vec_capacity l.fn.frame ≤ vec_capacity l.frame;
+}
