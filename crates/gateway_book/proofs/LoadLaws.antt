@@ -10,6 +10,7 @@ use Rattle.gateway_book.specs.declared.loading.LoadFault.{LoadFault}
 use Rattle.gateway_book.specs.declared.loading.LoadFault.TheVariants.{Read, Syntax, Version, Unlawful, NoMemory}
 use Rattle.gateway_book.specs.declared.saved_line.Entry.{Entry}
 use Rattle.gateway_book.specs.declared.saved_line.Entry.TheVariants.{Member, End}
+use Rattle.gateway_book.specs.Answer.{most_cap}
 use Rattle.gateway_book.specs.Book.{Book}
 use Rattle.gateway_book.specs.Loading.{loaded, lines_between}
 use Rattle.gateway_book.specs.Loading.{may_follow, joined}
@@ -122,7 +123,7 @@ module _ (a b c : Option (List ℕ)) (n m number : ℕ) (s : Saved) (before : Le
         (λ more. ap (λ t. cond t (members_from (number + 1) (joined s (reservation_of ask)) more) (Err (Unlawful number))) e)))
 
     -- there was no memory for the member
-    starved : s.rules.cap ≤ 65536 → may_follow s ask ≡ true → Loads a c (Err NoMemory)
+    starved : s.rules.cap ≤ most_cap → may_follow s ask ≡ true → Loads a c (Err NoMemory)
     starved capped e = by_bytes a c (member_leads e)
       where
         by_bytes : (x y : Option (List ℕ)) → Leads x y (n + m) loaded (members_from (number + 1) (joined s (reservation_of ask)))
@@ -152,7 +153,7 @@ module _ (a b c : Option (List ℕ)) (n m number : ℕ) (s : Saved) (before : Le
               refl,
             )
 
-    pub not_joined : (fault : LoadFault) → s.rules.cap ≤ 65536
+    pub not_joined : (fault : LoadFault) → s.rules.cap ≤ most_cap
         → MatchBool (may_follow s ask) (fault ≡ NoMemory) (refused fault ≡ Err (Unlawful number)) → Loads a c (Err fault)
     not_joined fault capped told = by_test (may_follow s ask) refl told
       where

@@ -20,8 +20,9 @@ use Rattle.gateway_book.specs.Loading.{loaded, lines_between, words_between, mem
 use Rattle.gateway_book.specs.Loading.{after_entry}
 use Rattle.gateway_book.specs.Loading.{version_in, gateway_in, entry_in, entry_with, saved_empty}
 use Rattle.gateway_book.specs.Loading.{joined, IsSavable, SavedIsReadAgain}
-use Rattle.gateway_book.specs.Answer.{Rules}
+use Rattle.gateway_book.specs.Answer.{Rules, most_cap}
 use Rattle.gateway_book.specs.Book.{IsBookList}
+use Rattle.gateway_book.specs.Disjoint.{most_gap}
 use Rattle.gateway_book.specs.Opening.{open_fault}
 use Rattle.gateway_book.specs.Saved.{Saved, version_words, gateway_words, member_words, members_text, end_words, text_in}
 use Rattle.gateway_book.specs.SavedLines.{members_from, gateway_from}
@@ -148,16 +149,16 @@ members_are_read number s (r ∷ rs) booked bytes fields b =
     ∙ subst P same
     (members_are_read (number + 1) t rs booked bytes (λ k d h. fields (suc k) d (omega arith)) (subst Q (sym same) b))
 
-open_again : (rules : Rules) → 0 < rules.cap → rules.cap ≤ 65536 → rules.gap ≤ 100000 → open_fault rules ≡ None
+open_again : (rules : Rules) → 0 < rules.cap → rules.cap ≤ most_cap → rules.gap ≤ most_gap → open_fault rules ≡ None
 open_again rules some capped rested =
     let a : (rules.cap == 0) ≡ false = ne_eqb rules.cap 0 (λ e. omega (arith, e)) in
-    let b : nat_lt 65536 rules.cap ≡ false = le-ltb 65536 rules.cap capped in
-    let c : nat_lt 100000 rules.gap ≡ false = le-ltb 100000 rules.gap rested in
+    let b : nat_lt most_cap rules.cap ≡ false = le-ltb most_cap rules.cap capped in
+    let c : nat_lt most_gap rules.gap ≡ false = le-ltb most_gap rules.gap rested in
     rw (a, b, c) refl
 
 -- the lines before them
 module _ (s : Saved) (savable : IsSavable s) where
-  cap_small : s.rules.cap ≤ 65536
+  cap_small : s.rules.cap ≤ most_cap
   cap_small = savable.list.capped
 
   gateway_ink : list_all is_ink (gateway_words 1 s) ≡ true

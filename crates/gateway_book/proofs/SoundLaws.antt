@@ -13,7 +13,7 @@ use Rattle.gateway_book.specs.Opening.{open_fault}
 use Rattle.gateway_book.proofs.KeptLaws.{kept-filtered, kept-place, kept-filter, kept-twice, kept-nil, kept-from, retired-before}
 use Rattle.gateway_book.proofs.KeptLaws.{net-place}
 use Rattle.gateway_book.specs.declared.ask.Ask.{Ask}
-use Rattle.gateway_book.specs.Answer.{IsAsked, total_limit, refusal_of, Rules}
+use Rattle.gateway_book.specs.Answer.{IsAsked, most_cap, total_limit, refusal_of, Rules}
 use Rattle.gateway_book.proofs.AnswerLaws.{accepted, book_step-accepted}
 use Rattle.gateway_book.specs.Step.{is_named, without_named, book_step, tick_step}
 use Rattle.gateway_book.proofs.CancelLaws.{fewer, net_named}
@@ -27,19 +27,19 @@ use Rattle.gateway_book.specs.declared.opening.OpenFault.TheVariants.{BadCap, Ba
 -- What a book keeps when it is opened and when it books.
 
 -- what is not refused lies within
-within_by : (cap gap : ℕ) (s t u : Bool) → (cap == 0) ≡ s → nat_lt 65536 cap ≡ t → nat_lt most_gap gap ≡ u
+within_by : (cap gap : ℕ) (s t u : Bool) → (cap == 0) ≡ s → nat_lt most_cap cap ≡ t → nat_lt most_gap gap ≡ u
     → (if s || t then Some BadCap else (if u then Some BadGap else None)) ≡ None
-    → (0 < cap) × (cap ≤ 65536) × (gap ≤ most_gap)
+    → (0 < cap) × (cap ≤ most_cap) × (gap ≤ most_gap)
 within_by cap gap true t u a b c e = absurd (cc)
 within_by cap gap false true u a b c e = absurd (cc)
 within_by cap gap false false true a b c e = absurd (cc)
 within_by cap gap false false false a b c e = (grind (arith, nat_tests), grind (arith, nat_tests), grind (arith, nat_tests))
 
-pub within : (rules : Rules) → open_fault rules ≡ None → (0 < rules.cap) × (rules.cap ≤ 65536) × (rules.gap ≤ most_gap)
+pub within : (rules : Rules) → open_fault rules ≡ None → (0 < rules.cap) × (rules.cap ≤ most_cap) × (rules.gap ≤ most_gap)
 within rules e =
-    within_by rules.cap rules.gap (rules.cap == 0) (nat_lt 65536 rules.cap) (nat_lt most_gap rules.gap) refl refl refl e
+    within_by rules.cap rules.gap (rules.cap == 0) (nat_lt most_cap rules.cap) (nat_lt most_gap rules.gap) refl refl refl e
 
-pub sound_empty : (id : ℕ) (rules : Rules) (floor : ℕ) → 0 < rules.cap → rules.cap ≤ 65536 → rules.gap ≤ most_gap → IsSound
+pub sound_empty : (id : ℕ) (rules : Rules) (floor : ℕ) → 0 < rules.cap → rules.cap ≤ most_cap → rules.gap ≤ most_gap → IsSound
     (record { id = id; rules = rules; floor = floor; list = []; booked = 0; cancelled = 0; retired = 0 })
 unfolding net
 sound_empty id rules floor h g k =

@@ -5,7 +5,7 @@ use Rattle.gateway_book.specs.declared.totals.Totals.{Totals}
 use Rattle.gateway_book.specs.Disjoint.{most_gap}
 use Rattle.gateway_book.specs.Lawful.{IsLawful}
 use Rattle.gateway_book.specs.Kept.{kept, retired_of}
-use Rattle.gateway_book.specs.Answer.{Rules, Terms, total_limit}
+use Rattle.gateway_book.specs.Answer.{Rules, Terms, most_cap, total_limit}
 use Rattle.gateway_book.specs.Step.{State, terms_at, without_named}
 use Rattle.gateway_book.specs.declared.cancel.CancelFault.{CancelFault}
 
@@ -64,7 +64,7 @@ totals_of b =
 -- what every book keeps at all times
 pub record IsSound (b : Book) : Type 0 where
   pub opened : 0 < b.rules.cap
-  pub capped : b.rules.cap ≤ 65536
+  pub capped : b.rules.cap ≤ most_cap
   pub counted : length b.list ≤ b.rules.cap
   pub rested : b.rules.gap ≤ most_gap
   pub lawful : IsLawful b.rules.gap b.list
@@ -75,7 +75,7 @@ pub record IsSound (b : Book) : Type 0 where
 -- a list that a book with these rules, this floor and this booked airtime may keep
 pub record IsBookList (rules : Rules) (floor booked : ℕ) (l : List Reservation) : Type 0 where
   pub opened : 0 < rules.cap
-  pub capped : rules.cap ≤ 65536
+  pub capped : rules.cap ≤ most_cap
   pub counted : length l ≤ rules.cap
   pub by_start : IsByStart l
   pub rested : rules.gap ≤ most_gap

@@ -15,15 +15,14 @@ use crate::ask::fitted;
 use crate::busiest::busiest_hour;
 use crate::cancel::named;
 use crate::duty::full_hour;
-use crate::opening::fault_of;
-use crate::{Ask, CancelFault, MAX_CAP, MAX_GAP, OpenFault, Refusal, Totals};
+use crate::{Ask, CancelFault, MAX_CAP, MAX_GAP, OpenFault, Refusal, Totals, open_fault};
 use radio_bands::Band;
 use resv_list::{HOUR, Reservation, Roster, airtime_of};
 use std::alloc::{AllocError, Allocator};
 use std::marker::Model;
 
 /// The greatest total of booked airtime, in microseconds.
-pub const TOTAL_LIMIT: u64 = 1 << 62;
+const TOTAL_LIMIT: u64 = 1 << 62;
 
 /// A growth was refused: there was no memory.
 pub type NoMemory = AllocError;
@@ -93,7 +92,7 @@ impl<R: Roster> GatewayBook<R> {
           retired = 0;
         }) }
     {
-        if let Some(fault) = fault_of(cap, gap) {
+        if let Some(fault) = open_fault(cap, gap) {
             return Err(fault);
         }
         Ok(GatewayBook {

@@ -9,7 +9,7 @@ use radio_bands::{Band, limit_us};
 use resv_list::{HOUR, Roster, reach};
 
 /// An hour, and how full it is.
-#[derive(Clone, Copy, Debug)]
+#[derive(Clone, Copy)]
 pub(crate) struct FullHour {
     /// Where it opens, in microseconds.
     pub(crate) from: u64,

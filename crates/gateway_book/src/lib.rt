@@ -21,7 +21,7 @@ mod saving;
 mod totals;
 
 pub use ask::Ask;
-pub use book::{GatewayBook, NoMemory, TOTAL_LIMIT};
+pub use book::{GatewayBook, NoMemory};
 pub use cancel::CancelFault;
 pub use laws::{
     law_books_may_be_saved, law_busiest_is_exact, law_duty_row_is_exact, law_earliest_candidates,
@@ -30,7 +30,7 @@ pub use laws::{
     law_spaced_is_apart,
 };
 pub use loading::LoadFault;
-pub use opening::{MAX_CAP, MAX_GAP, OpenFault};
+pub use opening::{MAX_CAP, MAX_GAP, OpenFault, open_fault};
 pub use refusal::Refusal;
 pub use resv_list::HOUR;
 pub use saving::SaveFault;

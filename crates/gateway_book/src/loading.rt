@@ -9,7 +9,7 @@ ghost use Rattle.gateway_book.specs.Step.{reservation_of};
 
 use crate::saved_line::{Entry, SavedGateway};
 use crate::saved_steps::{bytes_of, read_entry, read_opening};
-use crate::{Ask, GatewayBook};
+use crate::{Ask, GatewayBook, MAX_CAP};
 use resv_list::Roster;
 use text_lines::{ByteIn, HeldLine};
 use thiserror::Error;
@@ -121,7 +121,7 @@ impl<R: Roster> GatewayBook<R> {
             (result ≡ Err (LoadFault.Unlawful number)) }
         ensures joined { OnOk result (self.new ≡ opened_again (joined (saved_of self.old) (reservation_of ask))) }
         ensures longer { OnOk result (length self.new.list ≡ length self.old.list + 1) }
-        ensures room { OnOk result (length self.old.list < 65536) }
+        ensures room { OnOk result (length self.old.list < MAX_CAP) }
     {
         let Some(reservation) = self.follower(ask) else {
             return Err(LoadFault::Unlawful { line: number });

@@ -2,10 +2,11 @@
 ghost use Rattle.std.specs.Prelude.{◌≡◌};
 ghost use Rattle.gateway_book.specs.Opening.{open_fault};
 
+use resv_list::MAX_MEMBERS;
 use thiserror::Error;
 
-/// The greatest number of transmissions that a book may keep.
-pub const MAX_CAP: u32 = 65_536;
+/// The greatest number of transmissions that a book may keep: as many as a roster may have.
+pub const MAX_CAP: u32 = MAX_MEMBERS as u32;
 
 /// The greatest gap between two transmissions, in microseconds.
 pub const MAX_GAP: u32 = 100_000;
@@ -35,8 +36,9 @@ impl OpenFault {
     }
 }
 
-/// Why no book is opened with this cap and this gap, if there is a reason.
-pub(crate) fn fault_of(cap: u32, gap: u32) -> Option<OpenFault>
+/// Why no book is opened with this cap, 1 to 65,536 transmissions, and this gap, 0 to 100,000 microseconds, if there is a reason.
+/// The cap is looked at first.
+pub fn open_fault(cap: u32, gap: u32) -> Option<OpenFault>
     ensures { result ≡ open_fault (record { cap = cap; gap = gap }) }
 {
     if cap == 0 || cap > MAX_CAP {

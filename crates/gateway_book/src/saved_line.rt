@@ -15,7 +15,7 @@ pub(crate) const VERSION: u32 = 2;
 pub(crate) const WITHOUT_GAP: u32 = 1;
 
 /// What the gateway's line says.
-#[derive(Clone, Copy, Debug, PartialEq, Eq)]
+#[derive(Clone, Copy)]
 pub(crate) struct SavedGateway {
     /// The gateway's number.
     pub(crate) id: u16,
@@ -28,7 +28,7 @@ pub(crate) struct SavedGateway {
 }
 
 /// What a line says that follows the gateway's.
-#[derive(Clone, Copy, Debug, PartialEq, Eq)]
+#[derive(Clone, Copy)]
 pub(crate) enum Entry {
     /// `r NUMBER START FREQ DR LEN`: a member.
     Member(Ask),

@@ -6,12 +6,11 @@ ghost use Rattle.gateway_book.specs.Opening.{open_fault};
 ghost use Rattle.gateway_book.specs.Saved.{Saved};
 ghost use Rattle.gateway_book.specs.SavedLines.{Leads, IsFault, gateway_from, members_from, entry_then};
 
-use crate::LoadFault;
-use crate::opening::fault_of;
 use crate::saved_line::{
     Entry, SavedGateway, VERSION, WITHOUT_GAP, entry_said, gateway_said, version_said,
 };
 use crate::saved_reader::next_line;
+use crate::{LoadFault, open_fault};
 use text_lines::{ByteIn, HeldLine};
 
 /// Reads the first two lines: a gateway whose book may be opened, beside the number of bytes that were taken.
@@ -85,7 +84,7 @@ pub(crate) fn read_gateway<I: ByteIn>(
     let Some(gateway) = gateway_said(version, line.as_slice()) else {
         return Err(LoadFault::Syntax { line: 2 });
     };
-    match fault_of(gateway.cap, gateway.gap) {
+    match open_fault(gateway.cap, gateway.gap) {
         Some(_) => Err(LoadFault::Unlawful { line: 2 }),
         None => Ok(gateway),
     }

@@ -8,7 +8,7 @@ use std::marker::Model;
 pub(crate) const WORD_LIMIT: usize = 7;
 
 /// The first words of a line, at most 7. Two spaces part an empty word.
-#[derive(Debug, Drop)]
+#[derive(Drop)]
 pub(crate) struct SavedWords<'a> {
     words: [&'a [u8]; WORD_LIMIT],
     count: usize,

@@ -1,6 +1,7 @@
 use Rattle.std.proofs.Common.{◌≡◌, ◌+◌, ◌≤◌, sym, ap, ◌∙◌, subst, arith, rules, length}
 use Rattle.gateway_book.specs.declared.loading.LoadFault.TheVariants.{Unlawful}
 use Rattle.gateway_book.specs.declared.saved_line.Entry.TheVariants.{Member, End}
+use Rattle.gateway_book.specs.Answer.{most_cap}
 use Rattle.gateway_book.specs.Book.{Book}
 use Rattle.gateway_book.specs.Loading.{may_follow, joined}
 use Rattle.gateway_book.specs.Saved.{Saved, saved_of, opened_again}
@@ -103,7 +104,7 @@ returns-in-Err-join-clause-answer g c =
     let after = g.I.ByteIn.left c.read_entry.new.reader in
     let s = saved_of c.loop-entry.book in
     let number = c.next_line_number-number.result in
-    let P : Book → Type 0 = λ b. b.rules.cap ≤ 65536 in
+    let P : Book → Type 0 = λ b. b.rules.cap ≤ most_cap in
     not_joined first before after c.loop-entry.taken c.bytes_of-taken.result number s
     (before_at first before c.loop-entry.taken _ number s c.loop-entry.invariant.leads c.next_line_number-number.ensures.number)
     c.in-Member.ask

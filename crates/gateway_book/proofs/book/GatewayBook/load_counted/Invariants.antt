@@ -1,4 +1,5 @@
 use Rattle.std.proofs.Common.{◌≡◌, ◌+◌, ◌-◌, ◌*◌, ◌≤◌, length}
+use Rattle.gateway_book.specs.Answer.{most_cap}
 use Rattle.gateway_book.specs.Loading.{loaded}
 use Rattle.gateway_book.specs.Saved.{saved_of, opened_again}
 use Rattle.gateway_book.specs.SavedLines.{Leads, members_from}
@@ -14,4 +15,4 @@ invariant-loop-entry g l = record {
 }
 
 abbrev pub decreases-loop-entry : goal.decreases-loop-entry
-decreases-loop-entry g l = 65536 - length l.book.list
+decreases-loop-entry g l = most_cap - length l.book.list
