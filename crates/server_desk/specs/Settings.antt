@@ -3,6 +3,9 @@ use Rattle.std.specs.Prelude.{◌++◌, length, All, AllPairs, Option, Some, Non
 use Rattle.std.specs.Option.{option_or}
 use Rattle.std.specs.List.{list_any}
 use Rattle.radio_bands.specs.Band.{band_of}
+use Rattle.gateway_book.specs.Answer.{most_cap}
+use Rattle.gateway_book.specs.Disjoint.{most_gap}
+use Rattle.gateway_book.specs.Opening.{open_fault}
 use Rattle.server_desk.specs.declared.setting.GatewaySetting.{GatewaySetting}
 use Rattle.server_desk.specs.declared.setting.DeviceSetting.{DeviceSetting}
 use Rattle.server_desk.specs.declared.settings_fault.SettingsFault.{SettingsFault}
@@ -26,11 +29,12 @@ is_from low high n = nat_le low n && nat_le n high
 -- the numbers of a gateway are in their ranges
 pub record IsGatewayInRange (g : GatewaySetting) : Type 0 where
   pub id : IsFrom 1 65535 g.id
-  pub cap : IsFrom 1 65536 g.cap
-  pub gap : IsFrom 0 100000 g.gap
+  pub cap : IsFrom 1 most_cap g.cap
+  pub gap : IsFrom 0 most_gap g.gap
 
+-- the same as a test: its book may be opened
 abbrev pub is_gateway_in_range : GatewaySetting → Bool
-is_gateway_in_range g = is_from 1 65535 g.id && is_from 1 65536 g.cap && is_from 0 100000 g.gap
+is_gateway_in_range g = is_from 1 65535 g.id && not (is_some (open_fault (record { cap = g.cap; gap = g.gap })))
 
 -- the numbers of a device are in their ranges: RX1Delay in seconds, RX1DROffset, and the next downlink
 -- counter, which is 2^32 where all are spent

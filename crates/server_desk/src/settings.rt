@@ -7,7 +7,7 @@ ghost use Rattle.server_desk.specs.Settings.{first_fault, settings_fault, is_gat
 
 use crate::device_calls::COUNTERS;
 use crate::{DeviceSetting, GatewaySetting, SettingsFault};
-use gateway_book::{MAX_CAP, MAX_GAP};
+use gateway_book::open_fault;
 use radio_bands::Band;
 use std::alloc::Allocator;
 use std::marker::Model;
@@ -166,11 +166,11 @@ fn has_addr(devices: &[DeviceSetting], addr: u32) -> bool
     devices.iter().any(|device| device.addr == addr)
 }
 
-/// Whether the gateway's number is 1 to 65,535, its cap 1 to 65,536 and its gap 0 to 100,000.
+/// Whether the gateway's number is 1 to 65,535, and a book may be opened with its cap and its gap.
 fn is_gateway_in_range(gateway: &GatewaySetting) -> bool
     ensures { result ≡ is_gateway_in_range gateway.now }
 {
-    1 <= gateway.id && 1 <= gateway.cap && gateway.cap <= MAX_CAP && gateway.gap <= MAX_GAP
+    1 <= gateway.id && open_fault(gateway.cap, gateway.gap).is_none()
 }
 
 /// Whether the device's delay is 1 to 15, its offset 0 to 5 and its next downlink counter 0 to 2^32.
