@@ -1,4 +1,4 @@
-use Rattle.std.specs.Prelude.{ℕ, ◌≡◌, ◌<◌, ◌≤◌, max, ◌==◌, ◌↔◌, ◌⊎◌, Bool, true, List, [], ◌∷◌, Option, Some}
+use Rattle.std.specs.Prelude.{ℕ, ◌≡◌, ◌<◌, ◌≤◌, max, ◌==◌, ◌↔◌, ◌⊎◌, Bool, List, [], ◌∷◌, Option, Some}
 use Rattle.std.specs.Prelude.{None, map, filter, Contains, All, MatchOption, refl}
 use Rattle.std.specs.Option.{option_map}
 use Rattle.std.proofs.Common.{sym, ap, ◌∙◌, arith, subst, zero, suc, inl, inr}

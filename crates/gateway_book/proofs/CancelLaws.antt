@@ -1,5 +1,5 @@
-use Rattle.std.specs.Prelude.{ℕ, ◌≡◌, ◌≢◌, ◌+◌, ◌<◌, ◌≤◌, nat_le, ◌==◌, Bool, true, false, not, List, [], ◌∷◌, length, Some, None}
-use Rattle.std.specs.Prelude.{filter, find, cond, refl}
+use Rattle.std.specs.Prelude.{ℕ, ◌≡◌, ◌≢◌, ◌+◌, ◌<◌, ◌≤◌, nat_le, ◌==◌, Bool, true, false, not, List, [], ◌∷◌, length, Option, Some, None}
+use Rattle.std.specs.Prelude.{filter, find, cond, refl, OnSome}
 use Rattle.std.proofs.Common.{sym, ap, ◌∙◌, arith, subst}
 use Rattle.std.proofs.lemmas.Bool.{leb-true, leb-false}
 use Rattle.std.proofs.lemmas.Bool.Decides.{nat_tests}
@@ -9,7 +9,7 @@ use Rattle.resv_list.specs.Sorted.{RisesFrom, first_from}
 use Rattle.resv_list.proofs.SortedLaws.{at_none}
 use Rattle.resv_list.specs.Begun.{begun-cons}
 use Rattle.resv_list.specs.Reservations.{start_of, airtime_us, begun, net, IsByStart, member_from, without}
-use Rattle.gateway_book.specs.Spaced.{SpacedFrom}
+use Rattle.gateway_book.specs.Spaced.{SpacedFrom, keep_if}
 use Rattle.gateway_book.proofs.SpacedLaws.{SpacedFrom-lower}
 use Rattle.gateway_book.specs.Step.{is_named, without_named}
 
@@ -154,6 +154,19 @@ named_found number start l m t e s f =
 
 pub named_none : (number start : ℕ) (l : List Reservation) → member_from start l ≡ None → find (is_named number start) l ≡ None
 named_none number start l f = (none_from start_of (is_named number start) start (named_start number start) l f).0
+
+-- what is kept of the first member from the start on, if there is one
+pub named_kept : (number start : ℕ) (l : List Reservation) (o : Option Reservation) → IsByStart l → member_from start l ≡ o
+    → (keep_if (is_named number start) o ≡ find (is_named number start) l)
+    × OnSome (keep_if (is_named number start) o) (without start l ≡ without_named l number start)
+named_kept number start l None s f = (sym (named_none number start l f), tt)
+named_kept number start l (Some m) s f = by_test (is_named number start m) refl
+  where
+    by_test : (t : Bool) → is_named number start m ≡ t
+        → (cond t (Some m) None ≡ find (is_named number start) l)
+        × OnSome (cond t (Some m) None) (without start l ≡ without_named l number start)
+    by_test true e = let n = named_found number start l m true e s f in (sym n.0, sym n.1)
+    by_test false e = (sym (named_found number start l m false e s f).0, tt)
 
 -- it is the member at that start
 at_by : (number start : ℕ) (r m : Reservation) (ms : List Reservation) (t : Bool) → is_named number start m ≡ t

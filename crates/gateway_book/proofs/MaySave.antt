@@ -1,5 +1,4 @@
 use Rattle.std.proofs.Common.{arith}
-use Rattle.resv_list.specs.Reservations.{net}
 use Rattle.gateway_book.specs.Loading.{BooksMayBeSaved}
 
 -- A book in memory may be saved.

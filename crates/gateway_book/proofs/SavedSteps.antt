@@ -1,5 +1,5 @@
 use Rattle.std.proofs.Common.{◌≡◌, ℕ, ◌+◌, ◌≤◌, true, cond, leb, ltb, ◌||◌, List, [], ◌∷◌, ◌++◌, length, Option}
-use Rattle.std.proofs.Common.{None, Some, Err, refl, sym, ap, ◌∙◌, arith, append_assoc, eqb}
+use Rattle.std.proofs.Common.{None, Some, Err, refl, ap, ◌∙◌, arith, append_assoc, eqb}
 use Rattle.std.proofs.lemmas.Bool.{ne_eqb, le-leb, lt-ltb, and_from}
 use Rattle.std.proofs.lemmas.List.{length_push, length-append}
 use Rattle.std.proofs.lemmas.List.Splits.{slice_split_at, length-slice_split}
@@ -15,7 +15,7 @@ use Rattle.gateway_book.specs.Saved.{Saved}
 use Rattle.gateway_book.specs.Loading.{Loaded, is_line, lines_between, words_between, version_in, gateway_in, entry_in}
 use Rattle.gateway_book.specs.Loading.{saved_empty}
 use Rattle.gateway_book.specs.Loading.{after_version, after_gateway, after_entry, all_lines, gateway_lines, members_in, loaded}
-use Rattle.gateway_book.specs.SavedLines.{TakesLine, IsNoLine, LacksLine, gateway_from, members_from, entry_then, Leads}
+use Rattle.gateway_book.specs.SavedLines.{TakesLine, gateway_from, members_from, entry_then, Leads}
 use Rattle.gateway_book.specs.SavedLines.{Faults, IsFault}
 
 -- A saved text is told line by line.

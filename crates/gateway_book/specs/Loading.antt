@@ -2,7 +2,7 @@ use Rattle.std.specs.Prelude.{◌≡◌, ℕ, ◌+◌, ◌^◌, ◌<◌, Bool, t
 use Rattle.std.specs.Prelude.{List}
 use Rattle.std.specs.Prelude.{[], ◌∷◌, ◌++◌, length, codes, slice_index, is_some, Option, Some, None, option_and_then, Result, Ok}
 use Rattle.std.specs.Prelude.{Err, ⊤, ◌⊎◌, All}
-use Rattle.std.specs.List.{slice_split, join_with_byte}
+use Rattle.std.specs.List.{list_any, slice_split, join_with_byte}
 use Rattle.radio_airtime.specs.declared.data_rate.DataRate.{DataRate}
 use Rattle.radio_bands.specs.Band.{hour}
 use Rattle.resv_list.specs.declared.reservation.Reservation.{Reservation}
@@ -84,10 +84,9 @@ abbrev pub count_in : List (List ℕ) → Option ℕ
 count_in (name ∷ count ∷ []) = if is_named (codes "end") name then plain_number (2 ^ 32) count else None
 count_in _ = None
 
--- whether what begins there would stand before a member, or beside one
+-- whether a member begins there or later
 abbrev pub is_behind : ℕ → List Reservation → Bool
-is_behind start [] = false
-is_behind start (r ∷ rs) = nat_le start r.start || is_behind start rs
+is_behind start l = list_any (λ r. nat_le start r.start) l
 
 -- whether a member may follow those read before it: it begins after each of them, is kept at the floor, is within the cap, and
 -- is fit, disjoint from each, with the gap, and within the duty cycle

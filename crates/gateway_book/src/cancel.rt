@@ -21,12 +21,9 @@ pub(crate) fn named<R: Roster>(roster: &R, number: u64, start: u64) -> Option<Re
     ensures member { result ≡ find (is_named number start) (R.list roster.now) }
     ensures alone { OnSome result (without start (R.list roster.now) ≡ without_named (R.list roster.now) number start) }
 {
-    let member = roster.first_from(start)?;
-    if is_named(&member, number, start) {
-        Some(member)
-    } else {
-        None
-    }
+    roster
+        .first_from(start)
+        .filter(|member| is_named(member, number, start))
 }
 
 /// Whether a member has this number and this start.

@@ -64,11 +64,7 @@ fn overfull<R: Roster>(roster: &R, band: Band, airtime: u64, from: u64) -> Optio
         else None) }
 {
     let hour = hour_from(roster, band, from);
-    if hour.spent + airtime > limit_us(band) {
-        Some(hour)
-    } else {
-        None
-    }
+    (hour.spent + airtime > limit_us(band)).then_some(hour)
 }
 
 /// The hour that opens at `from`.

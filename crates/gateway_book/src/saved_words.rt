@@ -55,10 +55,8 @@ fn first_word(line: &[u8]) -> (&[u8], Option<&[u8]>)
     ensures { MatchOption result.1 (words_between line.now ≡ result.0.now ∷ [])
         (λ rest. words_between line.now ≡ result.0.now ∷ words_between rest.now) }
 {
-    for (place, byte) in line.iter().enumerate() {
-        if *byte == b' ' {
-            return (&line[..place], Some(&line[place + 1..]));
-        }
+    match line.iter().position(|byte| *byte == b' ') {
+        Some(place) => (&line[..place], Some(&line[place + 1..])),
+        None => (line, None),
     }
-    (line, None)
 }

@@ -1,26 +1,23 @@
-use Rattle.std.proofs.Common.{true, false, sym, ◌∙◌}
-use Rattle.gateway_book.proofs.CancelLaws.{named_found, named_none}
+use Rattle.std.proofs.Common.{◌≡◌, sym, ◌∙◌, subst, Option, rules}
+use Rattle.std.specs.Prelude.{OnSome}
+use Rattle.resv_list.specs.declared.reservation.Reservation.{Reservation}
+use Rattle.resv_list.specs.Reservations.{without}
+use Rattle.gateway_book.specs.Spaced.{keep_if}
+use Rattle.gateway_book.specs.Step.{is_named, without_named}
+use Rattle.gateway_book.proofs.CancelLaws.{named_kept}
 use Rattle.gateway_book.proofs.cancel.named.Goals as goal
 
-pub returns-in_err-member-clause-member : goal.returns-in_err-member-clause-member
-returns-in_err-member-clause-member g c =
-    c.from_residual.ensures ∙ sym (named_none c.args.number c.args.start (g.R.Roster.list c.args.roster.now)
-    (sym c.first_from.ensures ∙ c.in_err-member.was))
+pub returns-clause-member : goal.returns-clause-member
+returns-clause-member g c =
+    let l = g.R.Roster.list c.args.roster.now in
+    let kept : c.filter.result ≡ keep_if (is_named c.args.number c.args.start) c.first_from.result = search rules in
+    kept ∙ (named_kept c.args.number c.args.start l c.first_from.result (g.met.R.Roster.by_start c.args.roster.now)
+    (sym c.first_from.ensures)).0
 
-pub returns-then-is_named-clause-member : goal.returns-then-is_named-clause-member
-returns-then-is_named-clause-member g c =
-    sym (named_found c.args.number c.args.start (g.R.Roster.list c.args.roster.now) c.in_ok-member.member true
-    (sym c.is_named.ensures ∙ c.if-is_named.true) (g.met.R.Roster.by_start c.args.roster.now)
-    (sym c.first_from.ensures ∙ c.in_ok-member.was)).0
-
-pub returns-then-is_named-clause-alone : goal.returns-then-is_named-clause-alone
-returns-then-is_named-clause-alone g c =
-    sym (named_found c.args.number c.args.start (g.R.Roster.list c.args.roster.now) c.in_ok-member.member true
-    (sym c.is_named.ensures ∙ c.if-is_named.true) (g.met.R.Roster.by_start c.args.roster.now)
-    (sym c.first_from.ensures ∙ c.in_ok-member.was)).1
-
-pub returns-else-is_named-clause-member : goal.returns-else-is_named-clause-member
-returns-else-is_named-clause-member g c =
-    sym (named_found c.args.number c.args.start (g.R.Roster.list c.args.roster.now) c.in_ok-member.member false
-    (sym c.is_named.ensures ∙ c.if-is_named.false) (g.met.R.Roster.by_start c.args.roster.now)
-    (sym c.first_from.ensures ∙ c.in_ok-member.was)).0
+pub returns-clause-alone : goal.returns-clause-alone
+returns-clause-alone g c =
+    let l = g.R.Roster.list c.args.roster.now in
+    let kept : c.filter.result ≡ keep_if (is_named c.args.number c.args.start) c.first_from.result = search rules in
+    let P : Option Reservation → Type 0 = λ o. OnSome o (without c.args.start l ≡ without_named l c.args.number c.args.start) in
+    subst P (sym kept) (named_kept c.args.number c.args.start l c.first_from.result (g.met.R.Roster.by_start c.args.roster.now)
+    (sym c.first_from.ensures)).1
