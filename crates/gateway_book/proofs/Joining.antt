@@ -1,6 +1,6 @@
-use Rattle.std.specs.Prelude.{ℕ, ◌≡◌, ◌+◌, ◌<◌, ◌≤◌, nat_lt, nat_le, Bool, true, false, not, ◌&&◌, is_some, List, [], ◌∷◌, length}
-use Rattle.std.specs.Prelude.{Option, Some, None, if◌then◌else◌, cond}
-use Rattle.std.proofs.Common.{refl, sym, ap, ◌∙◌, arith, subst}
+use Rattle.std.specs.Prelude.{◌≡◌, ◌+◌, ◌<◌, ◌≤◌, nat_lt, nat_le, Bool, true, false, not, ◌&&◌, is_some, List, [], ◌∷◌, length}
+use Rattle.std.specs.Prelude.{Some, None, if◌then◌else◌, cond, is_ok, Result, Ok, Err, OnOk}
+use Rattle.std.proofs.Common.{refl, sym, ap, arith}
 use Rattle.std.proofs.lemmas.Bool.{leb-true, ltb-true, and_parts}
 use Rattle.std.proofs.lemmas.Bool.Decides.{nat_tests}
 use Rattle.std.proofs.lemmas.Option.{same_Some}
@@ -110,27 +110,17 @@ can_join b ask r s e f =
           omega (arith, booked, net-short b.list, airtime_of-short r.rate r.len r.fit.sized, f.room, s.capped);
     }
 
-pub can_join_inside : (inside now : Book) (ask : Ask) (r : Reservation) → inside ≡ now → IsSound inside
-    → now ≡ opened_again (saved_of now) → IsFollower (saved_of now) ask r → CanBook inside r
-can_join_inside inside now ask r v s e f =
-    let P : Book → Type 0 = λ b. (b ≡ opened_again (saved_of b)) × IsFollower (saved_of b) ask r in
-    let at = subst P (sym v) (e, f) in
-    can_join inside ask r s at.0 at.1
-
 -- the book with it behind the others
 pub again_behind : (s : Saved) (r : Reservation) → is_behind r.start s.list ≡ false
     → record (opened_again s) { list = place r s.list; booked = net s.list + airtime_us r } ≡ opened_again (joined s (Some r))
 again_behind s r last = rw (place-last r s.list last, net-behind s.list r) refl
 
-pub joined_is : (inside now : Book) (o : Option Reservation) (r : Reservation) (l : List Reservation) (airtime : ℕ)
-    → inside ≡ now → now ≡ opened_again (saved_of now) → o ≡ Some r → is_behind r.start now.list ≡ false
-    → l ≡ place r inside.list → airtime ≡ airtime_us r
-    → record inside { list = l; booked = inside.booked + airtime } ≡ opened_again (joined (saved_of now) o)
-joined_is inside now o r l airtime v e m last p q =
-    let at : record inside { list = l; booked = inside.booked + airtime }
-    ≡ record inside { list = place r inside.list; booked = inside.booked + airtime_us r } = rw (p, q) refl in
-    at ∙ ap (λ (b : Book). record b { list = place r b.list; booked = b.booked + airtime_us r }) (v ∙ e)
-    ∙ again_behind (saved_of now) r last ∙ ap (λ (u : Option Reservation). opened_again (joined (saved_of now) u)) (sym m)
+-- what holds where one of two succeeds that succeed together
+pub on_ok : {T E F P Q : Type 0} (a : Result T E) (b : Result T F) → is_ok b ≡ is_ok a → OnOk a P → (P → Q) → OnOk b Q
+on_ok (Ok x) (Ok y) v p f = f p
+on_ok (Ok x) (Err d) v p f = absurd (cc)
+on_ok (Err e) (Ok y) v p f = absurd (cc)
+on_ok (Err e) (Err d) v p f = tt
 
 -- the book of a gateway without a member
 pub empty_again : (g : SavedGateway) (l : List Reservation) → l ≡ []

@@ -14,12 +14,12 @@ use Rattle.gateway_book.proofs.KeptLaws.{kept-filtered, kept-place, kept-filter,
 use Rattle.gateway_book.proofs.KeptLaws.{net-place}
 use Rattle.gateway_book.specs.declared.ask.Ask.{Ask}
 use Rattle.gateway_book.specs.Answer.{IsAsked, most_cap, total_limit, refusal_of, Rules}
-use Rattle.gateway_book.proofs.AnswerLaws.{accepted, book_step-accepted}
-use Rattle.gateway_book.specs.Step.{is_named, without_named, book_step, tick_step}
+use Rattle.gateway_book.proofs.AnswerLaws.{accepted}
+use Rattle.gateway_book.specs.Step.{is_named, without_named, tick_step}
 use Rattle.gateway_book.proofs.CancelLaws.{fewer, net_named}
 use Rattle.gateway_book.specs.Orderly.{IsOrderly}
-use Rattle.gateway_book.proofs.OrderlyLaws.{MayJoin, orderly_nil, orderly_placed, orderly_filter, may_join}
-use Rattle.gateway_book.specs.Book.{Book, IsSound, terms_of, with_booked, with_cancelled, at_floor, ticked, state_of}
+use Rattle.gateway_book.proofs.OrderlyLaws.{MayJoin, free_where_clear, orderly_nil, orderly_placed, orderly_filter, may_join}
+use Rattle.gateway_book.specs.Book.{Book, IsSound, Admits, terms_of, with_booked, with_cancelled, at_floor, ticked, state_of}
 use Rattle.gateway_book.specs.Remembers.{Remembers}
 use Rattle.gateway_book.specs.Disjoint.{most_gap}
 use Rattle.gateway_book.specs.declared.opening.OpenFault.TheVariants.{BadCap, BadGap}
@@ -77,6 +77,10 @@ sound_booked b r s o c =
       balanced = omega (arith, net-place r b.list, s.balanced);
       bounded = c.total;
     }
+
+pub admits : (b : Book) (r : Reservation) → IsSound b → IsByStart b.list → CanBook b r → Admits b r
+admits b r s o c =
+    record { free = free_where_clear b.rules.gap b.list r o c.joins.clear; sound = sound_booked b r s o c }
 
 pub may_book : (b : Book) (ask : Ask) (r : Reservation) → IsSound b → IsAsked ask r → refusal_of (terms_of b) b.list ask ≡ None
     → CanBook b r
@@ -138,29 +142,6 @@ sound_cancelled b number start r s o f w =
     }
 
 -- What a book keeps where its roster and its counts are known one by one.
-
--- the same of a book that is seen from inside
-pub may_book_inside : (inside now : Book) (ask : Ask) (r : Reservation) → inside ≡ now → IsSound inside → IsAsked ask r
-    → refusal_of (terms_of now) now.list ask ≡ None → CanBook inside r
-may_book_inside inside now ask r v s a e =
-    let P : Book → Type 0 = λ b. refusal_of (terms_of b) b.list ask ≡ None in
-    may_book inside ask r s a (subst P (sym v) e)
-
-pub sound_after : (b : Book) (r : Reservation) (l : List Reservation) (airtime : ℕ) → IsSound b → IsByStart b.list → CanBook b r
-    → l ≡ place r b.list → airtime ≡ airtime_us r → IsSound (record b { list = l; booked = b.booked + airtime })
-sound_after b r l airtime s o c p e =
-    let P : List Reservation → Type 0 = λ m. IsSound (record b { list = m; booked = b.booked + airtime }) in
-    let Q : ℕ → Type 0 = λ n. IsSound (record b { list = place r b.list; booked = b.booked + n }) in
-    subst P (sym p) (subst Q (sym e) (sound_booked b r s o c))
-
-pub stepped : (inside now : Book) (ask : Ask) (r : Reservation) (l : List Reservation) (airtime : ℕ) → inside ≡ now
-    → l ≡ place r inside.list → airtime ≡ airtime_us r → refusal_of (terms_of now) now.list ask ≡ None → IsAsked ask r
-    → state_of (record inside { list = l; booked = inside.booked + airtime }) ≡ book_step now.rules (state_of now) ask
-stepped inside now ask r l airtime v p e n a =
-    let P : Book → Type 0 = λ b. state_of (record b { list = place r b.list; booked = b.booked + airtime_us r })
-    ≡ book_step now.rules (state_of now) ask in
-    let at_now : P now = sym (book_step-accepted now.rules (state_of now) ask r n a) in
-    rw (p, e) (subst P (sym v) at_now)
 
 pub sound_after_cancel : (b : Book) (number start : ℕ) (r : Reservation) (l : List Reservation) (airtime : ℕ) → IsSound b
     → IsByStart b.list → find (is_named number start) b.list ≡ Some r → without start b.list ≡ without_named b.list number start

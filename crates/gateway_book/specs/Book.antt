@@ -1,6 +1,6 @@
 use Rattle.std.specs.Prelude.{ℕ, ◌≡◌, ◌<◌, ◌≤◌, ◌+◌, ◌-◌, max, List, length, Result, Ok, Err}
 use Rattle.resv_list.specs.declared.reservation.Reservation.{Reservation}
-use Rattle.resv_list.specs.Reservations.{IsByStart, net, place, airtime_us}
+use Rattle.resv_list.specs.Reservations.{IsByStart, IsFree, net, place, airtime_us}
 use Rattle.gateway_book.specs.declared.totals.Totals.{Totals}
 use Rattle.gateway_book.specs.Disjoint.{most_gap}
 use Rattle.gateway_book.specs.Lawful.{IsLawful}
@@ -71,6 +71,11 @@ pub record IsSound (b : Book) : Type 0 where
   pub kept_whole : kept b.list b.floor ≡ b.list
   pub balanced : b.booked ≡ b.cancelled + b.retired + net b.list
   pub bounded : b.booked ≤ total_limit
+
+-- of a reservation, that it may join the book: it begins where no member does, and the book keeps the same with it
+pub record Admits (b : Book) (r : Reservation) : Type 0 where
+  pub free : IsFree r.start b.list
+  pub sound : IsSound (with_booked b r)
 
 -- a list that a book with these rules, this floor and this booked airtime may keep
 pub record IsBookList (rules : Rules) (floor booked : ℕ) (l : List Reservation) : Type 0 where

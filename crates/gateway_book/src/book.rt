@@ -2,7 +2,7 @@ ghost use Rattle.std.specs.Prelude.{◌≡◌, ◌+◌, ◌≤◌, ◌↔◌, []
 ghost use Rattle.std.specs.Option.{option_and_then};
 ghost use Rattle.gateway_book.specs.Answer.{IsAsked, refusal_of, overfull};
 ghost use Rattle.gateway_book.specs.Lawful.{AreApart, IsLawful};
-ghost use Rattle.gateway_book.specs.Book.{IsBookList, trial_book};
+ghost use Rattle.gateway_book.specs.Book.{Admits, IsBookList, trial_book};
 ghost use Rattle.gateway_book.specs.Opening.{open_fault};
 ghost use Rattle.gateway_book.specs.Book.{terms_of, state_of, with_booked, with_cancelled, ticked, airtime_answer, totals_of};
 ghost use Rattle.gateway_book.specs.Remembers.{Remembers};
@@ -170,20 +170,17 @@ impl<R: Roster> GatewayBook<R> {
         ensures refused { OnErr result (self.new ≡ self.old) }
     {
         let reservation = self.admitted(ask)?;
-        match self.roster.insert(reservation) {
-            Ok(()) => {
-                self.booked += reservation.airtime();
-                Ok(reservation)
-            }
-            // It is not full: it has fewer members than `cap`.
+        match self.add(reservation) {
+            Ok(()) => Ok(reservation),
             Err(_) => Err(Refusal::NoMemory),
         }
     }
 
     /// The reservation that an ask becomes if there is memory, or its refusal.
     pub(crate) fn admitted(&self, ask: Ask) -> Result<Reservation, Refusal>
-        ensures { MatchOption (refusal_of (terms_of self.now) self.now.list ask) (IsOkAnd result (IsAsked ask))
+        ensures answer { MatchOption (refusal_of (terms_of self.now) self.now.list ask) (IsOkAnd result (IsAsked ask))
             (λ refusal. result ≡ Err refusal) }
+        ensures admits { IfOk result (Admits self.now) }
     {
         let reservation = fitted(ask)?;
         if ask.start < self.floor {

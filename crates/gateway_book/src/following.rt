@@ -1,7 +1,8 @@
 // A member of a saved book behind those that were read before it.
-ghost use Rattle.std.specs.Prelude.{◌≡◌, None, if◌then◌else◌};
+ghost use Rattle.std.specs.Prelude.{◌≡◌, None, if◌then◌else◌, IfSome};
+ghost use Rattle.gateway_book.specs.Book.{Admits};
 ghost use Rattle.gateway_book.specs.Loading.{may_follow};
-ghost use Rattle.gateway_book.specs.Saved.{saved_of};
+ghost use Rattle.gateway_book.specs.Saved.{saved_of, opened_again};
 ghost use Rattle.gateway_book.specs.Step.{reservation_of};
 
 use crate::ask::fitted;
@@ -11,7 +12,9 @@ use resv_list::{HOUR, Reservation, Roster};
 impl<R: Roster> GatewayBook<R> {
     /// The reservation that an ask becomes behind all members, if it may stand there.
     pub(crate) fn follower(&self, ask: Ask) -> Option<Reservation>
-        ensures { result ≡ (if may_follow (saved_of self.now) ask then reservation_of ask else None) }
+        requires { self.now ≡ opened_again (saved_of self.now) }
+        ensures answer { result ≡ (if may_follow (saved_of self.now) ask then reservation_of ask else None) }
+        ensures admits { IfSome result (Admits self.now) }
     {
         let Ok(reservation) = fitted(ask) else {
             return None;

@@ -1,6 +1,7 @@
 //! A gateway's airtime book: which transmissions it has reserved, and the answer to one more ask.
 #![tactic(auto)]
 
+mod adding;
 mod ask;
 mod book;
 mod busiest;

@@ -126,13 +126,6 @@ impl<R: Roster> GatewayBook<R> {
         let Some(reservation) = self.follower(ask) else {
             return Err(LoadFault::Unlawful { line: number });
         };
-        match self.roster.insert(reservation) {
-            Ok(()) => {
-                self.booked += reservation.airtime();
-                Ok(())
-            }
-            // It is not full: it has fewer members than `cap`.
-            Err(_) => Err(LoadFault::NoMemory),
-        }
+        self.add(reservation).map_err(|_| LoadFault::NoMemory)
     }
 }
