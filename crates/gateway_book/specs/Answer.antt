@@ -5,7 +5,6 @@ use Rattle.radio_airtime.specs.DataRate.{max_phy_of}
 use Rattle.radio_airtime.specs.TimeOnAir.{airtime_of}
 use Rattle.radio_bands.specs.Band.{band_of}
 use Rattle.resv_list.specs.declared.reservation.Reservation.{Reservation}
-use Rattle.resv_list.specs.declared.roster.TheConstants.{MAX_MEMBERS}
 use Rattle.resv_list.specs.Fit.{end_at, last_end}
 use Rattle.gateway_book.specs.declared.ask.Ask.{Ask}
 use Rattle.gateway_book.specs.declared.refusal.Refusal.{Refusal}
@@ -20,9 +19,9 @@ use Rattle.resv_list.specs.Reservations.{start_of, spent}
 
 -- The answer of a book to an ask: the first of eight rows that holds, or none where it is accepted.
 
--- the greatest number of members of a book: as many as a roster may have
+-- the greatest number of members that a book may have
 abbrev pub most_cap : ℕ
-most_cap = MAX_MEMBERS
+most_cap = 65536
 
 -- what a book is opened with, and keeps: how many members it may have, and the gap that it keeps between two of them
 pub record Rules : Type 0 where
