@@ -28,7 +28,7 @@ pub struct Reservation {
 pub const LAST_END: u64 = 1 << 61;
 
 impl Reservation {
-    ghost use Rattle.resv_list.specs.Reservations.{airtime_in};
+    ghost use Rattle.resv_list.specs.Reservations.{airtime_in, is_in};
 
     /// The reservation with these fields, or `None` where they are not fit.
     pub fn new(number: u64, start: u64, freq_hz: u32, rate: DataRate, len: u8) -> Option<Self>
@@ -63,16 +63,19 @@ impl Reservation {
         airtime(self.rate, self.len)
     }
 
+    /// Whether its channel lies in the sub-band.
+    pub fn is_in(&self, band: Band) -> bool
+        ensures { result ≡ is_in band self.now }
+    {
+        band.holds(self.freq_hz, self.rate)
+    }
+
     /// Its time on air, in microseconds, where its channel lies in the sub-band, and 0 where it doesn't.
     pub fn airtime_in(&self, band: Band) -> u64
         ensures value { result ≡ airtime_in band self.now }
         ensures short { result < 10000000 }
     {
-        if band.holds(self.freq_hz, self.rate) {
-            self.airtime()
-        } else {
-            0
-        }
+        if self.is_in(band) { self.airtime() } else { 0 }
     }
 
     /// When it ends, in microseconds of the gateway's clock.

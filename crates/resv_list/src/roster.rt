@@ -77,9 +77,7 @@ pub trait Roster {
             if member.start >= to {
                 return None;
             }
-            if band.holds(member.freq_hz, member.rate)
-                && self.spent(band, member.start, member.start + HOUR) > most
-            {
+            if member.is_in(band) && self.spent(band, member.start, member.start + HOUR) > most {
                 return Some(member);
             }
             at = member.start + 1;
@@ -95,7 +93,7 @@ pub trait Roster {
         let mut most: u64 = 0;
         let mut at = 0;
         while let Some(member) = self.first_from(at) {
-            if band.holds(member.freq_hz, member.rate) {
+            if member.is_in(band) {
                 most = most.max(self.spent(band, member.start, member.start + HOUR));
             }
             at = member.start + 1;

@@ -39,7 +39,7 @@ impl Entry {
         requires only { IsOnly band (quarters_in more.now) (quarters_in less.now) }
         ensures { result ≡ moved (quarters_in more.now) (quarters_in less.now) self.now }
     {
-        if !band.holds(self.reservation.freq_hz, self.reservation.rate) {
+        if !self.reservation.is_in(band) {
             return *self;
         }
         let own = sums::moved(self.own, more.quarters(band), less.quarters(band));

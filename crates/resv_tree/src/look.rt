@@ -137,5 +137,5 @@ pub(crate) fn first_over<A: Allocator + Clone>(
 fn has_own(entry: &Entry, band: Band, least: u32) -> bool
     ensures { result ≡ is_in band entry.now.reservation && nat_le least entry.now.own }
 {
-    band.holds(entry.reservation.freq_hz, entry.reservation.rate) && entry.own >= least
+    entry.reservation.is_in(band) && entry.own >= least
 }

@@ -148,7 +148,7 @@ impl Sums {
     pub(crate) fn own_in(entry: &Entry, band: Band) -> u32
         ensures { result ≡ own_in band entry.now }
     {
-        if band.holds(entry.reservation.freq_hz, entry.reservation.rate) {
+        if entry.reservation.is_in(band) {
             entry.own
         } else {
             0

@@ -4,7 +4,7 @@ use Rattle.resv_list.specs.Reservations.{start_of, is_in, spent}
 use Rattle.resv_list.specs.Hours.{is_over}
 use Rattle.resv_list.proofs.Walk.{rest_from-None, find_rest, is_next}
 use Rattle.resv_list.proofs.HourLemmas.{is_over-before, over_none, over_here, over_later, low_hour, other_hour}
-use Rattle.resv_list.proofs.roster.Roster.first_over.Goals.{else-holds-via-then-holds+else-spent-most, else-holds-via-else-holds}
+use Rattle.resv_list.proofs.roster.Roster.first_over.Goals.{else-is_in-via-then-is_in+else-spent-most, else-is_in-via-else-is_in}
 use Rattle.resv_list.proofs.roster.Roster.first_over.Goals as goal
 
 pub loop-member-init : goal.loop-member-init
@@ -31,7 +31,7 @@ returns-then-spent-most g c =
     let next = is_next start_of l c.loop-member.at m (g.met.Self.Roster.by_start c.args.self.now)
     (sym c.first_from.ensures ∙ c.in-Some.is) in
     sym (over_here l c.args.band c.args.from c.args.to c.args.most c.loop-member.at m next c.loop-member.invariant.1
-    (omega (arith, c.if-member-to.false)) (sym c.holds.ensures.value ∙ c.if-holds.true)
+    (omega (arith, c.if-member-to.false)) (sym c.is_in.ensures ∙ c.if-is_in.true)
     (omega (arith, c.spent.ensures, c.if-spent-most.true)))
     ∙ c.loop-member.invariant.0
 
@@ -52,13 +52,13 @@ loop-member-preserved g c =
     let next = is_next start_of l c.loop-member.at m (g.met.Self.Roster.by_start c.args.self.now)
     (sym c.first_from.ensures ∙ c.in-Some.is) in
     let low : cond (is_in c.args.band m) (spent l c.args.band m.start) 0 ≤ c.args.most =
-    elim c.else-holds.branch [
-      | else-holds-via-then-holds+else-spent-most w ↦
+    elim c.else-is_in.branch [
+      | else-is_in-via-then-is_in+else-spent-most w ↦
           low_hour (is_in c.args.band m) (spent l c.args.band m.start) c.args.most
           (omega (arith, w.spent.ensures, w.if-spent-most.false))
-      | else-holds-via-else-holds w ↦
+      | else-is_in-via-else-is_in w ↦
           other_hour (is_in c.args.band m) (spent l c.args.band m.start) c.args.most
-          (sym c.holds.ensures.value ∙ w.if-holds.false)
+          (sym c.is_in.ensures ∙ w.if-is_in.false)
     ] in (
       sym (over_later l c.args.band c.args.from c.args.to c.args.most c.loop-member.at m next c.loop-member.invariant.1
           (omega (arith, c.if-member-to.false)) low) ∙ c.loop-member.invariant.0,

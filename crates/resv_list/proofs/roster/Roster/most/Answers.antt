@@ -5,7 +5,7 @@ use Rattle.resv_list.specs.Reservations.{start_of, spent}
 use Rattle.resv_list.specs.Hours.{starts_in, greatest, most_spent}
 use Rattle.resv_list.proofs.Walk.{rest_from-rises, rest_from-None, is_next}
 use Rattle.resv_list.proofs.HourLemmas.{most_with}
-use Rattle.resv_list.proofs.roster.Roster.most.Goals.{then-holds, else-holds}
+use Rattle.resv_list.proofs.roster.Roster.most.Goals.{then-is_in, else-is_in}
 use Rattle.resv_list.proofs.roster.Roster.most.Goals as goal
 
 pub loop-member-init : goal.loop-member-init
@@ -33,15 +33,15 @@ loop-member-preserved g c =
     let m = c.in-Some.member in
     let next = is_next start_of l c.loop-member.at m (g.met.Self.Roster.by_start c.args.self.now)
     (sym c.first_from.ensures ∙ c.in-Some.is) in
-    elim c.if-holds.branch [
-      | then-holds w ↦
-          most_with (spent l band) band l c.loop-member.most c.loop-member.at c.if-holds.most m true next
-          (sym c.holds.ensures.value ∙ w.if-holds.true)
+    elim c.if-is_in.branch [
+      | then-is_in w ↦
+          most_with (spent l band) band l c.loop-member.most c.loop-member.at c.if-is_in.most m true next
+          (sym c.is_in.ensures ∙ w.if-is_in.true)
           (w.most-is ∙ w.max-most.ensures ∙ ap (max c.loop-member.most) w.spent.ensures)
           ∙ c.loop-member.invariant
-      | else-holds w ↦
-          most_with (spent l band) band l c.loop-member.most c.loop-member.at c.if-holds.most m false next
-          (sym c.holds.ensures.value ∙ w.if-holds.false) (omega (arith, w.most-is))
+      | else-is_in w ↦
+          most_with (spent l band) band l c.loop-member.most c.loop-member.at c.if-is_in.most m false next
+          (sym c.is_in.ensures ∙ w.if-is_in.false) (omega (arith, w.most-is))
           ∙ c.loop-member.invariant
     ]
 

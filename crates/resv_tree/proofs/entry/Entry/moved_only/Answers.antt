@@ -4,19 +4,19 @@ use Rattle.resv_tree.proofs.EntryLemmas.{in_band, amount_of, own_same}
 use Rattle.resv_tree.proofs.StillLemmas.{nothing_beside}
 use Rattle.resv_tree.proofs.entry.Entry.moved_only.Goals as goal
 
-pub returns-then-not-holds : goal.returns-then-not-holds
-returns-then-not-holds c =
+pub returns-then-not-is_in : goal.returns-then-not-is_in
+returns-then-not-is_in c =
     let e = c.args.self.now in
     let more = quarters_in c.args.more.now in
     let less = quarters_in c.args.less.now in
-    let other = sym c.holds.ensures.value ∙ c.if-not-holds.true in
+    let other = sym c.is_in.ensures ∙ c.if-not-is_in.true in
     let none = nothing_beside more less e.reservation c.args.band c.requires.only other in
     own_same e _ _ (omega (arith, none))
 
 pub moved-own-requires : goal.moved-own-requires
 moved-own-requires c =
     let r = c.args.self.now.reservation in
-    let here = in_band r c.args.band (sym c.holds.ensures.value ∙ c.if-not-holds.false) in
+    let here = in_band r c.args.band (sym c.is_in.ensures ∙ c.if-not-is_in.false) in
     record {
       fits = omega (
         arith,
@@ -31,7 +31,7 @@ moved-own-requires c =
 pub returns : goal.returns
 returns c =
     let e = c.args.self.now in
-    let here = in_band e.reservation c.args.band (sym c.holds.ensures.value ∙ c.if-not-holds.false) in
+    let here = in_band e.reservation c.args.band (sym c.is_in.ensures ∙ c.if-not-is_in.false) in
     own_same e _ _ (omega (
       arith,
       c.moved-own.ensures,
