@@ -1,5 +1,6 @@
-use Rattle.std.specs.Prelude.{◌≡◌, ℕ, ◌/◌, ◌<◌, Bool, true, false, Some, None}
-use Rattle.std.proofs.Common.{refl, sym, ap, ◌∙◌, arith, true≢false}
+use Rattle.std.specs.Prelude.{◌≡◌, ◌↔◌, ℕ, ◌/◌, ◌<◌, Bool, true, false, Some, None}
+use Rattle.std.specs.Bool.{then_some}
+use Rattle.std.proofs.Common.{refl, sym, ap, ◌∙◌, arith, true≢false, subst}
 use Rattle.std.proofs.lemmas.Bool.Decides.{nat_tests}
 use Rattle.radio_airtime.specs.declared.data_rate.DataRate.{DataRate}
 use Rattle.radio_airtime.specs.declared.data_rate.DataRate.TheVariants.{Dr0, Dr1, Dr2, Dr3, Dr4, Dr5, Dr6}
@@ -44,3 +45,17 @@ unfolding band_of
 none_there f r near only none =
     let there : (band : Band) → lies_in f r band ≡ false = λ band. none_by (lies_in f r band) f r near band (only band) none refl in
     rw (there K, there L, there M, there N, there P, there Q) refl
+
+-- where the only band that a channel may lie in is asked, the answer tells which one it lies in
+pub chosen : (t : Bool) (freq_hz : ℕ) (rate : DataRate) (near : Band) → ((band : Band) → LiesIn freq_hz rate band → near ≡ band)
+    → lies_in freq_hz rate near ≡ t → then_some t near ≡ band_of freq_hz rate
+chosen true f r near only e = sym (LiesIn-band_of f r near (lies_in-true f r near e))
+chosen false f r near only e = sym (none_there f r near only e)
+
+pub chosen_alone : (t : Bool) (freq_hz : ℕ) (rate : DataRate) (near : Band)
+    → ((band : Band) → LiesIn freq_hz rate band → near ≡ band) → lies_in freq_hz rate near ≡ t
+    → (band : Band) → then_some t near ≡ Some band ↔ LiesIn freq_hz rate band
+chosen_alone true f r near only e band =
+    ((λ h. let same : near ≡ band = cc in subst (LiesIn f r) same (lies_in-true f r near e)), (λ h. ap Some (only band h)))
+chosen_alone false f r near only e band =
+    ((λ h. absurd (cc)), (λ h. sym (none_there f r near only e) ∙ LiesIn-band_of f r band h))

@@ -33,11 +33,7 @@ impl Band {
         ensures value { result ≡ band_of freq_hz rate }
     {
         let nearest = Self::nearest(freq_hz);
-        if nearest.holds(freq_hz, rate) {
-            Some(nearest)
-        } else {
-            None
-        }
+        nearest.holds(freq_hz, rate).then_some(nearest)
     }
 
     /// The only sub-band that a channel round `freq_hz`, in Hz, may lie in: the last one whose lower edge isn't above its

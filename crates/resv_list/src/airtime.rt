@@ -10,9 +10,5 @@ pub fn airtime_of(members: &[Reservation]) -> u64
     requires { length members.now ≤ MAX_MEMBERS }
     ensures { result ≡ net members.now }
 {
-    let mut sum = 0;
-    for member in members {
-        sum += member.airtime();
-    }
-    sum
+    members.iter().map(|member| member.airtime()).sum()
 }

@@ -17,7 +17,7 @@ pub const MAX_MEMBERS: usize = 65_536;
 pub const HOUR: u64 = 3_600_000_000;
 
 /// Why a roster took no reservation.
-#[derive(Clone, Copy, Debug, PartialEq, Eq, Hash, Error)]
+#[derive(Clone, Copy, Debug, PartialEq, Eq, Error)]
 pub enum RosterFault {
     /// There are `MAX_MEMBERS` members.
     #[error("the roster is full: it holds 65,536 reservations")]

@@ -70,10 +70,9 @@ impl<A: Allocator> Roster for VecRoster<A> {
             return Err((RosterFault::Full, reservation));
         }
         let place = place_of(&self.items, reservation.start);
-        match self.items.insert(place, reservation) {
-            Ok(()) => Ok(()),
-            Err(failed) => Err((RosterFault::NoMemory, failed.value)),
-        }
+        self.items
+            .insert(place, reservation)
+            .map_err(|failed| (RosterFault::NoMemory, failed.value))
     }
 
     ghost by_start = { λ r. r.by_start };
@@ -94,10 +93,7 @@ fn before_in(members: &[Reservation], start: u64) -> Option<Reservation>
     requires { IsByStart members.now }
     ensures { result ≡ member_before start members.now }
 {
-    match place_of(members, start) {
-        0 => None,
-        place => Some(members[place - 1]),
-    }
+    members[..place_of(members, start)].last().copied()
 }
 
 /// The first of the members, which are by start, that doesn't begin before `start`.
@@ -105,13 +101,7 @@ fn first_from_in(members: &[Reservation], start: u64) -> Option<Reservation>
     requires { IsByStart members.now }
     ensures { result ≡ member_from start members.now }
 {
-    member_at(members, place_of(members, start))
-}
-
-fn member_at(members: &[Reservation], place: usize) -> Option<Reservation>
-    ensures { result ≡ slice_get members.now place }
-{
-    members.get(place).copied()
+    members.get(place_of(members, start)).copied()
 }
 
 /// The place of the member, of members by start, that begins at `start`.
@@ -124,14 +114,7 @@ fn place_at(members: &[Reservation], start: u64) -> Option<usize>
         (λ place. without start members.now ≡ remove members.now place) }
 {
     let place = place_of(members, start);
-    if place == members.len() {
-        return None;
-    }
-    if members[place].start == start {
-        Some(place)
-    } else {
-        None
-    }
+    (members.get(place)?.start == start).then_some(place)
 }
 
 /// The airtime of the members of the band, of members by start, that begin from `from` on and before
