@@ -66,26 +66,19 @@ module _ {X : Type 0} (key : X → ℕ) where
       let e : nat_lt (key y) (key x) ≡ true = c.0 zero y (omega arith) (omega arith) in
       rw (e, place_by-cut x ys i (cut_rest (λ z. nat_lt (key z) (key x)) y ys i c)) refl
 
--- the last of the first i members stands at i - 1
-pub last-take : {X : Type 0} (xs : List X) (i : ℕ) → i < length xs → last (take (suc i) xs) ≡ slice_get xs i
-last-take [] i h = absurd (omega arith)
-last-take (x ∷ xs) zero h = refl
-last-take (x ∷ []) (suc i) h = absurd (omega arith)
-last-take (x ∷ y ∷ ys) (suc i) h = last-take (y ∷ ys) i (omega arith)
+-- what stands at the last place is the last
+pub last-read : {X : Type 0} (xs : List X) → slice_get xs (length xs - 1) ≡ last xs
+last-read [] = refl
+last-read (x ∷ []) = refl
+last-read (x ∷ y ∷ ys) =
+    let s : length (x ∷ y ∷ ys) - 1 ≡ suc (length (y ∷ ys) - 1) = omega arith in
+    rw s (last-read (y ∷ ys))
 
 -- what is read at a place within the list stands there
 pub slice_get-read : {X : Type 0} (xs : List X) (i : ℕ) (x : X) → i < length xs → x ≡ get_or xs i x → slice_get xs i ≡ Some x
 slice_get-read [] i x h e = absurd (omega arith)
 slice_get-read (y ∷ ys) zero x h e = ap Some (sym e)
 slice_get-read (y ∷ ys) (suc i) x h e = slice_get-read ys i x (omega arith) e
-
--- the last of the first i members, where i is above 0
-pub last-take_before : {X : Type 0} (xs : List X) (i : ℕ) (x : X) → 0 < i → i ≤ length xs → x ≡ get_or xs (i - 1) x
-    → last (take i xs) ≡ Some x
-last-take_before xs zero x p h e = absurd (omega arith)
-last-take_before xs (suc i) x p h e =
-    let s : suc i - 1 ≡ i = omega arith in
-    last-take xs i (omega arith) ∙ slice_get-read xs i x (omega arith) (rw s at e)
 
 module _ {X : Type 0} (key : X → ℕ) where
   cut_fails : (at : ℕ) (x : X) (xs : List X) → IsCut (λ y. nat_lt (key y) at) (x ∷ xs) 0 → at ≤ key x
@@ -135,6 +128,13 @@ module _ {X : Type 0} (key : X → ℕ) where
   RisesFrom-cut low at [] (suc i) c r = tt
   RisesFrom-cut low at (x ∷ xs) zero c r = (cut_fails at x xs c, r.1)
   RisesFrom-cut low at (x ∷ xs) (suc i) c r = RisesFrom-cut (key x + 1) at xs i (cut_rest (λ z. nat_lt (key z) at) x xs i c) r.1
+
+-- the first from a place on stands at that place
+pub first-drop : {X : Type 0} (xs : List X) (i : ℕ) → slice_get (drop i xs) 0 ≡ slice_get xs i
+first-drop [] zero = refl
+first-drop [] (suc i) = refl
+first-drop (x ∷ xs) zero = refl
+first-drop (x ∷ xs) (suc i) = first-drop xs i
 
 -- past the end nothing stands
 pub nothing_past : {X : Type 0} (xs : List X) (i : ℕ) (x : X) → length xs ≤ i → slice_get xs i ≡ Some x → ⊥

@@ -1,6 +1,8 @@
 use Rattle.std.specs.Prelude.{ℕ, ◌≡◌, ◌≢◌, ◌+◌, nat_lt, nat_le, Bool, true, false, List, [], ◌∷◌, length, Option}
 use Rattle.std.specs.Prelude.{Some, None, is_some}
-use Rattle.std.proofs.Common.{refl, arith}
+use Rattle.std.specs.List.{sum_by}
+use Rattle.std.proofs.Common.{refl, sym, arith}
+use Rattle.std.proofs.lemmas.List.Sums.{sum_by-cons}
 use Rattle.std.proofs.lemmas.Bool.{ltb-true, ltb-false, lt-leb, le-leb}
 use Rattle.radio_bands.specs.declared.band.Band.{Band}
 use Rattle.radio_bands.specs.declared.band.Band.TheVariants.{K, L, M, N, P, Q}
@@ -132,3 +134,8 @@ airtime_in-all r = by (band_of r.freq_hz r.rate) refl r.fit.banded
           other P (λ p. absurd (cc)),
           in_own r Q e,
         ) (omega arith)
+
+-- the airtime of all members is the sum of theirs
+pub net-sum_by : (l : List Reservation) → sum_by airtime_us l ≡ net l
+net-sum_by [] = sym net-nil
+net-sum_by (r ∷ rs) = omega (arith, sum_by-cons airtime_us r rs, net-sum_by rs, net-cons r rs)

@@ -70,9 +70,10 @@ impl<A: Allocator> Roster for VecRoster<A> {
             return Err((RosterFault::Full, reservation));
         }
         let place = place_of(&self.items, reservation.start);
-        self.items
-            .insert(place, reservation)
-            .map_err(|failed| (RosterFault::NoMemory, failed.value))
+        match self.items.insert(place, reservation) {
+            Ok(()) => Ok(()),
+            Err(failed) => Err((RosterFault::NoMemory, failed.value)),
+        }
     }
 
     ghost by_start = { λ r. r.by_start };
@@ -101,7 +102,7 @@ fn first_from_in(members: &[Reservation], start: u64) -> Option<Reservation>
     requires { IsByStart members.now }
     ensures { result ≡ member_from start members.now }
 {
-    members.get(place_of(members, start)).copied()
+    members[place_of(members, start)..].first().copied()
 }
 
 /// The place of the member, of members by start, that begins at `start`.
