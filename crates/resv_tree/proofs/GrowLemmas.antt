@@ -110,17 +110,17 @@ grown_fits {k} {l} {r} {e} v w lacks room band =
     )
 
 -- and once it is taken in, what is kept follows from the sides
-pub grown_sides : {k j : Kept} {l r : Shape} {e h : Entry} {f g : Band → ℕ} → IsWhole l → IsWhole r → IsLevel l r
-    → LacksOne k l e r f g → h ≡ e → j.height ≡ max (height_of l) (height_of r) + 1 → j.left_height ≡ height_of l
+pub grown_sides : {k j : Kept} {l r : Shape} {e : Entry} {f g : Band → ℕ} → IsWhole l → IsWhole r → IsLevel l r
+    → LacksOne k l e r f g → j.height ≡ max (height_of l) (height_of r) + 1 → j.left_height ≡ height_of l
     → j.right_height ≡ height_of r → j.count ≡ k.count + 1 → ((band : Band) → sum_in j.sums band ≡ sum_in k.sums band + f band)
-    → HasSides j l h r
-grown_sides {k} {j} {l} {r} {e} v w level lacks same height left right count sums = record {
+    → HasSides j l e r
+grown_sides {k} {j} {l} {r} {e} v w level lacks height left right count sums = record {
   level = level;
   height = height;
   left_height = left;
   right_height = right;
   count = omega (arith, count, lacks.count);
-  sums = λ band. omega (arith, sums band, lacks.sums band, ap (λ x. airtime_in band x.reservation) same);
+  sums = λ band. omega (arith, sums band, lacks.sums band);
   short = λ band. omega (
     arith,
     sums band,
@@ -134,15 +134,15 @@ grown_sides {k} {j} {l} {r} {e} v w level lacks same height left right count sum
 }
 
 -- what is kept of one entry alone
-pub lone_sides : {j : Kept} {e h : Entry} {airtime : Band → ℕ} → h ≡ e → j.height ≡ 1 → j.left_height ≡ 0 → j.right_height ≡ 0
+pub lone_sides : {j : Kept} {e : Entry} {airtime : Band → ℕ} → j.height ≡ 1 → j.left_height ≡ 0 → j.right_height ≡ 0
     → j.count ≡ 1 → ((band : Band) → sum_in j.sums band ≡ airtime band)
-    → ((band : Band) → airtime band ≡ airtime_in band e.reservation) → HasSides j Leaf h Leaf
-lone_sides {j} {e} same height left right count sums own = record {
+    → ((band : Band) → airtime band ≡ airtime_in band e.reservation) → HasSides j Leaf e Leaf
+lone_sides {j} {e} height left right count sums own = record {
   level = (omega arith, omega arith);
   height = height;
   left_height = left;
   right_height = right;
   count = count;
-  sums = λ band. omega (arith, sums band, own band, ap (λ x. airtime_in band x.reservation) same);
+  sums = λ band. omega (arith, sums band, own band);
   short = λ band. omega (arith, sums band, own band, count, airtime_in-short band e.reservation);
 }

@@ -5,7 +5,7 @@ ghost use Rattle.resv_list.specs.Reservations.{airtime_in};
 ghost use Rattle.resv_tree.specs.Entries.{own_in};
 ghost use Rattle.resv_tree.specs.Sums.{quarters_in, sum_in};
 ghost use Rattle.resv_tree.specs.Shape.{Leaf, shape, shape_of, entry_of, kept_of, height_of, count_of};
-ghost use Rattle.resv_tree.specs.Shape.{IsWhole, IsLevel, IsBeside};
+ghost use Rattle.resv_tree.specs.Shape.{IsWhole, IsLevel, IsBeside, HasSides, top_of};
 ghost use Rattle.resv_tree.specs.Parts.{IsMadeOf, LacksOne};
 
 use crate::kept::Kept;
@@ -18,7 +18,7 @@ use std::alloc::Allocator;
 /// The tree of these parts; takes no memory.
 pub(crate) fn fork<A: Allocator + Clone>(
     left: Link<A>,
-    mut top: Box<Node<A>, A>,
+    top: Box<Node<A>, A>,
     right: Link<A>,
 ) -> Box<Node<A>, A>
     requires left { IsWhole (shape_of left) }
@@ -39,20 +39,14 @@ pub(crate) fn fork<A: Allocator + Clone>(
         sums: Sums::around(&before.sums, &entry.reservation, &behind.sums),
         greatest: greatest_about(&left, &entry, &right),
     };
-    *top = Node {
-        left,
-        entry,
-        right,
-        kept,
-    };
-    top
+    with_sides(left, top, right, kept)
 }
 
 /// The tree of a node whose sides were taken out of it, with another left side than the one of which `old` tells; of
 /// the right one it looks at the top alone, and takes no memory.
 pub(crate) fn with_left<A: Allocator + Clone>(
     left: Link<A>,
-    mut top: Box<Node<A>, A>,
+    top: Box<Node<A>, A>,
     old: &Kept,
     right: Link<A>,
 ) -> Box<Node<A>, A>
@@ -75,19 +69,13 @@ pub(crate) fn with_left<A: Allocator + Clone>(
         sums: all.sums.exchanged(&old.sums, &new.sums),
         greatest: greatest_about(&left, &entry, &right),
     };
-    *top = Node {
-        left,
-        entry,
-        right,
-        kept,
-    };
-    top
+    with_sides(left, top, right, kept)
 }
 
 /// The same with another right side; of the left one it looks at the top alone.
 pub(crate) fn with_right<A: Allocator + Clone>(
     left: Link<A>,
-    mut top: Box<Node<A>, A>,
+    top: Box<Node<A>, A>,
     old: &Kept,
     right: Link<A>,
 ) -> Box<Node<A>, A>
@@ -110,18 +98,12 @@ pub(crate) fn with_right<A: Allocator + Clone>(
         sums: all.sums.exchanged(&old.sums, &new.sums),
         greatest: greatest_about(&left, &entry, &right),
     };
-    *top = Node {
-        left,
-        entry,
-        right,
-        kept,
-    };
-    top
+    with_sides(left, top, right, kept)
 }
 
 /// The tree of one node alone, of whose entry this is the airtime and the own hour; takes no memory.
 pub(crate) fn lone<A: Allocator + Clone>(
-    mut node: Box<Node<A>, A>,
+    node: Box<Node<A>, A>,
     airtime: &Sums,
     own: &Sums,
 ) -> Box<Node<A>, A>
@@ -130,22 +112,14 @@ pub(crate) fn lone<A: Allocator + Clone>(
     ensures made { IsMadeOf (shape result.value) Leaf (entry_of node.value) Leaf }
     ensures whole { IsWhole (shape result.value) }
 {
-    let entry = node.entry;
-    let kept = Kept::NONE.grown(0, 0, airtime, own);
-    *node = Node {
-        left: None,
-        entry,
-        right: None,
-        kept,
-    };
-    node
+    with_sides(None, node, None, Kept::NONE.grown(0, 0, airtime, own))
 }
 
 /// The tree of a node whose sides were taken out of it, once one entry more stands in one of them, of which this is the airtime
 /// and the own hour; of the sides it looks at the heights alone, and takes no memory.
 pub(crate) fn with_one_more<A: Allocator + Clone>(
     left: Link<A>,
-    mut top: Box<Node<A>, A>,
+    top: Box<Node<A>, A>,
     right: Link<A>,
     airtime: &Sums,
     own: &Sums,
@@ -159,8 +133,26 @@ pub(crate) fn with_one_more<A: Allocator + Clone>(
     ensures made { IsMadeOf (shape result.value) (shape_of left) (entry_of top.value) (shape_of right) }
     ensures whole { IsWhole (shape result.value) }
 {
-    let (entry, all) = (top.entry, top.kept);
-    let kept = all.grown(levels(&left), levels(&right), airtime, own);
+    let kept = top.kept.grown(levels(&left), levels(&right), airtime, own);
+    with_sides(left, top, right, kept)
+}
+
+/// The node with these sides, of which it keeps this.
+fn with_sides<A: Allocator + Clone>(
+    left: Link<A>,
+    mut top: Box<Node<A>, A>,
+    right: Link<A>,
+    kept: Kept,
+) -> Box<Node<A>, A>
+    requires left { IsWhole (shape_of left) }
+    requires right { IsWhole (shape_of right) }
+    requires sides { HasSides kept (shape_of left) (entry_of top.value) (shape_of right) }
+    requires greatest { (band : SubBand) → quarters_in kept.greatest band
+        ≡ top_of (shape_of left) (entry_of top.value) (shape_of right) band }
+    ensures made { IsMadeOf (shape result.value) (shape_of left) (entry_of top.value) (shape_of right) }
+    ensures whole { IsWhole (shape result.value) }
+{
+    let entry = top.entry;
     *top = Node {
         left,
         entry,

@@ -1,9 +1,7 @@
 use Rattle.std.proofs.Common.{arith, ap, ◌∙◌}
-use Rattle.resv_list.specs.Reservations.{airtime_in}
 use Rattle.resv_tree.specs.Sums.{sum_in}
-use Rattle.resv_tree.specs.Shape.{shape_of, entry_of, kept_of}
+use Rattle.resv_tree.specs.Shape.{shape_of, entry_of, kept_of, top_of}
 use Rattle.resv_tree.proofs.SumLemmas.{airtime_in-short}
-use Rattle.resv_tree.proofs.OwingLemmas.{made-node, whole-node}
 use Rattle.resv_tree.proofs.ShapeLemmas.{count_bounds_sum}
 use Rattle.resv_tree.proofs.HeightLemmas.{height_is_low}
 use Rattle.resv_tree.proofs.forks.with_right.Goals as goal
@@ -34,15 +32,14 @@ overflow_add-kept g c =
     let kept = ap (λ n. (kept_of n).left_height) c.deref-2.ensures in
     omega (arith, left, right, kept, c.requires.height, c.kept-new.ensures.height, c.requires.room, c.max.ensures)
 
-pub returns-clause-whole : goal.returns-clause-whole
-returns-clause-whole g c =
+pub with_sides-requires-clause-sides : goal.with_sides-requires-clause-sides
+with_sides-requires-clause-sides g c =
     let left = count_bounds_sum (shape_of c.args.left) in
     let right = count_bounds_sum (shape_of c.args.right) in
     let beside = c.requires.beside in
     let new = c.kept-new.ensures in
     let all = ap kept_of c.deref-2.ensures in
-    let entry = ap entry_of c.deref.ensures in
-    whole-node c.args.left c.args.right _ _ c.requires.left c.requires.right (record {
+    record {
       level = c.requires.level;
       height = omega (arith, c.max.ensures, ap (λ k. k.left_height) all ∙ c.requires.height, new.height);
       right_height = new.height;
@@ -51,7 +48,6 @@ returns-clause-whole g c =
       sums = λ band. omega (
         arith,
         ap (λ k. sum_in k.sums band) all,
-        ap (λ e. airtime_in band e.reservation) entry,
         c.exchanged.ensures band,
         beside.sums band,
         new.sums band,
@@ -69,41 +65,9 @@ returns-clause-whole g c =
         left band c.requires.left,
         right band c.requires.right,
       );
-    }) c.greatest_about.ensures
+    }
 
-pub returns-clause-made : goal.returns-clause-made
-returns-clause-made g c =
-    let left = count_bounds_sum (shape_of c.args.left) in
-    let right = count_bounds_sum (shape_of c.args.right) in
-    let beside = c.requires.beside in
-    let new = c.kept-new.ensures in
-    let all = ap kept_of c.deref-2.ensures in
-    let entry = ap entry_of c.deref.ensures in
-    made-node c.args.left c.args.right _ _ _ entry c.requires.left c.requires.right (record {
-      level = c.requires.level;
-      height = omega (arith, c.max.ensures, ap (λ k. k.left_height) all ∙ c.requires.height, new.height);
-      right_height = new.height;
-      left_height = ap (λ k. k.left_height) all ∙ c.requires.height;
-      count = omega (arith, ap (λ k. k.count) all, beside.count, new.count);
-      sums = λ band. omega (
-        arith,
-        ap (λ k. sum_in k.sums band) all,
-        ap (λ e. airtime_in band e.reservation) entry,
-        c.exchanged.ensures band,
-        beside.sums band,
-        new.sums band,
-      );
-      short = λ band. omega (
-        arith,
-        ap (λ k. k.count) all,
-        ap (λ k. sum_in k.sums band) all,
-        airtime_in-short band (entry_of c.args.top.value).reservation,
-        c.exchanged.ensures band,
-        beside.count,
-        beside.sums band,
-        new.count,
-        new.sums band,
-        left band c.requires.left,
-        right band c.requires.right,
-      );
-    }) c.greatest_about.ensures
+pub with_sides-requires-clause-greatest : goal.with_sides-requires-clause-greatest
+with_sides-requires-clause-greatest g c = λ band.
+    c.greatest_about.ensures band
+    ∙ ap (λ n. top_of (shape_of c.args.left) (entry_of n) (shape_of c.args.right) band) c.deref.ensures
