@@ -1,4 +1,4 @@
-ghost use Rattle.std.specs.Prelude.{◌≡◌, ◌≤◌, ◌<◌, ◌+◌, ◌*◌, ◌/◌, ◌^◌, [], length, map};
+ghost use Rattle.std.specs.Prelude.{◌≡◌, ◌≤◌, ◌<◌, ◌+◌, ◌*◌, ◌/◌, ◌^◌, [], length, map, nat_le};
 ghost use Rattle.radio_bands.specs.declared.band.Band.{Band as SubBand};
 ghost use Rattle.resv_list.specs.declared.roster.TheConstants.{MAX_MEMBERS};
 ghost use Rattle.resv_list.specs.Sorted.{RisesFrom-prop};
@@ -84,6 +84,13 @@ impl<A: Allocator + Clone> TreeRoster<A> {
         let band = member.band();
         let own = member.airtime() + self.spent(band, member.start, member.start + HOUR);
         (own / QUARTER_US) as u32
+    }
+
+    /// Whether there is no room for one more member.
+    fn is_full(&self) -> bool
+        ensures { result ≡ nat_le MAX_MEMBERS (length (members_of (shape_of self.now.root))) }
+    {
+        self.len() >= MAX_MEMBERS
     }
 
     /// How many levels the tree has, none if it is empty; it is bounded by the number of members.
@@ -174,7 +181,7 @@ impl<A: Allocator + Clone> Roster for TreeRoster<A> {
 
     #[tactic(auto, using(crate::proofs::TreeLemmas::staying))]
     fn insert(&mut self, reservation: Reservation) -> Result<(), (RosterFault, Reservation)> {
-        if count(&self.root) >= MAX_MEMBERS {
+        if self.is_full() {
             return Err((RosterFault::Full, reservation));
         }
         let Ok(alloc) = self.alloc.clone() else {

@@ -1,6 +1,8 @@
 use Rattle.std.proofs.Common.{◌≡◌, map, arith, ap, sym, ◌∙◌}
+use Rattle.std.proofs.lemmas.Bool.{leb-false}
 use Rattle.resv_tree.specs.Shape.{shape, shape_of, entries, entry_of, count_of}
 use Rattle.resv_tree.specs.OwnHours.{raised}
+use Rattle.resv_tree.proofs.HeightLemmas.{count_of-length}
 use Rattle.resv_tree.proofs.OwnHourLemmas.{inserted_members, inserted_hours}
 use Rattle.resv_tree.proofs.OwnHourLemmas.{root_by_key, root_fits, raised_by_key}
 use Rattle.resv_tree.proofs.TreeLemmas.{placed_by_start}
@@ -19,6 +21,16 @@ pub insert-requires-clause-by_key : goal.insert-requires-clause-by_key
 insert-requires-clause-by_key g c =
     raised_by_key (shape_of c.take-root.result) (shape_of c.raise.new.root) c.args.reservation
     (rw c.take-root.ensures.value c.args.self.now.by_start) c.raise.ensures.entries
+
+pub insert-requires-clause-room : goal.insert-requires-clause-room
+insert-requires-clause-room g c =
+    omega (
+      arith,
+      c.raise.ensures.count,
+      ap (λ l. count_of (shape_of l)) c.take-root.ensures.value,
+      count_of-length (shape_of c.args.self.now.root) c.args.self.now.whole,
+      leb-false _ _ (sym c.is_full.ensures ∙ c.if-is_full.false),
+    )
 
 pub invariant_of-self : goal.invariant_of-self
 invariant_of-self g c =
@@ -40,8 +52,8 @@ invariant_of-self g c =
         arith,
         c.insert.ensures.count,
         c.raise.ensures.count,
-        c.if-count-ge-MAX_MEMBERS.false,
-        c.count.ensures,
+        leb-false _ _ (sym c.is_full.ensures ∙ c.if-is_full.false),
+        count_of-length root c.args.self.now.whole,
         as_many,
       );
     }
