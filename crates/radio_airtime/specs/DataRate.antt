@@ -1,4 +1,4 @@
-use Rattle.std.specs.Prelude.{ℕ, ◌+◌, ◌==◌, if◌then◌else◌, List, [], ◌∷◌, find, Option}
+use Rattle.std.specs.Prelude.{ℕ, ◌+◌, ◌==◌, List, [], ◌∷◌, find, Option, unwrap_or}
 use Rattle.radio_airtime.specs.declared.data_rate.DataRate.{DataRate}
 use Rattle.radio_airtime.specs.declared.data_rate.DataRate.TheVariants.{Dr0, Dr1, Dr2, Dr3, Dr4, Dr5, Dr6}
 
@@ -22,16 +22,9 @@ rates = Dr0 ∷ Dr1 ∷ Dr2 ∷ Dr3 ∷ Dr4 ∷ Dr5 ∷ Dr6 ∷ []
 abbrev pub known_rate : ℕ → Option DataRate
 known_rate number = find (λ rate. number_of rate == number) rates
 
--- the data rate with a number 0 to 6 (RP002, EU863-870, "Data rate")
+-- the data rate with a number 0 to 6; behind them the last
 abbrev pub rate_numbered : ℕ → DataRate
-rate_numbered n =
-    if n == 0 then Dr0
-    else if n == 1 then Dr1
-    else if n == 2 then Dr2
-    else if n == 3 then Dr3
-    else if n == 4 then Dr4
-    else if n == 5 then Dr5
-    else Dr6
+rate_numbered n = unwrap_or (known_rate n) Dr6
 
 -- the spreading factor SF: bits in a symbol
 abbrev pub spreading_factor_of : DataRate → ℕ
