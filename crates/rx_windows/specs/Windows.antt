@@ -5,6 +5,7 @@ use Rattle.std.specs.Option.{ForSome}
 use Rattle.radio_airtime.specs.declared.data_rate.DataRate.{DataRate}
 use Rattle.radio_airtime.specs.DataRate.{number_of, max_phy_of}
 pub use Rattle.radio_airtime.specs.DataRate.{rate_numbered}
+use Rattle.lora_frame.specs.Ports.{longest_payload}
 use Rattle.uplink_gather.specs.declared.heard.HeardCopy.{HeardCopy}
 use Rattle.rx_windows.specs.declared.plan.Plan.{Plan}
 use Rattle.rx_windows.specs.declared.candidate.Candidate.{Candidate}
@@ -20,7 +21,7 @@ pub record IsPlan (plan : Plan) : Type 0 where
   pub delay_from : 1 ≤ plan.delay
   pub delay_to : plan.delay ≤ 15
   pub offset : plan.offset ≤ 5
-  pub payload : ForSome plan.payload (λ n. n ≤ 242)
+  pub payload : ForSome plan.payload (λ n. n ≤ longest_payload)
 
 -- RX1 opens RECEIVE_DELAY1, in seconds, after the end of the uplink (section 3.3.1); in µs
 abbrev pub rx1_start : Plan → HeardCopy → ℕ

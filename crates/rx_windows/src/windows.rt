@@ -1,6 +1,7 @@
 ghost use Rattle.std.specs.Prelude.{◌≡◌, ◌+◌, ◌-◌, ◌^◌, ◌≤◌, All, IfOk};
 ghost use Rattle.std.specs.Option.{ForSome};
 ghost use Rattle.radio_airtime.specs.DataRate.{number_of};
+ghost use Rattle.lora_frame.specs.Ports.{longest_payload};
 ghost use Rattle.rx_windows.specs.Windows.{IsHeard, IsPlan, rx1_rate, is_carried, frame_len, rx1_start, rx1_of, rx2_of};
 ghost use Rattle.rx_windows.specs.Windows.{candidates_of};
 
@@ -97,7 +98,7 @@ fn rx1_rate(rate: DataRate, offset: u8) -> DataRate
 
 /// Whether a frame at the rate carries the payload at the head of the queue.
 fn is_carried(rate: DataRate, payload: Option<u8>) -> bool
-    requires { ForSome payload (λ n. n ≤ 242) }
+    requires { ForSome payload (λ n. n ≤ longest_payload) }
     ensures { result ≡ is_carried rate payload }
 {
     payload.is_some_and(|n| BESIDE_PAYLOAD + n <= rate.max_phy())
@@ -105,7 +106,7 @@ fn is_carried(rate: DataRate, payload: Option<u8>) -> bool
 
 /// The length in bytes of the frame that is sent at the rate.
 fn frame_len(rate: DataRate, payload: Option<u8>) -> u8
-    requires { ForSome payload (λ n. n ≤ 242) }
+    requires { ForSome payload (λ n. n ≤ longest_payload) }
     ensures { result ≡ frame_len rate payload }
 {
     match payload {

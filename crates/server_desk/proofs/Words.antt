@@ -12,7 +12,7 @@ pub use Rattle.std.proofs.lemmas.Option.{get_or_from_slice_get, same_Some, slice
 pub use Rattle.std.proofs.lemmas.{Option.slice_get_within, List.Folds.list_any_at, List.Folds.list_any_none}
 pub use Rattle.std.proofs.lemmas.{Bool.Decides.nat_tests, Simd.map-map}
 pub use Rattle.std.specs.{Option.ForSome, Option.option_map, Option.option_or, List.list_any, List.position_from}
-pub use Rattle.lora_frame.specs.Reading.{addr_of, uplink_of, uplink_record}
+pub use Rattle.lora_frame.specs.{Ports.longest_payload, Reading.addr_of, Reading.uplink_of, Reading.uplink_record}
 pub use Rattle.uplink_gather.specs.Hearing.{after_hearing, has_gateway, hear_answer, hear_step, is_crowded, place_by, place_of}
 pub use Rattle.uplink_gather.specs.Hearing.{with_copy}
 pub use Rattle.uplink_gather.specs.Gatherings.{Gathering, Gatherings, copies_of, is_closed_at, numbered, rewritten}
