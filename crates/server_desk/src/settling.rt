@@ -50,10 +50,8 @@ impl<S: BuildHasher, A: Allocator> Desk<S, A> {
         ensures { result ≡ may_settle self.now.ids self.now.known stub.now.number stub.now.result }
     {
         let is_out = matches!(numbered(&self.known, stub.number()), Some(Known::Pending));
-        is_out
-            && stub
-                .gateway()
-                .is_none_or(|gateway| has_gateway(&self.gateways, gateway))
+        let gateway = stub.gateway();
+        is_out && gateway.is_none_or(|gateway| has_gateway(&self.gateways, gateway))
     }
 
     /// The answer is settled that ended so.
