@@ -1,8 +1,8 @@
-use Rattle.std.specs.Prelude.{ℕ, ◌≡◌, ◌≤◌, ◌<◌, nat_lt, Bool, IsTrue, List, length, slice_get, All, Option, None, if◌then◌else◌}
+use Rattle.std.specs.Prelude.{ℕ, ◌≡◌, ◌≤◌, ◌<◌, nat_lt, Bool, List, length, slice_get, All, Option, None, if◌then◌else◌}
 use Rattle.std.specs.Option.{option_map, ForSome}
 use Rattle.lora_frame.specs.declared.parts.Keys.{Keys}
 use Rattle.lora_frame.specs.Frame.{down_frame}
-use Rattle.lora_frame.specs.Ports.{is_application_port}
+use Rattle.lora_frame.specs.Ports.{most_port}
 use Rattle.uplink_gather.specs.declared.heard.HeardCopy.{HeardCopy}
 use Rattle.rx_windows.specs.declared.plan.Plan.{Plan}
 use Rattle.rx_windows.specs.declared.candidate.Candidate.{Candidate}
@@ -58,7 +58,7 @@ payload_len payload = length payload.1
 
 -- a port that an application may use (LoRaWAN L2 1.0.4, section 4.3.2)
 abbrev pub IsPort : ℕ → Type 0
-IsPort port = IsTrue (is_application_port port)
+IsPort port = (1 ≤ port) × (port ≤ most_port)
 
 -- a job that a ticket may be given for
 pub record IsJob (job : Job) : Type 0 where
