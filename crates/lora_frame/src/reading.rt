@@ -1,9 +1,10 @@
 // Uplinks are read.
 
-ghost use Rattle.std.specs.Prelude.{ℕ, ◌≡◌, ◌↔◌, ◌+◌, ◌%◌, ◌^◌, ◌≤◌, Some, None, IsOk, IsTrue, nat_lt, length, take, drop, slice_index};
-ghost use Rattle.std.specs.Prelude.{if◌then◌else◌};
+ghost use Rattle.std.specs.Prelude.{ℕ, ◌≡◌, ◌↔◌, ◌+◌, ◌%◌, ◌^◌, ◌≤◌, Some, None, IsOk, IsTrue, nat_lt, length, take};
+ghost use Rattle.std.specs.Prelude.{drop, slice_index, if◌then◌else◌};
 ghost use Rattle.std.specs.Int.{w16, from_le_bytes};
-ghost use Rattle.lora_frame.specs.Reading.{frame_type, control_of, control_bit, mic_place, options_end, uplink_of, uplink_record, HasMic, has_mic};
+ghost use Rattle.lora_frame.specs.Reading.{frame_type, control_of, control_bit, mic_place, options_end, uplink_of};
+ghost use Rattle.lora_frame.specs.Reading.{uplink_record, HasMic, has_mic};
 
 use crate::blocks::{UP, mic};
 use crate::layout::{

@@ -27,7 +27,8 @@ pub append_xored-requires-clause-room : goal.append_xored-requires-clause-room
 append_xored-requires-clause-room g c =
     let was = c.loop-i.invariant in
     let piece = c.in-Some.ensures.steps.0 in
-    omega (arith, was.len, was.room, ap length piece.1.0, length-append c.in-Some.piece.now (chunks_rest (enumerate_source c.next.new.self)))
+    let later = chunks_rest (enumerate_source c.next.new.self) in
+    omega (arith, was.len, was.room, ap length piece.1.0, length-append c.in-Some.piece.now later)
 
 pub loop-i-preserved : goal.loop-i-preserved
 loop-i-preserved g c =
