@@ -1,4 +1,5 @@
-use Rattle.std.proofs.Common.{◌≡◌, ◌≢◌, ◌≤◌, arith, refl, ℕ, List, Option, Bool, true, false, Some, None, slice_get, length, sym, ap, ◌∙◌, MatchOption, nat_eq, nat_lt, remove}
+use Rattle.std.proofs.Common.{◌≡◌, ◌≢◌, ◌≤◌, arith, refl, ℕ, List, Option, Bool, true, false, Some}
+use Rattle.std.proofs.Common.{None, slice_get, length, sym, ap, ◌∙◌, MatchOption, nat_eq, nat_lt, remove}
 use Rattle.std.specs.Bool.{then_some}
 use Rattle.std.proofs.lemmas.Bool.{ltb-true, ltb-false}
 use Rattle.std.proofs.lemmas.Bool.Decides.{nat_tests}
@@ -25,17 +26,20 @@ told l start place m rises cut stands false e =
 
 told_none : (l : List Reservation) (start place : ℕ) → IsByStart l → IsCut (λ r. nat_lt r.start start) l place
     → length l ≤ place → Tells l start None
-told_none l start place rises cut past = not_at_cut start_of 0 start l place cut rises (λ y e. absurd (nothing_past l place y past e))
+told_none l start place rises cut past =
+    not_at_cut start_of 0 start l place cut rises (λ y e. absurd (nothing_past l place y past e))
 
 pub returns-in_err-get-clause-found : goal.returns-in_err-get-clause-found
 returns-in_err-get-clause-found c =
     let past = ltb-false _ _ (sym c.in_err-get.ensures.lookup.0) in
-    rw c.from_residual.ensures (told_none c.args.members.now c.args.start c.place_of-place.result c.requires c.place_of-place.ensures.cut past).0
+    let cut = c.place_of-place.ensures.cut in
+    rw c.from_residual.ensures (told_none c.args.members.now c.args.start c.place_of-place.result c.requires cut past).0
 
 pub returns-in_err-get-clause-left : goal.returns-in_err-get-clause-left
 returns-in_err-get-clause-left c =
     let past = ltb-false _ _ (sym c.in_err-get.ensures.lookup.0) in
-    rw c.from_residual.ensures (told_none c.args.members.now c.args.start c.place_of-place.result c.requires c.place_of-place.ensures.cut past).1
+    let cut = c.place_of-place.ensures.cut in
+    rw c.from_residual.ensures (told_none c.args.members.now c.args.start c.place_of-place.result c.requires cut past).1
 
 pub returns-clause-found : goal.returns-clause-found
 returns-clause-found c =

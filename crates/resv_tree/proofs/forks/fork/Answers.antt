@@ -34,7 +34,13 @@ with_sides-requires-clause-sides g c =
       left_height = before.height;
       right_height = behind.height;
       count = omega (arith, before.count, behind.count);
-      sums = λ band. omega (arith, around.value band, ap (λ n. airtime_in band (entry_of n).reservation) c.deref.ensures, before.sums band, behind.sums band);
+      sums = λ band. omega (
+        arith,
+        around.value band,
+        ap (λ n. airtime_in band (entry_of n).reservation) c.deref.ensures,
+        before.sums band,
+        behind.sums band,
+      );
       short = λ band. omega (
         arith,
         before.count,
