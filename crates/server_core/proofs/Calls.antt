@@ -1,12 +1,11 @@
 -- Steps one after another, and a call that is one step: one thread notes the step, makes it, and tells its line.
 use Rattle.server_core.proofs.Words
 use Words.{arith, ap, append-nil, append_assoc, sym, ◌∙◌, map-append, Err, IfOk, IsOkUnless, List, MatchResult, Ok, OnErr, OnOk}
-use Words.{Option, Some, None, Result, [], map, refl, ℕ, ◌++◌, ◌∷◌, ◌≡◌, ◌≢◌, Payload, DeskView, desk_hear}
-use Words.{desk_of, desk_queue, known_after}
-use Words.{Decision, answer_to, copy_of, Device, Register, device_with, World, after_queueing, queue_answer, DeskFault}
-use Words.{QueueFault, Heard1, entry_at, lines_for, reached, noting, AreHeard, IsAt, IsIdle, IsBetweenCalls, Makes, Moves, Seen}
-use Words.{heard_line, queued_line, with_lines, with_step, Hear, Heard, Queue, Queued, Reply, Step, Line, decide, step_lines}
-use Words.{run_from, step}
+use Words.{Option, Some, None, Result, [], map, refl, ℕ, ◌++◌, ◌∷◌, ◌≡◌, ◌≢◌, Payload, DeskView, desk_hear, desk_of, desk_queue}
+use Words.{known_after, Decision, answer_to, copy_of, Device, Register, device_with, World, after_queueing, queue_answer}
+use Words.{DeskFault, QueueFault, Heard1, entry_at, lines_for, reached, noting, AreHeard, IsAt, IsIdle, IsBetweenCalls, Makes}
+use Words.{Moves, Seen, heard_line, queued_line, with_lines, with_step, Hear, Heard, Queue, Queued, Reply, Step, Line, decide}
+use Words.{step_lines, run_from, step}
 use Rattle.server_core.proofs.{DeskSteps.desk_calls_are_steps, Ready.heard_after, Ready.idle_hear}
 use Rattle.server_desk.specs.Hearing.{after_hearing}
 

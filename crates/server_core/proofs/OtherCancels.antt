@@ -4,9 +4,8 @@ use Rattle.server_core.proofs.Words.{nat_le, refl, true, ℕ, ◌==◌, ◌≡�
 use Rattle.server_core.proofs.Words.{CancelFault, Begun, Limits, opening, World, AreSettings, SettingLists, Sent, IsMember, Step}
 use Rattle.server_core.proofs.Words.{run, found_or, start_of, arith}
 use Rattle.server_core.proofs.Holds.{Holds, member_stands}
-use Rattle.std.proofs.lemmas.Bool.{eqb-true}
+use Rattle.std.proofs.lemmas.Bool.{eqb-true, and_parts}
 use Rattle.server_core.proofs.{BookSteps.there, BookSteps.own, Runs.opened, Runs.run_good}
-use Rattle.std.proofs.lemmas.Bool.{and_parts}
 use Rattle.std.proofs.lemmas.List.Folds.{find_at}
 use Rattle.std.specs.List.{position_or_len}
 use Rattle.resv_list.proofs.Walk.{found_passes}

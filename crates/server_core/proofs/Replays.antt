@@ -1,11 +1,10 @@
 -- Events, one after another, from a server that has heard nothing.
 use Rattle.server_core.proofs.Words
-use Words.{ap, append-nil, append_assoc, sym, ◌∙◌, List, [], Option, Some, get_or, length, map, refl, ℕ, ◌++◌, ◌+◌}
-use Words.{◌<◌, ◌∷◌, ◌≡◌, ◌≤◌, map-map, Book, orderly_nil, kept-nil, remembers_own, desk_of, Gateway, World, opened_gateway}
-use Words.{opening, AreSettings, SettingLists, GatewaySetting, entries, gateway_of, kept_gateway, reached}
-use Words.{noting, schedule, usual_limits, AreBooksOf, Does, IsAt, IsOpened, IsBetweenCalls, Seen, with_lines, Step, Event}
-use Words.{event_steps, entry_at, length-append, subst, schedule_from, entries_from, run_from, same_Some, arith, All, All-head}
-use Words.{All-tail, IsGatewayInRange}
+use Words.{ap, append-nil, append_assoc, sym, ◌∙◌, List, [], Option, Some, get_or, length, map, refl, ℕ, ◌++◌, ◌+◌, ◌<◌, ◌∷◌, ◌≡◌}
+use Words.{◌≤◌, map-map, Book, orderly_nil, kept-nil, remembers_own, desk_of, Gateway, World, opened_gateway, opening}
+use Words.{AreSettings, SettingLists, GatewaySetting, entries, gateway_of, kept_gateway, reached, noting, schedule, usual_limits}
+use Words.{AreBooksOf, Does, IsAt, IsOpened, IsBetweenCalls, Seen, with_lines, Step, Event, event_steps, entry_at, length-append}
+use Words.{subst, schedule_from, entries_from, run_from, same_Some, arith, All, All-head, All-tail, IsGatewayInRange}
 use Rattle.server_core.proofs.{Calls.noting_none, Calls.noting_twice, Calls.reached_append, Members.none_numbered}
 use Rattle.server_core.specs.Entries.{event_lines, gateways_after}
 use Rattle.std.proofs.{Common.take, lemmas.List.length-take-le, lemmas.List.take_more}

@@ -1,10 +1,9 @@
 -- A ticket is tried until it is booked or out, and settled.
 use Rattle.server_core.proofs.Words
-use Words.{ap, append-nil, arith, sym, ◌∙◌, slice_get_within, IsTrue, List, Ok, Some, [], length, map, refl, ℕ}
-use Words.{◌++◌, ◌+◌, ◌-◌, ◌<◌, ◌∷◌, ◌≡◌, numbered, Candidate, candidates, next_of, Standing, Ending, Open, desk_of, desk_settled}
-use Words.{may_settle, World, given_steps, reached, AreHere, IsAt, Moves, Seen, ids_of, Settle, Try, AreTries, EndsTries, GoesOn}
-use Words.{IsAnswered, IsGivenTo, MovesOn, HasTicketOut, IsSame, IsSettled, end_lines, tries_from, TriedOut, step_lines, run_from}
-use Words.{step}
+use Words.{ap, append-nil, arith, sym, ◌∙◌, slice_get_within, IsTrue, List, Ok, Some, [], length, map, refl, ℕ, ◌++◌, ◌+◌, ◌-◌}
+use Words.{◌<◌, ◌∷◌, ◌≡◌, numbered, Candidate, candidates, next_of, Standing, Ending, Open, desk_of, desk_settled, may_settle}
+use Words.{World, given_steps, reached, AreHere, IsAt, Moves, Seen, ids_of, Settle, Try, AreTries, EndsTries, GoesOn, IsAnswered}
+use Words.{IsGivenTo, MovesOn, HasTicketOut, IsSame, IsSettled, end_lines, tries_from, TriedOut, step_lines, run_from, step}
 use Rattle.server_core.proofs.Calls.{reached_append, lines_append, noting_twice}
 use Rattle.server_core.proofs.DeskSteps.{settle_walk, settle_desk, desk_calls_are_steps}
 use Rattle.server_core.specs.Steps as replies

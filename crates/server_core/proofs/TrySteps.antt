@@ -88,7 +88,7 @@ module _ {A : Type 0} (t : Standing) (old mid : Seen A) (gateway i : ℕ) (book 
             steps = rw one steps_noted;
             told = rw one left.stands.told;
             lines = rw (one, left.made.after, out.stands, at, r.gateway, r.window, a.start, a.freq_hz, a.rate, a.len, r.frame)
-            refl;
+                refl;
           }
 
   -- what a try gives, by the candidate at which the ticket stands

@@ -38,9 +38,8 @@ pub use Rattle.answer_ticket.specs.{Ticket.Standing, Ticket.candidate_of, declar
 pub use Rattle.answer_ticket.specs.{declared.outcome.Ending.TheVariants.Unanswered, declared.outcome.Outcome.Outcome}
 pub use Rattle.answer_ticket.specs.{declared.tried.Receipt.Receipt, declared.tried.TriedOut.TriedOut}
 pub use Rattle.server_desk.specs.Desk.{DeskView, desk_hear, desk_of, desk_pass, desk_queue, desk_settled, desk_take, desk_taken}
-pub use Rattle.server_desk.specs.Desk.{known_after}
+pub use Rattle.server_desk.specs.{Desk.known_after, Settling.sent_of, Settling.without_head}
 pub use Rattle.server_desk.specs.Settling.{after_settling, delivered, has_carried, head_taken, is_here, kept_by, may_settle}
-pub use Rattle.server_desk.specs.Settling.{sent_of, without_head}
 pub use Rattle.server_desk.specs.Airtime.{answer_airtime, answered_at, answered_in, known_airtime}
 pub use Rattle.server_desk.specs.Answers.{Answer, Booked, Open, Out, Settled, Waiting, is_given, is_not_given, known_of}
 pub use Rattle.server_desk.specs.Hearing.{Decision, Join, Refuse, answer_to, asked_by, copy_of, register_after}
@@ -60,7 +59,8 @@ pub use Rattle.server_desk.proofs.Places.{all_get, from_map, get_contains, get_s
 pub use Rattle.server_desk.proofs.Places.{map_there, found_there, is_placed, place_within}
 pub use Rattle.server_desk.proofs.Decided.{join_decided, open_decided}
 pub use Rattle.server_core.specs.Promise.{EveryInterleavingIsSafe, HaveOwnCounters, IsMember, IsOwnWindow, IsSafe, jobs_given}
-pub use Rattle.server_core.specs.Promise.{setting_of, with_given}
+pub use Rattle.server_core.specs.{Promise.setting_of, Promise.with_given, Tries.IsSettled, Tries.end_lines, Tries.tries_from}
+pub use Rattle.server_core.specs.{declared.event.Event.Event}
 pub use Rattle.server_core.specs.Schedule.{answer_steps, closing_steps, due_from, due_numbers, given_steps, is_accepted}
 pub use Rattle.server_core.specs.Schedule.{reached, schedule, step_of, up_to_first}
 pub use Rattle.server_opening.specs.UsualLimits.{usual_limits}
@@ -72,10 +72,8 @@ pub use Rattle.server_core.specs.Steps.{Tick, Try, answers_after, cancel, cancel
 pub use Rattle.server_core.specs.Steps.{hear_by, pass, queue, refused, run, sent_by, sent_for, settle, settle_as, settle_of, take}
 pub use Rattle.server_core.specs.Steps.{take_by, terms, tick, tick_at, tried_by, try, try_candidate, try_of, try_on}
 pub use Rattle.server_core.specs.Tries.{AreTries, EndsTries, GoesOn, IsAnswered, IsGivenTo, MovesOn, HasTicketOut, IsSame}
-pub use Rattle.server_core.specs.Tries.{IsSettled, end_lines, tries_from}
 pub use Rattle.server_core.specs.Entries.{entries, entry_at, gateway_of, gateways_after, kept_gateway, lines_for, not_taken}
 pub use Rattle.server_core.specs.{DeskCalls.DeskCallsAreSteps, DeskCalls.told, declared.entry.Line.Line}
-pub use Rattle.server_core.specs.{declared.event.Event.Event}
 unfoldable pub use Rattle.resv_list.specs.Reservations.{net}
 unfoldable pub use Rattle.uplink_gather.specs.Gatherings.{due_of}
 unfoldable pub use Rattle.server_desk.specs.{Hearing.decide, Taking.take_answer}

@@ -2,8 +2,7 @@
 use Rattle.server_desk.proofs.Words
 use Words.{Bool, true, first_at, ℕ, zero, suc, ◌≡◌, ◌≢◌, ◌⊎◌, List, [], ◌∷◌, ◌++◌, map, length, All, Contains, slice_get}
 use Words.{slice_set, Option, Some, same_Some, refl, sym, ap, ◌∙◌, subst, arith, option_map, slice_get-map, slice_get_within}
-use Words.{get_or_from_slice_get, get_or, None, ◌<◌, slice_get_read}
-use Words.{position, position_from, next_place, zero-add, ◌+◌}
+use Words.{get_or_from_slice_get, get_or, None, ◌<◌, slice_get_read, position, position_from, next_place, zero-add, ◌+◌}
 use Rattle.std.proofs.lemmas.Iterator.Adapters.{position_from-zero}
 use Rattle.std.proofs.Math.Seq.{map-set_same}
 
@@ -70,16 +69,17 @@ module _ {X : Type 0} (test : X → Bool) where
   found_there [] p e = absurd (cc)
   found_there (x ∷ xs) p e = grind (arith, found_there xs)
 
-  -- its place alone, counted from n
+-- its place alone, counted from n, by a test of what is shown of it
+module _ {X Y : Type 0} (show : X → Y) (shown : Y → Bool) (test : X → Bool) (alike : (x : X) → shown (show x) ≡ test x) where
   next_from : (n : ℕ) (o : Option (ℕ × X)) → option_map (λ p. n + 1 + p.0) o ≡ option_map (λ p. n + p.0) (option_map next_place o)
   next_from n o = grind arith
 
-  place_from : (n : ℕ) (xs : List X) → position_from test n xs ≡ option_map (λ p. n + p.0) (first_at test xs)
+  place_from : (n : ℕ) (xs : List X) → position_from shown n (map show xs) ≡ option_map (λ p. n + p.0) (first_at test xs)
   place_from n [] = refl
-  place_from n (x ∷ xs) = grind (arith, place_from (n + 1) xs, next_from n)
+  place_from n (x ∷ xs) = grind (arith, alike x, place_from (n + 1) xs, next_from n)
 
-  pub place_of_first : (xs : List X) → position test xs ≡ option_map (λ p. p.0) (first_at test xs)
-  place_of_first xs = position_from-zero test xs ∙ (simp zero-add at (place_from 0 xs))
+  pub place_of_first : (xs : List X) → position shown (map show xs) ≡ option_map (λ p. p.0) (first_at test xs)
+  place_of_first xs = position_from-zero shown (map show xs) ∙ (simp zero-add at (place_from 0 xs))
 
 -- the same by what the members show
 module _ {X Y : Type 0} (show : X → Y) (test : Y → Bool) where
