@@ -1,4 +1,4 @@
-use Rattle.std.proofs.Common.{◌∙◌, sym, arith, rules, ◌<◌, length}
+use Rattle.std.proofs.Common.{◌∙◌, sym, rules, ◌<◌, length}
 use Rattle.text_lines.proofs.WordLemmas.{words_of-word}
 use Rattle.text_lines.proofs.words.first_word.Goals as goal
 
