@@ -13,8 +13,9 @@ mod tried;
 
 pub use bytes::Bytes;
 pub use copies::Copies;
+pub use gateway_book::NoMemory;
 pub use job::Job;
 pub use outcome::{Ending, Outcome};
 pub use stub::Stub;
-pub use ticket::{NoMemory, Ticket};
+pub use ticket::Ticket;
 pub use tried::{Receipt, Tried, TriedOut};

@@ -7,14 +7,11 @@ ghost use Rattle.answer_ticket.specs.Ended.{IsWithinLongest, IsOfCandidate};
 ghost use Rattle.answer_ticket.specs.Tried.{TriedIs, stub_of, booked_of, refused_of};
 
 use crate::{Bytes, Ending, Job, Receipt, Stub, Tried};
-use gateway_book::{GatewayBook, Refusal};
+use gateway_book::{GatewayBook, NoMemory, Refusal};
 use resv_list::{Reservation, Roster};
 use rx_windows::{Candidate, candidates};
 use std::alloc::{AllocError, Allocator};
 use std::marker::Model;
-
-/// A growth was refused: there was no memory.
-pub type NoMemory = AllocError;
 
 /// The right to one answer: a job, and the candidate to try next. Its type keeps that the candidates are RX1 of
 /// each copy of the job and then RX2 of each copy (LoRaWAN L2 1.0.4, section 3.3). It can't be copied or dropped:

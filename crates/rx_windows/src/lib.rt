@@ -12,4 +12,5 @@ pub use candidate::{Candidate, Window};
 pub use laws::{law_candidates_on_gateways_that_heard, law_one_ranking};
 pub use plan::Plan;
 pub use ranking::rank;
-pub use windows::{NoMemory, candidates};
+pub use uplink_gather::NoMemory;
+pub use windows::candidates;

@@ -7,11 +7,8 @@ ghost use Rattle.rx_windows.specs.Windows.{candidates_of};
 
 use crate::{Candidate, Plan, Window};
 use radio_airtime::DataRate;
-use std::alloc::{AllocError, Allocator};
-use uplink_gather::HeardCopy;
-
-/// A growth was refused: there was no memory.
-pub type NoMemory = AllocError;
+use std::alloc::Allocator;
+use uplink_gather::{HeardCopy, NoMemory};
 
 /// A second, in microseconds.
 const SECOND: u64 = 1_000_000;

@@ -16,15 +16,13 @@ use crate::hearing::{copy_fault, copy_of, desk_answer, is_last, named_fault};
 use crate::opening::{addrs_of, airtimes_of, devices_of, ids_of};
 use crate::verdict::{NewUplink, Verdict};
 use crate::{DeskFault, DeskHeard, Heard1, QueueFault, Settings};
+use answer_ticket::NoMemory;
 use indexmap::IndexSet;
 use lora_frame::{Uplink, check_mic, infer, read_uplink};
-use std::alloc::{AllocError, Allocator, Global};
+use std::alloc::{Allocator, Global};
 use std::hash::BuildHasher;
 use std::marker::Model;
 use uplink_gather::{Gather, Limits, Place};
-
-/// A growth was refused: there was no memory.
-pub type NoMemory = AllocError;
 
 /// What a server knows of its devices, of the uplinks that its gateways heard, and of their answers, all but the books
 /// of the gateways.

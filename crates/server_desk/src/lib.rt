@@ -18,8 +18,9 @@ mod settling;
 mod taking;
 mod verdict;
 
+pub use answer_ticket::NoMemory;
 pub use answers::{Asked, Known, Sent};
-pub use desk::{Desk, NoMemory};
+pub use desk::Desk;
 pub use faults::{DeskFault, QueueFault, TakeFault};
 pub use heard::{DeskHeard, Heard1};
 pub use radio_airtime::DataRate;
