@@ -36,8 +36,9 @@ returns-in-Out-clause-tries g c =
 pub returns-in-Wrong-clause-tries : goal.returns-in-Wrong-clause-tries
 returns-in-Wrong-clause-tries g c =
     let here = c.loop-book.ticket in
-    let asked = (c.deref_mut.result.now, c.try_on-tried.new.book, c.try_on-tried.ensures) in
-    let vain = tried_in_vain _ here c.in-Wrong.ticket c.try_on-tried.result asked c.in-Wrong.is in
+    let vain =
+    tried_in_vain _ here c.in-Wrong.ticket c.try_on-tried.result
+    (c.deref_mut.result.now, c.try_on-tried.new.book, c.try_on-tried.ensures) c.in-Wrong.is in
     rw c.given_up-in-Wrong.ensures
     (given_up_there c.args.self.now c.args.ticket.job here c.loop-book.invariant.job c.loop-book.invariant.refused _
     (stub_of c.in-Wrong.ticket.job GivenUp) (stands_at _ c.gateway-gateway.result c.gateway-gateway.ensures.gateway) refl
