@@ -73,10 +73,10 @@ pub bookings-set : (receipts : List (Receipt Global)) (flags : List Bool) (at : 
     → at < length receipts → IsMarkedAt at (bookings_in receipts flags) (bookings_in receipts (slice_set flags at true))
 bookings-set [] flags at same within = absurd (omega (arith, within))
 bookings-set (r ∷ receipts) [] at same within = absurd (omega (arith, same))
-bookings-set (r ∷ receipts) (flag ∷ flags) zero same within = (record { receipt = r; is_cancelled = flag }, refl, refl)
+bookings-set (r ∷ receipts) (flag ∷ flags) zero same within = (record { receipt = r; is_cancelled = flag }, (refl, refl))
 bookings-set (r ∷ receipts) (flag ∷ flags) (suc at) same within =
-    let (b, there, set) = bookings-set receipts flags at (omega (arith, same)) (omega (arith, within)) in
-    (b, there, ap (λ l. record { receipt = r; is_cancelled = flag } ∷ l) set)
+    let (b, (there, set)) = bookings-set receipts flags at (omega (arith, same)) (omega (arith, within)) in
+    (b, (there, ap (λ l. record { receipt = r; is_cancelled = flag } ∷ l) set))
 
 -- the receipt at a place
 pub receipt_there : (receipts : List (Receipt Global)) (flags : List Bool) (at : ℕ) (r : Receipt Global)
