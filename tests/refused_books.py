@@ -8,7 +8,8 @@ Where the program itself finds no memory it ends with status 2, names that, and 
 the answers of its row below: a booking without memory is refused by a line, a saved book without memory is not resumed, and all
 that follows is answered as ever. Each answer of a row has to come, but for plans of which a part finds memory: which these are
 is decided by the size of an arena's chunks. No less is answered where a later growth is the first that is refused with all
-behind it. The last line is 'N passed, M failed', of the rows; the status is 0 where none failed, 1 where one did, 2 where
+behind it. Of the growths of a book just as many as its row says change the answer where they alone are refused: one for each
+booking. The last line is 'N passed, M failed', of the rows; the status is 0 where none failed, 1 where one did, 2 where
 nothing could be run.
 """
 import os
@@ -53,21 +54,22 @@ def planned_on_nothing(count):
     return NO_1 + b"".join(lines).replace(b"if at 6 10041216", b"if at 6 10000000") + report(0, 0)
 
 
-# The arguments, the input, and the answers by what they have of it, least first.
+# The arguments, the input, the answers by what they have of it, least first, and how many growths change what is answered where
+# each of them alone is refused, and the program goes on; None where an arena decides.
 ROWS = [
     (["book"], BOOKINGS, [
         NO_1 + NO_2 + report(0, 0), NO_1 + OK_2 + report(1, 10041216), OK_1 + NO_2 + report(1, 10000000),
         OK_1 + OK_2 + report(2, 10000000),
-    ]),
+    ], 2),
     (["book", "--save"], BOOKINGS, [
         NO_1 + NO_2 + HEAD + b"end 0\n", NO_1 + OK_2 + HEAD + R_2 + b"end 1\n", OK_1 + NO_2 + HEAD + R_1 + b"end 1\n",
         OK_1 + OK_2 + HEAD + R_1 + R_2 + b"end 2\n",
-    ]),
-    (["book", "--resume"], SAVED, [NO_2 + report(1, 10000000), OK_2 + report(2, 10000000)]),
-    (["book", "--resume", "--save"], SAVED, [NO_2 + HEAD + R_1 + b"end 1\n", OK_2 + HEAD + R_1 + R_2 + b"end 2\n"]),
+    ], 2),
+    (["book", "--resume"], SAVED, [NO_2 + report(1, 10000000), OK_2 + report(2, 10000000)], 1),
+    (["book", "--resume", "--save"], SAVED, [NO_2 + HEAD + R_1 + b"end 1\n", OK_2 + HEAD + R_1 + R_2 + b"end 2\n"], 1),
     (["plan"], PLAN, [
         planned_on_nothing(0), planned_on_nothing(4), planned(0, is_copied=False), *(planned(count) for count in range(5)),
-    ]),
+    ], None),
 ]
 # Those that need not come.
 PARTLY = [planned(count) for count in range(4)]
@@ -84,9 +86,9 @@ def place_of(how, answers):
 
 def faults_of(program, library, folder, row):
     """What is wrong with the answers of a row, a line each."""
-    words, text, answers = row
+    words, text, answers, wanted_alone = row
     (folder / "input").write_bytes(text)
-    seen, so_far = set(), -1
+    seen, so_far, alone = set(), -1, 0
     for number in range(1, MOST):
         for last in (number, ALL):
             given = os.open(folder / "input", os.O_RDONLY)
@@ -97,10 +99,14 @@ def faults_of(program, library, folder, row):
             if last == ALL and place < so_far:
                 return [f"growth {number} and all after it refused: answer {place} after answer {so_far}"]
             so_far = place if last == ALL else so_far
+            alone += last == number and 0 <= place < len(answers) - 1
             seen.add(place)
             if count == 0:
                 wanted = [-1, *(place for place, answer in enumerate(answers) if answer not in PARTLY)]
-                return [f"answer {it} never came" for it in wanted if it not in seen]
+                faults = [f"answer {it} never came" for it in wanted if it not in seen]
+                if wanted_alone not in (None, alone):
+                    faults.append(f"{alone} growths change the answer, and not {wanted_alone}")
+                return faults
     return ["no end of growths"]
 
 

@@ -1,5 +1,3 @@
-// Want of memory: asks that are tried on a copy of a book, and texts of books and of plans.
+// Want of memory: asks that are tried on a copy of a book.
 
-mod plans;
-mod texts;
 mod trials;

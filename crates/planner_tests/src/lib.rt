@@ -1,5 +1,5 @@
 //! Tests of asks that are tried on a copy of a book, in a crate of their own: a crate with tests is proved twice. Those of
-//! `growth` refuse each growth of a call in turn, and of a text of a book or of a plan.
+//! `growth` refuse each growth of a call in turn.
 #![tactic(auto)]
 
 #[cfg(test)]
