@@ -96,6 +96,16 @@ def crammed():
     return settings(1, DEVICES, ROUNDS * DEVICES) + "\n".join(lines) + "\n"
 
 
+def twice():
+    """Each device is heard with two uplinks, each answered in RX1; one `pass` closes them all. Which of the two has the first
+    downlink counter depends on which worker is first."""
+    lines = [
+        hear(device, 1 + device % GATEWAYS, 200_000 * (DEVICES * turn + device // GATEWAYS), turn)
+        for turn in range(2) for device in range(DEVICES)
+    ]
+    return settings(GATEWAYS, DEVICES) + "\n".join([*lines, f"pass {LONG_AGO + 1_000_000}"]) + "\n"
+
+
 def crowded():
     """One device is heard with more uplinks than are gathered at a time, none owed an answer; one `pass` closes them all."""
     lines = [hear(0, 1, 0, counter).replace("@c", "@u") for counter in range(OPEN_AT_MOST + 2)]
@@ -115,13 +125,19 @@ def first_difference(wanted, got):
     return f"wanted {len(wanted)} lines, got {len(got)}"
 
 
-def alike(program, text, is_wanted):
-    """What differs from what one thread writes, or is not wanted of it, if anything."""
-    wanted = written(program, text, 0)
+def without_frames(wrote):
+    """What was written but for the bytes of frames."""
+    status, lines, errors = wrote
+    return status, [" ".join(line.split()[:2]) if line.startswith("frame ") else line for line in lines], errors
+
+
+def alike(program, text, is_wanted, seen=lambda wrote: wrote):
+    """What differs from what one thread writes, or is not wanted of it, if anything, by what is seen of it."""
+    wanted = seen(written(program, text, 0))
     if not is_wanted(wanted):
         return f"without workers: status {wanted[0]}, {wanted[1][-3:]}, {wanted[2]!r}"
     for workers in (1, 2, 4, 16):
-        got = written(program, text, workers)
+        got = seen(written(program, text, workers))
         if got != wanted:
             return f"{workers} workers: status {got[0]}, {first_difference(wanted[1], got[1])}, {got[2]!r}"
     return None
@@ -157,6 +173,11 @@ def threads_by(program, trials, wanted_status):
 def threads_of_a_pass(program):
     """As many threads start for one `pass` as workers were asked for, where there is work for them."""
     return threads_by(program, [(workers, one_pass(), workers) for workers in (2, 4, 16)], 0)
+
+
+def threads_of_a_full_pass(program):
+    """So do they where as many gatherings are closed as may be open at a time; with those that make events and lines."""
+    return threads_by(program, [(workers, crowded(), THREADS[workers]) for workers in (2, 4)], 1)
 
 
 def thread_of_events(program):
@@ -221,6 +242,11 @@ def is_full(wanted):
     return windows(wanted) == ["RX1"] * (ROUNDS * DEVICES)
 
 
+def is_twice(wanted):
+    """Every uplink is answered in RX1."""
+    return windows(wanted) == ["RX1"] * (2 * DEVICES)
+
+
 def is_crowded(wanted):
     """As many gatherings open as may, and no more, and as many are closed."""
     opened, silent = ([f"{word} {number}" for number in range(1, OPEN_AT_MOST + 1)] for word in ("opened", "silent"))
@@ -245,6 +271,7 @@ def main():
     trials = [
         (f"{DEVICES} uplinks apart", lambda: alike(program, apart(), is_answered)),
         (f"{ROUNDS * DEVICES} uplinks of one gateway", lambda: alike(program, crammed(), is_full)),
+        (f"{2 * DEVICES} answers owed at a time", lambda: alike(program, twice(), is_twice, without_frames)),
         (f"{OPEN_AT_MOST + 2} uplinks at a time", lambda: alike(program, crowded(), is_crowded)),
         ("comments in front of a line that is none", lambda: alike(program, commented(), is_numbered)),
         ("one long line", lambda: alike(program, one_line(), is_long)),
@@ -252,6 +279,7 @@ def main():
     trials += [
         ("threads", lambda: threads_started(program)),
         ("threads of one pass", lambda: threads_of_a_pass(program)),
+        ("threads of a full pass", lambda: threads_of_a_full_pass(program)),
         ("thread of events", lambda: thread_of_events(program)),
         ("threads of lines", lambda: threads_of_lines(program)),
         ("no threads", lambda: threads_refused(program)),
