@@ -22,7 +22,7 @@ rates = Dr0 ∷ Dr1 ∷ Dr2 ∷ Dr3 ∷ Dr4 ∷ Dr5 ∷ Dr6 ∷ []
 abbrev pub known_rate : ℕ → Option DataRate
 known_rate number = find (λ rate. number_of rate == number) rates
 
--- the data rate with a number 0 to 6; behind them the last
+-- the data rate with a number 0 to 6; behind them the last (RP002, EU863-870, the table of data rates)
 abbrev pub rate_numbered : ℕ → DataRate
 rate_numbered n = unwrap_or (known_rate n) Dr6
 

@@ -82,7 +82,7 @@ KeepsLimitFrom taken (Some bytes) (Ok _) = taken + length bytes ≤ most_input
 KeepsLimitFrom taken (Some bytes) (Err TooMuch) = most_input < taken + length bytes
 KeepsLimitFrom taken (Some bytes) (Err _) = ⊤
 
--- the length of a whole input
+-- the same of a whole input: `Ok` of at most 2^28 bytes, `TooMuch` of more
 abbrev pub KeepsLimit : Option (List ℕ) → Result Bool LineFault → Type 0
 KeepsLimit left result = KeepsLimitFrom 0 left result
 
