@@ -176,7 +176,8 @@ def main():
             said.seek(0)
             lines = said.read().splitlines()
         print_table(folder, meter.sums(), meter.edits())
-        print(f"{(time.monotonic() - started) / 60:.0f} minutes went by. The last line of make test: {lines[-1] if lines else ''}")
+        minutes, last = (time.monotonic() - started) / 60, lines[-1] if lines else ""
+        print(f"{minutes:.0f} minutes went by. The last line of make test: {last}")
         print_edits(folder, meter.edits())
         if gate.returncode:
             print("\n".join(lines), file=sys.stderr)

@@ -95,7 +95,8 @@ unfolding airtime_of band_of begun kept overlap full_hour
 at_once = record { from = omega arith; to = omega arith; accepted = refl; least = λ t a c. a }
 
 nowhere_else : EarliestCandidates → (s : ℕ) → IsLeastAccepted (terms 0 4 0) [] (fast_at 0) 7 9 s → s ≡ 7
-nowhere_else law s least = elim (law (terms 0 4 0) [] (fast_at 0) 7 9 s least) [ inl e ↦ e | inr e ↦ absurd (omega (arith, e.1.1)) ]
+nowhere_else law s least =
+    elim (law (terms 0 4 0) [] (fast_at 0) 7 9 s least) [ inl e ↦ e | inr e ↦ absurd (omega (arith, e.1.1)) ]
 
 smaller_gap : GapKeepsDisjoint → (l : List Reservation) → IsLawful 1000 l → IsLawful 0 l
 smaller_gap law l = law 1000 0 l (omega arith)

@@ -43,7 +43,8 @@ pub none_there : (freq_hz : ℕ) (rate : DataRate) (near : Band) → ((band : Ba
     → lies_in freq_hz rate near ≡ false → band_of freq_hz rate ≡ None
 unfolding band_of
 none_there f r near only none =
-    let there : (band : Band) → lies_in f r band ≡ false = λ band. none_by (lies_in f r band) f r near band (only band) none refl in
+    let there : (band : Band) → lies_in f r band ≡ false =
+    λ band. none_by (lies_in f r band) f r near band (only band) none refl in
     rw (there K, there L, there M, there N, there P, there Q) refl
 
 -- where the only band that a channel may lie in is asked, the answer tells which one it lies in

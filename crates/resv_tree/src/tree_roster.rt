@@ -56,8 +56,8 @@ const SPARE: u64 = 8;
 
 /// A roster in a balanced tree: each call but `filled` and `members` takes a few walks from the root down. `insert` takes the
 /// memory of one node, `filled` that of one a member and `members` that of its list; `drop_before` gives back that of each member
-/// that it drops. It is dropped side by side, as deep as the tree is high: 33 levels at most, so no number of members exhausts the
-/// stack.
+/// that it drops. It is dropped side by side, as deep as the tree is high: 33 levels at most, so no number of members exhausts
+/// the stack.
 #[derive(Drop)]
 pub struct TreeRoster<A: Allocator + Clone> {
     root: Link<A>,

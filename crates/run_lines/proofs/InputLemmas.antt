@@ -5,8 +5,8 @@ use Rattle.std.specs.Prelude.{slice_index}
 use Rattle.std.specs.List.{concat}
 use Rattle.std.proofs.Math.Seq.{split_at, drop-append_seam, take-append_seam, take-length}
 use Rattle.std.proofs.lemmas.Bool.Decides.{nat_tests}
-use Rattle.std.proofs.lemmas.List.{take_more, get_or_push, get_or-take, get_or_default, length-take, length-append, length-take-le}
-use Rattle.std.proofs.lemmas.List.{drop-drop, length-drop, take-append-drop}
+use Rattle.std.proofs.lemmas.List.{take_more, get_or_push, get_or-take, get_or_default, length-take, length-append}
+use Rattle.std.proofs.lemmas.List.{length-take-le, drop-drop, length-drop, take-append-drop}
 use Rattle.std.specs.Str.Lines.{lines, strip_carriage_return}
 use Rattle.text_lines.specs.Line.{lines-first, lines-last}
 use Rattle.run_lines.specs.RunInput.{NoFeedBefore, onto_first, raw_lines, is_rule, before_rule, after_rule, settings_part}

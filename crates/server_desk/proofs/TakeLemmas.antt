@@ -5,7 +5,8 @@ use Words.{slice_set, Option, Some, None, Result, Ok, Err, IfOk, refl, option_ma
 use Words.{length-map, length-set, map-set, All-head, HeardCopy, Gatherings, numbered, is_closed_at, copies_of, length-ranked}
 use Words.{All-ranked, IsHeard, Job, Payload, IsJob, IsPort, payload_len, KnownDevice, Known, NotGiven, Pending, is_not_given}
 use Words.{Device, Asked, head, is_engaged, job_for, fault_of, given_or, take_answer, with_counter_given, shown, outs, IsSendable}
-use Words.{IsServable, longest_payload, IsGathered, MayBeGiven, desk_take, TakeFault, same_Some, slice_get_cases, slice_get_within, inl, inr}
+use Words.{IsServable, longest_payload, IsGathered, MayBeGiven, desk_take, TakeFault, same_Some, slice_get_cases, slice_get_within}
+use Words.{inl, inr}
 use Rattle.server_desk.proofs.Places.{map_there, all_get}
 use Rattle.server_desk.proofs.DeskLemmas.{seen_reg, Holds, seen, written_holds}
 use Rattle.server_desk.proofs.{Numbers.at_number, OutLemmas.engaged_is, OutLemmas.out_given}
@@ -17,7 +18,8 @@ head_port : (queue : List Payload) → All IsSendable queue → ForSome (head qu
 head_port [] h x e = absurd (cc)
 head_port (p ∷ queue) h x e = subst (λ y. IsPort y.0) (same_Some _ _ e) (All-head IsSendable p queue h).port
 
-head_len : (queue : List Payload) → All IsSendable queue → ForSome (option_map payload_len (head queue)) (λ n. n ≤ longest_payload)
+head_len : (queue : List Payload) → All IsSendable queue
+    → ForSome (option_map payload_len (head queue)) (λ n. n ≤ longest_payload)
 head_len [] h x e = absurd (cc)
 head_len (p ∷ queue) h x e = subst (λ n. n ≤ longest_payload) (same_Some _ _ e) (All-head IsSendable p queue h).len
 

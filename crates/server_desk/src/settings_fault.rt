@@ -11,7 +11,8 @@ pub enum SettingsFault {
     Count,
     /// A number is out of its range, as the text below says: gaps are microseconds, delays seconds; the offset is RX1DROffset
     /// (RP002, EU863-870), `down` the next downlink counter.
-    #[error("a number in the settings is out of its range: gateway id 1 to 65535, cap 1 to 65536, gap 0 to 100000; device delay 1 to 15, offset 0 to 5, down 0 to 4294967296")]
+    #[error("a number in the settings is out of its range: gateway id 1 to 65535, cap 1 to 65536, gap 0 to 100000; \
+         device delay 1 to 15, offset 0 to 5, down 0 to 4294967296")]
     Range,
     /// Two gateways have the same id.
     #[error("two gateways in the settings have the same id")]

@@ -14,7 +14,8 @@ pub enum ReadFault {
     #[error("a key is missing in the settings: a gateway needs id; a device needs addr, nwkskey and appskey")]
     Missing,
     /// A value is of another kind than its key's, or a number outside its key's type; of `rx2_dr`, above 6.
-    #[error("a value in the settings is of another kind than its key's: gateway and device are arrays of tables; addr is a text of 8 hexadecimal digits, nwkskey and appskey of 32; all others are whole numbers, rx2_dr at most 6")]
+    #[error("a value in the settings is of another kind than its key's: gateway and device are arrays of tables; \
+         addr is a text of 8 hexadecimal digits, nwkskey and appskey of 32; all others are whole numbers, rx2_dr at most 6")]
     Kind,
     /// The settings were read, and refused.
     #[error(transparent)]

@@ -229,5 +229,5 @@ allocate_spec 𝓤 𝓛 𝓜 𝓡 wired Y L g d d' met _ =
       ),
     )) (λ κs. ((λ r vs s. s.0), (uint_Tells w64, (uint_Tells w64, tt))))
     (λ κs qs bounds a τ are. walk Z 𝓛 𝓜.mem 𝓡.returns 𝓣 (met.allocate d') (turn_met.met 𝓤 𝓛 𝓜 𝓡
-    (code.calls-refusing_alloc::refusing_for_tests::Refusing::turn 𝓡.env wired) Y L) κs.0 κs.1.0 qs.0 qs.1.0 bounds.0 a.0 a.1.0 a.1.1.0 τ
-    are.1.0.1 are.1.1.0.1)))
+    (code.calls-refusing_alloc::refusing_for_tests::Refusing::turn 𝓡.env wired) Y L) κs.0 κs.1.0 qs.0 qs.1.0 bounds.0 a.0 a.1.0
+    a.1.1.0 τ are.1.0.1 are.1.1.0.1)))
