@@ -4,7 +4,7 @@ use crate::runs::{IN_RX1, Row, Told, tells};
 use answer_ticket::Bytes;
 use refusing_alloc::{Call, Refused, Refuser, Refusing, growths_of, refuse, same, was_refused};
 use rx_windows::Candidate;
-use server_core::{DeskHeard, Event, Settings, answer_events, replay};
+use server_core::{DeskHeard, Event, Settings, replay};
 use std::alloc::{Allocator, Global};
 use std::test::Fail;
 use test_asserts::holds;
@@ -87,35 +87,24 @@ fn events<A: Allocator + Copy>(memory: Global, alloc: A) -> Result<Vec<Event<A>,
     Ok(events)
 }
 
-/// A run of these events by these settings, or the answers to them alone, with memory of which growths are refused.
+/// A run of these events by these settings, with memory of which growths are refused.
 #[derive(Drop)]
 struct Run<'r, A: Allocator> {
     settings: &'r Settings<Global>,
     memory: Global,
     own: A,
-    is_replayed: bool,
 }
 
 impl<'r, A: Allocator + Copy> Run<'r, A> {
-    /// Whether it finds memory where these growths are refused. It answers as ever then, with two books; and with 16 steps, where
-    /// it has steps.
+    /// Whether it finds memory where these growths are refused. It answers as ever then, with two books and 16 steps.
     fn is_whole(&self, alloc: &Refuser, refused: Refused) -> Result<bool, Fail> {
         let events = events(self.memory, self.own)?;
         refuse(alloc, refused);
-        let counts = if self.is_replayed {
-            let Ok(replay) = replay(self.own, hasher(), self.settings, &events) else {
-                return Ok(false);
-            };
-            tells(&replay.outcomes, &LINES)?;
-            [replay.books.len(), replay.steps.len()]
-        } else {
-            let Ok(answers) = answer_events(self.own, hasher(), self.settings, events) else {
-                return Ok(false);
-            };
-            tells(&answers.outcomes, &LINES)?;
-            [answers.books.len(), 0]
+        let Ok(replay) = replay(self.own, hasher(), self.settings, &events) else {
+            return Ok(false);
         };
-        same(counts, [2, if self.is_replayed { 16 } else { 0 }])?;
+        tells(&replay.outcomes, &LINES)?;
+        same((replay.books.len(), replay.steps.len()), (2, 16))?;
         Ok(true)
     }
 }
@@ -134,28 +123,15 @@ impl<'r, A: Allocator + Copy> Call for Run<'r, A> {
     }
 }
 
-/// A run takes so many growths, and so many the answers to its events.
-fn are_refused<A: Allocator + Copy>(
-    alloc: &Refuser,
-    own: A,
-    settings: &Settings<Global>,
-    memory: Global,
-) -> Result<(), Fail> {
-    let mut run = Run {
-        settings,
-        memory,
-        own,
-        is_replayed: true,
-    };
-    let replayed = growths_of(alloc, &mut run)?;
-    run.is_replayed = false;
-    let answered = growths_of(alloc, &mut run)?;
-    same((replayed, answered), (42, 35))
-}
-
+/// A run takes so many growths.
 #[test]
-fn a_run_is_replayed_and_events_are_answered(rt: HostRuntime) -> Result<(), Fail> {
+fn a_run_is_replayed(rt: HostRuntime) -> Result<(), Fail> {
     let settings = settings_of(rt.alloc(), &[device(ADDR)])?;
     let alloc = &Refusing::new(rt.alloc());
-    are_refused(alloc, alloc, &settings, rt.alloc())
+    let mut run = Run {
+        settings: &settings,
+        memory: rt.alloc(),
+        own: alloc,
+    };
+    same(growths_of(alloc, &mut run)?, 42)
 }

@@ -6,10 +6,6 @@ use crate::growth::cases::Turn::{Again, Plain, Refused};
 
 const SAME_GATEWAY: Answer = ("same gateway", [0; 2]);
 
-const NOT_READY: Answer = ("not ready", [0; 2]);
-
-const IS_TAKEN: Answer = ("is taken", [0; 2]);
-
 /// The uplink with counter 0 is heard by gateway 1.
 const OPENS_1: Row = (Call::Hear(1, ADDR, 0), ("opened", [1, 0]));
 

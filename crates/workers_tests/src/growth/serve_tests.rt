@@ -81,24 +81,24 @@ fn ended<B: Ledger, A: Allocator + Copy>(
     (counted, airtime, came)
 }
 
-/// Whether those who could not serve were told so, with all parts of the till that was handed back, and what one worker then
-/// comes to with memory.
-fn ended_again<B, A: Allocator + Copy + Send + Sync, R: Threads + Wait + Sync>(
+/// Whether those who could not serve were told so, with all parts of the till that was handed back, and what one worker then does
+/// with memory.
+fn served_again<B, A: Allocator + Copy + Send + Sync, R: Threads + Wait + Sync>(
     rt: &R,
     memory: A,
-    station: Station<B, WorkedHasher, A>,
+    station: &Station<B, WorkedHasher, A>,
     fault: ServeFault<B>,
-) -> (bool, Option<Ended>)
+) -> (bool, Option<Served<B, A>>)
 where
     B: Ledger + Send + Sync,
     requires { 16 < fault.till.parts }
 {
     let ServeFault { cause, till } = fault;
     let is_told = (till.parts(), cause) == (PARTS, ServeCause::NoMemory);
-    match serve(rt, memory, &station, &NUMBERS, till, 1, &NoGate) {
-        Ok(served) => (is_told, Some(ended(memory, station, served))),
-        Err(_) => (false, None),
-    }
+    (
+        is_told,
+        serve(rt, memory, station, &NUMBERS, till, 1, &NoGate).ok(),
+    )
 }
 
 /// So many workers serve with growths refused: whether the first of them was asked for. Nobody could serve then, or some uplinks
@@ -116,21 +116,21 @@ where
     requires { 16 < till.parts }
 {
     refuse(alloc, trial.1);
-    match serve(rt, own, &station, &NUMBERS, till, trial.0, &NoGate) {
-        Ok(served) => {
-            let asked = asked_of(alloc);
-            is_accounted_for(
-                trial,
-                asked,
-                true,
-                (true, Some(ended(own, station, served))),
-            )
-        }
-        Err(fault) => {
-            let asked = asked_of(alloc);
-            is_accounted_for(trial, asked, false, ended_again(rt, own, station, fault))
-        }
-    }
+    let first = serve(rt, own, &station, &NUMBERS, till, trial.0, &NoGate);
+    let asked = asked_of(alloc);
+    let could_serve = first.is_ok();
+    let (is_told, served) = match first {
+        Ok(served) => (true, Some(served)),
+        Err(fault) => served_again(rt, own, &station, fault),
+    };
+    let served = served.ok_or("somebody serves")?;
+    is_accounted_for(
+        trial,
+        asked,
+        could_serve,
+        is_told,
+        ended(own, station, served),
+    )
 }
 
 /// Whether an uplink wasn't answered at once, where so many growths were asked for: only where the first refused one was, or
@@ -139,10 +139,11 @@ fn is_accounted_for(
     trial: Trial,
     asked: u64,
     could_serve: bool,
-    (is_told, ended): (bool, Option<Ended>),
+    is_told: bool,
+    ended: Ended,
 ) -> Result<bool, Fail> {
     let (_, (number, and_after)) = trial;
-    let ((told, count, answered), airtime, came) = ended.ok_or("somebody serves")?;
+    let ((told, count, answered), airtime, came) = ended;
     let (booked, totals, ..) = came.ok_or("all is accounted for")?;
     same(
         (is_told, told, count, airtime, totals),

@@ -1,5 +1,5 @@
 // A worker starts with a share of a station's till.
-ghost use Rattle.std.specs.Prelude.{◌≡◌};
+ghost use Rattle.std.specs.Prelude.{◌≡◌, IfErr};
 
 use crate::growth::stations::{AtWork, takes};
 use refusing_alloc::{Refuser, asked_of, is_as_asked, same};
@@ -9,18 +9,18 @@ use std::sync::Wait;
 use std::test::Fail;
 use worked_inputs::WorkedHasher;
 
-/// How many parts a share has that was handed back, and a worker's that starts with it, if it finds memory.
-fn started_again<B: Ledger, A: Allocator + Copy>(memory: A, back: Till<B>) -> (u32, Option<u32>)
-    requires { back ≡ record { parts = 1; amount = 0 } }
+/// How many parts the till has of a worker that starts with this share; without memory the share comes back.
+fn started<B: Ledger, A: Allocator + Copy>(memory: A, share: Till<B>) -> Result<u32, Till<B>>
+    requires { share ≡ record { parts = 1; amount = 0 } }
+    ensures { IfErr result (λ back. back ≡ share) }
 {
-    let parts = back.parts();
-    match Worked::new(memory, back, 4) {
-        Ok(worked) => (parts, Some(worked.till.parts())),
-        Err(_) => (parts, None),
+    match Worked::new(memory, share, 4) {
+        Ok(worked) => Ok(worked.till.parts()),
+        Err(back) => Err(back),
     }
 }
 
-/// A worker starts with this share, or with the one that was handed back.
+/// Whether a worker didn't start at once with this share; it then starts with what was handed back, which is one part.
 fn is_started_without<B: Ledger, A: Allocator + Copy>(
     alloc: &Refuser,
     own: A,
@@ -30,26 +30,13 @@ fn is_started_without<B: Ledger, A: Allocator + Copy>(
     requires { share ≡ record { parts = 1; amount = 0 } }
 {
     alloc.refuse(number);
-    match Worked::new(own, share, 4) {
-        Ok(worked) => {
-            let asked = asked_of(alloc);
-            is_started((asked, number), false, (1, Some(worked.till.parts())))
-        }
-        Err(back) => {
-            let asked = asked_of(alloc);
-            is_started((asked, number), true, started_again(own, back))
-        }
-    }
-}
-
-/// Whether a worker didn't start at once, where so many growths were asked for, by the number of the one that was refused; what
-/// was handed back and what it starts with is one part.
-fn is_started(
-    (asked, number): (u64, u64),
-    is_starved: bool,
-    parts: (u32, Option<u32>),
-) -> Result<bool, Fail> {
-    same(parts, (1, Some(1)))?;
+    let first = started(own, share);
+    let asked = asked_of(alloc);
+    let (is_starved, parts) = match first {
+        Ok(parts) => (false, Some(parts)),
+        Err(back) => (true, started(own, back).ok()),
+    };
+    same(parts, Some(1))?;
     is_as_asked(asked, number, is_starved, false)
 }
 
