@@ -1,15 +1,17 @@
 // Which fault each failing call of a reader and a writer gives, and that what was written then is a front of the output.
 use crate::text_calls::{Call, Failing, STEP, Told, answer_to};
+use crate::turns::SETTINGS;
 use crate::worked_texts::{
     ANSWERED, BOOKED, BOOKED_AND_SAVED, BOOKINGS, COPIES, PLAN, PLANNED, RESUMED, SAVED,
     SAVED_AGAIN,
 };
-use airbook_text::TextFault;
+use airbook_text::{TextFault, read_whole_settings, toa_text};
 use std::alloc::Global;
 use std::sync::Wait;
 use std::test::Fail;
 use std::thread::Threads;
-use test_asserts::holds_at;
+use test_asserts::{equal, equal_at, holds_at};
+use text_lines::{MemoryIn, MemoryOut};
 
 /// A call, its input, and what is written.
 type Row = (Call, &'static [u8], &'static [u8]);
@@ -51,9 +53,11 @@ static BOOKS: [Row; 4] = [
 
 static PLANS: [Row; 1] = [(Call::Plan, PLAN, PLANNED)];
 
-static RUNS: [Row; 2] = [
+static RUNS: [Row; 3] = [
     (Call::Run { workers: 0 }, COPIES, ANSWERED),
     (Call::Run { workers: 1 }, COPIES, ANSWERED),
+    // The answers are made in memory first: 90 bytes, and then 160 of a report.
+    (Call::Run { workers: 2 }, COPIES, ANSWERED),
 ];
 
 /// How often a reader of this input is called: until it gives nothing.
@@ -139,4 +143,49 @@ fn each_call_of_a_runs_text_fails_in_turn(rt: HostRuntime) -> Result<(), Fail> {
     fail_writes(&rt, rt.alloc(), &RUNS)?;
     fail_none(&rt, rt.alloc(), &RUNS)?;
     Ok(())
+}
+
+const TIME_ON_AIR: &[u8] = b"41216\n";
+
+/// A time on air, of which each byte is written by a call of its own: what is answered, how many calls failed, and what was
+/// written, where the call of this number fails.
+fn time_on_air(alloc: Global, fails_at: u64) -> (Result<bool, TextFault>, u64, Vec<u8>) {
+    let mut writer = MemoryOut::failing(alloc, 1, fails_at);
+    let answer = toa_text(5, 12, &mut writer);
+    (answer, writer.failed, writer.bytes)
+}
+
+#[test]
+fn each_write_of_a_time_on_air_fails_in_turn(rt: HostRuntime) -> Result<(), Fail> {
+    for before in 0..TIME_ON_AIR.len() {
+        let (answer, failed, output) = time_on_air(rt.alloc(), before as u64 + 1);
+        equal_at(&before, &(answer, failed), &(Err(TextFault::Write), 1))?;
+        equal_at(&before, &output.as_slice(), &&TIME_ON_AIR[..before])?;
+    }
+    let (answer, failed, output) = time_on_air(rt.alloc(), TIME_ON_AIR.len() as u64 + 1);
+    equal(&(answer, failed), &(Ok(false), 0))?;
+    equal(&output.as_slice(), &TIME_ON_AIR)
+}
+
+/// What is answered to settings where the read of this number fails, by the fault, and how many reads failed.
+fn settings_read(alloc: Global, fails_at: u64) -> (Option<TextFault>, u64) {
+    let mut reader = MemoryIn::failing(SETTINGS.as_bytes(), STEP, fails_at);
+    let fault = read_whole_settings(alloc, &mut reader).err();
+    (fault, reader.failed)
+}
+
+#[test]
+fn each_read_of_settings_fails_in_turn(rt: HostRuntime) -> Result<(), Fail> {
+    let reads = reads_of(SETTINGS.as_bytes());
+    for read in 1..=reads {
+        equal_at(
+            &read,
+            &settings_read(rt.alloc(), read),
+            &(Some(TextFault::Read), 1),
+        )?;
+    }
+    equal(
+        &settings_read(rt.alloc(), reads.saturating_add(1)),
+        &(None, 0),
+    )
 }
