@@ -58,7 +58,8 @@ def told(name, path, more=()):
     beside = {}
     for order, stride in ORDERS.items():
         few, many = pair(path, FEW, stride, more), pair(path, MANY, stride, more)
-        print(f"{name}, {order}: a booking and its cancelling {few:.2f} us beside {FEW:,}, {many:.2f} us beside {MANY:,}, {many / few:.2f}")
+        took = f"{few:.2f} us beside {FEW:,}, {many:.2f} us beside {MANY:,}, {many / few:.2f}"
+        print(f"{name}, {order}: a booking and its cancelling {took}")
         beside[order] = many
     return beside
 

@@ -4,8 +4,8 @@ use Words.{arith, ap, sym, ◌∙◌, AllZip, option_map, Bool, Err, List, None,
 use Words.{map, refl, slice_get, slice_set, suc, true, zero, ℕ, ◌<◌, ◌==◌, ◌∷◌, ◌≡◌, Book, ticked, CancelFault, NotHere, numbered}
 use Words.{Answer, is_given, known_of, numbered-map, map_set, same_Some, kept_by, Gateway, World, gateway_with, known}
 use Words.{found_there, Sent, gateway_of, lines_for, AreBooksOf, IsAt, IsBookOf, IsCancelled, IsIdle, IsBetweenCalls, Seen}
-use Words.{cancelled_line, ids_of, is_among, with_lines, with_step, Cancel, Tick, sent_for, Line, step, Reply, Step, option_and_then, is_placed}
-use Words.{place_within}
+use Words.{cancelled_line, ids_of, is_among, with_lines, with_step, Cancel, Tick, sent_for, Line, step, Reply, Step}
+use Words.{option_and_then, is_placed, place_within}
 use Rattle.server_core.proofs.BookSteps.{book_calls_are_steps, same_book}
 use Rattle.std.proofs.lemmas.Bool.{eqb-true}
 use Rattle.server_core.proofs.{DeskSteps.desk_calls_are_steps, Calls.IsDone, Calls.done}
