@@ -11,11 +11,12 @@ demo:
 	@echo 'airbook run < examples/two-gateways.txt'
 	@cd crates/airbook && rt try -- run < ../../examples/two-gateways.txt
 
-# The gate, then what must not compile, and then the cases, random runs and saved books beside plain models, growths that are
-# refused, workers beside one thread, inputs of as many bytes and uplinks as there may be and a server that listens, on the
-# program that the gate has proved and built. Where one fails, what comes after it is not run.
+# The gate, then the list of calls that take memory, what must not compile, and then the cases, random runs and saved books
+# beside plain models, growths that are refused, workers beside one thread, inputs of as many bytes and uplinks as there may be
+# and a server that listens, on the program that the gate has proved and built. Where one fails, what comes after it is not run.
 test:
 	rt ci
+	python3 tests/growths.py
 	python3 tests/misuse.py
 	python3 tests/cases.py $(PROGRAM)
 	python3 tests/random_runs.py $(PROGRAM)

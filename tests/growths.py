@@ -18,8 +18,11 @@ import sys
 TOP = pathlib.Path(sys.argv[1] if len(sys.argv) > 1 else pathlib.Path(__file__).resolve().parent.parent)
 FOR_TESTS = {"worked_inputs", "refusing_alloc", "test_asserts"}
 WANT = r"\b(NoMemory|AllocError)\b"
-# They answer want of memory by handing back what was given, or within what another call's fault is told in.
-UNNAMED = {("server_workers", "Worked::new"), ("server_station", "Station::answer")}
+# They answer want of memory by handing back what was given, within what another call's fault is told in, or go on without it.
+UNNAMED = {
+    ("server_workers", "Worked::new"), ("server_station", "Station::answer"), ("server_workers", "work"),
+    ("run_lines", "write_lines_by_threads"),
+}
 
 
 def braced(text, at):

@@ -39,8 +39,9 @@ CASES = [
     ("run_two_gateways", ""), ("run_two_gateways", "--workers 1"), ("run_two_gateways", "--workers 2"),
     ("run_three_devices_at_once", ""), ("run_three_devices_at_once", "--workers 1"), ("run_payload_in_rx1", "--workers 1"),
     ("run_each_line_again", ""), ("run_each_line_again", "--workers 1"), ("run_queue_refusals", ""),
-    ("run_settings_alone", ""), ("run_settings_not_toml", ""), ("book_two_bookings_example", ""), ("book_resume_example", ""),
-    ("plan_earliest_example", ""), ("toa_dr5_12_bytes", ""), ("listen", "--workers 1"), ("run_in_two_parts", "--workers 2"),
+    ("run_lines_passed_over_and_malformed", ""), ("run_settings_alone", ""), ("run_settings_not_toml", ""),
+    ("book_two_bookings_example", ""), ("book_resume_example", ""), ("plan_earliest_example", ""), ("toa_dr5_12_bytes", ""),
+    ("listen", "--workers 1"), ("run_in_two_parts", "--workers 2"),
 ]
 # Where the lists that workers begin with, five for each, find no memory, the thread that runs answers all: so many growths at
 # least may be refused, each alone, and nothing of it is seen.
@@ -201,7 +202,7 @@ def refuse_each(program, library, folder, case):
     """Refuses each growth of a case: how many there are, how often each answer came, and how many runs ended otherwise."""
     _, ordinary = run(program, library, folder, case, ALL, ALL)
     answers, wrong, unseen = collections.Counter(), 0, 0
-    if ordinary.status not in (0, 1, 2):
+    if ordinary.status not in (0, 1, 2) or b"NoMemory" in ordinary.err:
         print(f"{' '.join(case)}: with memory: {ordinary}", flush=True)
         return 0, answers, 1
     for number in range(1, MOST):
