@@ -6,10 +6,10 @@ Usage: tests/growths.py [ROOT]      (ROOT: the repository's top; none: that of t
 
 Such a call is a `pub fn`, or a function of a public trait, that a library passes on from its root and whose result names
 NoMemory or AllocError, or a type of the repository that does: an enum with that variant, a struct with such a field, and a
-fault or a cause that holds one of these; and the calls of UNNAMED, which name none. Crates of tests are left out. A row begins with the crate and the call, as
-`| `gateway_book` | `GatewayBook::book` |`; a test is named behind its crate, as `` `book_tests`: `a_booking` ``. Prints a line
-for each call without a row, for each row of another call, and for each test and script that isn't there. The status is 0 where
-there is none, 1 where there is one.
+fault or a cause that holds one of these; and the calls of UNNAMED, which name none. Crates of tests are left out. A row begins
+with the crate and the call, as `| `gateway_book` | `GatewayBook::book` |`; a test is named behind its crate, as
+`` `book_tests`: `a_booking` ``. Prints a line for each call without a row, for each row of another call, and for each test and
+script that isn't there. The status is 0 where there is none, 1 where there is one.
 """
 import pathlib
 import re
