@@ -16,8 +16,7 @@ to end within SECONDS, by no signal, and
                      answered last
 Prints a line for each run that ends otherwise, and one for each case with the number of its growths and how often each answer
 came. A case in which no growth was refused, or in which there is no end of them, has failed, and so has one that finds no memory
-though none is refused. The status is 0 where none has
-failed or ended otherwise, 1 where one has, 2 where nothing could be run.
+though none is refused. The status is 0 where none has failed or ended otherwise, 1 where one has, 2 where nothing could be run.
 """
 import collections
 import os
