@@ -11,11 +11,14 @@ demo:
 	@echo 'airbook run < examples/two-gateways.txt'
 	@cd crates/airbook && rt try -- run < ../../examples/two-gateways.txt
 
-# The gate, then the list of calls that take memory, what must not compile, and then the cases, random runs and saved books
-# beside plain models, growths that are refused, workers beside one thread, inputs of as many bytes and uplinks as there may be
-# and a server that listens, on the program that the gate has proved and built. Where one fails, what comes after it is not run.
+# The gate; then the edits that the prover has to refuse, after the script that tries them was tried itself; the list of calls
+# that take memory; what must not compile; and then, on the program that the gate has proved and built, the cases, random runs
+# and saved books beside plain models, growths that are refused, workers beside one thread, inputs of as many bytes and uplinks
+# as there may be, and a server that listens. Where one fails, what comes after it is not run.
 test:
-	rt ci
+	python3 tests/gate.py
+	python3 tests/edit_trials.py
+	python3 tests/edits.py edits
 	python3 tests/growths.py
 	python3 tests/misuse.py
 	python3 tests/cases.py $(PROGRAM)
@@ -27,9 +30,10 @@ test:
 	python3 tests/limits.py $(PROGRAM)
 	python3 tests/listen.py $(PROGRAM)
 
-# The edits in mutants/, which the gate leaves out: before a release. On a clone of what is committed.
+# The edits in mutants/, which make test leaves out: before a release.
 mutants:
-	python3 tests/mutants.py
+	python3 tests/gate.py
+	python3 tests/edits.py mutants
 
 # The proved program, as PREFIX/bin/airbook.
 install:

@@ -1,34 +1,37 @@
 #!/usr/bin/env python3
-"""Runs `make test` on a clone of this repository, and tells where the processor time of its gate goes.
+"""Runs `make test` on a clone of this repository, tells where its processor time goes, and writes that to bench/results/gate.md.
 
 Usage: bench/gate.py [COMMIT]      (COMMIT: what is checked out in the clone; none: HEAD)
 
-For each crate it prints the processor seconds of its proof, of its tests, of the base that its must-fail edits begin with
-(the crate proved once more, and looked at again at the end) and of these edits, the dearest of them, how many there are, and
-its chain: the proofs of the crates below it that have to end first, then the longest of its own proof, tests and base, which
-go on side by side, and then its dearest edit, since the edits too go on side by side. So it is the time that a gate takes
-on as many processors as it can use. Behind the table it prints the sum, the longest chain, the time that went by, and the
-dearest edits. The status is that of `make test`.
+For each crate the table has the processor seconds of its proof, of its tests and of the edits that are tried on it, how many
+edits these are, and its chain: the proofs of the crates below it that have to end first, and then the longer of its own proof
+and tests, which go on side by side. So the longest chain is the time that proofs and tests take on as many processors as they
+can use. Above the table stand the sums, the time that went by, and the machine with its pace. The status is that of `make test`.
 
-Nothing else should run on the machine meanwhile: processor time hardly depends on that, but the time that goes by does.
-It needs git, python3, Linux's /proc and the toolchain's command rt.
+What an earlier gate passed on this machine is kept beside the toolchain, and then takes no time: for a table from nothing move
+the folder rattle-kept aside that lies beside the toolchain's. Nothing else should run on the machine meanwhile. It needs git,
+python3, Linux's /proc and the toolchain's command rt.
 """
 import collections
+import datetime
 import os
 import pathlib
+import re
+import resource
 import subprocess
 import sys
 import tempfile
 import time
 
 TOP = pathlib.Path(__file__).resolve().parent.parent
+RESULT = TOP / "bench" / "results" / "gate.md"
 TICKS = os.sysconf("SC_CLK_TCK")
 POLL_SECONDS = 0.2
-PARTS = ("proof", "tests", "base", "edits")
-DEAREST = 40
+PARTS = ("proof", "tests", "edits")
 
 sys.path.insert(0, str(TOP / "tests"))
 sys.dont_write_bytecode = True
+import gate as gate_run
 import prover
 
 
@@ -45,8 +48,7 @@ def processes():
 
 
 def task_of(pid):
-    """Which crate a process of the prover works on, for which part of the gate, and for which of its edits, by their order, if
-    that part is one; None for any other process."""
+    """Which crate a process of the prover works on, and for which part of the gate; None for any other process."""
     try:
         words = pathlib.Path(f"/proc/{pid}/cmdline").read_bytes().decode(errors="replace").split("\0")
         folder = os.path.basename(os.readlink(f"/proc/{pid}/cwd"))
@@ -54,15 +56,16 @@ def task_of(pid):
         return None
     if os.path.basename(words[0]) != "rattle" or "--crate-name" not in words:
         return None
-    return words[words.index("--crate-name") + 1], *part_of(words, folder)
+    return words[words.index("--crate-name") + 1], part_of(words, folder)
 
 
 def part_of(words, folder):
-    """Which part of the gate a run of the prover is, and which edit, by its words and the folder that it runs in."""
-    if folder.startswith("rt-edit-"):
-        over = os.path.basename(words[words.index("--incremental") + 1]) if "--incremental" in words else ""
-        return ("base", None) if over == "seed" else ("edits", int(over) if over.isdigit() else None)
-    return "tests" if "--test" in words else "proof", None
+    """Which part of the gate a run of the prover is, by its words and the folder that it runs in."""
+    if folder.startswith("edits-"):
+        return "edits"
+    if "--test" in words:
+        return "tests"
+    return "pace" if words[1] == "check" and gate_run.PACE_CRATE in words else "proof"
 
 
 class Meter:
@@ -97,64 +100,67 @@ class Meter:
     def sums(self):
         sums = collections.Counter()
         for task, seconds in self.runs.values():
-            sums[task[:2]] += seconds
+            sums[task] += seconds
         return sums
-
-    def edits(self):
-        """The seconds of each edit, by its crate and its place in the order of their names."""
-        found = collections.Counter()
-        for (crate, part, edit), seconds in self.runs.values():
-            if part == "edits":
-                found[crate, edit] += seconds
-        return found
 
 
 def chain_of_proofs(crate, below, sums):
     return sums[crate, "proof"] + max([chain_of_proofs(it, below, sums) for it in below[crate]], default=0)
 
 
-def chain(crate, below, sums, dearest):
+def chain(crate, below, sums):
     first = max((chain_of_proofs(it, below, sums) for it in below[crate]), default=0)
-    return first + max(sums[crate, part] for part in ("proof", "tests", "base")) + dearest[crate]
+    return first + max(sums[crate, part] for part in ("proof", "tests"))
 
 
-def dearest_of(edits):
-    """The seconds of each crate's dearest edit."""
-    found = collections.Counter()
-    for (crate, _), seconds in edits.items():
-        found[crate] = max(found[crate], seconds)
-    return found
+def count_of_edits(folder, crate):
+    return len(list((folder / "edits" / crate).glob("*.edit")))
 
 
-def names_of(folder, crate):
-    return sorted(path.stem for path in (folder / "crates" / crate / "must-fail").glob("*.edit"))
-
-
-def print_edits(folder, edits):
-    """The dearest edits, and how the seconds of all of them are spread."""
-    seconds = sorted(edits.values())
-    spread = ", ".join(f"{part}% take up to {seconds[len(seconds) * part // 100]:.0f}" for part in (10, 25, 50, 75, 90))
-    print(f"Seconds of an edit: {spread}." if seconds else "No edit was tried.")
-    for (crate, edit), cost in edits.most_common(DEAREST):
-        print(f"  {cost:.0f} s: {crate}, {'from nothing' if edit is None else names_of(folder, crate)[edit]}")
-
-
-def print_table(folder, sums, edits):
+def table(folder, sums):
+    """The rows of the table, and its longest chain in seconds with the crate that it ends in."""
     below = prover.stands_on(folder)
-    dearest = dearest_of(edits)
-    chains = {it: chain(it, below, sums, dearest) for it in below}
-    print("| Crate | Proof | Tests | Base | Edits | Dearest edit | Number of edits | Own | Chain |")
-    print("|---|---|---|---|---|---|---|---|---|")
+    chains = {it: chain(it, below, sums) for it in below}
+    lines = ["| Crate | Proof | Tests | Edits | Number of edits | Own | Chain |", "|---|---|---|---|---|---|---|"]
     for crate in sorted(below, key=lambda it: -chains[it]):
         parts = [sums[crate, part] for part in PARTS]
-        count = len(names_of(folder, crate))
-        shown = " | ".join(f"{seconds:.0f}" for seconds in [*parts, dearest[crate]])
-        print(f"| `{crate}` | {shown} | {count} | {sum(parts):.0f} | {chains[crate]:.0f} |")
+        shown = " | ".join(f"{seconds:.0f}" for seconds in parts)
+        lines.append(f"| `{crate}` | {shown} | {count_of_edits(folder, crate)} | {sum(parts):.0f} | {chains[crate]:.0f} |")
     whole = [sum(sums[crate, part] for crate in below) for part in PARTS]
-    shown = " | ".join(f"{seconds:.0f}" for seconds in [*whole, max(dearest.values(), default=0)])
-    print(f"| all | {shown} | | {sum(whole):.0f} | {max(chains.values()):.0f} |")
-    longest = max(chains, key=chains.get)
-    print(f"In processor seconds. Sum: {sum(whole) / 60:.0f} min. Longest chain: {chains[longest] / 60:.0f} min ({longest}).")
+    shown = " | ".join(f"{seconds:.0f}" for seconds in whole)
+    count = sum(count_of_edits(folder, crate) for crate in below)
+    lines.append(f"| all | {shown} | {count} | {sum(whole):.0f} | {max(chains.values()):.0f} |")
+    return lines, max(chains.values()), max(chains, key=chains.get)
+
+
+def machine():
+    model = re.search(r"model name\s*: (.*)", pathlib.Path("/proc/cpuinfo").read_text())
+    memory = re.search(r"MemTotal:\s+(\d+)", pathlib.Path("/proc/meminfo").read_text())
+    return f"{len(os.sched_getaffinity(0))} processors ({model[1] if model else 'unknown'}), {int(memory[1]) / 2**20:.0f} GiB"
+
+
+def result(folder, commit, sums, minutes, said):
+    """The text of bench/results/gate.md."""
+    lines, longest, crate = table(folder, sums)
+    used = resource.getrusage(resource.RUSAGE_CHILDREN)
+    whole = used.ru_utime + used.ru_stime
+    slower = sums[gate_run.PACE_CRATE, "pace"] / gate_run.PACE
+    last = said[-1] if said else ""
+    return "\n".join([
+        "# Where the gate's time goes",
+        "",
+        f"Written by `bench/gate.py` on {datetime.date.today()}, of commit {commit[:8]}, on {machine()}.",
+        "",
+        f"- `make test` took {whole / 60:.0f} processor minutes, and {minutes:.0f} by the clock. Its last line: `{last}`.",
+        f"- Its longest chain of proofs and tests takes {longest / 60:.0f} minutes; it ends in `{crate}`.",
+        f"- The machine's pace, by the proof of `{gate_run.PACE_CRATE}`: {slower:.2f} times the time of that by which"
+        " `tests/gate.py` reckons.",
+        "",
+        "Processor seconds:",
+        "",
+        *lines,
+        "",
+    ])
 
 
 def main():
@@ -175,12 +181,13 @@ def main():
                 time.sleep(POLL_SECONDS)
             said.seek(0)
             lines = said.read().splitlines()
-        print_table(folder, meter.sums(), meter.edits())
-        minutes, last = (time.monotonic() - started) / 60, lines[-1] if lines else ""
-        print(f"{minutes:.0f} minutes went by. The last line of make test: {last}")
-        print_edits(folder, meter.edits())
-        if gate.returncode:
-            print("\n".join(lines), file=sys.stderr)
+        text = result(folder, named, meter.sums(), (time.monotonic() - started) / 60, lines)
+    print(text)
+    if gate.returncode:
+        print("\n".join(lines), file=sys.stderr)
+    else:
+        RESULT.parent.mkdir(exist_ok=True)
+        RESULT.write_text(text)
     return gate.returncode
 
 

@@ -2,11 +2,13 @@
 
 For the scripts of this repository; it needs the toolchain's command rt.
 """
+import hashlib
 import pathlib
 import shutil
 import sys
 
 TOP = pathlib.Path(__file__).resolve().parent.parent
+PARTS = ("src", "specs", "proofs")
 KIT = pathlib.Path(shutil.which("rt") or "rt").resolve().parent.parent
 
 
@@ -32,6 +34,28 @@ def below(libraries, uses):
             found.add(name)
             waiting += uses[name]
     return sorted(found)
+
+
+def sum_of(crate):
+    """A sum of all that the proof of a crate rests on: its files and those of the crates below it, and the toolchain."""
+    uses = crates()
+    found = hashlib.sha256((KIT / "WHAT").read_bytes())
+    for name in below([crate], uses):
+        found.update(repr((name, uses[name])).encode())
+        for part in PARTS:
+            for path in sorted(filter(pathlib.Path.is_file, (TOP / "crates" / name / part).rglob("*"))):
+                found.update(repr((path.relative_to(TOP).as_posix(), path.read_bytes())).encode())
+    return found.hexdigest()
+
+
+def sum_file(crate):
+    """Where tests/gate.py keeps that sum once the gate has proved the crate."""
+    return TOP / "crates" / crate / "out" / "proved"
+
+
+def is_proved(crate):
+    """Whether the gate has proved the crate as it stands here."""
+    return sum_file(crate).is_file() and sum_file(crate).read_text() == sum_of(crate)
 
 
 def rlib(name, uses):

@@ -1,0 +1,213 @@
+#!/usr/bin/env python3
+"""Tries edits, which are wrong changes of the sources: the prover has to refuse each.
+
+Usage: tests/edits.py FOLDER [CRATE ..]      (FOLDER: one whose folders are named after crates, as edits or mutants)
+
+What an edit is says tests/edit_files.py. It is refused only if the function that it names isn't proved, for a goal of its
+own; of a changed statement, if the fact that it names isn't. Without the edit both are proved, as tests/gate.py has shown, which
+has to have passed here on the crates as they stand; an edit is checked over the libraries that it left in crates/*/out/rlib.
+
+Several edits go into one check, since a body is proved against the clauses of what it calls and not against their bodies: those
+of one crate, each within a function of its own, none of which may call another. All others are tried alone, and so is what was
+not refused in company. Each edit has a line with the function and the goal that stays open; the last line is 'N passed, M
+failed'. The status is 0 where none failed, 1 where one did, 2 where nothing could be run.
+"""
+import concurrent.futures
+import os
+import pathlib
+import resource
+import shutil
+import subprocess
+import sys
+import tempfile
+import time
+
+sys.dont_write_bytecode = True
+import edit_files
+import prover
+import rattle_source
+from edit_files import BadEdit
+from edit_verdicts import Kind, Said, Verdict
+
+MOST_AT_A_TIME = 12
+BYTES_OF_A_CHECK = 2_200_000_000
+SECONDS = 1_200
+
+
+def folder_of(crate):
+    return prover.TOP / "crates" / crate
+
+
+def stays_within(edit, functions):
+    """Whether an edit changes nothing outside of the function that it names."""
+    place = functions.get(edit.only)
+    if place is None or edit.fact or edit.files() != {place.file}:
+        return False
+    lines = (folder_of(edit.crate) / place.file).read_text(encoding="utf-8").splitlines(keepends=True)
+    own = "".join(lines[place.first : place.last + 1])
+    whole = "".join(lines)
+    return all(own.count(old) == whole.count(old) <= 1 for _, old, _ in edit.pairs)
+
+
+class Batches:
+    """Which edits of a crate go into one check."""
+
+    def __init__(self, crate):
+        self.functions = rattle_source.functions_of(folder_of(crate))
+        self.reached = rattle_source.reached_from(self.functions)
+
+    def may_meet(self, one, other):
+        reached = self.reached
+        return one.only != other.only and other.only not in reached[one.only] and one.only not in reached[other.only]
+
+    def of(self, edits):
+        alone = [[it] for it in edits if not stays_within(it, self.functions)]
+        batches = []
+        for edit in (it for it in edits if stays_within(it, self.functions)):
+            fits = (it for it in batches if len(it) < MOST_AT_A_TIME and all(self.may_meet(edit, other) for other in it))
+            batch = next(fits, None)
+            if batch is None:
+                batches.append([edit])
+            else:
+                batch.append(edit)
+        return batches + alone
+
+
+def check(crate, edits, kept):
+    """What the prover says of a copy of a crate with these edits in it, over what earlier checks of the crate kept."""
+    texts = edit_files.applied(edits, folder_of(crate))
+    with tempfile.TemporaryDirectory(prefix="edits-") as room:
+        for part in prover.PARTS:
+            if (folder_of(crate) / part).is_dir():
+                shutil.copytree(folder_of(crate) / part, pathlib.Path(room, part))
+        for path, text in texts.items():
+            pathlib.Path(room, path).write_text(text, encoding="utf-8")
+        for edit in edits:
+            if edit.fact:
+                read_with(edit, room)
+        root = "src/main.rt" if pathlib.Path(room, "src/main.rt").exists() else "src/lib.rt"
+        words = prover.check(crate, root, prover.crates()[crate])
+        words += ["--incremental", kept, *(it for edit in edits for it in ("--only", edit.only))]
+        ran = subprocess.run(
+            words, cwd=room, stdin=subprocess.DEVNULL, stdout=subprocess.PIPE, stderr=subprocess.STDOUT, text=True,
+            errors="replace", timeout=SECONDS,
+        )
+    return Said(ran.stdout.splitlines(), ran.returncode, set(texts))
+
+
+def read_with(edit, room):
+    """Has the lemma file of an edit's fact read with the proof of the function that it names."""
+    file, name = edit.fact
+    path = pathlib.Path(room, "proofs", *edit.only.split("::"), "Answers.antt")
+    if not path.is_file():
+        raise BadEdit(f"{edit.only} has no file Answers.antt, so no fact can be read with its proof")
+    line = f"use Rattle.{edit.crate}.proofs.{file.replace('/', '.')}.{{{name}}}\n"
+    path.write_text(line + path.read_text(encoding="utf-8"), encoding="utf-8")
+
+
+def verdicts(crate, edits, kept):
+    """What becomes of edits that go into one check, and of each alone where that check refuses it not."""
+    try:
+        said = check(crate, edits, kept)
+        told = {edit: said.of(edit) for edit in edits}
+    except BadEdit as why:
+        told = dict.fromkeys(edits, Verdict(Kind.BAD, str(why)))
+    except subprocess.TimeoutExpired:
+        told = dict.fromkeys(edits, Verdict(Kind.UNTOLD, f"no end within {SECONDS} s"))
+    if len(edits) > 1:
+        for edit in edits:
+            if told[edit].kind is not Kind.REFUSED:
+                told |= verdicts(crate, [edit], kept)
+    return told
+
+
+def gathered(folder, crates):
+    """The edits of these crates, by crate, and what is said of those that can't be read."""
+    found, bad = {}, {}
+    for path in sorted(folder.glob("*/*")):
+        if path.parent.name in crates:
+            try:
+                if path.suffix != ".edit":
+                    raise BadEdit("the name of an edit ends in .edit")
+                found.setdefault(path.parent.name, []).append(edit_files.read(path))
+            except (BadEdit, OSError, UnicodeDecodeError) as why:
+                bad[f"{path.parent.name}/{path.stem}"] = Verdict(Kind.BAD, str(why))
+    return found, bad
+
+
+def lanes():
+    """How many checks go on side by side: one a processor, as far as memory holds them."""
+    words = dict(line.split(":") for line in pathlib.Path("/proc/meminfo").read_text().splitlines())
+    free = int(words["MemAvailable"].split()[0]) * 1024
+    return max(1, min(len(os.sched_getaffinity(0)), free // BYTES_OF_A_CHECK))
+
+
+class Progress:
+    """Tells what became of each edit as it is known."""
+
+    def __init__(self, count):
+        self.count, self.told, self.started = count, {}, time.monotonic()
+
+    def tell(self, label, verdict):
+        self.told[label] = verdict
+        minutes = (time.monotonic() - self.started) / 60
+        print(f"[{len(self.told)} of {self.count}, {minutes:.1f} min] {label}: {verdict.kind.value}: {verdict.goal}", flush=True)
+
+    def failed(self):
+        return {label: it for label, it in self.told.items() if it.kind is not Kind.REFUSED}
+
+
+def tried_of(crate, edits, progress):
+    """Tries the edits of a crate, one check after another: what is proved for one need not be proved for the next."""
+    with tempfile.TemporaryDirectory(prefix="edits-kept-") as kept:
+        for batch in Batches(crate).of(edits):
+            for edit, verdict in verdicts(crate, batch, kept).items():
+                progress.tell(edit.label, verdict)
+
+
+def tried(found, bad):
+    """Tries all edits, crates side by side, first those that take longest."""
+    progress = Progress(sum(map(len, found.values())) + len(bad))
+    for label, verdict in bad.items():
+        progress.tell(label, verdict)
+    crates = sorted(found, key=lambda it: -len(found[it]) * size_of(it))
+    with concurrent.futures.ThreadPoolExecutor(lanes()) as pool:
+        for done in [pool.submit(tried_of, crate, found[crate], progress) for crate in crates]:
+            done.result()
+    return progress
+
+
+def size_of(crate):
+    return sum(path.stat().st_size for part in prover.PARTS for path in (folder_of(crate) / part).rglob("*"))
+
+
+def report(progress):
+    used = resource.getrusage(resource.RUSAGE_CHILDREN)
+    minutes = (time.monotonic() - progress.started) / 60
+    failed = progress.failed()
+    print(f"{minutes:.1f} minutes, {(used.ru_utime + used.ru_stime) / 60:.1f} processor minutes")
+    for label, verdict in failed.items():
+        print(f"{label}: {verdict.kind.value}: {verdict.goal}")
+    print(f"{len(progress.told) - len(failed)} passed, {len(failed)} failed")
+    return 1 if failed or not progress.told else 0
+
+
+def main(words):
+    if not words or any(word.startswith("-") for word in words):
+        print(__doc__.strip(), file=sys.stderr)
+        return 2
+    folder = prover.TOP / words[0]
+    crates = words[1:] or sorted(path.name for path in folder.glob("*") if path.is_dir())
+    unknown = sorted(set(crates) - set(prover.crates()))
+    if not folder.is_dir() or unknown:
+        print(f"edits.py: there is no {words[0]} with edits of {' '.join(unknown) or 'a crate'}", file=sys.stderr)
+        return 2
+    unproved = [crate for crate in crates if not prover.is_proved(crate)]
+    if unproved:
+        print(f"edits.py: the gate has not proved {', '.join(unproved)} as they stand: run tests/gate.py first", file=sys.stderr)
+        return 2
+    return report(tried(*gathered(folder, crates)))
+
+
+if __name__ == "__main__":
+    sys.exit(main(sys.argv[1:]))

@@ -1,0 +1,103 @@
+"""Which functions a crate's sources have, where each stands, and which of them may call which, by reading the text."""
+import dataclasses
+import pathlib
+import re
+
+HEAD = re.compile(r"^(\s*)(?:pub(?:\([^)]*\))? )?(?:const |unsafe |extern \"C\" )*fn (\w+)")
+IMPL = re.compile(r"^impl\b(?:<.*?>)? (?:(?P<trait>.+?) for )?(?P<type>.+?)(?: \{|$)")
+TRAIT = re.compile(r"^(?:pub(?:\([^)]*\))? )?trait (\w+)")
+WORD = re.compile(r"[A-Za-z_]\w*")
+TEXT_OR_COMMENT = re.compile(r'"(?:\\.|[^"\\])*"|//.*')
+# Methods that a source calls without their names: operators, loops, formatting, conversions, and what is let go.
+UNNAMED = {"add", "sub", "mul", "eq", "ne", "cmp", "partial_cmp", "hash", "index", "deref", "next", "fmt", "from", "drop", "not"}
+
+
+@dataclasses.dataclass(frozen=True)
+class Function:
+    path: str
+    file: str
+    first: int
+    last: int
+    words: frozenset
+
+    @property
+    def name(self):
+        return self.path.rsplit("::", 1)[-1]
+
+
+def name_of(text):
+    """The name of a type or a trait without its parameters."""
+    found = WORD.search(re.sub(r"<.*", "", text))
+    return found.group(0) if found else ""
+
+
+def module_of(file):
+    parts = file.removeprefix("src/").removesuffix(".rt").split("/")
+    return [] if parts[-1] in ("lib", "main") and len(parts) == 1 else parts
+
+
+def end_of(lines, at, indent):
+    """The last line of an item that begins at a line, where the file is laid out as the toolchain lays it out."""
+    for number in range(at, len(lines)):
+        code = TEXT_OR_COMMENT.sub("", lines[number]).rstrip()
+        if code == indent + "}" or code == indent + "{}" or (number == at and code.endswith(("}", ";"))):
+            return number
+        if number > at and code.endswith(";") and code.startswith(indent + "    ensures"):
+            return number
+    return len(lines) - 1
+
+
+def functions_in(folder, file):
+    """The functions of a file, in the order of their lines."""
+    lines = pathlib.Path(folder, file).read_text(encoding="utf-8").splitlines()
+    found, owner, module = [], "", module_of(file)
+    for number, line in enumerate(lines):
+        impl, trait, head = IMPL.match(line), TRAIT.match(line), HEAD.match(line)
+        if impl:
+            owner = name_of(impl["type"]) + name_of(impl["trait"] or "")
+        elif trait:
+            owner = trait[1]
+        elif line.startswith("}"):
+            owner = ""
+        if head:
+            path = "::".join([*module, *([owner] if head[1] and owner else []), head[2]])
+            last = end_of(lines, number, head[1])
+            code = " ".join(TEXT_OR_COMMENT.sub("", it) for it in lines[number + 1 : last + 1])
+            found.append(Function(path, file, number, last, frozenset(WORD.findall(code))))
+    return found
+
+
+def functions_of(folder):
+    """The functions of a crate by their paths."""
+    files = sorted(pathlib.Path(folder, "src").rglob("*.rt"))
+    every = [it for file in files for it in functions_in(folder, file.relative_to(folder).as_posix())]
+    return {it.path: it for it in every}
+
+
+def reached_from(functions):
+    """For each function those of the crate that it may call, itself or through others: by name, so that it may be too many."""
+    by_name = {}
+    for it in functions.values():
+        by_name.setdefault(it.name, set()).add(it.path)
+    unnamed = {path for name in UNNAMED for path in by_name.get(name, ())}
+    calls = {
+        it.path: (unnamed | {path for word in it.words for path in by_name.get(word, ())}) - {it.path}
+        for it in functions.values()
+    }
+    return {path: closure(path, calls) for path in calls}
+
+
+def closure(path, calls):
+    found, waiting = set(), [path]
+    while waiting:
+        for it in calls[waiting.pop()]:
+            if it not in found:
+                found.add(it)
+                waiting.append(it)
+    return found
+
+
+def function_at(functions, file, line):
+    """The innermost function whose lines hold this one."""
+    holding = [it for it in functions.values() if it.file == file and it.first <= line <= it.last]
+    return max(holding, key=lambda it: it.first, default=None)
