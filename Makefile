@@ -19,6 +19,7 @@ test:
 	python3 tests/gate.py
 	python3 tests/edit_trials.py
 	python3 tests/edits.py edits
+	python3 tests/edit_table.py
 	python3 tests/growths.py
 	python3 tests/misuse.py
 	python3 tests/cases.py $(PROGRAM)

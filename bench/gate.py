@@ -4,9 +4,10 @@
 Usage: bench/gate.py [COMMIT]      (COMMIT: what is checked out in the clone; none: HEAD)
 
 For each crate the table has the processor seconds of its proof, of its tests and of the edits that are tried on it, how many
-edits these are, and its chain: the proofs of the crates below it that have to end first, and then the longer of its own proof
-and tests, which go on side by side. So the longest chain is the time that proofs and tests take on as many processors as they
-can use. Above the table stand the sums, the time that went by, and the machine with its pace. The status is that of `make test`.
+edits these are, the most memory that one of its checks took, and its chain: the proofs of the crates below it that have to end
+first, and then the longer of its own proof and tests, which go on side by side. So the longest chain is the time that proofs
+and tests take on as many processors as they can use. Above the table stand the sums, the time that went by, that which two
+processors would take for proofs and tests by these seconds, and the machine with its pace. The status is that of `make test`.
 
 What an earlier gate passed on this machine is kept beside the toolchain, and then takes no time: for a table from nothing move
 the folder rattle-kept aside that lies beside the toolchain's. Nothing else should run on the machine meanwhile. It needs git,
@@ -68,12 +69,22 @@ def part_of(words, folder):
     return "pace" if words[1] == "check" and gate_run.PACE_CRATE in words else "proof"
 
 
+def peak_of(pid):
+    """The most memory that a process has held, in MiB."""
+    try:
+        found = re.search(r"VmHWM:\s+(\d+)", pathlib.Path(f"/proc/{pid}/status").read_text())
+    except OSError:
+        found = None
+    return int(found[1]) // 1024 if found else 0
+
+
 class Meter:
-    """The processor seconds of each run of the prover below one process, by what it worked on."""
+    """The processor seconds and the memory of each run of the prover below one process, by what it worked on."""
 
     def __init__(self, top):
         self.top = top
         self.runs = {}
+        self.peaks = collections.Counter()
 
     def look(self):
         found = processes()
@@ -95,6 +106,7 @@ class Meter:
             one = waiting.pop()
             seconds += found[one][1]
             waiting += below[one]
+            self.peaks[task[0]] = max(self.peaks[task[0]], peak_of(one))
         self.runs[pid] = task, max(seconds, self.runs.get(pid, (task, 0))[1])
 
     def sums(self):
@@ -117,19 +129,41 @@ def count_of_edits(folder, crate):
     return len(list((folder / "edits" / crate).glob("*.edit")))
 
 
-def table(folder, sums):
+def side_by_side(lanes, below, sums):
+    """How long so many lanes take for all proofs and tests, those first that others wait for longest."""
+    tasks = {(crate, part): sums[crate, part] for crate in below for part in ("proof", "tests")}
+    behind = {crate: longest_behind(crate, below, sums) for crate in below}
+    order = sorted(tasks, key=lambda it: (it[1] == "tests", -behind[it[0]]))
+    ended, running, now = {}, [], 0.0
+    while order or running:
+        for task in [it for it in order if all((low, "proof") in ended for low in below[it[0]])][: lanes - len(running)]:
+            order.remove(task)
+            running.append((now + tasks[task], task))
+        now, task = min(running)
+        running.remove((now, task))
+        ended[task] = now
+    return now
+
+
+def longest_behind(crate, below, sums):
+    above = [it for it in below if crate in below[it]]
+    own = max(sums[crate, part] for part in ("proof", "tests"))
+    return own + max([longest_behind(it, below, sums) for it in above], default=0)
+
+
+def table(folder, sums, peaks):
     """The rows of the table, and its longest chain in seconds with the crate that it ends in."""
     below = prover.stands_on(folder)
     chains = {it: chain(it, below, sums) for it in below}
-    lines = ["| Crate | Proof | Tests | Edits | Number of edits | Own | Chain |", "|---|---|---|---|---|---|---|"]
+    lines = ["| Crate | Proof | Tests | Edits | Number of edits | Own | MiB | Chain |", "|---|---|---|---|---|---|---|---|"]
     for crate in sorted(below, key=lambda it: -chains[it]):
         parts = [sums[crate, part] for part in PARTS]
         shown = " | ".join(f"{seconds:.0f}" for seconds in parts)
-        lines.append(f"| `{crate}` | {shown} | {count_of_edits(folder, crate)} | {sum(parts):.0f} | {chains[crate]:.0f} |")
+        lines.append(f"| `{crate}` | {shown} | {count_of_edits(folder, crate)} | {sum(parts):.0f} | {peaks[crate]} | {chains[crate]:.0f} |")
     whole = [sum(sums[crate, part] for crate in below) for part in PARTS]
     shown = " | ".join(f"{seconds:.0f}" for seconds in whole)
     count = sum(count_of_edits(folder, crate) for crate in below)
-    lines.append(f"| all | {shown} | {count} | {sum(whole):.0f} | {max(chains.values()):.0f} |")
+    lines.append(f"| all | {shown} | {count} | {sum(whole):.0f} | {max(peaks.values(), default=0)} | {max(chains.values()):.0f} |")
     return lines, max(chains.values()), max(chains, key=chains.get)
 
 
@@ -139,9 +173,11 @@ def machine():
     return f"{len(os.sched_getaffinity(0))} processors ({model[1] if model else 'unknown'}), {int(memory[1]) / 2**20:.0f} GiB"
 
 
-def result(folder, commit, sums, minutes, said):
+def result(folder, commit, meter, minutes, said):
     """The text of bench/results/gate.md."""
-    lines, longest, crate = table(folder, sums)
+    sums = meter.sums()
+    lines, longest, crate = table(folder, sums, meter.peaks)
+    on_two = side_by_side(2, prover.stands_on(folder), sums)
     used = resource.getrusage(resource.RUSAGE_CHILDREN)
     whole = used.ru_utime + used.ru_stime
     slower = sums[gate_run.PACE_CRATE, "pace"] / gate_run.PACE
@@ -153,6 +189,7 @@ def result(folder, commit, sums, minutes, said):
         "",
         f"- `make test` took {whole / 60:.0f} processor minutes, and {minutes:.0f} by the clock. Its last line: `{last}`.",
         f"- Its longest chain of proofs and tests takes {longest / 60:.0f} minutes; it ends in `{crate}`.",
+        f"- Two proofs at a time would take {on_two / 60:.0f} minutes for all proofs and tests, by the seconds below.",
         f"- The machine's pace, by the proof of `{gate_run.PACE_CRATE}`: {slower:.2f} times the time of that by which"
         " `tests/gate.py` reckons.",
         "",
@@ -181,7 +218,7 @@ def main():
                 time.sleep(POLL_SECONDS)
             said.seek(0)
             lines = said.read().splitlines()
-        text = result(folder, named, meter.sums(), (time.monotonic() - started) / 60, lines)
+        text = result(folder, named, meter, (time.monotonic() - started) / 60, lines)
     print(text)
     if gate.returncode:
         print("\n".join(lines), file=sys.stderr)

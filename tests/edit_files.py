@@ -4,6 +4,7 @@ An edit is a file NAME.edit in a folder that has its crate's name, with lines
     only: FUNCTION       the function that has to be refused, as the prover writes it behind the crate's name
     fact: FILE NAME      for a change of a statement: the lemma NAME of proofs/FILE.antt that has to be refused. The file is read
                          with the proof of FUNCTION, which need not be refused
+    law: NAME            the law whose statement is changed, where it isn't FUNCTION
     file: PATH           a file of the crate, below src/, specs/ or proofs/
     old: TEXT            what stands there once, in one line
     new: TEXT            what takes its place, in one line; further pairs apply to what the earlier ones made
@@ -25,6 +26,7 @@ class Edit:
     name: str
     only: str
     fact: tuple[str, str] | None
+    law: str
     pairs: tuple[tuple[str, str, str], ...]
 
     @property
@@ -37,7 +39,7 @@ class Edit:
 
 def read(path):
     """The edit that a file holds."""
-    only, fact, file, old, pairs = None, None, None, None, []
+    only, fact, law, file, old, pairs = None, None, None, None, None, []
     for number, line in enumerate(path.read_text(encoding="utf-8").splitlines(), 1):
         kind, _, text = line.partition(":")
         text = text[1:] if text.startswith(" ") else text
@@ -45,6 +47,8 @@ def read(path):
             only = text.strip()
         elif kind == "fact":
             fact = fact_of(text, number)
+        elif kind == "law":
+            law = text.strip()
         elif kind == "file":
             file = file_of(text.strip(), number)
         elif kind == "old":
@@ -55,12 +59,12 @@ def read(path):
             pairs.append((file, old, text))
             old = None
         elif line.strip():
-            raise BadEdit(f"line {number} begins with none of only:, fact:, file:, old:, new:")
+            raise BadEdit(f"line {number} begins with none of only:, fact:, law:, file:, old:, new:")
     if not only:
         raise BadEdit("no line 'only:' names the function that has to be refused")
     if not pairs:
         raise BadEdit("it has no 'old:' with a 'new:'")
-    return Edit(path.parent.name, path.stem, only, fact, tuple(pairs))
+    return Edit(path.parent.name, path.stem, only, fact, law or only.rsplit("::", 1)[-1], tuple(pairs))
 
 
 def fact_of(text, number):

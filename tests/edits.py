@@ -114,6 +114,8 @@ def verdicts(crate, edits, kept):
         told = dict.fromkeys(edits, Verdict(Kind.BAD, str(why)))
     except subprocess.TimeoutExpired:
         told = dict.fromkeys(edits, Verdict(Kind.UNTOLD, f"no end within {SECONDS} s"))
+    except OSError as fault:
+        told = dict.fromkeys(edits, Verdict(Kind.UNTOLD, str(fault)))
     if len(edits) > 1:
         for edit in edits:
             if told[edit].kind is not Kind.REFUSED:
@@ -195,6 +197,9 @@ def report(progress):
 def main(words):
     if not words or any(word.startswith("-") for word in words):
         print(__doc__.strip(), file=sys.stderr)
+        return 2
+    if not shutil.which("rt"):
+        print("edits.py: there is no command rt: install the toolchain that README.md names", file=sys.stderr)
         return 2
     folder = prover.TOP / words[0]
     crates = words[1:] or sorted(path.name for path in folder.glob("*") if path.is_dir())

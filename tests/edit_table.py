@@ -1,0 +1,58 @@
+#!/usr/bin/env python3
+"""Which changes of statements are tried, law by law: compares the table in docs/PROOFS.md with the edits, or writes it.
+
+Usage: tests/edit_table.py [--write]
+
+A row has a law, and each edit in edits/ or mutants/ that changes its statement or a definition that it uses, with the fact that
+refuses it; where there is none, the law's own proof does. That each is refused shows tests/edits.py. The last line is 'N passed,
+M failed'; status 0 where the table is that of the edits, 1 where it isn't, 2 where it can't be told.
+"""
+import sys
+
+sys.dont_write_bytecode = True
+import edit_files
+import prover
+
+PAGE = prover.TOP / "docs" / "PROOFS.md"
+BEGIN, END = "<!-- changes of statements: written by tests/edit_table.py -->", "<!-- end -->"
+
+
+def changes():
+    """For each law the edits of its statement, with the facts that refuse them."""
+    found = {}
+    for folder in ("edits", "mutants"):
+        for path in sorted((prover.TOP / folder).glob("*/*.edit")):
+            edit = edit_files.read(path)
+            if any(file.startswith("specs/") for file in edit.files()):
+                told = f"`{edit.name}`" + (f" by `{edit.fact[1]}`" if edit.fact else "")
+                found.setdefault((edit.crate, edit.law), []).append(told + (" (before a release)" if folder == "mutants" else ""))
+    return found
+
+
+def table():
+    rows = [f"| `{crate}` | `{law}` | {'; '.join(told)} |" for (crate, law), told in sorted(changes().items())]
+    return "\n".join([BEGIN, "", "| Crate | Law | Changes that are refused |", "|---|---|---|", *rows, "", END])
+
+
+def main():
+    if sys.argv[1:] not in ([], ["--write"]):
+        print(__doc__.strip(), file=sys.stderr)
+        return 2
+    try:
+        text, wanted = PAGE.read_text(encoding="utf-8"), table()
+        start, end = text.index(BEGIN), text.index(END) + len(END)
+    except (OSError, ValueError, edit_files.BadEdit) as why:
+        print(f"edit_table.py: {why}", file=sys.stderr)
+        return 2
+    if sys.argv[1:]:
+        PAGE.write_text(text[:start] + wanted + text[end:], encoding="utf-8")
+        return 0
+    same = text[start:end] == wanted
+    if not same:
+        print("docs/PROOFS.md has another table than the edits: tests/edit_table.py --write")
+    print(f"{int(same)} passed, {int(not same)} failed")
+    return 0 if same else 1
+
+
+if __name__ == "__main__":
+    sys.exit(main())
