@@ -19,6 +19,11 @@ impl<R: Roster> GatewayBook<R> {
     /// Regional Parameters RP002, EU863-870. Takes no memory, and looks at transmissions by the roster's look-ups alone: it
     /// tries only the least allowed start, ends of transmissions plus the gap, and starts of transmissions plus an hour
     /// (`law_earliest_candidates`).
+    ///
+    /// A start that is tried costs a few of these look-ups, and at most two are tried for each transmission that is passed: the
+    /// end of one that stands too close, and an hour after one whose hour is full. So the cost rises in proportion to how many
+    /// are passed before the first free place: it is least where the first start is free or lies in one full hour, which is
+    /// left in one step, and greatest where each of many transmissions opens a full hour, or none leaves room behind it.
     pub fn earliest(&self, ask: Ask, not_before: u64, last: u64) -> Option<u64>
         ensures answer { IsEarliest (terms_of self.now) self.now.list ask not_before last result }
         ensures value { result ≡ earliest_of (terms_of self.now) self.now.list ask not_before last }
