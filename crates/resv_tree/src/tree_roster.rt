@@ -20,40 +20,6 @@ use radio_bands::Band;
 use resv_list::{Dropped, HOUR, MAX_MEMBERS, Reservation, Roster, RosterFault, reach};
 use std::alloc::{AllocError, Allocator};
 
-/// In the tree the hours before a member that is placed, and that reach it, have its airtime too, of which these are the sums.
-fn raise<A: Allocator + Clone>(root: &mut Link<A>, member: &Reservation, more: &Sums)
-    requires whole { IsWhole (shape_of root.old) }
-    requires by_key { IsByKey (entries (shape_of root.old)) }
-    requires room { count_of (shape_of root.old) ≤ MAX_MEMBERS }
-    requires fits { (band : SubBand) → greatest_of (shape_of root.old) band ≤ 2 ^ 31 }
-    requires more { (band : SubBand) → sum_in more.now band ≡ airtime_in band member.now }
-    ensures entries { entries (shape_of root.new) ≡ map (raised member.now) (entries (shape_of root.old)) }
-    ensures count { count_of (shape_of root.new) ≡ count_of (shape_of root.old) }
-    ensures whole { IsWhole (shape_of root.new) }
-{
-    let from = reach(member.start);
-    shift(root, from, member.start, member.band(), more, &Sums::NONE);
-}
-
-/// In the tree the hours before a member that was taken out have its airtime no more.
-fn lower<A: Allocator + Clone>(root: &mut Link<A>, member: &Reservation)
-    requires whole { IsWhole (shape_of root.old) }
-    requires by_key { IsByKey (entries (shape_of root.old)) }
-    requires room { count_of (shape_of root.old) ≤ MAX_MEMBERS }
-    requires fits { (band : SubBand) → greatest_of (shape_of root.old) band ≤ 2 ^ 31 }
-    requires counted { Each (CountsIn member.now) (entries (shape_of root.old)) }
-    ensures entries { entries (shape_of root.new) ≡ map (lowered member.now) (entries (shape_of root.old)) }
-    ensures count { count_of (shape_of root.new) ≡ count_of (shape_of root.old) }
-    ensures whole { IsWhole (shape_of root.new) }
-{
-    let less = Sums::around(&Sums::NONE, member, &Sums::NONE);
-    let from = reach(member.start);
-    shift(root, from, member.start, member.band(), &Sums::NONE, &less);
-}
-
-/// Which part of a bound the ends of a stretch may count for together before `is_within` looks closer.
-const SPARE: u64 = 8;
-
 /// A roster in a balanced tree: each call but `filled` and `members` takes a few walks from the root down. `insert` takes the
 /// memory of one node, `filled` that of one a member and `members` that of its list; `drop_before` gives back that of each member
 /// that it drops. It is dropped side by side, as deep as the tree is high: 33 levels at most, so no number of members exhausts
@@ -103,6 +69,9 @@ impl<A: Allocator + Clone> TreeRoster<A> {
         height(&self.root)
     }
 }
+
+/// Which part of a bound the ends of a stretch may count for together before `is_within` looks closer.
+const SPARE: u64 = 8;
 
 impl<A: Allocator + Clone> Roster for TreeRoster<A> {
     ghost list = { λ r. members_of (shape_of r.root) };
@@ -211,4 +180,35 @@ impl<A: Allocator + Clone> Roster for TreeRoster<A> {
     }
 
     ghost by_start = { λ r. r.by_start };
+}
+
+/// In the tree the hours before a member that is placed, and that reach it, have its airtime too, of which these are the sums.
+fn raise<A: Allocator + Clone>(root: &mut Link<A>, member: &Reservation, more: &Sums)
+    requires whole { IsWhole (shape_of root.old) }
+    requires by_key { IsByKey (entries (shape_of root.old)) }
+    requires room { count_of (shape_of root.old) ≤ MAX_MEMBERS }
+    requires fits { (band : SubBand) → greatest_of (shape_of root.old) band ≤ 2 ^ 31 }
+    requires more { (band : SubBand) → sum_in more.now band ≡ airtime_in band member.now }
+    ensures entries { entries (shape_of root.new) ≡ map (raised member.now) (entries (shape_of root.old)) }
+    ensures count { count_of (shape_of root.new) ≡ count_of (shape_of root.old) }
+    ensures whole { IsWhole (shape_of root.new) }
+{
+    let from = reach(member.start);
+    shift(root, from, member.start, member.band(), more, &Sums::NONE);
+}
+
+/// In the tree the hours before a member that was taken out have its airtime no more.
+fn lower<A: Allocator + Clone>(root: &mut Link<A>, member: &Reservation)
+    requires whole { IsWhole (shape_of root.old) }
+    requires by_key { IsByKey (entries (shape_of root.old)) }
+    requires room { count_of (shape_of root.old) ≤ MAX_MEMBERS }
+    requires fits { (band : SubBand) → greatest_of (shape_of root.old) band ≤ 2 ^ 31 }
+    requires counted { Each (CountsIn member.now) (entries (shape_of root.old)) }
+    ensures entries { entries (shape_of root.new) ≡ map (lowered member.now) (entries (shape_of root.old)) }
+    ensures count { count_of (shape_of root.new) ≡ count_of (shape_of root.old) }
+    ensures whole { IsWhole (shape_of root.new) }
+{
+    let less = Sums::around(&Sums::NONE, member, &Sums::NONE);
+    let from = reach(member.start);
+    shift(root, from, member.start, member.band(), &Sums::NONE, &less);
 }
