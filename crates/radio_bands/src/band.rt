@@ -4,8 +4,8 @@ ghost use Rattle.radio_bands.specs.declared.band.Band.{Band as SubBand};
 
 use radio_airtime::DataRate;
 
-/// A sub-band of EU868. The letters follow the order of ETSI EN 300 220-2, annex B; edges and duty
-/// cycles are this project's profile.
+/// A sub-band of EU868 (ETSI EN 300 220-2, annex B). Letters, edges and duty cycles are this project's
+/// profile.
 #[derive(Clone, Copy, Debug, PartialEq, Eq, Hash, PartialOrd, Ord)]
 pub enum Band {
     /// 863 to 865 MHz, 0.1 % of an hour.

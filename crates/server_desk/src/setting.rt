@@ -20,7 +20,7 @@ pub struct GatewaySetting {
 /// One device with its session (LoRaWAN L2 1.0.4, Class A), as it is set.
 #[derive(Clone, Copy, PartialEq, Eq)]
 pub struct DeviceSetting {
-    /// DevAddr (LoRaWAN L2 1.0.4, section 6.1.1).
+    /// DevAddr (LoRaWAN L2 1.0.4, section 6.1.2.1).
     pub addr: u32,
     /// NwkSKey.
     pub nwk: [u8; 16],
@@ -40,8 +40,8 @@ pub struct DeviceSetting {
     pub down: u64,
 }
 
-/// The session keys of a device as they are set, NwkSKey and AppSKey (LoRaWAN L2 1.0.4, section 6.1.2), each with its round
-/// keys (FIPS 197, section 5.2). Takes no memory.
+/// The session keys of a device as they are set, NwkSKey and AppSKey (LoRaWAN L2 1.0.4, sections 6.1.2.2 and 6.1.2.3), each with
+/// its round keys (FIPS 197, section 5.2). Takes no memory.
 pub fn keys_of(setting: &DeviceSetting) -> Keys
     ensures { result ≡ keys_of setting.now }
 {
