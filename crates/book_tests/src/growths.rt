@@ -1,5 +1,5 @@
 // What the calls of a roster and of a book take from their allocator: only what takes one more takes memory, and a list as
-// much as its members need, in one growth. An arena tells how much of it is left.
+// much as its members need, in one growth. An arena tells how much of it is left, and is reset only where all was given back.
 ghost use Rattle.std.specs.Prelude.{◌≡◌, []};
 
 use crate::asks::{ask_in_m, book_spaced};
@@ -7,7 +7,7 @@ use crate::members::{in_m, put};
 use bumpalo::Bump;
 use gateway_book::GatewayBook;
 use radio_bands::Band;
-use resv_list::Roster;
+use resv_list::{Roster, VecRoster};
 use resv_tree::TreeRoster;
 use std::alloc::Global;
 use std::test::Fail;
@@ -126,6 +126,50 @@ fn takes_for_two<R: Roster + Drop>(arena: &Bump<Global>, roster: R) -> Result<()
 fn only_what_a_book_accepts_takes_memory(rt: HostRuntime) -> Result<(), Fail> {
     let arena = Bump::try_with_capacity(rt.alloc(), AMPLE_BYTES)?;
     takes_for_two(&arena, TreeRoster::new(&arena))
+}
+
+/// Each of a thousand that are booked is retired by the tick before the next one.
+fn retires_a_thousand<R: Roster + Drop>(roster: R) -> Result<(), Fail>
+    requires { R.list roster ≡ [] }
+{
+    let mut book = GatewayBook::new(roster, 1, 1, 0)?;
+    for number in 0..1_000 {
+        let start = 7_200_000_000u64.saturating_mul(number);
+        book.tick(start);
+        holds_at(&number, book.book(ask_in_m(number, start)).is_ok())?;
+    }
+    Ok(())
+}
+
+#[test]
+fn a_book_of_one_needs_memory_for_one(rt: HostRuntime) -> Result<(), Fail> {
+    let arena = Bump::try_with_capacity(rt.alloc(), 1_024)?;
+    arena.set_allocation_limit(Some(arena.allocated_bytes()));
+    retires_a_thousand(TreeRoster::new(&arena))
+}
+
+/// A book of forty, of which one is cancelled, ticks retire others, ten and more at a time, and the rest is dropped with it.
+fn comes_and_goes<R: Roster + Drop>(roster: R) -> Result<(), Fail>
+    requires { R.list roster ≡ [] }
+{
+    let mut book = GatewayBook::new(roster, 1, 64, 0)?;
+    book_spaced(&mut book, 40)?;
+    holds(book.cancel(7, 700_000_000).is_ok())?;
+    for (now, kept) in [(4_650, 29), (5_650, 19), (6_650, 9)] {
+        book.tick(1_000_000 * now);
+        equal_at(&now, &book.totals().kept, &kept)?;
+    }
+    Ok(())
+}
+
+#[test]
+fn all_that_a_book_took_is_given_back(rt: HostRuntime) -> Result<(), Fail> {
+    let mut arena = Bump::try_with_capacity(rt.alloc(), AMPLE_BYTES)?;
+    comes_and_goes(TreeRoster::new(&arena))?;
+    arena.reset()?;
+    comes_and_goes(VecRoster::new(&arena))?;
+    arena.reset()?;
+    Ok(())
 }
 
 /// How many bytes an arena gives for the list of a book with so many members.

@@ -2,7 +2,7 @@
 ghost use Rattle.std.specs.Prelude.{◌≡◌, []};
 
 use crate::asks::book_spaced;
-use crate::saved::{fault_of, loaded, saved};
+use crate::saved::{SECOND, fault_of, loaded, saved};
 use bumpalo::Bump;
 use gateway_book::{GatewayBook, LoadFault, MemoryIn};
 use resv_list::{Roster, VecRoster};
@@ -117,6 +117,28 @@ fn no_read_follows_a_line_at_fault(rt: HostRuntime) -> Result<(), Fail> {
         let mut reader = MemoryIn::failing(text, 1, behind);
         let told = GatewayBook::load(&mut reader, VecRoster::new(rt.alloc())).err();
         equal_at(&place, &told, &Some(*fault))?;
+    }
+    Ok(())
+}
+
+/// A line of which 81 bytes tell that it is too long.
+const LONG_LINE: &[u8] =
+    b"r 1000000001000000000100000000010000000001000000000100000000010000000001000000001 left\n";
+
+/// Behind so many lines of a saved book just these are read of it: its end may be long in coming.
+fn is_left(alloc: Global, lines: u64) -> Result<(), Fail> {
+    let text = cut(alloc, SECOND, lines, LONG_LINE)?;
+    let mut reader = MemoryIn::new(text.as_slice());
+    let told = GatewayBook::load(&mut reader, VecRoster::new(alloc)).err();
+    let line = lines.saturating_add(1);
+    equal_at(&lines, &told, &Some(LoadFault::Syntax { line }))?;
+    equal_at(&lines, &reader.bytes, &b" left\n".as_slice())
+}
+
+#[test]
+fn a_long_line_is_read_no_further_than_tells_so(rt: HostRuntime) -> Result<(), Fail> {
+    for lines in 0..4 {
+        is_left(rt.alloc(), lines)?;
     }
     Ok(())
 }
