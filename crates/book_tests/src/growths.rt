@@ -148,7 +148,7 @@ fn a_book_of_one_needs_memory_for_one(rt: HostRuntime) -> Result<(), Fail> {
     retires_a_thousand(TreeRoster::new(&arena))
 }
 
-/// A book of forty, of which one is cancelled, ticks retire others, ten and more at a time, and the rest is dropped with it.
+/// A book of forty, of which one is cancelled; ticks retire others, ten at a time, and the rest is dropped with it.
 fn comes_and_goes<R: Roster + Drop>(roster: R) -> Result<(), Fail>
     requires { R.list roster ≡ [] }
 {
