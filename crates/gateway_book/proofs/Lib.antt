@@ -25,7 +25,11 @@ pub mod PairLaws
 pub mod ForgottenSteps
 pub mod StandingLaws
 pub mod WorkedRefusals
-pub mod WorkedLaws
+pub mod WorkedSaved
+pub mod WorkedStarts
+pub mod WorkedForgetting
+pub mod WorkedLists
+pub mod WorkedHours
 pub mod SavedText
 pub mod SavedWords
 pub mod SavedReading

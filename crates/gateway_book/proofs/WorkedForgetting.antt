@@ -1,0 +1,225 @@
+-- What a gateway answers and keeps, command by command, at a worked list, by computation; and what the law of forgetting says there.
+use Rattle.std.proofs.Common.{◌≡◌, List, [], ◌∷◌, Some, None, Ok, Err, refl, arith, zero, suc, ap}
+use Rattle.std.proofs.lemmas.Option.{same_Some}
+use Rattle.radio_airtime.specs.TimeOnAir.{airtime_of}
+use Rattle.radio_airtime.specs.declared.data_rate.DataRate.TheVariants.{Dr0, Dr5}
+use Rattle.radio_bands.specs.Band.{band_of}
+use Rattle.radio_bands.specs.declared.band.Band.TheVariants.{K}
+use Rattle.resv_list.specs.declared.reservation.Reservation.{Reservation}
+use Rattle.resv_list.specs.Reservations.{begun}
+use Rattle.gateway_book.specs.declared.cancel.CancelFault.TheVariants.{Begun, NotHere}
+use Rattle.gateway_book.specs.declared.refusal.Refusal.TheVariants.{Passed, Taken, DutyFull}
+use Rattle.gateway_book.specs.Answer.{Rules, overlap}
+use Rattle.gateway_book.specs.Duty.{full_hour}
+use Rattle.gateway_book.specs.Forgetting.{Command, Book, Cancel, Tick, Reply, Answered, TakenOut, Floor, reply_to, after_command}
+use Rattle.gateway_book.specs.Forgetting.{forgetful, replies, forgetful_replies, HaveOwnStarts, ForgettingIsUnseen}
+use Rattle.gateway_book.specs.Kept.{kept}
+use Rattle.gateway_book.specs.Lawful.{IsLawful}
+use Rattle.gateway_book.specs.Step.{State, is_fit-IsFit}
+use Rattle.gateway_book.proofs.WorkedLists.{fast, slow}
+
+-- A gateway with the greatest gap, and three members: one that began more than an hour before the floor, one that began before
+-- it, and one that begins later. The second has most of what its sub-band may have in an hour.
+
+pub first : Reservation
+unfolding airtime_of band_of
+first = record { number = 1; start = 0; freq_hz = 868100000; rate = Dr5; len = 12; fit = is_fit-IsFit (fast 1 0) refl }
+
+pub second : Reservation
+unfolding airtime_of band_of
+second = record {
+  number = 2;
+  start = 10000000;
+  freq_hz = 863500000;
+  rate = Dr0;
+  len = 60;
+  fit = is_fit-IsFit (slow 2 10000000) refl;
+}
+
+pub third : Reservation
+unfolding airtime_of band_of
+third = record {
+  number = 3;
+  start = 3700000000;
+  freq_hz = 868100000;
+  rate = Dr5;
+  len = 12;
+  fit = is_fit-IsFit (fast 3 3700000000) refl;
+}
+
+-- what is booked beside them
+pub fourth : Reservation
+unfolding airtime_of band_of
+fourth = record {
+  number = 4;
+  start = 3700141216;
+  freq_hz = 868100000;
+  rate = Dr5;
+  len = 12;
+  fit = is_fit-IsFit (fast 4 3700141216) refl;
+}
+
+abbrev pub seen : State
+seen = record { floor = 3600000001; list = first ∷ second ∷ third ∷ []; booked = 2712064; cancelled = 0 }
+
+abbrev pub rules : Rules
+rules = record { cap = 3; gap = 100000 }
+
+-- the first is forgotten, and the others are not
+pub one_is_forgotten : (forgetful seen).list ≡ second ∷ third ∷ []
+unfolding kept first second third
+one_is_forgotten = refl
+
+-- Each command, with what is answered and what is kept.
+
+pub duty_full_is_told : reply_to rules seen (Book (slow 4 3605000000)) ≡ Answered (Some (DutyFull K 10000000 2629632))
+unfolding airtime_of band_of begun kept overlap full_hour first second third
+duty_full_is_told = refl
+
+pub taken_is_told : reply_to rules seen (Book (fast 4 3700141215)) ≡ Answered (Some (Taken 3700000000))
+unfolding airtime_of band_of begun kept overlap full_hour first second third
+taken_is_told = refl
+
+pub passed_is_told : reply_to rules seen (Book (fast 4 3600000000)) ≡ Answered (Some Passed)
+unfolding airtime_of band_of begun kept overlap full_hour first second third
+passed_is_told = refl
+
+pub refused_changes_nothing : after_command rules seen (Book (fast 4 3700141215)) ≡ seen
+unfolding airtime_of band_of begun kept overlap full_hour first second third
+refused_changes_nothing = refl
+
+pub accepted_is_told : reply_to rules seen (Book (fast 4 3700141216)) ≡ Answered None
+unfolding airtime_of band_of begun kept overlap full_hour first second third
+accepted_is_told = refl
+
+pub accepted_joins : after_command rules seen (Book (fast 4 3700141216)) ≡
+    record { floor = 3600000001; list = first ∷ second ∷ third ∷ fourth ∷ []; booked = 2753280; cancelled = 0 }
+unfolding airtime_of band_of begun kept overlap full_hour first second third fourth
+accepted_joins = refl
+
+pub taken_out_is_told : reply_to rules seen (Cancel 3 3700000000) ≡ TakenOut (Ok third)
+unfolding first second third
+taken_out_is_told = refl
+
+pub taken_out_is_gone : after_command rules seen (Cancel 3 3700000000) ≡
+    record { floor = 3600000001; list = first ∷ second ∷ []; booked = 2712064; cancelled = 41216 }
+unfolding airtime_of first second third
+taken_out_is_gone = refl
+
+pub begun_is_told : reply_to rules seen (Cancel 2 10000000) ≡ TakenOut (Err Begun)
+begun_is_told = refl
+
+pub begun_stays : after_command rules seen (Cancel 2 10000000) ≡ seen
+begun_stays = refl
+
+pub absence_is_told : reply_to rules seen (Cancel 4 3700000000) ≡ TakenOut (Err NotHere)
+unfolding first second third
+absence_is_told = refl
+
+pub floor_is_told : reply_to rules seen (Tick 3610000001) ≡ Floor 3610000001
+floor_is_told = refl
+
+pub floor_rises : after_command rules seen (Tick 3610000001) ≡
+    record { floor = 3610000001; list = first ∷ second ∷ third ∷ []; booked = 2712064; cancelled = 0 }
+floor_rises = refl
+
+pub floor_never_falls : reply_to rules seen (Tick 5) ≡ Floor 3600000001
+floor_never_falls = refl
+
+-- after that tick the second is forgotten too
+pub two_are_forgotten : (forgetful (after_command rules seen (Tick 3610000001))).list ≡ third ∷ []
+unfolding kept first second third
+two_are_forgotten = refl
+
+-- One list of them, with what a gateway answers.
+
+abbrev told : List Command
+told =
+    Book (slow 4 3605000000)
+    ∷ Book (fast 4 3600000000)
+    ∷ Book (fast 4 3700141215)
+    ∷ Book (fast 4 3700141216)
+    ∷ Book (fast 5 3700000000)
+    ∷ Cancel 2 10000000
+    ∷ Cancel 3 3700000000
+    ∷ Cancel 3 3700000000
+    ∷ Tick 3610000001
+    ∷ Tick 5
+    ∷ Book (slow 6 3611000000)
+    ∷ []
+
+abbrev answers : List Reply
+answers =
+    Answered (Some (DutyFull K 10000000 2629632))
+    ∷ Answered (Some Passed)
+    ∷ Answered (Some (Taken 3700000000))
+    ∷ Answered None
+    ∷ Answered (Some (Taken 3700000000))
+    ∷ TakenOut (Err Begun)
+    ∷ TakenOut (Ok third)
+    ∷ TakenOut (Err NotHere)
+    ∷ Floor 3610000001
+    ∷ Floor 3610000001
+    ∷ Answered None
+    ∷ []
+
+pub all_is_answered : replies rules seen told ≡ answers
+unfolding airtime_of band_of begun kept overlap full_hour first second third
+all_is_answered = refl
+
+pub forgetting_answers_the_same : forgetful_replies rules (forgetful seen) told ≡ answers
+unfolding airtime_of band_of begun kept overlap full_hour first second third
+forgetting_answers_the_same = refl
+
+-- a gap of more than an hour, which no gateway has, would be a difference: after the tick the first is forgotten
+abbrev wide : Rules
+wide = record { cap = 3; gap = 3600000000 }
+
+abbrev hourly : List Command
+hourly = Tick 3600000001 ∷ Book (fast 4 3600000001) ∷ []
+
+abbrev alone : State
+alone = record { floor = 0; list = first ∷ []; booked = 41216; cancelled = 0 }
+
+pub remembered : replies wide alone hourly ≡ Floor 3600000001 ∷ Answered (Some (Taken 0)) ∷ []
+unfolding airtime_of band_of begun kept overlap full_hour first
+remembered = refl
+
+pub forgotten : forgetful_replies wide alone hourly ≡ Floor 3600000001 ∷ Answered None ∷ []
+unfolding airtime_of band_of begun kept overlap full_hour first
+forgotten = refl
+
+-- The law at that gateway.
+
+start_is : (a b : Reservation) → Some a ≡ Some b → a.start ≡ b.start
+start_is a b same = ap (λ (r : Reservation). r.start) (same_Some a b same)
+
+-- members at different places have starts of their own
+own_starts : HaveOwnStarts seen.list
+unfolding first second third
+own_starts zero zero r s a b differ = absurd (differ refl)
+own_starts zero (suc zero) r s a b differ = λ e. absurd (omega (arith, e, start_is first r a, start_is second s b))
+own_starts zero (suc (suc zero)) r s a b differ = λ e. absurd (omega (arith, e, start_is first r a, start_is third s b))
+own_starts (suc zero) zero r s a b differ = λ e. absurd (omega (arith, e, start_is second r a, start_is first s b))
+own_starts (suc zero) (suc zero) r s a b differ = absurd (differ refl)
+own_starts (suc zero) (suc (suc zero)) r s a b differ = λ e. absurd (omega (arith, e, start_is second r a, start_is third s b))
+own_starts (suc (suc zero)) zero r s a b differ = λ e. absurd (omega (arith, e, start_is third r a, start_is first s b))
+own_starts (suc (suc zero)) (suc zero) r s a b differ = λ e. absurd (omega (arith, e, start_is third r a, start_is second s b))
+own_starts (suc (suc zero)) (suc (suc zero)) r s a b differ = absurd (differ refl)
+own_starts zero (suc (suc (suc j))) r s a b differ = absurd (cc)
+own_starts (suc zero) (suc (suc (suc j))) r s a b differ = absurd (cc)
+own_starts (suc (suc zero)) (suc (suc (suc j))) r s a b differ = absurd (cc)
+own_starts (suc (suc (suc i))) j r s a b differ = absurd (cc)
+
+module _ (law : ForgettingIsUnseen) where
+  pub same_reply : (c : Command) → reply_to rules (forgetful seen) c ≡ reply_to rules seen c
+  same_reply = (law rules seen (omega arith) own_starts).reply
+
+  pub same_after : (c : Command) → forgetful (after_command rules (forgetful seen) c) ≡ forgetful (after_command rules seen c)
+  same_after = (law rules seen (omega arith) own_starts).after
+
+  pub same_replies : (cs : List Command) → forgetful_replies rules (forgetful seen) cs ≡ replies rules seen cs
+  same_replies = (law rules seen (omega arith) own_starts).replies
+
+  pub stays_lawful : (c : Command) → IsLawful 100000 seen.list → IsLawful 100000 (after_command rules seen c).list
+  stays_lawful = (law rules seen (omega arith) own_starts).lawful
