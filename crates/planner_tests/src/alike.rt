@@ -42,10 +42,10 @@ fn drawn_ask(number: u64, drawn: u64, from: u64) -> Ask {
     }
 }
 
-/// Eight asks within two hours from a moment.
+/// Twelve asks within two hours from a moment.
 fn drawn_asks(alloc: Global, drawn: &mut u64, from: u64) -> Result<Vec<Ask, Global>, Fail> {
     let mut asks = Vec::new(alloc);
-    for number in 0..8 {
+    for number in 0..12 {
         *drawn = drawn_after(*drawn);
         asks.push(drawn_ask(number, *drawn, from))?;
     }
@@ -93,17 +93,17 @@ fn stays_alike<R: Roster + Drop>(roster: R, alloc: Global) -> Result<(), Fail>
     let mut book = GatewayBook::new(roster, 1, CAP, GAP)?;
     let mut arena = Bump::new(alloc);
     let mut drawn = 1;
-    let (mut least, mut most) = (8, 0);
+    let (mut least, mut most) = (12, 0);
     for _round in 0..40 {
         let from = book.totals().floor.saturating_sub(1_000_000);
         let asks = drawn_asks(alloc, &mut drawn, from)?;
-        let ask = drawn_ask(8, drawn_after(drawn), from);
+        let ask = drawn_ask(12, drawn_after(drawn), from);
         let accepted = answers_alike(&mut arena, alloc, &mut book, asks.as_slice(), ask)?;
         (least, most) = (accepted.min(least), accepted.max(most));
         book.tick(from.saturating_add((drawn >> 44) % 1_200 * 1_000_000));
     }
-    // Of some eight two at least were accepted, and of some two at least were refused.
-    holds(most > 1 && least < 7)
+    // Of some twelve two at least were accepted, and of some two at least were refused.
+    holds(most > 1 && least < 11)
 }
 
 #[test]
