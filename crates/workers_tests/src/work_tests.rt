@@ -17,6 +17,17 @@ fn a_thousand_numbers_wait_for_one_worker(rt: HostRuntime) -> Result<(), Fail> {
     tells(&rt, rt.alloc(), 1, &UNHEARD)
 }
 
+/// As many as one pass may close wait for two, who begin once all of them were sent.
+static ALL_UNHEARD: [Row; 1] = [(
+    Step::Work(Shift::Crew(1, 4_096, 2)),
+    "(2, [0, 0], ([], 4096, 0), 0, false)",
+)];
+
+#[test]
+fn as_many_numbers_wait_as_a_pass_may_close(rt: HostRuntime) -> Result<(), Fail> {
+    tells(&rt, rt.alloc(), 1, &ALL_UNHEARD)
+}
+
 /// Each gateway books half of the answers.
 static FIVE_HUNDRED: [Row; 4] = [
     (Step::Hear(Heard::All(500)), "500"),
