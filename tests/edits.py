@@ -23,6 +23,7 @@ import tempfile
 import time
 
 sys.dont_write_bytecode = True
+import antt_source
 import edit_files
 import prover
 import rattle_source
@@ -55,22 +56,43 @@ class Batches:
     def __init__(self, crate):
         self.functions = rattle_source.functions_of(folder_of(crate))
         self.reached = rattle_source.reached_from(self.functions)
+        self.words = antt_source.all_of(folder_of(crate))
 
     def may_meet(self, one, other):
+        """Whether neither of two edits within functions turns what the other's function calls."""
         reached = self.reached
         return one.only != other.only and other.only not in reached[one.only] and one.only not in reached[other.only]
 
+    def may_be_told_apart(self, one, other):
+        """Whether neither of two changes of statements turns what the other's fact rests on."""
+        return not any(
+            set(turned(changed)) & antt_source.rests_on(told.fact[1], self.words) for changed, told in ((one, other), (other, one))
+        )
+
     def of(self, edits):
-        alone = [[it] for it in edits if not stays_within(it, self.functions)]
-        batches = []
-        for edit in (it for it in edits if stays_within(it, self.functions)):
-            fits = (it for it in batches if len(it) < MOST_AT_A_TIME and all(self.may_meet(edit, other) for other in it))
-            batch = next(fits, None)
-            if batch is None:
-                batches.append([edit])
-            else:
-                batch.append(edit)
-        return batches + alone
+        within = [it for it in edits if stays_within(it, self.functions)]
+        told = [it for it in edits if it.fact and None not in turned(it)]
+        alone = [[it] for it in edits if it not in within and it not in told]
+        return batched(within, self.may_meet) + batched(told, self.may_be_told_apart) + alone
+
+
+def turned(edit):
+    """The definitions that an edit changes in specs/; None among them where one can't be told."""
+    texts = {path: edit_files.text_of(folder_of(edit.crate), path) for path in edit.files() if path.startswith("specs/")}
+    return {antt_source.defined_at(texts[path], old) for path, old, _ in edit.pairs if path in texts} - {""}
+
+
+def batched(edits, may_meet):
+    """These edits in as few groups as come of it that any two of a group may meet."""
+    batches = []
+    for edit in edits:
+        fits = (it for it in batches if len(it) < MOST_AT_A_TIME and all(may_meet(edit, other) for other in it))
+        batch = next(fits, None)
+        if batch is None:
+            batches.append([edit])
+        else:
+            batch.append(edit)
+    return batches
 
 
 def check(crate, edits, kept):

@@ -1,17 +1,15 @@
 -- What the laws of gaps, of starts and of hours say of worked lists: each tells a fact there, and no premise is one that nothing
 -- meets. Moment 500,000 is the start of no member.
 use Rattle.std.proofs.Common.{ℕ, ◌≡◌, ◌+◌, ◌≤◌, ◌<◌, List, [], ◌∷◌, Option, Some, None, All, Contains, MatchOption}
-use Rattle.std.proofs.Common.{Bool, refl, sym, subst, arith, ap, ◌∙◌, zero, suc, inl, inr}
+use Rattle.std.proofs.Common.{refl, sym, subst, arith, ap, zero, suc, inl, inr}
 use Rattle.std.proofs.lemmas.Option.{same_Some}
-use Rattle.std.specs.Option.{option_map}
-use Rattle.std.specs.Prelude.{nat_lt, find}
+use Rattle.std.specs.Prelude.{nat_lt}
 use Rattle.radio_airtime.specs.TimeOnAir.{airtime_of}
 use Rattle.radio_bands.specs.Band.{hour, limit_of}
 use Rattle.radio_bands.specs.declared.band.Band.TheVariants.{K, M}
-use Rattle.resv_list.specs.declared.reservation.Reservation.{Reservation}
 use Rattle.resv_list.specs.Fit.{IsFit}
 use Rattle.resv_list.specs.Hours.{starts_in}
-use Rattle.resv_list.specs.Reservations.{start_of, begun, spent}
+use Rattle.resv_list.specs.Reservations.{begun, spent}
 use Rattle.gateway_book.specs.Busiest.{IsBusiest, IsBusiestAnswer, busiest_of}
 use Rattle.gateway_book.specs.Disjoint.{AreDisjoint}
 use Rattle.gateway_book.specs.Duty.{full_hour}
@@ -58,11 +56,6 @@ first_behind law = law (λ r. nat_lt 1000 r.start) sent by_start
 pub none_behind : FirstHasLeastStart → first_start (λ r. nat_lt 3600500000 r.start) sent ≡ None
 unfolding early late last
 none_behind law = law (λ r. nat_lt 3600500000 r.start) sent by_start
-
--- whatever is asked of the three, the first that passes has the start
-pub first_found : FirstHasLeastStart → (test : Reservation → Bool) (r : Reservation) → find test sent ≡ Some r
-    → first_start test sent ≡ Some r.start
-first_found law test r e = law test sent by_start ∙ ap (option_map start_of) e
 
 -- The least of some numbers.
 

@@ -1,0 +1,70 @@
+"""Which definitions and lemmas a crate's .antt files have, and which of them rest on which, by reading the text."""
+import pathlib
+import re
+
+# A definition begins at the start of a line: a record or data by its name, any other by its own name before ':' or '='.
+HEAD = re.compile(r"^(?:(?:abbrev|unfoldable|pub|private|ghost) )*(?:(?:record|data|ruleset) )?([A-Za-z_][\w-]*)")
+INNER = re.compile(r"^ +pub ([A-Za-z_][\w-]*) :")
+WORD = re.compile(r"[A-Za-z_][\w-]*")
+NO_DEFINITION = {"use", "mod", "module", "unfolding", "open", "syntax"}
+
+
+def named(line):
+    """The name of the definition that a line begins or goes on with, if it stands at its start."""
+    found = HEAD.match(line)
+    return found[1] if found and found[1] not in NO_DEFINITION and not line.startswith("pub mod") else None
+
+
+def definitions_in(text):
+    """The definitions of a text: for each name the lines that say it; a lemma of a module with a premise has that premise too."""
+    found, name, premise = {}, None, ""
+    for line in text.splitlines():
+        if line.startswith("--"):
+            continue
+        if line.startswith("module "):
+            name, premise = None, line
+            continue
+        inner = INNER.match(line) if premise else None
+        at_start = named(line)
+        if at_start:
+            name, premise = at_start, ""
+        elif inner:
+            name = inner[1]
+            found.setdefault(name, []).append(premise)
+        if name and not line.startswith("use "):
+            found.setdefault(name, []).append(line)
+    return {name: "\n".join(lines) for name, lines in found.items()}
+
+
+def all_of(folder):
+    """For each name that a crate's specs/ or proofs/ define the names in what says it, wherever that stands."""
+    found = {}
+    for part in ("specs", "proofs"):
+        for path in pathlib.Path(folder, part).glob("*.antt"):
+            for name, text in definitions_in(path.read_text(encoding="utf-8")).items():
+                found.setdefault(name, set()).update(WORD.findall(text))
+    return found
+
+
+def rests_on(name, words_of):
+    """A name, and all that it rests on, itself or through others: by name, so that it may be too many."""
+    found, waiting = {name}, [name]
+    while waiting:
+        for word in words_of.get(waiting.pop(), ()):
+            if word not in found:
+                found.add(word)
+                waiting.append(word)
+    return found
+
+
+def defined_at(text, old):
+    """The definition that holds a text which stands once; '' where it is an import's or a comment's, None where it can't be told."""
+    before = text[: text.index(old)].splitlines() if old in text else []
+    lines = [*before, text[text.index(old) :].splitlines()[0]] if old in text else []
+    if not lines:
+        return None
+    start = text.rindex("\n", 0, text.index(old) + 1) + 1 if "\n" in text[: text.index(old)] else 0
+    first = text[start:].splitlines()[0]
+    if first.startswith(("use ", "--")):
+        return ""
+    return next((found for found in map(named, reversed([*before, first])) if found), None)
