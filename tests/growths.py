@@ -1,24 +1,29 @@
 #!/usr/bin/env python3
-"""Compares docs/MEMORY.md with the sources: each public call whose answer can name want of memory has a row there, and the tests
-and scripts that it names are there.
+"""Compares docs/MEMORY.md with the sources, or writes its rows: each public call that can answer out of memory has a row there, and
+the tests and scripts that it names are there.
 
-Usage: tests/growths.py [ROOT]      (ROOT: the repository's top; none: that of this script)
+Usage: tests/growths.py [--write] [ROOT]      (ROOT: the repository's top; none: that of this script)
 
 Such a call is a `pub fn`, or a function of a public trait, that a library passes on from its root and whose result names
 NoMemory or AllocError, or a type of the repository that does: an enum with that variant, a struct with such a field, and a
 fault or a cause that holds one of these; and the calls of UNNAMED, which name none. Crates of tests are left out. A row begins
 with the crate and the call, as `| `gateway_book` | `GatewayBook::book` |`; a test is named behind its crate, as
-`` `book_tests`: `a_booking` ``. Prints a line for each call without a row, for each row of another call, and for each test and
-script that isn't there. The status is 0 where there is none, 1 where there is one.
+`` `book_tests`: `a_booking` ``. Prints a line for each call without a row, for each row of another call, for each row of which a
+column is `?`, and for each test and script that isn't there. With --write it first adds a row with `?` in the other columns for
+each call without one, behind the last row of its crate or of the table, and drops the rows of other calls; it keeps all others as
+they are. The status is 0 where nothing is found, 1 where something is, 2 where the page can't be read or written.
 """
 import pathlib
 import re
 import sys
 
-TOP = pathlib.Path(sys.argv[1] if len(sys.argv) > 1 else pathlib.Path(__file__).resolve().parent.parent)
+WORDS = [word for word in sys.argv[1:] if word != "--write"]
+TOP = pathlib.Path(WORDS[0] if WORDS else pathlib.Path(__file__).resolve().parent.parent)
+PAGE = TOP / "docs" / "MEMORY.md"
 FOR_TESTS = {"worked_inputs", "refusing_alloc", "test_asserts"}
 WANT = r"\b(NoMemory|AllocError)\b"
-# They answer want of memory by handing back what was given, within what another call's fault is told in, or go on without it.
+ROW = re.compile(r"\| `(\w+)` \| `([\w:]+)` \|")
+# They answer out of memory by handing back what was given, within what another call's fault is told in, or go on without it.
 UNNAMED = {
     ("server_workers", "Worked::new"), ("server_station", "Station::answer"), ("server_workers", "work"),
     ("run_lines", "write_lines_by_threads"),
@@ -46,7 +51,7 @@ def sources():
 
 
 def naming_types(texts):
-    """The types that name want of memory."""
+    """The types that name out of memory."""
     bodies = {}
     for text in texts:
         for made in re.finditer(r"(?m)^(?:pub(?:\(crate\))? )?(?:enum|struct) (\w+)[^;{]*\{", text):
@@ -105,18 +110,44 @@ def absent(page):
     yield from sorted(path for path in set(re.findall(r"`(tests/\w+\.py)`", page)) if not (TOP / path).exists())
 
 
+def written(page, wanted):
+    """The page with a row for each of these calls, and for no other."""
+    lines = [line for line in page.splitlines() if not (row := ROW.match(line)) or (row[1], row[2]) in wanted]
+    had = {(row[1], row[2]) for line in lines if (row := ROW.match(line))}
+    for crate, name in sorted(wanted - had):
+        of_crate = [place for place, line in enumerate(lines) if (row := ROW.match(line)) and row[1] == crate]
+        of_table = [place for place, line in enumerate(lines) if ROW.match(line) or line.startswith("| Crate | Call |")]
+        # (behind the row of dashes where the table has no other)
+        place = (of_crate or of_table)[-1] + (2 if lines[(of_crate or of_table)[-1]].startswith("| Crate") else 1)
+        lines.insert(place, f"| `{crate}` | `{name}` | ? | ? |")
+    return "\n".join(lines) + "\n"
+
+
 def main():
-    page = (TOP / "docs/MEMORY.md").read_text()
-    rows = set(re.findall(r"(?m)^\| `(\w+)` \| `([\w:]+)` \|", page))
+    if len(WORDS) > 1 or any(word.startswith("-") for word in WORDS):
+        print(__doc__.strip(), file=sys.stderr)
+        return 2
     wanted = set(calls()) | UNNAMED
+    try:
+        page = PAGE.read_text()
+        if "--write" in sys.argv[1:]:
+            page = written(page, wanted)
+            PAGE.write_text(page)
+    except (OSError, ValueError, IndexError) as why:
+        print(f"growths.py: {PAGE}: {why}", file=sys.stderr)
+        return 2
+    rows = set(re.findall(rf"(?m)^{ROW.pattern}", page))
+    unsaid = [ROW.match(line) for line in page.splitlines() if ROW.match(line) and re.search(r"\| \? \|", line)]
     for crate, name in sorted(wanted - rows):
         print(f"docs/MEMORY.md has no row of {name} of {crate}")
     for crate, name in sorted(rows - wanted):
-        print(f"docs/MEMORY.md has a row of {name} of {crate}, which names no want of memory")
+        print(f"docs/MEMORY.md has a row of {name} of {crate}, which can't answer out of memory")
+    for row in unsaid:
+        print(f"docs/MEMORY.md doesn't say how often {row[2]} of {row[1]} allocates, or what refuses it")
     gone = list(absent(page))
     for name in gone:
         print(f"docs/MEMORY.md names {name}, which isn't there")
-    at_fault = len(wanted ^ rows) + len(gone)
+    at_fault = len(wanted ^ rows) + len(unsaid) + len(gone)
     print(f"{len(wanted & rows)} calls with a row, {at_fault} at fault")
     return 1 if at_fault else 0
 
