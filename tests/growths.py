@@ -1,6 +1,6 @@
 #!/usr/bin/env python3
-"""Compares docs/MEMORY.md with the sources, or writes its rows: each public call that can answer out of memory has a row there, and
-the tests and scripts that it names are there.
+"""Compares docs/MEMORY.md with the sources, or writes its rows: each public call that can answer out of memory has a row there,
+and the tests and scripts that it names are there.
 
 Usage: tests/growths.py [--write] [ROOT]      (ROOT: the repository's top; none: that of this script)
 
