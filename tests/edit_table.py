@@ -1,5 +1,5 @@
 #!/usr/bin/env python3
-"""Which changes of statements are tried, law by law: compares the table in docs/WRONG_BODIES.md with the edits, or writes it.
+"""Which changes of statements are tried, law by law: compares the table in docs/PROOFS.md with the edits, or writes it.
 
 Usage: tests/edit_table.py [--write]
 
@@ -13,7 +13,7 @@ sys.dont_write_bytecode = True
 import edit_files
 import prover
 
-PAGE = prover.TOP / "docs" / "WRONG_BODIES.md"
+PAGE = prover.TOP / "docs" / "PROOFS.md"
 BEGIN, END = "<!-- changes of statements: written by tests/edit_table.py -->", "<!-- end -->"
 
 
@@ -49,7 +49,7 @@ def main():
         return 0
     same = text[start:end] == wanted
     if not same:
-        print("docs/WRONG_BODIES.md has another table than the edits: tests/edit_table.py --write")
+        print("docs/PROOFS.md has another table than the edits: tests/edit_table.py --write")
     print(f"{int(same)} passed, {int(not same)} failed")
     return 0 if same else 1
 
