@@ -3,7 +3,15 @@
 PROGRAM := crates/airbook/out/airbook
 PREFIX ?= /usr/local
 
-.PHONY: demo test mutants install
+.PHONY: help demo test cases mutants install
+
+# What can be asked for, with a line each.
+help:
+	@echo 'make demo      the main job on a fresh machine, by a build that is not proved'
+	@echo 'make test      every proof, every edit that has to be refused, and every test'
+	@echo 'make cases     the cases alone, on the program that make test has proved'
+	@echo 'make mutants   more edits that have to be refused: before a release'
+	@echo 'make install   copies the proved program to PREFIX/bin/airbook (PREFIX=/usr/local)'
 
 # The main job on a machine where nothing is built. rt try compiles and runs, and proves nothing.
 demo:
@@ -30,6 +38,11 @@ test:
 	python3 tests/workers.py $(PROGRAM)
 	python3 tests/limits.py $(PROGRAM)
 	python3 tests/listen.py $(PROGRAM)
+
+# The proved program on each of the cases.
+cases:
+	@test -x $(PROGRAM) || { echo 'There is no proved program at $(PROGRAM): run make test first.' >&2; exit 1; }
+	python3 tests/cases.py $(PROGRAM)
 
 # The edits in mutants/, which make test leaves out: before a release.
 mutants:

@@ -66,7 +66,7 @@ class Forwarder:
         """The next datagram, which has to be of this kind."""
         try:
             datagram = self.socket.recv(65536)
-        except TimeoutError:
+        except socket.timeout:
             raise Failed(f"no datagram of kind {kind} came") from None
         expect((2, kind), (datagram[0], datagram[3]))
         return datagram
@@ -83,7 +83,7 @@ class Forwarder:
         self.socket.settimeout(0.6)
         try:
             raise Failed(f"{self.socket.recv(65536)!r} came")
-        except TimeoutError:
+        except socket.timeout:
             self.socket.settimeout(SECONDS)
 
 
