@@ -85,26 +85,35 @@ class Converter:
         print(">", line, flush=True)
         self.inner.sendto(line.encode(), ("127.0.0.1", self.port))
 
+    def send(self, datagram, peer):
+        try:
+            self.air.sendto(datagram, peer)
+        except OSError as fault:
+            print("# not sent:", ascii(fault), flush=True)
+
     def received(self, datagram, source):
         gateway = self.gateways.get(datagram[4:12])
         if len(datagram) < 12 or datagram[0] != 2 or gateway is None:
             return
         if datagram[3] == PULL_DATA:
             gateway.peer = source
-            self.air.sendto(datagram[:3] + bytes([PULL_ACK]), source)
+            self.send(datagram[:3] + bytes([PULL_ACK]), source)
         elif datagram[3] == PUSH_DATA:
-            self.air.sendto(datagram[:3] + bytes([PUSH_ACK]), source)
+            self.send(datagram[:3] + bytes([PUSH_ACK]), source)
             for entry in json.loads(datagram[12:], parse_float=decimal.Decimal).get("rxpk", []):
                 self.heard(gateway, entry)
         elif datagram[3] == TX_ACK:
-            print("# TX_ACK", int.from_bytes(datagram[1:3], "big"), ascii(datagram[12:]), flush=True)
+            print("# TX_ACK", int.from_bytes(datagram[1:3], "big"), ascii(datagram[12:200]), flush=True)
 
     def heard(self, gateway, entry):
         """One packet: those with a wrong CRC and those that are no LoRa are passed over."""
         if entry["stat"] == 1 and entry["modu"] == "LORA":
             data, rate = base64.b64decode(entry["data"] + "=" * (-len(entry["data"]) % 4), validate=True), RATES[entry["datr"]]
             frequency, snr = int(entry["freq"] * 1_000_000), int(entry["lsnr"] * 10)
-            at, rssi = gateway.place(int(entry["tmst"]) % (1 << 32)), int(entry["rssi"])
+            rssi, tmst = int(entry["rssi"]), int(entry["tmst"]) % (1 << 32)
+            if len(data) > 255 or max(frequency, abs(snr), abs(rssi)) >= 1 << 32:
+                raise ValueError("no packet is so long or so strong")
+            at = gateway.place(tmst)
             self.tell(f"hear {gateway.number} {at} {frequency} {rate} {snr} {rssi} {now()} {data.hex() or '-'}")
 
     def answered(self, line):
@@ -123,7 +132,7 @@ class Converter:
         txpk |= {"modu": "LORA", "datr": datr, "codr": "4/5", "ipol": True, "ncrc": True, "size": length}
         text = json.dumps({"txpk": txpk | {"data": base64.b64encode(frame).decode()}})
         if gateway.peer:
-            self.air.sendto(b"\2" + (number % 65536).to_bytes(2, "big") + bytes([PULL_RESP]) + text.encode(), gateway.peer)
+            self.send(b"\2" + (number % 65536).to_bytes(2, "big") + bytes([PULL_RESP]) + text.encode(), gateway.peer)
 
     def run(self, floor):
         lines, orders = Lines(self.child.stdout), Lines(sys.stdin)

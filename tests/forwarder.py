@@ -182,7 +182,8 @@ def what_is_no_uplink_is_passed_over(program):
     with Converter(program) as (converter, one, two):
         one.pull()
         one.push(entry(1, 1, stat=-1), entry(1, 1, modu="FSK"))
-        for other in ({"datr": "SF7BW500"}, {"data": "%"}, {"freq": "a"}, {"tmst": None}, {"rssi": 1e999}):
+        faults = [{"datr": "SF7BW500"}, {"data": "%"}, {"data": "A" * 40_000}, {"freq": "a"}, {"tmst": None}, {"rssi": 1e999}]
+        for other in faults:
             one.push(entry(1, 1) | other)
         for text in (b"", b"{", b"[]", b'{"rxpk":1}', b'{"rxpk":[1]}', b"\xff", b"[" * 50_000):
             one.send(PUSH_DATA, text)
