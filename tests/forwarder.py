@@ -162,7 +162,7 @@ def the_best_gateway_answers(program):
         wanted = {"imme": False, "tmst": 32_704, "freq": 868.1, "rfch": 0, "powe": 14, "modu": "LORA", "datr": "SF7BW125"}
         wanted |= {"codr": "4/5", "ipol": True, "ncrc": True, "size": 12, "data": base64.b64encode(frame).decode()}
         expect((1, wanted), (token, txpk))
-        if not 0.2 <= took <= 0.6:
+        if not 0.2 <= took <= 0.9:
             raise Failed(f"it was answered after {took:.3f} s")
         one.is_quiet()
 

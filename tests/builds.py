@@ -1,0 +1,89 @@
+#!/usr/bin/env python3
+"""Compiles and runs the two programs of docs/BUILDING.md, each in a repository of its own with the crates that it wants.
+
+Usage: builds.py [NAME ..]      (one_book, one_station; none: both)
+
+The book's program stands in the page, the station's in examples/one-station.rt.txt. What each writes stands in the page, behind
+"It writes:". It is `rt try` that compiles and runs, some minutes each, and nothing is proved. A failing one has a line; the last
+line is 'N passed, M failed'. The status is 0 where none failed, 1 where one did, 2 where there is no such program.
+"""
+import pathlib
+import re
+import shutil
+import subprocess
+import sys
+import tempfile
+
+TOP = pathlib.Path(__file__).resolve().parent.parent
+SECONDS = 1_200
+
+
+def code_behind(text, words):
+    """The first lines behind these words that are set off by four blanks."""
+    block = re.search(r"\n\n((?:    .*\n|\n(?=    ))+)", text[text.index(words):])[1]
+    return "".join(line[4:] if line.strip() else line for line in block.splitlines(keepends=True)).rstrip("\n") + "\n"
+
+
+def programs():
+    """A name, its source, and the lines that it writes."""
+    page = (TOP / "docs" / "BUILDING.md").read_text(encoding="utf-8")
+    book, station = page[page.index("## A book alone"):].split("## A station with workers")
+    yield "one_book", code_behind(book, "is `src/main.rt`"), code_behind(book, "It writes:").splitlines()
+    source = (TOP / "examples" / "one-station.rt.txt").read_text(encoding="utf-8")
+    yield "one_station", source, code_behind(station, "It writes:").splitlines()
+
+
+def wanted_crates(source):
+    """The lines of crates.txt for what a source uses and for what that stands on; the repository's own libraries among them."""
+    rows = [line.partition(":") for line in (TOP / "crates.txt").read_text().splitlines() if ":" in line and line[0] != "#"]
+    uses = {name: words.split() for name, _, words in rows}
+    direct = sorted(set(re.findall(r"^use (\w+)", source, re.MULTILINE)) & set(uses))
+    found, left = set(), list(direct)
+    while left:
+        name = left.pop()
+        if name in uses and name not in found:
+            found.add(name)
+            left += uses[name]
+    return direct, {name: uses[name] for name in sorted(found)}
+
+
+def written(name, source):
+    """What the program writes, with what the toolchain says behind it."""
+    direct, uses = wanted_crates(source)
+    with tempfile.TemporaryDirectory(prefix="builds-") as room:
+        root = pathlib.Path(room)
+        for crate in uses:
+            shutil.copytree(TOP / "crates" / crate, root / "crates" / crate, ignore=shutil.ignore_patterns("out"))
+        lines = [f"{crate}: {' '.join(words)}" for crate, words in uses.items()] + [f"{name}: {' '.join(direct)}"]
+        (root / "crates.txt").write_text("\n".join(lines) + "\n")
+        shutil.copy(TOP / "HANDLES", root / "HANDLES")
+        (root / "crates" / name / "src").mkdir(parents=True)
+        (root / "crates" / name / "src" / "main.rt").write_text(source)
+        ran = subprocess.run(
+            ["rt", "try"], cwd=root / "crates" / name, stdin=subprocess.DEVNULL, capture_output=True, text=True, timeout=SECONDS
+        )
+        return ran.stdout + ran.stderr
+
+
+def main():
+    known = {name: (source, wanted) for name, source, wanted in programs()}
+    names = sys.argv[1:] or list(known)
+    if any(name not in known for name in names):
+        print("usage: builds.py [one_book] [one_station]", file=sys.stderr)
+        return 2
+    failed = 0
+    for name in names:
+        source, wanted = known[name]
+        try:
+            got = written(name, source).splitlines()
+        except subprocess.TimeoutExpired:
+            got = ["it didn't end"]
+        if got[: len(wanted)] != wanted:
+            failed += 1
+            print(f"FAIL {name}: wanted {wanted}, got {got}")
+    print(f"{len(names) - failed} passed, {failed} failed")
+    return 1 if failed else 0
+
+
+if __name__ == "__main__":
+    sys.exit(main())
