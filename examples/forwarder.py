@@ -137,10 +137,11 @@ class Converter:
     def run(self, floor):
         lines, orders = Lines(self.child.stdout), Lines(sys.stdin)
         inputs = [self.air, lines, orders]
-        # Until the program's socket is there, what is sent to it is lost. Each of these lines has an answer.
+        # Until the program's socket is there, what is sent to it is lost. Each tick has an answer.
         while not select.select([lines], [], [], 0.05)[0]:
-            for number in self.numbered:
-                self.tell(f"tick {number} {floor}")
+            self.tell(f"tick {min(self.numbered)} {floor}")
+        for number in self.numbered:
+            self.tell(f"tick {number} {floor}")
         while True:
             wait = max(0, self.passes[0] - now()) / 1_000_000 if self.passes else None
             ready = select.select(inputs, [], [], wait)[0]

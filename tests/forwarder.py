@@ -120,7 +120,7 @@ class Converter:
         raise Failed(f"no line {begin!r} in the log {self.log}")
 
     def __enter__(self):
-        self.line("floor 1")
+        self.line("floor 2")
         return self, Forwarder(1, self.address), Forwarder(2, self.address)
 
     def __exit__(self, *_):
@@ -210,11 +210,15 @@ def a_queued_payload_goes_along(program):
 
 
 def nothing_is_sent_in_the_first_hour(program):
-    with Converter(program, more=()) as (converter, one, _):
+    with Converter(program, more=()) as (converter, one, two):
         one.pull()
         one.push(entry(1, 1))
         expect("unanswered 1 Passed", converter.line("unanswered"))
+        two.pull()
+        two.push(entry(1, 2))
+        expect("unanswered 2 Passed", converter.line("unanswered 2"))
         one.is_quiet()
+        two.is_quiet()
 
 
 def counters_are_carried_over(program):
