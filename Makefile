@@ -3,12 +3,13 @@
 PROGRAM := crates/airbook/out/airbook
 PREFIX ?= /usr/local
 
-.PHONY: help demo test cases mutants install
+.PHONY: help demo test documents cases mutants install
 
 # What can be asked for, with a line each.
 help:
 	@echo 'make demo      the main job on a fresh machine, by a build that is not proved'
 	@echo 'make test      every proof, every edit that has to be refused, and every test'
+	@echo 'make documents whether the documents go with the sources: seconds'
 	@echo 'make cases     the cases alone, on the program that make test has proved'
 	@echo 'make mutants   more edits that have to be refused: before a release'
 	@echo 'make install   copies the proved program to PREFIX/bin/airbook (PREFIX=/usr/local)'
@@ -19,16 +20,14 @@ demo:
 	@echo 'airbook run < examples/two-gateways.txt'
 	@cd crates/airbook && rt try -- run < ../../examples/two-gateways.txt
 
-# The gate; then the edits that the prover has to refuse, after the script that tries them was tried itself; the list of calls
-# that take memory; what must not compile; and then, on the program that the gate has proved and built, the cases, random runs
-# and saved books beside plain models, growths that are refused, workers beside one thread, inputs of as many bytes and uplinks
-# as there may be, and a server that listens. Where one fails, what comes after it is not run.
-test:
+# First what takes seconds: whether the documents go with the sources. Then the gate; the edits that the prover has to refuse,
+# after the script that tries them was tried itself; what must not compile; and then, on the program that the gate has proved and
+# built, the cases, random runs and saved books beside plain models, allocations that are refused, workers beside one thread,
+# inputs of as many bytes and uplinks as there may be, and a server that listens. Where one fails, what comes after it is not run.
+test: documents
 	python3 tests/gate.py
 	python3 tests/edit_trials.py
 	python3 tests/edits.py edits
-	python3 tests/edit_table.py
-	python3 tests/growths.py
 	python3 tests/misuse.py
 	python3 tests/cases.py $(PROGRAM)
 	python3 tests/random_runs.py $(PROGRAM)
@@ -38,6 +37,15 @@ test:
 	python3 tests/workers.py $(PROGRAM)
 	python3 tests/limits.py $(PROGRAM)
 	python3 tests/listen.py $(PROGRAM)
+
+# Whether links lead somewhere, sentences are short, and the lists of definitions, of calls that take memory and of changes of
+# statements are those of the sources.
+documents:
+	python3 tests/links.py
+	python3 tests/english.py
+	python3 tests/model.py
+	python3 tests/growths.py
+	python3 tests/edit_table.py
 
 # The proved program on each of the cases.
 cases:

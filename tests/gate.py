@@ -59,9 +59,10 @@ def lanes(processors, memory):
 def tell_plan(processors, memory, side_by_side, slower):
     minutes = max(WHOLE / (side_by_side or processors), CHAIN) * slower / 60
     print(
-        f"gate: {len(prover.crates())} crates are proved and their tests run, on {processors} processors with {memory / 1e9:.0f} GB free"
-        f"{f', {side_by_side} proofs side by side' if side_by_side else ''}. This machine takes {slower:.1f} times the time of the table's,"
-        f" so that takes about {minutes:.0f} minutes; less where an earlier run here has passed the same files, which is kept.",
+        f"gate: {len(prover.crates())} crates are proved and their tests run, on {processors} processors"
+        f" with {memory / 1e9:.0f} GB free{f', {side_by_side} proofs side by side' if side_by_side else ''}."
+        f" A proof takes {slower:.1f} times the seconds of bench/results, so that is about {minutes:.0f} minutes;"
+        " less where an earlier run here has passed the same files, which is kept.",
         flush=True,
     )
 
