@@ -4,6 +4,7 @@ pub mod ReportLemmas
 pub mod ResumeLemmas
 pub mod LawLemmas
 pub mod Worked
+pub mod WorkedPromise
 pub mod TurnLemmas
 pub mod TryingLemmas
 pub mod OpeningLemmas
