@@ -5,6 +5,7 @@ import re
 
 HEAD = re.compile(r"^(\s*)(?:pub(?:\([^)]*\))? )?(?:const |unsafe |extern \"C\" )*fn (\w+)")
 IMPL = re.compile(r"^impl\b(?:<.*?>)? (?:(?P<trait>.+?) for )?(?P<type>.+?)(?: \{|$)")
+TYPE = re.compile(r"^(?:pub(?:\([^)]*\))? )?(?:struct|enum) (\w+)", re.M)
 TRAIT = re.compile(r"^(?:pub(?:\([^)]*\))? )?trait (\w+)")
 WORD = re.compile(r"[A-Za-z_]\w*")
 TEXT_OR_COMMENT = re.compile(r'"(?:\\.|[^"\\])*"|//.*')
@@ -47,18 +48,19 @@ def end_of(lines, at, indent):
     return len(lines) - 1
 
 
-def functions_in(folder, file):
-    """The functions of a file, in the order of their lines."""
+def functions_in(folder, file, homes):
+    """The functions of a file, in the order of their lines. A method's path begins with the module of its type."""
     lines = pathlib.Path(folder, file).read_text(encoding="utf-8").splitlines()
     found, owner, module = [], "", module_of(file)
     for number, line in enumerate(lines):
         impl, trait, head = IMPL.match(line), TRAIT.match(line), HEAD.match(line)
         if impl:
             owner = name_of(impl["type"]) + name_of(impl["trait"] or "")
+            module = homes.get(name_of(impl["type"]), module_of(file))
         elif trait:
             owner = trait[1]
         elif line.startswith("}"):
-            owner = ""
+            owner, module = "", module_of(file)
         if head:
             path = "::".join([*module, *([owner] if head[1] and owner else []), head[2]])
             last = end_of(lines, number, head[1])
@@ -69,9 +71,10 @@ def functions_in(folder, file):
 
 def functions_of(folder):
     """The functions of a crate by their paths."""
-    files = sorted(pathlib.Path(folder, "src").rglob("*.rt"))
-    every = [it for file in files for it in functions_in(folder, file.relative_to(folder).as_posix())]
-    return {it.path: it for it in every}
+    files = [it.relative_to(folder).as_posix() for it in sorted(pathlib.Path(folder, "src").rglob("*.rt"))]
+    texts = {file: pathlib.Path(folder, file).read_text(encoding="utf-8") for file in files}
+    homes = {name: module_of(file) for file, text in texts.items() for name in TYPE.findall(text)}
+    return {it.path: it for file in files for it in functions_in(folder, file, homes)}
 
 
 def reached_from(functions):
