@@ -27,9 +27,9 @@ class Function:
 
 
 def name_of(text):
-    """The name of a type or a trait without its parameters."""
-    found = WORD.search(re.sub(r"<.*", "", text))
-    return found.group(0) if found else ""
+    """The name of a type or a trait without its path and its parameters."""
+    found = WORD.findall(re.sub(r"<.*", "", text))
+    return found[-1] if found else ""
 
 
 def module_of(file):
@@ -49,14 +49,15 @@ def end_of(lines, at, indent):
 
 
 def functions_in(folder, file, homes):
-    """The functions of a file, in the order of their lines. A method's path begins with the module of its type."""
+    """The functions of a file, in the order of their lines. A method's path begins with the module of its type, a trait's with
+    that of the `impl`."""
     lines = pathlib.Path(folder, file).read_text(encoding="utf-8").splitlines()
     found, owner, module = [], "", module_of(file)
     for number, line in enumerate(lines):
         impl, trait, head = IMPL.match(line), TRAIT.match(line), HEAD.match(line)
         if impl:
             owner = name_of(impl["type"]) + name_of(impl["trait"] or "")
-            module = homes.get(name_of(impl["type"]), module_of(file))
+            module = module_of(file) if impl["trait"] else homes.get(name_of(impl["type"]), module_of(file))
         elif trait:
             owner = trait[1]
         elif line.startswith("}"):
