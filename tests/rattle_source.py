@@ -4,7 +4,7 @@ import pathlib
 import re
 
 HEAD = re.compile(r"^(\s*)(?:pub(?:\([^)]*\))? )?(?:const |unsafe |extern \"C\" )*fn (\w+)")
-IMPL = re.compile(r"^impl\b(?:<.*?>)? (?:(?P<trait>.+?) for )?(?P<type>.+?)(?: \{|$)")
+IMPL = re.compile(r"^(?:unsafe )?impl\b(?:<.*?>)? (?:(?P<trait>.+?) for )?(?P<type>.+?)(?: \{|$)")
 TYPE = re.compile(r"^(?:pub(?:\([^)]*\))? )?(?:struct|enum) (\w+)", re.M)
 TRAIT = re.compile(r"^(?:pub(?:\([^)]*\))? )?trait (\w+)")
 WORD = re.compile(r"[A-Za-z_]\w*")
