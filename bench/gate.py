@@ -159,11 +159,13 @@ def table(folder, sums, peaks):
     for crate in sorted(below, key=lambda it: -chains[it]):
         parts = [sums[crate, part] for part in PARTS]
         shown = " | ".join(f"{seconds:.0f}" for seconds in parts)
-        lines.append(f"| `{crate}` | {shown} | {count_of_edits(folder, crate)} | {sum(parts):.0f} | {peaks[crate]} | {chains[crate]:.0f} |")
+        count = count_of_edits(folder, crate)
+        lines.append(f"| `{crate}` | {shown} | {count} | {sum(parts):.0f} | {peaks[crate]} | {chains[crate]:.0f} |")
     whole = [sum(sums[crate, part] for crate in below) for part in PARTS]
     shown = " | ".join(f"{seconds:.0f}" for seconds in whole)
     count = sum(count_of_edits(folder, crate) for crate in below)
-    lines.append(f"| all | {shown} | {count} | {sum(whole):.0f} | {max(peaks.values(), default=0)} | {max(chains.values()):.0f} |")
+    most = max(peaks.values(), default=0)
+    lines.append(f"| all | {shown} | {count} | {sum(whole):.0f} | {most} | {max(chains.values()):.0f} |")
     return lines, max(chains.values()), max(chains, key=chains.get)
 
 

@@ -58,13 +58,11 @@ def rests_on(name, words_of):
 
 
 def defined_at(text, old):
-    """The definition that holds a text which stands once; '' where it is an import's or a comment's, None where it can't be told."""
-    before = text[: text.index(old)].splitlines() if old in text else []
-    lines = [*before, text[text.index(old) :].splitlines()[0]] if old in text else []
-    if not lines:
+    """The definition that holds a text which stands once; '' where that is an import or a comment, None where none does."""
+    if old not in text:
         return None
-    start = text.rindex("\n", 0, text.index(old) + 1) + 1 if "\n" in text[: text.index(old)] else 0
-    first = text[start:].splitlines()[0]
-    if first.startswith(("use ", "--")):
+    upto = text[: text.index(old) + 1].splitlines()
+    whole = text.splitlines()[len(upto) - 1]
+    if whole.startswith(("use ", "--")):
         return ""
-    return next((found for found in map(named, reversed([*before, first])) if found), None)
+    return next((found for found in map(named, [whole, *reversed(upto[:-1])]) if found), None)

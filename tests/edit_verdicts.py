@@ -10,6 +10,8 @@ CALLS = re.compile(r"no proof: it calls `([^`]*)`")
 FRONT_END = re.compile(r"\berror\[[\w-]+\]")
 # What a proof file says where it names what is not there any more.
 NAMES = re.compile(r"has no field|is not in scope|has no `|was not admitted|is not declared|does not export|no goal")
+# The same of a fact, of which what lacks a field may be the changed statement itself.
+NAMES_BESIDE_FIELDS = re.compile(NAMES.pattern.removeprefix("has no field|"))
 DEPENDS = re.compile(r"declarations? that depends? on|which was not admitted|was rejected, w")
 UNREAD = re.compile(r"is not in scope|has no field|is no name|operand is missing|expected the end|cannot continue")
 LIMIT = re.compile(r"antt ran out of|outgrew the memory limit|stopped at the step limit|could not tell|no verdict")
@@ -74,7 +76,7 @@ class Said:
         own = [text for path, _, of, text in self.errors if path == f"proofs/{file}.antt" and of == name]
         if not own:
             return Verdict(Kind.PROVED, f"proofs/{file}.antt: {name}")
-        return named(own, f"{file}.{name}")
+        return named(own, f"{file}.{name}", NAMES_BESIDE_FIELDS)
 
     def of_function(self, edit):
         told = self.functions.get(f"{edit.crate}::{edit.only}")
@@ -98,11 +100,11 @@ class Said:
         return named([text for _, text in own], goal)
 
 
-def named(texts, goal):
+def named(texts, goal, names=NAMES):
     """A refusal by these errors: for a goal of its own, or only since names are gone."""
     own = [text for text in texts if not DEPENDS.search(text)]
     if not own:
         return Verdict(Kind.OTHER, f"{goal}: {texts[0][:120]}")
-    if all(NAMES.search(text) for text in own):
+    if all(names.search(text) for text in own):
         return Verdict(Kind.NAMES, f"{goal}: {own[0][:120]}")
     return Verdict(Kind.REFUSED, goal or own[0][:80])

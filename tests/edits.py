@@ -65,9 +65,8 @@ class Batches:
 
     def may_be_told_apart(self, one, other):
         """Whether neither of two changes of statements turns what the other's fact rests on."""
-        return not any(
-            set(turned(changed)) & antt_source.rests_on(told.fact[1], self.words) for changed, told in ((one, other), (other, one))
-        )
+        pairs = ((one, other), (other, one))
+        return not any(turned(changed) & antt_source.rests_on(told.fact[1], self.words) for changed, told in pairs)
 
     def of(self, edits):
         within = [it for it in edits if stays_within(it, self.functions)]

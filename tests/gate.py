@@ -4,11 +4,12 @@
 Usage: tests/gate.py      (in a clone of the repository; status: that of `rt ci`, 2 where it can't be run)
 
 First it times the proof of one small crate, which tells this machine's pace, and reckons from that how long the gate takes
-here. The toolchain runs as many proofs side by side as it reckons memory for, and reckons with some four times of what they
-take; so where there is little memory it is told how many to run, by its variable RT_JOBS, unless that is set already. Once all
-is proved, the sums of the crates' files are kept in crates/*/out/proved, by which tests/edits.py knows that the gate speaks of
-them.
+here. The toolchain runs as many proofs side by side as it reckons memory for, and reckons with two to four times of what they
+take; so it is told how many to run, by its variable RT_JOBS, unless that is set already: one a processor, as far as memory
+holds them. Once all is proved, the sums of the crates' files are kept in crates/*/out/proved, by which tests/edits.py knows
+that the gate speaks of them.
 """
+import os
 import pathlib
 import re
 import resource
@@ -16,7 +17,6 @@ import shutil
 import subprocess
 import sys
 import time
-import os
 
 sys.dont_write_bytecode = True
 import prover
@@ -25,9 +25,8 @@ import prover
 # proofs that wait for one another, and the crate whose proof tells the pace.
 WHOLE, CHAIN, PACE = 5_000, 1_800, 17.0
 PACE_CRATE = "radio_airtime"
-# The most memory that one proof was seen to take; and what the toolchain wants for each that it runs beside others.
-BYTES_OF_A_PROOF = 2_500_000_000
-BYTES_RECKONED = 5_000_000_000
+# The most memory that one proof was seen to take.
+BYTES_OF_A_PROOF = 3_500_000_000
 LEAST_BYTES_OF_DISK = 3_000_000_000
 PROVED = re.compile(r"^rt: (\w+)(: its tests are)? (proved|NOT PROVED)|^rt: (\w+) is kept")
 
@@ -50,19 +49,17 @@ def pace():
 
 
 def lanes(processors, memory):
-    """How many proofs to have the toolchain run side by side; None where what it reckons itself does."""
-    if memory >= processors * BYTES_RECKONED:
-        return None
-    return max(1, min(processors, memory // BYTES_OF_A_PROOF))
+    """How many proofs to have the toolchain run side by side."""
+    given = os.environ.get("RT_JOBS", "")
+    return int(given) if given.isdigit() and int(given) else max(1, min(processors, memory // BYTES_OF_A_PROOF))
 
 
 def tell_plan(processors, memory, side_by_side, slower):
-    minutes = max(WHOLE / (side_by_side or processors), CHAIN) * slower / 60
+    minutes = max(WHOLE / side_by_side, CHAIN) * slower / 60
     print(
-        f"gate: {len(prover.crates())} crates are proved and their tests run, on {processors} processors"
-        f" with {memory / 1e9:.0f} GB free{f', {side_by_side} proofs side by side' if side_by_side else ''}."
-        f" A proof takes {slower:.1f} times the seconds of bench/results, so that is about {minutes:.0f} minutes;"
-        " less where an earlier run here has passed the same files, which is kept.",
+        f"gate: {len(prover.crates())} crates are proved and their tests run, {side_by_side} proofs at a time, on {processors}"
+        f" processors with {memory / 1e9:.0f} GB free. A proof takes {slower:.1f} times the seconds by which this is reckoned, so"
+        f" that is about {minutes:.0f} minutes; less where an earlier run here has passed the same files, which is kept.",
         flush=True,
     )
 
@@ -84,7 +81,7 @@ class Progress:
 
 def run_gate(side_by_side):
     """The status of `rt ci`, whose lines are passed on."""
-    told = {**os.environ, "RT_JOBS": str(side_by_side)} if side_by_side and "RT_JOBS" not in os.environ else None
+    told = {**os.environ, "RT_JOBS": str(side_by_side)}
     progress = Progress(set(prover.crates()))
     words = {"cwd": prover.TOP, "stdin": subprocess.DEVNULL, "stdout": subprocess.PIPE, "stderr": subprocess.STDOUT}
     with subprocess.Popen(["rt", "ci"], env=told, text=True, errors="replace", **words) as gate:
