@@ -4,11 +4,11 @@
 Usage: pages.py PROGRAM
 
 A command is a line of a page that begins with four blanks and `$ `, with the lines behind it that begin with eight blanks. What
-it is to write is the lines between it and the next. Those of one block are run by one bash, in a folder with examples/ and with
-the files that the pages speak of, `log` and `lines.txt`. Where nothing is to be written the status has to be 0. Port 1700 is another
-one here. What names `forwarder.py` is left to tests/forwarder.py. Each block ends within a minute, or is stopped. A failing one
-has a line; the last line is 'N passed, M failed'. The status is 0 where none failed, 1 where one did, 2 where nothing could be
-run.
+it is to write is the lines between it and the next. Those of one block are run by one bash, in a folder with examples/ and
+with the files that the pages speak of, `log` and `lines.txt`. Where nothing is to be written the status has to be 0. Port 1700
+is another one here. What names `forwarder.py` is left to tests/forwarder.py. Each block ends within a minute, or is stopped. A
+failing one has a line; the last line is 'N passed, M failed'. The status is 0 where none failed, 1 where one did, 2 where
+nothing could be run.
 """
 import os
 import pathlib
