@@ -25,7 +25,7 @@ import prover
 # proofs that wait for one another, and the crate whose proof tells the pace.
 WHOLE, CHAIN, PACE = 5_000, 1_800, 17.0
 PACE_CRATE = "radio_airtime"
-# The most memory that one proof was seen to take.
+# Half of what the two proofs that take most memory were seen to take together.
 BYTES_OF_A_PROOF = 3_500_000_000
 LEAST_BYTES_OF_DISK = 3_000_000_000
 PROVED = re.compile(r"^rt: (\w+)(: its tests are)? (proved|NOT PROVED)|^rt: (\w+) is kept")
