@@ -9,6 +9,7 @@ GOALS = re.compile(r"`search` did not prove (.*)")
 CALLS = re.compile(r"no proof: it calls `([^`]*)`")
 FRONT_END = re.compile(r"\berror\[[\w-]+\]")
 # What a proof file says where it names what is not there any more.
+LEMMAS = re.compile(r"proofs/\w+\.antt")
 NAMES = re.compile(r"has no field|is not in scope|has no `|was not admitted|is not declared|does not export|no goal")
 # The same of a fact, of which what lacks a field may be the changed statement itself.
 NAMES_BESIDE_FIELDS = re.compile(NAMES.pattern.removeprefix("has no field|"))
@@ -92,12 +93,18 @@ class Said:
         calls = CALLS.search(told)
         if calls:
             return Verdict(Kind.OTHER, f"{edit.only} calls {calls[1]}, which is refused")
-        folder = f"proofs/{edit.only.replace('::', '/')}/"
-        own = [(of, text) for path, _, of, text in self.errors if path.startswith(folder)]
+        own = [(of, text) for path, _, of, text in self.errors if is_own(edit, path)]
         if not own:
             return Verdict(Kind.UNTOLD, f"{edit.only}: {told}")
         goal = next((of for of, text in own if of and not NAMES.search(text) and not DEPENDS.search(text)), own[0][0])
         return named([text for _, text in own], goal)
+
+
+def is_own(edit, path):
+    """Whether an error there is one of the function's own proof; of a law whose statement is changed also one of its lemmas."""
+    if path.startswith(f"proofs/{edit.only.replace('::', '/')}/"):
+        return True
+    return LEMMAS.fullmatch(path) is not None and all(file.startswith("specs/") for file in edit.files())
 
 
 def named(texts, goal, names=NAMES):
