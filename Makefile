@@ -3,13 +3,15 @@
 PROGRAM := crates/airbook/out/airbook
 PREFIX ?= /usr/local
 
-.PHONY: help demo test documents cases mutants install
+.PHONY: help demo test documents check quick cases mutants install
 
 # What can be asked for, with a line each.
 help:
 	@echo 'make demo      the main job on a fresh machine, by a build that is not proved'
 	@echo 'make test      every proof, every edit that has to be refused, and every test'
 	@echo 'make documents whether the documents go with the sources: seconds'
+	@echo 'make check CRATE=NAME   proves one crate, over the libraries below it'
+	@echo 'make quick     before a commit: the documents, and the cases on the program that is there'
 	@echo 'make cases     the cases alone, on the program that make test has proved'
 	@echo 'make mutants   more edits that have to be refused: before a release'
 	@echo 'make install   copies the proved program to PREFIX/bin/airbook (PREFIX=/usr/local)'
@@ -49,6 +51,14 @@ documents:
 	python3 tests/model.py
 	python3 tests/growths.py
 	python3 tests/edit_table.py
+
+# One crate, over the libraries below it, as make check CRATE=gateway_book.
+check:
+	@test -d 'crates/$(CRATE)/src' || { echo 'Which crate? For example: make check CRATE=gateway_book' >&2; exit 1; }
+	cd 'crates/$(CRATE)' && rt check
+
+# What takes less than a minute before a commit.
+quick: documents cases
 
 # The proved program on each of the cases.
 cases:
