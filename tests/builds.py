@@ -14,6 +14,9 @@ import subprocess
 import sys
 import tempfile
 
+sys.dont_write_bytecode = True
+import prover
+
 TOP = pathlib.Path(__file__).resolve().parent.parent
 SECONDS = 1_200
 
@@ -35,16 +38,9 @@ def programs():
 
 def wanted_crates(source):
     """The lines of crates.txt for what a source uses and for what that stands on; the repository's own libraries among them."""
-    rows = [line.partition(":") for line in (TOP / "crates.txt").read_text().splitlines() if ":" in line and line[0] != "#"]
-    uses = {name: words.split() for name, _, words in rows}
+    uses = prover.crates()
     direct = sorted(set(re.findall(r"^use (\w+)", source, re.MULTILINE)) & set(uses))
-    found, left = set(), list(direct)
-    while left:
-        name = left.pop()
-        if name in uses and name not in found:
-            found.add(name)
-            left += uses[name]
-    return direct, {name: uses[name] for name in sorted(found)}
+    return direct, {name: uses[name] for name in prover.below(direct, uses)}
 
 
 def written(name, source):
