@@ -5,6 +5,8 @@ pub mod CutLemmas
 pub mod BegunLemmas
 pub mod HourLemmas
 pub mod NetLemmas
+pub mod OnAirLemmas
+pub mod WorkedOnAir
 pub mod FilterLemmas
 pub mod SortLemmas
 pub mod FilledLaws

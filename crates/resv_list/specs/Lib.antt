@@ -5,6 +5,7 @@ pub mod SameFields
 pub mod Reservations
 pub mod Begun
 pub mod Hours
+pub mod OnAir
 pub mod Nearest
 pub use Rattle.radio_airtime.specs.DataRate
 pub use Rattle.radio_airtime.specs.TimeOnAir
