@@ -3,6 +3,7 @@ pub mod ApartLaws
 pub mod CancelLaws
 pub mod DutyLaws
 pub mod DutyKept
+pub mod OnAirLaws
 pub mod KeptLaws
 pub mod LeastLaws
 pub mod OrderlyLaws
@@ -30,6 +31,7 @@ pub mod WorkedStarts
 pub mod WorkedForgetting
 pub mod WorkedLists
 pub mod WorkedHours
+pub mod WorkedOnAir
 pub mod SavedText
 pub mod SavedWords
 pub mod SavedReading

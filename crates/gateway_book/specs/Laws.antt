@@ -8,6 +8,7 @@ use Rattle.gateway_book.specs.Spaced.{SpacedFrom}
 use Rattle.radio_bands.specs.declared.band.Band.{Band}
 use Rattle.radio_bands.specs.Band.{hour, limit_of}
 use Rattle.resv_list.specs.Hours.{starts_in}
+use Rattle.resv_list.specs.OnAir.{on_air}
 use Rattle.gateway_book.specs.Duty.{full_hour}
 use Rattle.gateway_book.specs.Busiest.{IsBusiestAnswer, busiest_of}
 use Rattle.gateway_book.specs.Disjoint.{rested_from}
@@ -71,3 +72,9 @@ FewHoursSuffice =
 -- the law: for every list the answer is the busiest hour, and there is one such answer
 abbrev pub BusiestIsExact : Type 0
 BusiestIsExact = (l : List Reservation) (band : Band) (o : Option (ℕ × ℕ)) → IsBusiestAnswer l band o ↔ (o ≡ busiest_of l band)
+
+-- the law: of a list that a gateway may hold, whatever its gap, no hour has more of a band on air than the limit, wherever it
+-- opens: of what begins before the hour, or ends after it, the part counts that lies within
+abbrev pub OnAirKeepsLimit : Type 0
+OnAirKeepsLimit =
+    (gap : ℕ) (l : List Reservation) → IsLawful gap l → (band : Band) (t : ℕ) → on_air band t (t + hour) l ≤ limit_of band

@@ -26,5 +26,6 @@ pub use Rattle.resv_list.specs.Fit
 pub use Rattle.resv_list.specs.Sorted
 pub use Rattle.resv_list.specs.Begun
 pub use Rattle.resv_list.specs.Hours
+pub use Rattle.resv_list.specs.OnAir
 pub use Rattle.resv_list.specs.SameFields
 pub use Rattle.resv_list.specs.Reservations

@@ -1,5 +1,5 @@
 ghost use Rattle.gateway_book.specs.Laws.{SpacedIsApart, GapKeepsDisjoint, FirstHasLeastStart, LeastIsLeast};
-ghost use Rattle.gateway_book.specs.Laws.{FewHoursSuffice, DutyRowIsExact, BusiestIsExact};
+ghost use Rattle.gateway_book.specs.Laws.{FewHoursSuffice, DutyRowIsExact, BusiestIsExact, OnAirKeepsLimit};
 ghost use Rattle.gateway_book.specs.Earliest.{EarliestCandidates};
 ghost use Rattle.gateway_book.specs.EarliestValue.{EarliestIsExact};
 ghost use Rattle.gateway_book.specs.Forgetting.{ForgettingIsUnseen};
@@ -44,6 +44,13 @@ pub fn law_duty_row_is_exact()
 /// there is one such answer.
 pub fn law_busiest_is_exact()
     ensures { BusiestIsExact }
+{}
+
+/// Of a list that a gateway may hold no hour has more of a sub-band on air than its limit, wherever it opens: of what begins before
+/// the hour, or ends after it, the part counts that lies within. So a book, which looks at what begins within an hour, keeps
+/// the limit as a measuring receiver finds it too.
+pub fn law_on_air_keeps_limit()
+    ensures { OnAirKeepsLimit }
 {}
 
 /// The earliest start at which an ask is accepted, from one moment to another, is the one value that is answered, for every

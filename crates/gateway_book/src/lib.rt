@@ -27,8 +27,8 @@ pub use cancel::CancelFault;
 pub use laws::{
     law_books_may_be_saved, law_busiest_is_exact, law_duty_row_is_exact, law_earliest_candidates,
     law_earliest_is_exact, law_few_hours_suffice, law_first_has_least_start, law_forgetting,
-    law_gap_keeps_disjoint, law_least_is_least, law_loaded_was_saved, law_saved_is_read_again,
-    law_spaced_is_apart,
+    law_gap_keeps_disjoint, law_least_is_least, law_loaded_was_saved, law_on_air_keeps_limit,
+    law_saved_is_read_again, law_spaced_is_apart,
 };
 pub use loading::LoadFault;
 pub use opening::{MAX_CAP, MAX_GAP, OpenFault, open_fault};
