@@ -25,8 +25,8 @@ demo:
 # First what takes seconds: whether the documents go with the sources. Then the gate; the edits that the prover has to refuse,
 # after the script that tries them was tried itself; what must not compile; and then, on the program that the gate has proved and
 # built, the cases, random runs and saved books beside plain models, allocations that are refused, workers beside one thread,
-# inputs of as many bytes and uplinks as there may be, the commands of the pages, the example of a converter, and a server that
-# listens. Where one fails, what comes after it is not run.
+# inputs of as many bytes and uplinks as there may be, the commands of the pages, talks line by line, the example of a converter,
+# and a server that listens. Where one fails, what comes after it is not run.
 test: documents
 	python3 tests/gate.py
 	python3 tests/edit_trials.py
@@ -40,6 +40,7 @@ test: documents
 	python3 tests/workers.py $(PROGRAM)
 	python3 tests/limits.py $(PROGRAM)
 	python3 tests/pages.py $(PROGRAM)
+	python3 tests/dialogue.py $(PROGRAM)
 	python3 tests/forwarder.py $(PROGRAM)
 	python3 tests/listen.py $(PROGRAM)
 

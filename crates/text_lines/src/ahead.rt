@@ -1,6 +1,6 @@
 // Input that is read 4 KiB at a time, and taken by the byte or by the line.
 ghost use Rattle.std.specs.Prelude.{◌≡◌, ◌+◌, ◌<◌, ◌≤◌, min, [], ◌∷◌, ◌++◌, Some, None, length, take, drop};
-ghost use Rattle.std.specs.Prelude.{OnOk, OnErr, IfOk};
+ghost use Rattle.std.specs.Prelude.{OnOk, OnErr, IfOk, ◌↔◌, true, Contains};
 ghost use Rattle.std.specs.Prelude.{IfNone, MatchOption, MatchBool};
 ghost use Rattle.std.specs.Option.{option_to_list};
 ghost use Rattle.std.specs.Io.KnownBytes.{Consumes, Keeps, IsAtEnd};
@@ -80,6 +80,13 @@ impl ReadAhead {
         ensures { result.now ≡ self.now.pending }
     {
         &self.buffer[self.start..self.end]
+    }
+
+    /// Whether a whole line is there without another read.
+    pub(crate) fn has_line(&self) -> bool
+        ensures { (result ≡ true) ↔ Contains self.now.pending 10 }
+    {
+        self.as_slice().contains(&b'\n')
     }
 
     /// How many bytes were taken.

@@ -113,7 +113,16 @@ fn answer_lines<T: LineAnswerer, R: ByteIn, W: ByteOut>(
         if let NextLine::End = found {
             return Ok(refused);
         }
-        match answer_line(answerer, number, line.as_slice(), &mut text, output, writer) {
+        let waits = !input.has_line();
+        match answer_line(
+            answerer,
+            number,
+            line.as_slice(),
+            &mut text,
+            waits,
+            output,
+            writer,
+        ) {
             Err(_) => return Err(LineFault::Write),
             Ok(is_refusal) => refused |= is_refusal,
         }
@@ -125,11 +134,13 @@ fn answer_lines<T: LineAnswerer, R: ByteIn, W: ByteOut>(
 }
 
 /// Answers line `number`, and says whether the answer begins with `no` or `bad`. The answer is made in `text`, whatever that had.
+/// Where the next line is still to be waited for, all that was gathered is written, so that who sends it has this answer.
 fn answer_line<T: LineAnswerer, W: ByteOut>(
     answerer: &mut T,
     number: u64,
     line: &[u8],
     text: &mut TextLine,
+    waits: bool,
     output: &mut WriteBehind,
     writer: &mut W,
 ) -> Result<bool, CallFailed>
@@ -139,10 +150,12 @@ fn answer_line<T: LineAnswerer, W: ByteOut>(
 {
     text.clear();
     let is_refusal = answerer.answer(number, line, text);
-    match output.put(writer, text.as_slice()) {
-        Err(failed) => Err(failed),
-        Ok(()) => Ok(is_refusal),
+    if waits {
+        output.put_through(writer, text.as_slice())?;
+    } else {
+        output.put(writer, text.as_slice())?;
     }
+    Ok(is_refusal)
 }
 
 /// Writes what follows the last answer, and with it all that was gathered.

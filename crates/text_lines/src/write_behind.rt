@@ -65,13 +65,30 @@ impl WriteBehind {
         ensures forgotten { OnErr result (self.new ≡ []) }
         ensures failed { CountsFailure (W.failed_calls writer.old) (W.failed_calls writer.new) result }
     {
-        let start = self.len;
-        let end = start + bytes.len();
-        self.buffer[start..end].copy_from_slice(bytes);
-        if end < WRITE_SIZE {
-            self.len = end;
-            return Ok(());
+        let end = self.len + bytes.len();
+        if end >= WRITE_SIZE {
+            return self.put_through(writer, bytes);
         }
+        self.buffer[self.len..end].copy_from_slice(bytes);
+        self.len = end;
+        Ok(())
+    }
+
+    /// Adds bytes, at most 4,096, to what is gathered, and writes all of it. After an Err a front of it was taken, and the rest is
+    /// forgotten.
+    pub fn put_through<W: ByteOut>(
+        &mut self,
+        writer: &mut W,
+        bytes: &[u8],
+    ) -> Result<(), CallFailed>
+        requires { length bytes.now ≤ WRITE_SIZE }
+        ensures ok { OnOk result (Appends (W.taken writer.old) (W.taken writer.new) (self.old ++ bytes.now)) }
+        ensures err { OnErr result (WritesFront (W.taken writer.old) (W.taken writer.new) (self.old ++ bytes.now)) }
+        ensures empty { self.new ≡ [] }
+        ensures failed { CountsFailure (W.failed_calls writer.old) (W.failed_calls writer.new) result }
+    {
+        let end = self.len + bytes.len();
+        self.buffer[self.len..end].copy_from_slice(bytes);
         self.len = 0;
         write_all(writer, &self.buffer[..end])
     }
@@ -84,8 +101,6 @@ impl WriteBehind {
         ensures empty { self.new ≡ [] }
         ensures failed { CountsFailure (W.failed_calls writer.old) (W.failed_calls writer.new) result }
     {
-        let end = self.len;
-        self.len = 0;
-        write_all(writer, &self.buffer[..end])
+        self.put_through(writer, &[])
     }
 }

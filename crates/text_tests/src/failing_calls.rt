@@ -65,10 +65,13 @@ fn reads_of(input: &[u8]) -> u64 {
     (input.len().div_ceil(STEP) as u64).saturating_add(1)
 }
 
-/// How often a writer is called that takes all of this.
+/// How often a writer is called at least that takes all of this.
 fn writes_of(whole: &[u8]) -> u64 {
     whole.len().div_ceil(STEP) as u64
 }
+
+/// More writes than any of these calls makes.
+const MANY_WRITES: u64 = 100;
 
 /// Whether all was written, and no call failed.
 fn is_whole(told: &Told, whole: &[u8]) -> bool {
@@ -94,16 +97,22 @@ fn fail_reads<R: Threads + Wait + Sync>(rt: &R, alloc: Global, rows: &[Row]) -> 
     Ok(())
 }
 
-/// Has each write of these calls fail in turn.
+/// Has each write of these calls fail in turn, until one makes no more of them.
 fn fail_writes<R: Threads + Wait + Sync>(rt: &R, alloc: Global, rows: &[Row]) -> Result<(), Fail> {
     for (call, input, whole) in rows {
-        for write in 1..=writes_of(whole) {
+        let mut made = 0;
+        for write in 1..=MANY_WRITES {
             let told = answer_to(rt, alloc, *call, input, Failing { read: 0, write });
+            if is_whole(&told, whole) {
+                break;
+            }
+            made = write;
             holds_at(
                 &(call, write),
                 is_stopped(&told, TextFault::Write, (0, 1), whole),
             )?;
         }
+        holds_at(call, (writes_of(whole)..MANY_WRITES).contains(&made))?;
     }
     Ok(())
 }
@@ -113,7 +122,7 @@ fn fail_none<R: Threads + Wait + Sync>(rt: &R, alloc: Global, rows: &[Row]) -> R
     for (call, input, whole) in rows {
         let failing = Failing {
             read: reads_of(input).saturating_add(1),
-            write: writes_of(whole).saturating_add(1),
+            write: MANY_WRITES,
         };
         let told = answer_to(rt, alloc, *call, input, failing);
         holds_at(&call, is_whole(&told, whole))?;
