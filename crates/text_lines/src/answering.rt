@@ -114,15 +114,8 @@ fn answer_lines<T: LineAnswerer, R: ByteIn, W: ByteOut>(
             return Ok(refused);
         }
         let waits = !input.has_line();
-        match answer_line(
-            answerer,
-            number,
-            line.as_slice(),
-            &mut text,
-            waits,
-            output,
-            writer,
-        ) {
+        let bytes = line.as_slice();
+        match answer_line(answerer, number, bytes, &mut text, waits, output, writer) {
             Err(_) => return Err(LineFault::Write),
             Ok(is_refusal) => refused |= is_refusal,
         }

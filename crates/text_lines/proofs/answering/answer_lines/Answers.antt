@@ -27,7 +27,7 @@ returns-in-Err-clause-part g c =
     ReadsPart-line _ _ _ _ l.input c.next_line.new.self l.number _ _ c.in-Ok.found c.next_line.new.line l.invariant.so_far
     c.in-Ok.ensures.line c.in-Ok.ensures.within c.in_default.not-End
     (AreTurns-failed g.T.LineAnswerer.turns g.met.T.LineAnswerer.by_kept _ _ _ _ _ _ l.number c.next_line.new.line _ _ l.refused _
-    (rw c.as_slice.ensures.bytes at c.in-Err.ensures.line))
+    (rw c.as_slice-bytes.ensures.bytes at c.in-Err.ensures.line))
 
 pub returns-in-Last-clause-ok : goal.returns-in-Last-clause-ok
 returns-in-Last-clause-ok g c =
@@ -35,7 +35,7 @@ returns-in-Last-clause-ok g c =
     ReadsAll-last _ _ _ _ l.input c.next_line.new.self l.number _ _ c.next_line.new.line l.invariant.so_far
     c.next_line.ensures.front (rw c.in-Last.is at c.in-Ok.ensures.line) (rw c.in-Last.is at c.in-Ok.ensures.within)
     (AreTurns-next g.T.LineAnswerer.turns g.met.T.LineAnswerer.by_kept _ _ _ _ _ _ l.number c.next_line.new.line _ _ l.refused _
-    (rw c.as_slice.ensures.bytes at c.in-Ok-answer_line.ensures.line))
+    (rw c.as_slice-bytes.ensures.bytes at c.in-Ok-answer_line.ensures.line))
 
 pub returns-in-Last-clause-limit : goal.returns-in-Last-clause-limit
 returns-in-Last-clause-limit g c = KeepsLimit-all _ _ _ _ _ (returns-in-Last-clause-ok g c)
@@ -49,7 +49,7 @@ loop-number-preserved g c =
           c.next_line.new.self.taken l.invariant.so_far c.in-Ok.ensures.line front.consumed front.counted
           c.in_default.not-End c.in_default-found.not-Last
           (AreTurns-next g.T.LineAnswerer.turns g.met.T.LineAnswerer.by_kept _ _ _ _ _ _ l.number c.next_line.new.line _ _
-          l.refused _ (rw c.as_slice.ensures.bytes at c.in-Ok-answer_line.ensures.line));
+          l.refused _ (rw c.as_slice-bytes.ensures.bytes at c.in-Ok-answer_line.ensures.line));
       reads = search rules;
       writes = search rules;
     }
