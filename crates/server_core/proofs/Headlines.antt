@@ -6,6 +6,7 @@ use Words.{ask_for, Gateway, SettingLists, Device, Run, IsSafe, IsOwnWindow, pla
 use Rattle.server_core.proofs.Runs.{every_interleaving_is_safe}
 use Rattle.std.proofs.lemmas.Option.{slice_get-get_or}
 use Rattle.rx_windows.specs.Windows.{rx1_of, rx2_of}
+use Rattle.gateway_book.proofs.OnAirLaws.{on_air_keeps_limit}
 use Rattle.server_core.specs.Headline.{TakesRx1, TakesRx2, IsOfItsUplink, KeepsHeadline, EveryRunKeepsHeadline}
 
 contains_map : {X Y : Type 0} (f : X → Y) (xs : List X) (x : X) → Contains xs x → Contains (map f xs) (f x)
@@ -43,6 +44,7 @@ module _ (settings : SettingLists) (r : Run) (safe : IsSafe settings r) where
         disjoint = λ i k l g a b e x y d.
             one_after_another g.rules.gap a b ((safe.lawful i g e).apart k l a b x y d);
         hour = λ i g e band t. (safe.lawful i g e).duty band t;
+        on_air = λ i g e band t. on_air_keeps_limit g.rules.gap g.state.list (safe.lawful i g e) band t;
         once = λ i j k l g h a b e x f y same.
             safe.once i j k l g h a b (record { gateway = e; member = x }) (record { gateway = f; member = y }) same;
         own = λ i k g a e x. own_uplink g a (safe.own i k g a (record { gateway = e; member = x }));

@@ -4,6 +4,7 @@ use Rattle.radio_airtime.specs.TimeOnAir.{airtime_of}
 use Rattle.radio_bands.specs.declared.band.Band.{Band}
 use Rattle.radio_bands.specs.Band.{limit_of}
 use Rattle.resv_list.specs.declared.reservation.Reservation.{Reservation}
+use Rattle.resv_list.specs.OnAir.{on_air}
 use Rattle.resv_list.specs.Reservations.{begun}
 use Rattle.lora_frame.specs.Reading.{addr_of}
 use Rattle.uplink_gather.specs.declared.heard.HeardCopy.{HeardCopy}
@@ -51,6 +52,9 @@ pub record KeepsHeadline (settings : SettingLists) (r : Run) : Type 0 where
   -- in each sub-band the airtime that begins within an hour, wherever it opens, keeps the limit
   pub hour : (i : ℕ) (g : Gateway) → slice_get r.world.gateways i ≡ Some g → (band : Band) (t : ℕ)
       → begun band t (t + 3600000000) g.state.list ≤ limit_of band
+  -- and so does what is on air within an hour, as a measuring receiver finds it
+  pub on_air : (i : ℕ) (g : Gateway) → slice_get r.world.gateways i ≡ Some g → (band : Band) (t : ℕ)
+      → on_air band t (t + 3600000000) g.state.list ≤ limit_of band
   -- over all gateways a number stands once at most
   pub once : (i j k l : ℕ) (g h : Gateway) (a b : Reservation) → slice_get r.world.gateways i ≡ Some g
       → slice_get g.state.list k ≡ Some a → slice_get r.world.gateways j ≡ Some h → slice_get h.state.list l ≡ Some b

@@ -7,6 +7,7 @@ use Rattle.radio_airtime.specs.declared.data_rate.DataRate.TheVariants.{Dr0}
 use Rattle.radio_bands.specs.Band.{limit_of}
 use Rattle.radio_bands.specs.declared.band.Band.{Band}
 use Rattle.resv_list.specs.declared.reservation.Reservation.{Reservation}
+use Rattle.resv_list.specs.OnAir.{on_air}
 use Rattle.resv_list.specs.Reservations.{begun, net}
 use Rattle.gateway_book.specs.Answer.{IsAsked}
 use Rattle.gateway_book.specs.Lawful.{IsLawful}
@@ -63,6 +64,10 @@ module _ (settings : SettingLists) (accepted : AreSettings settings.gateways set
     hour : (i : ℕ) (g : Gateway) → slice_get r.world.gateways i ≡ Some g → (band : Band) (t : ℕ)
         → begun band t (t + 3600000000) g.state.list ≤ limit_of band
     hour = (law settings accepted limits steps).hour
+
+    hour_on_air : (i : ℕ) (g : Gateway) → slice_get r.world.gateways i ≡ Some g → (band : Band) (t : ℕ)
+        → on_air band t (t + 3600000000) g.state.list ≤ limit_of band
+    hour_on_air = (law settings accepted limits steps).on_air
 
     once : (i j k l : ℕ) (g h : Gateway) (a b : Reservation) → has i k g a → has j l h b → a.number ≡ b.number
         → (i ≡ j) × (k ≡ l)

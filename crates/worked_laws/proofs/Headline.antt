@@ -9,6 +9,7 @@ use Rattle.server_core.proofs.Headlines.{every_run_keeps_headline}
 use Rattle.radio_airtime.specs.declared.data_rate.DataRate.TheVariants.{Dr3, Dr5}
 use Rattle.radio_airtime.specs.TimeOnAir.{airtime_of}
 use Rattle.radio_bands.specs.declared.band.Band.TheVariants.{M}
+use Rattle.resv_list.specs.OnAir.{on_air}
 use Rattle.resv_list.specs.Reservations.{begun}
 use Rattle.server_core.specs.Headline.{TakesRx1, TakesRx2, IsOfItsUplink, KeepsHeadline}
 
@@ -20,6 +21,9 @@ module _ (headline : KeepsHeadline settings after) where
 
   hour_kept : begun M 10000000 3610000000 gateway_3.state.list ≤ 36000000
   hour_kept = headline.hour 1 gateway_3 refl M 10000000
+
+  on_air_kept : on_air M 10000001 3610000001 gateway_3.state.list ≤ 36000000
+  on_air_kept = headline.on_air 1 gateway_3 refl M 10000001
 
   numbers_differ : first_held.member.number ≡ second_held.member.number → ⊥
   numbers_differ e =
