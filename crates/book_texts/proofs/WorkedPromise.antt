@@ -3,8 +3,13 @@
 use Rattle.std.proofs.Common.{ℕ, ◌≡◌, Bool, true, false, List, [], ◌∷◌, ◌++◌, length, codes, Option, Some, None}
 use Rattle.std.proofs.Common.{Ok, Err, refl, sym, ap, ◌∙◌, subst, arith}
 use Rattle.std.proofs.lemmas.Option.{same_Some}
+use Rattle.std.specs.Fmt.{digits}
+use Rattle.std.specs.Io.KnownBytes.{Appends, Consumes}
 use Rattle.std.specs.Prelude.{⊤, get_or}
+use Rattle.resv_list.specs.Reservations.{begun, net}
 use Rattle.gateway_book.specs.Answer.{Rules, refusal_of}
+use Rattle.gateway_book.specs.Busiest.{busiest_of}
+use Rattle.gateway_book.specs.Kept.{kept}
 use Rattle.gateway_book.specs.Loading.{loaded}
 use Rattle.gateway_book.specs.Saved.{Saved, end_words, text_in}
 use Rattle.gateway_book.specs.Step.{State, terms_at}
@@ -12,15 +17,19 @@ use Rattle.gateway_book.specs.declared.ask.Ask.{Ask}
 use Rattle.gateway_book.specs.declared.loading.LoadFault.TheVariants.{Read as LoadRead, NoMemory as LoadNoMemory}
 use Rattle.gateway_book.specs.declared.loading.LoadFault.TheVariants.{Syntax, Version, Unlawful}
 use Rattle.gateway_book.proofs.SavedWas.{loaded_was_saved}
+use Rattle.text_lines.specs.Line.{text_of}
+use Rattle.text_lines.specs.Turns.{has_refusal}
 use Rattle.text_lines.specs.Words.{spaced}
+use Rattle.text_lines.specs.Writing.{WritesFront}
 use Rattle.text_words.specs.Words.{is_refusal}
 use Rattle.text_words.specs.declared.fault.TextFault.{TextFault}
 use Rattle.text_words.specs.declared.fault.TextFault.TheVariants.{Read, Write, TooMuch, Settings, NoMemory}
 use Rattle.book_texts.specs.declared.command.Command.TheVariants.{Book}
 use Rattle.book_texts.specs.Answering.{reply_to}
 use Rattle.book_texts.specs.Laws.{OkWhereAccepted}
+use Rattle.book_texts.specs.Opening.{book_output}
 use Rattle.book_texts.specs.Promise.{KeepsLimit, IsSettingOf, IsRulesFault, IsFaultOf, IsLoadingOf, IsOpeningOf, is_unopened}
-use Rattle.book_texts.specs.Promise.{load_name}
+use Rattle.book_texts.specs.Promise.{load_name, AnswersAll, AnswersFront, AnswersRead}
 use Rattle.book_texts.specs.Reply.{reply_line}
 
 -- the fault is one of the arguments or of a saved book, by this name
@@ -201,6 +210,40 @@ one_byte_too_long bytes refused e h = omega (arith, e, h)
 
 pub just_short_enough : (bytes : List ℕ) → length bytes ≡ 268435456 → KeepsLimit (Some bytes) (Err TooMuch) → ⊥
 just_short_enough bytes e h = omega (arith, e, h)
+
+-- What is read and written: all bytes and the whole output, a front of it for all bytes, or one for the bytes that were read.
+
+module _ (resume saves : Bool) (rules : Rules) (bytes : List ℕ) (before after : Option (List ℕ)) where
+  pub whole_output_is_written : (left : Option (List ℕ)) (refused : Bool)
+      → AnswersAll resume saves rules (Some bytes) left before after refused
+      → (starved : List ℕ) × Consumes (Some bytes) left bytes
+      × Appends before after (text_of (book_output resume saves rules starved bytes))
+      × (refused ≡ has_refusal (book_output resume saves rules starved bytes))
+  whole_output_is_written left refused h = (h.starved, h.consumed, h.written, h.told)
+
+  pub front_is_written : AnswersFront resume saves rules (Some bytes) before after
+      → (starved : List ℕ) × WritesFront before after (text_of (book_output resume saves rules starved bytes))
+  front_is_written h = (h.starved, h.written)
+
+  pub front_for_what_was_read_is_written : (left : Option (List ℕ))
+      → AnswersRead resume saves rules (Some bytes) left before after
+      → (read : List ℕ) × Consumes (Some bytes) left read
+      × ((starved : List ℕ) × WritesFront before after (text_of (book_output resume saves rules starved read)))
+  front_for_what_was_read_is_written left h = (h.read, h.consumed, (h.answered.starved, h.answered.written))
+
+-- of no bytes a report of an empty book is made
+pub empty_input_is_reported : (left : Option (List ℕ)) (after : List ℕ) (refused : Bool)
+    → AnswersAll false false (rules 1 0) (Some []) left (Some []) (Some after) refused
+    → (after ≡ codes "booked 0\ncancelled 0\nretired 0\nkept 0 0\nfloor 0\n") × (refused ≡ false)
+unfolding net kept begun busiest_of digits
+empty_input_is_reported left after refused h = (h.written, h.told)
+
+-- of a saved book alone the same book is saved again
+pub saved_book_is_saved_again : (left : Option (List ℕ)) (after : List ℕ) (refused : Bool)
+    → AnswersAll true true (rules 0 0) (Some saved_book) left (Some []) (Some after) refused
+    → (after ≡ saved_book) × (refused ≡ false)
+unfolding net kept digits
+saved_book_is_saved_again left after refused h = (h.written, h.told)
 
 -- What was never opened has written nothing.
 
