@@ -9,17 +9,19 @@ use Rattle.radio_airtime.specs.declared.data_rate.DataRate.TheVariants.{Dr0, Dr5
 use Rattle.radio_bands.specs.Band.{band_of}
 use Rattle.radio_bands.specs.declared.band.Band.TheVariants.{K}
 use Rattle.resv_list.specs.declared.reservation.Reservation.{Reservation}
-use Rattle.resv_list.specs.Reservations.{begun, by_start}
+use Rattle.resv_list.specs.Reservations.{IsByStart, begun, by_start, net}
 use Rattle.gateway_book.specs.declared.ask.Ask.{Ask}
 use Rattle.gateway_book.specs.declared.cancel.CancelFault.TheVariants.{Begun, NotHere}
 use Rattle.gateway_book.specs.declared.refusal.Refusal.{Refusal}
 use Rattle.gateway_book.specs.declared.refusal.Refusal.TheVariants.{Passed, Taken, DutyFull, Full, TotalsFull}
-use Rattle.gateway_book.specs.Answer.{Rules, overlap, refusal_of}
+use Rattle.gateway_book.specs.Answer.{Rules, IsAsked, overlap, refusal_of}
+use Rattle.gateway_book.specs.Book.{Book as GatewaysBook}
 use Rattle.gateway_book.specs.Duty.{full_hour}
 use Rattle.gateway_book.specs.Forgetting.{Command, Book, Cancel, Tick, Reply, Answered, TakenOut, Floor, reply_to, after_command}
 use Rattle.gateway_book.specs.Forgetting.{forgetful, replies, forgetful_replies, HaveOwnStarts, ForgettingIsUnseen}
 use Rattle.gateway_book.specs.Kept.{kept}
 use Rattle.gateway_book.specs.Lawful.{IsLawful}
+use Rattle.gateway_book.specs.Remembers.{Remembers, StandsFor}
 use Rattle.gateway_book.specs.Step.{State, is_fit-IsFit, reservation_of, placed, after_answer, cancel_answer, after_cancel}
 use Rattle.gateway_book.specs.Step.{without_named}
 use Rattle.gateway_book.proofs.WorkedLists.{fast, slow}
@@ -322,6 +324,34 @@ pub each_within_the_hour_is_kept : (l : List Reservation) (floor : ℕ) →
     kept l floor ≡ by_start (filter (λ r. nat_le floor (r.start + 3600000000)) l)
 unfolding kept
 each_within_the_hour_is_kept l floor = refl
+
+-- What a book tells beside a state that forgets nothing: it has that state's floor and totals, and keeps what is kept of its list.
+
+module _ (b : GatewaysBook) (s : State) where
+  pub each_remembers : Remembers b s
+      → (b.floor ≡ s.floor) × (b.list ≡ kept s.list s.floor) × (b.booked ≡ s.booked) × (b.cancelled ≡ s.cancelled)
+  each_remembers r = (r.floor, r.list, r.booked, r.cancelled)
+
+  pub each_stands_for : StandsFor b s
+      → (b.rules.gap ≤ 100000) × IsByStart s.list × IsLawful b.rules.gap s.list × (s.booked ≡ s.cancelled + net s.list)
+      × Remembers b s
+  each_stands_for h = (h.orderly.rested, h.orderly.by_start, h.orderly.lawful, h.balanced, h.remembers)
+
+  -- and nothing else is asked of them
+  pub each_such_stands_for : b.rules.gap ≤ 100000 → IsByStart s.list → IsLawful b.rules.gap s.list
+      → s.booked ≡ s.cancelled + net s.list → b.floor ≡ s.floor → b.list ≡ kept s.list s.floor → b.booked ≡ s.booked
+      → b.cancelled ≡ s.cancelled → StandsFor b s
+  each_such_stands_for narrow rising law_kept balances floor list booked cancelled =
+      record {
+        orderly = record { rested = narrow; by_start = rising; lawful = law_kept };
+        balanced = balances;
+        remembers = record { floor = floor; list = list; booked = booked; cancelled = cancelled };
+      }
+
+-- what is booked has the asked fields
+pub each_is_as_asked : (ask : Ask) (r : Reservation) → IsAsked ask r
+    → (r.number ≡ ask.number) × (r.start ≡ ask.start) × (r.freq_hz ≡ ask.freq_hz) × (r.rate ≡ ask.rate) × (r.len ≡ ask.len)
+each_is_as_asked ask r h = (h.number, h.start, h.freq_hz, h.rate, h.len)
 
 -- The law, for every gap that a gateway may have, and every list whose members have starts of their own.
 

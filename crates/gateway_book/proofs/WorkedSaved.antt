@@ -3,6 +3,7 @@
 use Rattle.std.proofs.Common.{ℕ, ◌≡◌, ◌+◌, ◌-◌, ◌^◌, ◌<◌, ◌≤◌, ◌⊎◌, List, [], ◌∷◌, ◌++◌, length, Option, Some, Ok, Err, All}
 use Rattle.std.proofs.Common.{refl, sym, ◌∙◌, subst, arith, inl, inr}
 use Rattle.std.specs.Fmt.{digits}
+use Rattle.std.specs.Io.KnownBytes.{Consumes}
 use Rattle.std.specs.Prelude.{codes, Result}
 use Rattle.std.proofs.lemmas.List.Elements.{All-cons}
 use Rattle.radio_airtime.specs.TimeOnAir.{airtime_of}
@@ -22,6 +23,7 @@ use Rattle.gateway_book.specs.Lawful.{IsLawful}
 use Rattle.gateway_book.specs.Loading.{IsSavable, IsHeld, BooksMayBeSaved, IsVersion, SavedIsReadAgain, LoadedWasSaved, loaded}
 use Rattle.gateway_book.specs.Loading.{LoadsFrom, Loads}
 use Rattle.gateway_book.specs.Saved.{Saved, saved_of, end_words, text_in}
+use Rattle.gateway_book.specs.SavedLines.{TakesBytes}
 use Rattle.gateway_book.proofs.WorkedLists.{early, late, last, sent, by_start, lawful}
 
 -- A book with three members, of the greatest id. The first of them is kept just so. Beside the three one was booked and
@@ -303,6 +305,11 @@ module _ (bytes : List ℕ) (left : Option (List ℕ)) where
     (λ none. ends_with_one h.others h.member (sym none ∙ h.last)),
     h.reads,
   )
+
+  -- so many bytes were taken off the front
+  pub taken_bytes_are_counted : (count : ℕ) → TakesBytes (Some bytes) left count
+      → (front : List ℕ) × Consumes (Some bytes) left front × (length front ≡ count)
+  taken_bytes_are_counted count h = h
 
   -- the same is told of a reader that tells its bytes
   pub reader_is_told : (result : Result Book LoadFault) → Loads (Some bytes) left result → LoadsFrom bytes left result
