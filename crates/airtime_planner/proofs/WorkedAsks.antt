@@ -17,7 +17,7 @@ use Rattle.gateway_book.specs.Step.{State, book_step, reservation_of, placed}
 use Rattle.gateway_book.specs.TimeOnAir.{airtime_of}
 use Rattle.gateway_book.proofs.WorkedRefusals.{fast_at}
 use Rattle.airtime_planner.specs.EarliestAfter.{LiveBookStartsAlike, after_asks, earliest_after}
-use Rattle.airtime_planner.specs.WhatIf.{Answer, IsAnswer, AreAnswers, AddsAnswers, LiveBookAnswersAlike, opened_at}
+use Rattle.airtime_planner.specs.WhatIf.{Answer, IsAnswer, AreAnswers, AddsAnswers, AddsSome, LiveBookAnswersAlike, opened_at}
 
 abbrev rules : Rules
 rules = record { cap = 4; gap = 1000 }
@@ -130,6 +130,16 @@ module _ (rules : Rules) (s : State) where
   pub each_start_is_there : (ask : Ask) (a z : ℕ) →
       earliest_after rules s [] ask a z ≡ earliest_of (record { floor = s.floor; rules = rules; booked = s.booked }) s.list ask a z
   each_start_is_there ask a z = refl
+
+-- the answers stand behind what was there, and each is right; without memory some stand there
+pub each_answer_is_behind : (rules : Rules) (s : State) (asks : List Ask) (before after : List Answer)
+    → AddsAnswers rules s asks before after
+    → (answers : List Answer) × (after ≡ before ++ answers) × AreAnswers rules s asks answers
+each_answer_is_behind rules s asks before after h = (h.answers, h.added, h.right)
+
+pub each_of_some_is_behind : (before after : List Answer) → AddsSome before after
+    → (more : List Answer) × (after ≡ before ++ more)
+each_of_some_is_behind before after h = (h.more, h.added)
 
 module _ (b : Book) (asks : List Ask) where
   -- what is kept, with what was booked; and with what was cancelled
