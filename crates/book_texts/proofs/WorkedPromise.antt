@@ -5,15 +5,18 @@ use Rattle.std.proofs.Common.{Ok, Err, refl, sym, ap, ◌∙◌, subst, arith}
 use Rattle.std.proofs.lemmas.Option.{same_Some}
 use Rattle.std.specs.Fmt.{digits}
 use Rattle.std.specs.Io.KnownBytes.{Appends, Consumes}
-use Rattle.std.specs.Prelude.{⊤, get_or}
+use Rattle.std.specs.Option.{option_map}
+use Rattle.std.specs.Prelude.{⊤, get_or, Result, IsOk, ◌<◌, ◌≤◌}
 use Rattle.resv_list.specs.Reservations.{begun, net}
 use Rattle.gateway_book.specs.Answer.{Rules, refusal_of}
 use Rattle.gateway_book.specs.Busiest.{busiest_of}
 use Rattle.gateway_book.specs.Kept.{kept}
-use Rattle.gateway_book.specs.Loading.{loaded}
+use Rattle.gateway_book.specs.Loading.{loaded, HasMembers}
+use Rattle.gateway_book.specs.Opening.{name_of, open_fault}
 use Rattle.gateway_book.specs.Saved.{Saved, end_words, text_in}
 use Rattle.gateway_book.specs.Step.{State, terms_at}
 use Rattle.gateway_book.specs.declared.ask.Ask.{Ask}
+use Rattle.gateway_book.specs.declared.loading.LoadFault.{LoadFault}
 use Rattle.gateway_book.specs.declared.loading.LoadFault.TheVariants.{Read as LoadRead, NoMemory as LoadNoMemory}
 use Rattle.gateway_book.specs.declared.loading.LoadFault.TheVariants.{Syntax, Version, Unlawful}
 use Rattle.gateway_book.proofs.SavedWas.{loaded_was_saved}
@@ -29,7 +32,7 @@ use Rattle.book_texts.specs.Answering.{reply_to}
 use Rattle.book_texts.specs.Laws.{OkWhereAccepted}
 use Rattle.book_texts.specs.Opening.{book_output}
 use Rattle.book_texts.specs.Promise.{KeepsLimit, IsSettingOf, IsRulesFault, IsFaultOf, IsLoadingOf, IsOpeningOf, is_unopened}
-use Rattle.book_texts.specs.Promise.{load_name, AnswersAll, AnswersFront, AnswersRead}
+use Rattle.book_texts.specs.Promise.{load_name, AnswersAll, AnswersFront, AnswersRead, MayOpen}
 use Rattle.book_texts.specs.Reply.{reply_line}
 
 -- the fault is one of the arguments or of a saved book, by this name
@@ -244,6 +247,73 @@ pub saved_book_is_saved_again : (left : Option (List ℕ)) (after : List ℕ) (r
     → (after ≡ saved_book) × (refused ≡ false)
 unfolding net kept digits
 saved_book_is_saved_again left after refused h = (h.written, h.told)
+
+-- Of all rules, all bytes and all lengths.
+
+abbrev AreGood : Rules → Type 0
+AreGood given = (1 ≤ given.cap) × (given.cap ≤ 65536) × (given.gap ≤ 100000)
+
+abbrev HasName : Option (List ℕ) → TextFault → Type 0
+HasName o (Settings name) = o ≡ Some name.now
+HasName o _ = ⊤
+
+module _ (given : Rules) where
+  pub each_that_may_be_opened_is_good : MayOpen given → AreGood given
+  each_that_may_be_opened_is_good h = h
+
+  pub each_that_is_good_may_be_opened : AreGood given → MayOpen given
+  each_that_is_good_may_be_opened h = h
+
+  pub each_answer_is_of_good_rules : (refused : Bool) → IsSettingOf given (Ok refused) → AreGood given
+  each_answer_is_of_good_rules refused h = h
+
+  pub each_other_fault_is_of_good_rules : (IsSettingOf given (Err Read) → AreGood given)
+      × (IsSettingOf given (Err Write) → AreGood given) × (IsSettingOf given (Err TooMuch) → AreGood given)
+  each_other_fault_is_of_good_rules = ((λ h. h), (λ h. h), (λ h. h))
+
+  pub each_setting_is_named : (fault : TextFault) → IsSettingOf given (Err fault)
+      → HasName (option_map name_of (open_fault given)) fault
+  each_setting_is_named (Settings name) h = h.1
+  each_setting_is_named Read h = tt
+  each_setting_is_named Write h = tt
+  each_setting_is_named TooMuch h = tt
+  each_setting_is_named NoMemory h = tt
+
+  pub each_is_opened_or_resumed : (left : Option (List ℕ)) (result : Result Bool TextFault)
+      → (IsOpeningOf true given left result → IsLoadingOf left result) × (IsOpeningOf false given left result → IsSettingOf given result)
+  each_is_opened_or_resumed left result = ((λ h. h), (λ h. h))
+
+module _ (bytes : List ℕ) where
+  pub each_answer_is_of_a_saved_book : (refused : Bool) → IsLoadingOf (Some bytes) (Ok refused) → IsOk (loaded bytes)
+  each_answer_is_of_a_saved_book refused h = h
+
+  pub each_other_fault_is_of_a_saved_book : (IsLoadingOf (Some bytes) (Err Write) → IsOk (loaded bytes))
+      × (IsLoadingOf (Some bytes) (Err TooMuch) → IsOk (loaded bytes))
+  each_other_fault_is_of_a_saved_book = ((λ h. h), (λ h. h))
+
+  pub each_want_of_memory_is_for_members : IsLoadingOf (Some bytes) (Err NoMemory) → HasMembers bytes
+  each_want_of_memory_is_for_members h = h
+
+  pub each_answered_is_short_enough : (refused : Bool) → KeepsLimit (Some bytes) (Ok refused) → length bytes ≤ 268435456
+  each_answered_is_short_enough refused h = h
+
+  pub each_too_much_is_longer : KeepsLimit (Some bytes) (Err TooMuch) → 268435456 < length bytes
+  each_too_much_is_longer h = h
+
+-- where the bytes begin with no saved book, the name is that of the fault
+pub each_unloadable_is_named : (bytes : List ℕ) (fault : LoadFault) (told : TextFault) → loaded bytes ≡ Err fault
+    → IsLoadingOf (Some bytes) (Err told) → HasName (Some (load_name fault)) told
+each_unloadable_is_named bytes fault (Settings name) e h =
+    let same : fault ≡ h.0 = cc in ap Some (ap load_name same ∙ h.2)
+each_unloadable_is_named bytes fault Read e h = tt
+each_unloadable_is_named bytes fault Write e h = tt
+each_unloadable_is_named bytes fault TooMuch e h = tt
+each_unloadable_is_named bytes fault NoMemory e h = tt
+
+-- at whichever line
+pub each_line_at_fault_is_named : (line : ℕ) → (load_name (Syntax line) ≡ codes "Syntax")
+    × (load_name (Unlawful line) ≡ codes "Unlawful")
+each_line_at_fault_is_named line = (refl, refl)
 
 -- What was never opened has written nothing.
 
