@@ -5,6 +5,7 @@ pub mod ResumeLemmas
 pub mod LawLemmas
 pub mod Worked
 pub mod WorkedPromise
+pub mod WorkedLines
 pub mod TurnLemmas
 pub mod TryingLemmas
 pub mod OpeningLemmas

@@ -3,24 +3,36 @@
 use Rattle.std.proofs.Common.{ℕ, ◌≡◌, Bool, true, false, List, [], ◌∷◌, ◌++◌, length, codes, Option, Some, None}
 use Rattle.std.proofs.Common.{Ok, Err, refl, sym, ap, ◌∙◌, subst, arith}
 use Rattle.std.proofs.lemmas.Option.{same_Some}
-use Rattle.std.specs.Prelude.{⊤, get_or}
+use Rattle.std.specs.Fmt.{digits}
+use Rattle.std.specs.Io.KnownBytes.{Appends, Consumes}
+use Rattle.std.specs.Option.{option_map}
+use Rattle.std.specs.Prelude.{⊤, get_or, Result, IsOk, ◌<◌, ◌≤◌}
+use Rattle.resv_list.specs.Reservations.{begun, net}
 use Rattle.gateway_book.specs.Answer.{Rules, refusal_of}
-use Rattle.gateway_book.specs.Loading.{loaded}
+use Rattle.gateway_book.specs.Busiest.{busiest_of}
+use Rattle.gateway_book.specs.Kept.{kept}
+use Rattle.gateway_book.specs.Loading.{loaded, HasMembers}
+use Rattle.gateway_book.specs.Opening.{name_of, open_fault}
 use Rattle.gateway_book.specs.Saved.{Saved, end_words, text_in}
 use Rattle.gateway_book.specs.Step.{State, terms_at}
 use Rattle.gateway_book.specs.declared.ask.Ask.{Ask}
+use Rattle.gateway_book.specs.declared.loading.LoadFault.{LoadFault}
 use Rattle.gateway_book.specs.declared.loading.LoadFault.TheVariants.{Read as LoadRead, NoMemory as LoadNoMemory}
 use Rattle.gateway_book.specs.declared.loading.LoadFault.TheVariants.{Syntax, Version, Unlawful}
 use Rattle.gateway_book.proofs.SavedWas.{loaded_was_saved}
+use Rattle.text_lines.specs.Line.{text_of}
+use Rattle.text_lines.specs.Turns.{has_refusal}
 use Rattle.text_lines.specs.Words.{spaced}
+use Rattle.text_lines.specs.Writing.{WritesFront}
 use Rattle.text_words.specs.Words.{is_refusal}
 use Rattle.text_words.specs.declared.fault.TextFault.{TextFault}
 use Rattle.text_words.specs.declared.fault.TextFault.TheVariants.{Read, Write, TooMuch, Settings, NoMemory}
 use Rattle.book_texts.specs.declared.command.Command.TheVariants.{Book}
 use Rattle.book_texts.specs.Answering.{reply_to}
 use Rattle.book_texts.specs.Laws.{OkWhereAccepted}
+use Rattle.book_texts.specs.Opening.{book_output}
 use Rattle.book_texts.specs.Promise.{KeepsLimit, IsSettingOf, IsRulesFault, IsFaultOf, IsLoadingOf, IsOpeningOf, is_unopened}
-use Rattle.book_texts.specs.Promise.{load_name}
+use Rattle.book_texts.specs.Promise.{load_name, AnswersAll, AnswersFront, AnswersRead, MayOpen}
 use Rattle.book_texts.specs.Reply.{reply_line}
 
 -- the fault is one of the arguments or of a saved book, by this name
@@ -201,6 +213,107 @@ one_byte_too_long bytes refused e h = omega (arith, e, h)
 
 pub just_short_enough : (bytes : List ℕ) → length bytes ≡ 268435456 → KeepsLimit (Some bytes) (Err TooMuch) → ⊥
 just_short_enough bytes e h = omega (arith, e, h)
+
+-- What is read and written: all bytes and the whole output, a front of it for all bytes, or one for the bytes that were read.
+
+module _ (resume saves : Bool) (rules : Rules) (bytes : List ℕ) (before after : Option (List ℕ)) where
+  pub whole_output_is_written : (left : Option (List ℕ)) (refused : Bool)
+      → AnswersAll resume saves rules (Some bytes) left before after refused
+      → (starved : List ℕ) × Consumes (Some bytes) left bytes
+      × Appends before after (text_of (book_output resume saves rules starved bytes))
+      × (refused ≡ has_refusal (book_output resume saves rules starved bytes))
+  whole_output_is_written left refused h = (h.starved, h.consumed, h.written, h.told)
+
+  pub front_is_written : AnswersFront resume saves rules (Some bytes) before after
+      → (starved : List ℕ) × WritesFront before after (text_of (book_output resume saves rules starved bytes))
+  front_is_written h = (h.starved, h.written)
+
+  pub front_for_what_was_read_is_written : (left : Option (List ℕ))
+      → AnswersRead resume saves rules (Some bytes) left before after
+      → (read : List ℕ) × Consumes (Some bytes) left read
+      × ((starved : List ℕ) × WritesFront before after (text_of (book_output resume saves rules starved read)))
+  front_for_what_was_read_is_written left h = (h.read, h.consumed, (h.answered.starved, h.answered.written))
+
+-- of no bytes a report of an empty book is made
+pub empty_input_is_reported : (left : Option (List ℕ)) (after : List ℕ) (refused : Bool)
+    → AnswersAll false false (rules 1 0) (Some []) left (Some []) (Some after) refused
+    → (after ≡ codes "booked 0\ncancelled 0\nretired 0\nkept 0 0\nfloor 0\n") × (refused ≡ false)
+unfolding net kept begun busiest_of digits
+empty_input_is_reported left after refused h = (h.written, h.told)
+
+-- of a saved book alone the same book is saved again
+pub saved_book_is_saved_again : (left : Option (List ℕ)) (after : List ℕ) (refused : Bool)
+    → AnswersAll true true (rules 0 0) (Some saved_book) left (Some []) (Some after) refused
+    → (after ≡ saved_book) × (refused ≡ false)
+unfolding net kept digits
+saved_book_is_saved_again left after refused h = (h.written, h.told)
+
+-- Of all rules, all bytes and all lengths.
+
+abbrev AreGood : Rules → Type 0
+AreGood given = (1 ≤ given.cap) × (given.cap ≤ 65536) × (given.gap ≤ 100000)
+
+abbrev HasName : Option (List ℕ) → TextFault → Type 0
+HasName o (Settings name) = o ≡ Some name.now
+HasName o _ = ⊤
+
+module _ (given : Rules) where
+  pub each_that_may_be_opened_is_good : MayOpen given → AreGood given
+  each_that_may_be_opened_is_good h = h
+
+  pub each_that_is_good_may_be_opened : AreGood given → MayOpen given
+  each_that_is_good_may_be_opened h = h
+
+  pub each_answer_is_of_good_rules : (refused : Bool) → IsSettingOf given (Ok refused) → AreGood given
+  each_answer_is_of_good_rules refused h = h
+
+  pub each_other_fault_is_of_good_rules : (IsSettingOf given (Err Read) → AreGood given)
+      × (IsSettingOf given (Err Write) → AreGood given) × (IsSettingOf given (Err TooMuch) → AreGood given)
+  each_other_fault_is_of_good_rules = ((λ h. h), (λ h. h), (λ h. h))
+
+  pub each_setting_is_named : (fault : TextFault) → IsSettingOf given (Err fault)
+      → HasName (option_map name_of (open_fault given)) fault
+  each_setting_is_named (Settings name) h = h.1
+  each_setting_is_named Read h = tt
+  each_setting_is_named Write h = tt
+  each_setting_is_named TooMuch h = tt
+  each_setting_is_named NoMemory h = tt
+
+  pub each_is_opened_or_resumed : (left : Option (List ℕ)) (result : Result Bool TextFault)
+      → (IsOpeningOf true given left result → IsLoadingOf left result) × (IsOpeningOf false given left result → IsSettingOf given result)
+  each_is_opened_or_resumed left result = ((λ h. h), (λ h. h))
+
+module _ (bytes : List ℕ) where
+  pub each_answer_is_of_a_saved_book : (refused : Bool) → IsLoadingOf (Some bytes) (Ok refused) → IsOk (loaded bytes)
+  each_answer_is_of_a_saved_book refused h = h
+
+  pub each_other_fault_is_of_a_saved_book : (IsLoadingOf (Some bytes) (Err Write) → IsOk (loaded bytes))
+      × (IsLoadingOf (Some bytes) (Err TooMuch) → IsOk (loaded bytes))
+  each_other_fault_is_of_a_saved_book = ((λ h. h), (λ h. h))
+
+  pub each_want_of_memory_is_for_members : IsLoadingOf (Some bytes) (Err NoMemory) → HasMembers bytes
+  each_want_of_memory_is_for_members h = h
+
+  pub each_answered_is_short_enough : (refused : Bool) → KeepsLimit (Some bytes) (Ok refused) → length bytes ≤ 268435456
+  each_answered_is_short_enough refused h = h
+
+  pub each_too_much_is_longer : KeepsLimit (Some bytes) (Err TooMuch) → 268435456 < length bytes
+  each_too_much_is_longer h = h
+
+-- where the bytes begin with no saved book, the name is that of the fault
+pub each_unloadable_is_named : (bytes : List ℕ) (fault : LoadFault) (told : TextFault) → loaded bytes ≡ Err fault
+    → IsLoadingOf (Some bytes) (Err told) → HasName (Some (load_name fault)) told
+each_unloadable_is_named bytes fault (Settings name) e h =
+    let same : fault ≡ h.0 = cc in ap Some (ap load_name same ∙ h.2)
+each_unloadable_is_named bytes fault Read e h = tt
+each_unloadable_is_named bytes fault Write e h = tt
+each_unloadable_is_named bytes fault TooMuch e h = tt
+each_unloadable_is_named bytes fault NoMemory e h = tt
+
+-- at whichever line
+pub each_line_at_fault_is_named : (line : ℕ) → (load_name (Syntax line) ≡ codes "Syntax")
+    × (load_name (Unlawful line) ≡ codes "Unlawful")
+each_line_at_fault_is_named line = (refl, refl)
 
 -- What was never opened has written nothing.
 

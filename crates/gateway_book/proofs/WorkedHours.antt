@@ -1,15 +1,18 @@
 -- What the laws of gaps, of starts and of hours say of worked lists: each tells a fact there, and no premise is one that nothing
--- meets. Moment 500,000 is the start of no member.
-use Rattle.std.proofs.Common.{ℕ, ◌≡◌, ◌+◌, ◌≤◌, ◌<◌, List, [], ◌∷◌, Option, Some, None, All, Contains, MatchOption}
-use Rattle.std.proofs.Common.{refl, sym, subst, arith, ap, zero, suc, inl, inr}
+-- meets. Moment 500,000 is the start of no member. Then what they say of every list, every sub-band and every gap.
+use Rattle.std.proofs.Common.{ℕ, ◌≡◌, ◌≢◌, ◌+◌, ◌≤◌, ◌<◌, ◌⊎◌, Bool, List, [], ◌∷◌, Option, Some, None, All, Contains}
+use Rattle.std.proofs.Common.{MatchOption, refl, sym, subst, arith, ap, zero, suc, inl, inr, ◌∙◌}
 use Rattle.std.proofs.lemmas.Option.{same_Some}
-use Rattle.std.specs.Prelude.{nat_lt}
+use Rattle.std.specs.Prelude.{nat_lt, slice_get, find, filter, map}
+use Rattle.std.specs.Option.{option_map}
 use Rattle.radio_airtime.specs.TimeOnAir.{airtime_of}
 use Rattle.radio_bands.specs.Band.{hour, limit_of}
+use Rattle.radio_bands.specs.declared.band.Band.{Band}
 use Rattle.radio_bands.specs.declared.band.Band.TheVariants.{K, M}
+use Rattle.resv_list.specs.declared.reservation.Reservation.{Reservation}
 use Rattle.resv_list.specs.Fit.{IsFit}
 use Rattle.resv_list.specs.Hours.{starts_in}
-use Rattle.resv_list.specs.Reservations.{begun, spent}
+use Rattle.resv_list.specs.Reservations.{IsByStart, start_of, end_of, begun, spent}
 use Rattle.gateway_book.specs.Busiest.{IsBusiest, IsBusiestAnswer, busiest_of}
 use Rattle.gateway_book.specs.Disjoint.{AreDisjoint}
 use Rattle.gateway_book.specs.Duty.{full_hour}
@@ -17,6 +20,7 @@ use Rattle.gateway_book.specs.Lawful.{AreApart, IsLawful}
 use Rattle.gateway_book.specs.Laws.{SpacedIsApart, GapKeepsDisjoint, FirstHasLeastStart, LeastIsLeast, FewHoursSuffice}
 use Rattle.gateway_book.specs.Laws.{DutyRowIsExact, BusiestIsExact, IsOpening, IsDutyAnswer, IsFirstFullHour}
 use Rattle.gateway_book.specs.Least.{first_start, least}
+use Rattle.gateway_book.specs.Spaced.{SpacedFrom}
 use Rattle.gateway_book.proofs.WorkedLists.{early, late, last, sent, by_start, lawful}
 
 -- Lists by start.
@@ -147,3 +151,112 @@ none_is_busier law told answer = ap (λ (h : ℕ × ℕ). h.0) (same_Some told (
 pub none_in_another : BusiestIsExact → (o : Option (ℕ × ℕ)) → IsBusiestAnswer sent K o → o ≡ None
 unfolding busiest_of begun airtime_of early late last
 none_in_another law o answer = (law sent K o).0 answer
+
+-- Of every list.
+
+-- members at different places, of which one ends, and the gap passes, no later than the other starts
+abbrev HaveGap : ℕ → List Reservation → Type 0
+HaveGap gap l =
+    (i j : ℕ) (r s : Reservation) → slice_get l i ≡ Some r → slice_get l j ≡ Some s → i ≢ j
+    → (end_of r + gap ≤ s.start) ⊎ (end_of s + gap ≤ r.start)
+
+-- each member begins no earlier than the one before it ends and the gap passes
+abbrev AreSpaced : ℕ → List Reservation → Type 0
+AreSpaced gap l = SpacedFrom start_of (λ r. end_of r + gap) 0 l
+
+module _ (law : SpacedIsApart) (gap : ℕ) (l : List Reservation) (rising : IsByStart l) where
+  pub each_spaced_is_apart : AreSpaced gap l → HaveGap gap l
+  each_spaced_is_apart = (law gap l rising).0
+
+  pub each_apart_is_spaced : HaveGap gap l → AreSpaced gap l
+  each_apart_is_spaced = (law gap l rising).1
+
+-- a lawful list is one that keeps these three, and no other is
+module _ (gap : ℕ) (l : List Reservation) where
+  pub each_lawful_is_fit : IsLawful gap l → All (λ r. IsFit r.start r.freq_hz r.rate r.len) l
+  each_lawful_is_fit w = w.fit
+
+  pub each_lawful_is_apart : IsLawful gap l → HaveGap gap l
+  each_lawful_is_apart w = w.apart
+
+  pub each_lawful_keeps_limits : IsLawful gap l → (band : Band) (t : ℕ) → spent l band t ≤ limit_of band
+  each_lawful_keeps_limits w = w.duty
+
+  pub each_such_is_lawful : All (λ r. IsFit r.start r.freq_hz r.rate r.len) l → HaveGap gap l
+      → ((band : Band) (t : ℕ) → spent l band t ≤ limit_of band) → IsLawful gap l
+  each_such_is_lawful fits apart_there duty_there = record { fit = fits; apart = apart_there; duty = duty_there }
+
+pub each_smaller_gap_is_kept : GapKeepsDisjoint → (gap less : ℕ) (l : List Reservation) → less ≤ gap → IsLawful gap l
+    → IsLawful less l
+each_smaller_gap_is_kept law = law
+
+module _ (law : FirstHasLeastStart) (test : Reservation → Bool) (l : List Reservation) (rising : IsByStart l) where
+  -- whatever is asked of them, the first that passes has the start
+  pub each_first_found : (r : Reservation) → find test l ≡ Some r → least (map start_of (filter test l)) ≡ Some r.start
+  each_first_found r e = law test l rising ∙ ap (option_map start_of) e
+
+  pub each_none_found : find test l ≡ None → least (map start_of (filter test l)) ≡ None
+  each_none_found e = law test l rising ∙ ap (option_map start_of) e
+
+abbrev IsLeastOf : List ℕ → Option ℕ → Type 0
+IsLeastOf ns o = MatchOption o (ns ≡ []) (λ m. Contains ns m × All (λ n. m ≤ n) ns)
+
+pub each_least : LeastIsLeast → (ns : List ℕ) (m : ℕ) → least ns ≡ Some m → Contains ns m × All (λ n. m ≤ n) ns
+each_least law ns m e = subst (IsLeastOf ns) e (law ns)
+
+-- Of every list, every sub-band and whatever is asked for.
+
+module _ (l : List Reservation) (band : Band) (start airtime : ℕ) where
+  -- what is asked for, or a member of the sub-band, opens an hour there
+  abbrev Opens : ℕ → Type 0
+  Opens t = (t ≡ start) ⊎ Contains (starts_in l band) t
+
+  abbrev HasRoom : ℕ → Type 0
+  HasRoom t = t ≤ start → start < t + 3600000000 → spent l band t + airtime ≤ limit_of band
+
+  -- the hour that opens there holds what is asked for, would pass the limit, and is the first that does
+  abbrev IsFirst : ℕ → Type 0
+  IsFirst from =
+      Opens from × (from ≤ start) × (start < from + 3600000000) × (limit_of band < spent l band from + airtime)
+      × ((t : ℕ) → Opens t → t ≤ start → start < t + 3600000000 → limit_of band < spent l band t + airtime → from ≤ t)
+
+  pub each_hour_has_room_where_these_have : FewHoursSuffice → ((t : ℕ) → Opens t → HasRoom t) → (t : ℕ) → HasRoom t
+  each_hour_has_room_where_these_have law = law l band start airtime
+
+  module _ (law : DutyRowIsExact) where
+    pub each_hour_has_room_where_none_is_full : full_hour l band start airtime ≡ None → (t : ℕ) → HasRoom t
+    each_hour_has_room_where_none_is_full e = (law l band start airtime None).1 (sym e)
+
+    pub none_is_full_where_each_hour_has_room : ((t : ℕ) → HasRoom t) → full_hour l band start airtime ≡ None
+    none_is_full_where_each_hour_has_room room = sym ((law l band start airtime None).0 room)
+
+    pub each_full_hour_is_first : (from : ℕ) → full_hour l band start airtime ≡ Some from → IsFirst from
+    each_full_hour_is_first from e =
+        let h = (law l band start airtime (Some from)).1 (sym e) in (h.opens, h.begins, h.lasts, h.passes, h.first)
+
+    pub each_first_is_the_full_hour : (from : ℕ) → IsFirst from → full_hour l band start airtime ≡ Some from
+    each_first_is_the_full_hour from (opens, begins, lasts, passes, is_first) =
+        sym ((law l band start airtime (Some from)).0
+        (record { opens = opens; begins = begins; lasts = lasts; passes = passes; first = is_first }))
+
+module _ (l : List Reservation) (band : Band) where
+  -- a member of the sub-band opens the hour, it has this airtime, none has more, and no earlier one of a member has as much
+  abbrev IsBusiestThere : ℕ → ℕ → Type 0
+  IsBusiestThere from sum =
+      Contains (starts_in l band) from × (sum ≡ spent l band from) × ((t : ℕ) → spent l band t ≤ sum)
+      × ((t : ℕ) → Contains (starts_in l band) t → spent l band t ≡ sum → from ≤ t)
+
+  module _ (law : BusiestIsExact) where
+    pub each_told_is_busiest : (from sum : ℕ) → busiest_of l band ≡ Some (from, sum) → IsBusiestThere from sum
+    each_told_is_busiest from sum e =
+        let h = (law l band (Some (from, sum))).1 (sym e) in (h.opens, h.airtime, h.most, h.first)
+
+    pub each_busiest_is_told : (from sum : ℕ) → IsBusiestThere from sum → busiest_of l band ≡ Some (from, sum)
+    each_busiest_is_told from sum (opens, airtime, most, is_first) =
+        sym ((law l band (Some (from, sum))).0 (record { opens = opens; airtime = airtime; most = most; first = is_first }))
+
+    pub none_is_told_where_none_begins : starts_in l band ≡ [] → busiest_of l band ≡ None
+    none_is_told_where_none_begins e = sym ((law l band None).0 e)
+
+    pub none_begins_where_none_is_told : busiest_of l band ≡ None → starts_in l band ≡ []
+    none_begins_where_none_is_told e = (law l band None).1 (sym e)

@@ -1,18 +1,22 @@
--- What the laws of the earliest start say of worked lists: each tells a fact there, and no premise is one that nothing meets.
-use Rattle.std.proofs.Common.{ℕ, ◌≡◌, ◌+◌, ◌≤◌, ◌<◌, ◌⊎◌, [], ◌∷◌, Some, None, Contains}
+-- What the laws of the earliest start say of worked lists: each tells a fact there, and no premise is one that nothing meets. Then
+-- what they say of every list.
+use Rattle.std.proofs.Common.{ℕ, ◌≡◌, ◌+◌, ◌≤◌, ◌<◌, ◌⊎◌, max, List, [], ◌∷◌, Some, None, Contains}
 use Rattle.std.proofs.Common.{refl, sym, subst, arith, ap, zero, suc, inl, inr}
 use Rattle.std.proofs.lemmas.Option.{same_Some}
+use Rattle.std.specs.Prelude.{filter, is_none}
 use Rattle.radio_airtime.specs.TimeOnAir.{airtime_of}
 use Rattle.radio_airtime.specs.declared.data_rate.DataRate.TheVariants.{Dr0}
 use Rattle.radio_bands.specs.Band.{band_of}
 use Rattle.resv_list.specs.declared.reservation.Reservation.{Reservation}
-use Rattle.resv_list.specs.Reservations.{start_of, begun}
-use Rattle.gateway_book.specs.Answer.{Terms, overlap}
+use Rattle.resv_list.specs.Reservations.{start_of, end_of, begun}
+use Rattle.gateway_book.specs.declared.ask.Ask.{Ask}
+use Rattle.gateway_book.specs.Answer.{Terms, overlap, refusal_of}
 use Rattle.gateway_book.specs.Disjoint.{rested_from}
 use Rattle.gateway_book.specs.Duty.{full_hour}
-use Rattle.gateway_book.specs.Earliest.{Accepts, IsEarliest, IsLeastAccepted, IsCandidate, EarliestCandidates}
-use Rattle.gateway_book.specs.EarliestValue.{EarliestIsExact, earliest_of}
+use Rattle.gateway_book.specs.Earliest.{Accepts, IsEarliest, IsLeastAccepted, IsCandidate, EarliestCandidates, at_start}
+use Rattle.gateway_book.specs.EarliestValue.{EarliestIsExact, earliest_of, moments}
 use Rattle.gateway_book.specs.Kept.{kept}
+use Rattle.gateway_book.specs.Least.{least}
 use Rattle.gateway_book.specs.Step.{is_fit-IsFit}
 use Rattle.gateway_book.proofs.WorkedLists.{fast, slow, early, late, last, sent}
 
@@ -154,3 +158,47 @@ module _ (law : EarliestIsExact) where
   pub least_an_hour_after : IsLeastAccepted (terms 20) (long ∷ []) (slow 9 0) 3609999999 3610000001 3610000000
   unfolding earliest_of airtime_of band_of begun kept overlap full_hour long
   least_an_hour_after = (law (terms 20) (long ∷ []) (slow 9 0) 3609999999 3610000001 (Some 3610000000)).1 refl
+
+-- Of every list, and whatever is asked for.
+
+module _ (there : Terms) (l : List Reservation) (ask : Ask) (a z : ℕ) where
+  abbrev IsAccepted : ℕ → Type 0
+  IsAccepted s =
+      refusal_of there l (record { number = ask.number; start = s; freq_hz = ask.freq_hz; rate = ask.rate; len = ask.len }) ≡ None
+
+  -- it lies from a to z, is accepted, and is the least from a on that is
+  abbrev IsLeastStart : ℕ → Type 0
+  IsLeastStart s = (a ≤ s) × (s ≤ z) × IsAccepted s × ((t : ℕ) → a ≤ t → IsAccepted t → s ≤ t)
+
+  module _ (law : EarliestIsExact) where
+    pub each_told_is_least : (s : ℕ) → earliest_of there l ask a z ≡ Some s → IsLeastStart s
+    each_told_is_least s e = let h = (law there l ask a z (Some s)).1 (sym e) in (h.from, h.to, h.accepted, h.least)
+
+    pub each_least_is_told : (s : ℕ) → IsLeastStart s → earliest_of there l ask a z ≡ Some s
+    each_least_is_told s (from, to, accepted, is_least) =
+        sym ((law there l ask a z (Some s)).0 (record { from = from; to = to; accepted = accepted; least = is_least }))
+
+    pub none_is_accepted_where_none_is_told : earliest_of there l ask a z ≡ None → (t : ℕ) → a ≤ t → IsAccepted t → z < t
+    none_is_accepted_where_none_is_told e = (law there l ask a z None).1 (sym e)
+
+    pub none_is_told_where_none_is_accepted : ((t : ℕ) → a ≤ t → IsAccepted t → z < t) → earliest_of there l ask a z ≡ None
+    none_is_told_where_none_is_accepted none = sym ((law there l ask a z None).0 none)
+
+  pub each_least_is_a_candidate : EarliestCandidates → (s : ℕ) → IsLeastStart s
+      → (s ≡ max a there.floor)
+      ⊎ ((r : Reservation) × Contains l r × ((s ≡ end_of r + there.rules.gap) ⊎ (s ≡ r.start + 3600000000)))
+  each_least_is_a_candidate law s (from, to, accepted, is_least) =
+      law there l ask a z s (record { from = from; to = to; accepted = accepted; least = is_least })
+
+-- the value is the least of the moments from a to z at which the ask is accepted
+pub each_value : (there : Terms) (l : List Reservation) (ask : Ask) (a z : ℕ) → earliest_of there l ask a z ≡
+    least (filter (λ s. is_none (refusal_of there l (at_start ask s))) (moments a z))
+unfolding earliest_of
+each_value there l ask a z = refl
+
+-- three moments from 8 on, and none from 8 to 7
+pub three_moments : moments 8 10 ≡ 8 ∷ 9 ∷ 10 ∷ []
+three_moments = refl
+
+pub no_moments : moments 8 7 ≡ []
+no_moments = refl

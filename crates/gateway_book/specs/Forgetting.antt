@@ -60,7 +60,7 @@ pub record IsUnseen (rules : Rules) (s : State) : Type 0 where
   pub replies : (cs : List Command) → forgetful_replies rules (forgetful s) cs ≡ replies rules s cs
   pub lawful : (c : Command) → IsLawful rules.gap s.list → IsLawful rules.gap (after_command rules s c).list
 
--- the law: so it is for every gap that a gateway may have, and every list of fit members with starts of their own, by start
--- or not, lawful or not
+-- the law: so it is for every gap that a gateway may have, and every list whose members have starts of their own, by start or
+-- not, lawful or not
 abbrev pub ForgettingIsUnseen : Type 0
 ForgettingIsUnseen = (rules : Rules) (s : State) → rules.gap ≤ most_gap → HaveOwnStarts s.list → IsUnseen rules s
