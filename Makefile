@@ -14,7 +14,7 @@ help:
 	@echo 'make quick     before a commit: the documents, and the cases on the program that is there'
 	@echo 'make cases     the cases alone, on the program that make test has proved'
 	@echo 'make mutants   more edits that have to be refused: before a release'
-	@echo 'make install   copies the proved program to PREFIX/bin/airbook (PREFIX=/usr/local)'
+	@echo 'make install   copies the proved program to PREFIX/bin/airbook (PREFIX=/usr/local), and what it is made of beside it'
 
 # The main job on a machine where nothing is built. rt try compiles and runs, and proves nothing.
 demo:
@@ -44,14 +44,15 @@ test: documents
 	python3 tests/forwarder.py $(PROGRAM)
 	python3 tests/listen.py $(PROGRAM)
 
-# Whether links lead somewhere, sentences are short, and the lists of definitions, of calls that take memory and of changes of
-# statements are those of the sources.
+# Whether links lead somewhere, sentences are short, the lists of definitions, of calls that take memory and of changes of
+# statements are those of the sources, and the version is told alike everywhere.
 documents:
 	python3 tests/links.py
 	python3 tests/english.py
 	python3 tests/model.py
 	python3 tests/growths.py
 	python3 tests/edit_table.py
+	python3 tests/version.py
 
 # One crate, over the libraries below it, as make check CRATE=gateway_book.
 check:
@@ -71,8 +72,6 @@ mutants:
 	python3 tests/gate.py
 	python3 tests/edits.py mutants
 
-# The proved program, as PREFIX/bin/airbook.
+# The proved program as PREFIX/bin/airbook, and what it is made of as PREFIX/share/airbook/BUILD.
 install:
-	@test -x $(PROGRAM) || { echo 'There is no proved program at $(PROGRAM): run make test first.' >&2; exit 1; }
-	install -d '$(DESTDIR)$(PREFIX)/bin'
-	install -m 755 $(PROGRAM) '$(DESTDIR)$(PREFIX)/bin/airbook'
+	python3 tests/install.py '$(DESTDIR)$(PREFIX)'

@@ -1,7 +1,7 @@
 #!/usr/bin/env python3
 """Counts the words a sentence of the documents, and lists the sentences that are too long.
 
-Usage: tests/english.py [PAGE ..]      (none: README.md and docs/*.md of this repository)
+Usage: tests/english.py [PAGE ..]      (none: README.md, CHANGELOG.md and docs/*.md of this repository)
 
 Prints for each page the average and the longest, and a line for each sentence of more than 45 words: its page, the line on which
 it begins, how many words it has and how it begins. A page's average may be at most 20. Tables, blocks of code, headings and
@@ -57,7 +57,7 @@ def sentences(lines):
 
 
 def main():
-    pages = [pathlib.Path(name) for name in sys.argv[1:]] or [TOP / "README.md", *sorted((TOP / "docs").glob("*.md"))]
+    pages = [pathlib.Path(name) for name in sys.argv[1:]] or [TOP / "README.md", TOP / "CHANGELOG.md", *sorted((TOP / "docs").glob("*.md"))]
     failed = 0
     for page in pages:
         try:

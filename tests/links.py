@@ -1,5 +1,5 @@
 #!/usr/bin/env python3
-"""Looks whether what README.md and docs/*.md name is there: each path in backticks or in plain words, and each link.
+"""Looks whether what README.md, CHANGELOG.md and docs/*.md name is there: each path in backticks or in plain words, and each link.
 
 Usage: tests/links.py [ROOT]      (ROOT: the repository's top; none: that of this script)
 
@@ -58,7 +58,7 @@ def paths(text):
 def main():
     names = {path.name for path in TOP.rglob("*") if ".git" not in path.parts}
     passed = failed = 0
-    for page in [TOP / "README.md", *sorted((TOP / "docs").glob("*.md"))]:
+    for page in [TOP / "README.md", TOP / "CHANGELOG.md", *sorted((TOP / "docs").glob("*.md"))]:
         for number, word, crate in paths(page.read_text(encoding="utf-8")):
             if is_there(word, crate, names):
                 passed += 1

@@ -58,6 +58,26 @@ def is_proved(crate):
     return sum_file(crate).is_file() and sum_file(crate).read_text() == sum_of(crate)
 
 
+def program(crate):
+    """Where the gate leaves the program of a crate, as LLVM builds it."""
+    return TOP / "crates" / crate / "out" / crate
+
+
+def program_sum(crate):
+    return hashlib.sha256(program(crate).read_bytes()).hexdigest()
+
+
+def program_sum_file(crate):
+    """Where tests/gate.py keeps the sum of that program."""
+    return TOP / "crates" / crate / "out" / "program_sum"
+
+
+def is_gates_program(crate):
+    """Whether the program that stands there is the one that the gate left."""
+    kept = program_sum_file(crate)
+    return kept.is_file() and program(crate).is_file() and kept.read_text() == program_sum(crate)
+
+
 def rlib(name, uses):
     folder = TOP / "crates" / name / "out" / "rlib" if name in uses else KIT / "rlibs"
     return folder / f"{name}.rlib"

@@ -5,6 +5,10 @@ use airbook_text::MAX_WORKERS;
 use clap::{Arg, ArgAction, ArgMatches, Command, value_parser};
 use std::alloc::{AllocError, Global};
 
+/// The version, as CHANGELOG.md has it, and the toolchain that the sources are proved with, as README.md has it. Whether this
+/// very program was proved it can't know.
+const VERSION: &str = "0.2.0 (sources proved with rattle-kit-13f logic dac8208d650f15bf)";
+
 /// What is asked for on the command line.
 #[derive(Clone, Copy)]
 pub enum Task {
@@ -37,7 +41,7 @@ pub enum Task {
 /// The command line that the program takes.
 pub fn program<'a>(alloc: Global) -> Result<Command<'a>, AllocError> {
     Command::new(alloc, "airbook")
-        .version("0.1.0")
+        .version(VERSION)
         .about(
             "Answers LoRaWAN uplinks in EU868: which gateway sends the downlink, in which window, and whether its \
              duty cycle lets it.",

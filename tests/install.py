@@ -1,0 +1,69 @@
+#!/usr/bin/env python3
+"""Installs the proved program, and beside it what it was made of.
+
+Usage: tests/install.py FOLDER      (FOLDER/bin/airbook and FOLDER/share/airbook/BUILD are written)
+
+It refuses a program that tests/gate.py did not leave, or that it left of other sources than those that stand here now. BUILD has
+the version, the toolchain's line, the commit and the program's sum. The status is 0 where both were written, 1 where there is no
+such program, 2 where something can't be read or written.
+"""
+import pathlib
+import shutil
+import subprocess
+import sys
+
+sys.dont_write_bytecode = True
+import prover
+import version
+
+CRATE = "airbook"
+
+
+def answer_of(*words):
+    """What a command writes; `unknown` where there is none, or it fails."""
+    try:
+        ran = subprocess.run(words, cwd=prover.TOP, stdin=subprocess.DEVNULL, capture_output=True, text=True)
+    except OSError:
+        return "unknown"
+    return ran.stdout.strip() if ran.returncode == 0 else "unknown"
+
+
+def commit():
+    """The commit that stands here, and whether files that it has are changed."""
+    changed = answer_of("git", "status", "--porcelain", "--untracked-files=no")
+    return answer_of("git", "rev-parse", "HEAD") + (" with changes" if changed else "")
+
+
+def record():
+    return [
+        f"version {version.told()[0]}",
+        f"toolchain {answer_of('rt', 'version')}",
+        f"commit {commit()}",
+        f"sha256 {prover.program_sum(CRATE)}",
+    ]
+
+
+def main():
+    if len(sys.argv) != 2:
+        print(__doc__.strip(), file=sys.stderr)
+        return 2
+    folder = pathlib.Path(sys.argv[1])
+    try:
+        if not prover.is_proved(CRATE) or not prover.is_gates_program(CRATE):
+            print("install.py: the gate has not proved this program as the sources stand: run make test first", file=sys.stderr)
+            return 1
+        for part in ("bin", "share/airbook"):
+            (folder / part).mkdir(parents=True, exist_ok=True)
+        (folder / "share/airbook/BUILD").write_text("\n".join(record()) + "\n")
+        made = folder / "bin" / f".{CRATE}.new"
+        shutil.copyfile(prover.program(CRATE), made)
+        made.chmod(0o755)
+        made.rename(folder / "bin" / CRATE)
+    except OSError as why:
+        print(f"install.py: {why}", file=sys.stderr)
+        return 2
+    return 0
+
+
+if __name__ == "__main__":
+    sys.exit(main())

@@ -1,0 +1,65 @@
+#!/usr/bin/env python3
+"""Compares what `airbook --version` tells with README.md, CHANGELOG.md and the toolchain.
+
+Usage: tests/version.py
+
+The constant VERSION of crates/airbook/src/arguments.rt has the version of CHANGELOG.md's first heading `## VERSION - ..`, and the
+toolchain's line that README.md ends with. Where there is a command rt, `rt version` has to tell the same logic; its kit may be
+another. Prints a line for each that differs; the last line is 'N passed, M failed'. The status is 0 where none failed, else 1.
+"""
+import pathlib
+import re
+import shutil
+import subprocess
+import sys
+
+TOP = pathlib.Path(__file__).resolve().parent.parent
+LINE = r"rattle-kit-\w+ logic [0-9a-f]{16}"
+
+
+def found(path, what):
+    """The parts of what a file of the repository has; SystemExit with 1 where it has none."""
+    text = (TOP / path).read_text(encoding="utf-8")
+    match = re.search(what, text)
+    if not match:
+        print(f"{path}: there is nothing like {what}\n0 passed, 1 failed")
+        raise SystemExit(1)
+    return match.groups()
+
+
+def told():
+    """The version and the toolchain's line that the program tells."""
+    return found("crates/airbook/src/arguments.rt", rf'const VERSION: &str =\s*"(\S+) \(sources proved with ({LINE})\)"')
+
+
+def logic_of(line):
+    return line.split()[-1]
+
+
+def faults():
+    version, line = told()
+    newest = found("CHANGELOG.md", r"(?m)^## (\d\S*) - ")[0]
+    if version != newest:
+        yield f"the program tells version {version}, CHANGELOG.md has {newest}"
+    named = found("README.md", rf"Proved with `({LINE})`")[0]
+    if line != named:
+        yield f"the program tells {line}, README.md {named}"
+    if shutil.which("rt"):
+        here = subprocess.run(["rt", "version"], stdin=subprocess.DEVNULL, capture_output=True, text=True).stdout.strip()
+        if logic_of(here or "-") != logic_of(line):
+            yield f"the toolchain here is {here or 'silent'}, the sources are proved with {line}"
+
+
+def main():
+    if len(sys.argv) > 1:
+        print(__doc__.strip(), file=sys.stderr)
+        return 2
+    at_fault = list(faults())
+    for fault in at_fault:
+        print(fault)
+    print(f"{3 - len(at_fault)} passed, {len(at_fault)} failed")
+    return 1 if at_fault else 0
+
+
+if __name__ == "__main__":
+    sys.exit(main())
