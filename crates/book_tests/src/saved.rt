@@ -24,7 +24,7 @@ pub(crate) fn loaded<R: Roster + Drop>(text: &[u8], roster: R) -> Result<Gateway
 }
 
 /// Why a text is no saved book, if it is none.
-pub(crate) fn fault_of(alloc: Global, text: &[u8]) -> Option<LoadFault> {
+fn fault_of(alloc: Global, text: &[u8]) -> Option<LoadFault> {
     loaded(text, VecRoster::new(alloc)).err()
 }
 

@@ -2,7 +2,7 @@
 ghost use Rattle.std.specs.Prelude.{◌≡◌, []};
 
 use crate::asks::book_spaced;
-use crate::saved::{SECOND, fault_of, loaded, saved};
+use crate::saved::{SECOND, loaded, saved};
 use bumpalo::Bump;
 use gateway_book::{GatewayBook, LoadFault, MemoryIn};
 use resv_list::{Roster, VecRoster};
@@ -78,14 +78,6 @@ static FAULTS: [(&[u8], LoadFault); 20] = [
         LoadFault::Syntax { line: 6 },
     ),
 ];
-
-#[test]
-fn the_first_line_at_fault_is_told(rt: HostRuntime) -> Result<(), Fail> {
-    for (place, (text, fault)) in FAULTS.iter().enumerate() {
-        equal_at(&place, &fault_of(rt.alloc(), text), &Some(*fault))?;
-    }
-    Ok(())
-}
 
 /// The number of the line at which a text is at fault.
 fn line_of(fault: LoadFault) -> u64 {

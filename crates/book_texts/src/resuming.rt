@@ -69,23 +69,12 @@ fn load_ahead<A: Allocator + Clone, R: ByteIn>(reader: &mut R, alloc: A) -> Load
     ensures rest { ForSome (R.left reader.old) (λ bytes. IsRest bytes (unread result.1 (R.left reader.new)) result.1.taken) }
     ensures read { CountsWhere is_read (R.failed_calls reader.old) (R.failed_calls reader.new) result.0 }
 {
-    let (lent, loaded) = load_lent(Lent { reader }, alloc);
+    let (lent, loaded) = load_buffered::<A, Lent<'_, R>, Brand>(Lent { reader }, alloc);
     let Lent { reader: _reader } = lent;
     loaded
 }
 
-/// The same of a reader that is given back.
-fn load_lent<A: Allocator + Clone, R: ByteIn>(reader: R, alloc: A) -> (R, LoadedAhead<A>)
-    ensures loads { Loads (R.left reader) (unread result.1.1 (R.left result.0)) result.1.0 }
-    ensures opened { IfOk result.1.0 (λ b. b ≡ opened_again (saved_of b)) }
-    ensures rest { ForSome (R.left reader) (λ bytes. IsRest bytes (unread result.1.1 (R.left result.0)) result.1.1.taken) }
-    ensures read { CountsWhere is_read (R.failed_calls reader) (R.failed_calls result.0) result.1.0 }
-    ensures place { R.place result.0 ≡ R.place reader }
-{
-    load_buffered::<A, R, Brand>(reader, alloc)
-}
-
-/// The same of an input that a mark stands for.
+/// The same of a reader that is given back, and of an input that a mark stands for.
 fn load_buffered<A: Allocator + Clone, R: ByteIn, I: Origin>(
     reader: R,
     alloc: A,

@@ -7,5 +7,5 @@ use Rattle.book_texts.proofs.resuming.load_ahead.Goals as goal
 pub returns-clause-rest : goal.returns-clause-rest
 returns-clause-rest g c =
     subst (λ reader. (bytes : List ℕ) → g.R.ByteIn.left c.args.reader.now ≡ Some bytes
-    → IsRest bytes (unread c.load_lent-lent.result.1.1 (g.R.ByteIn.left reader)) c.load_lent-lent.result.1.1.taken)
-    (search rules) c.load_lent-lent.ensures.rest
+    → IsRest bytes (unread c.load_buffered-lent.result.1.1 (g.R.ByteIn.left reader)) c.load_buffered-lent.result.1.1.taken)
+    (search rules) c.load_buffered-lent.ensures.rest
