@@ -15,7 +15,7 @@ use Rattle.run_lines.specs.Datagram.{datagram_event}
 use Rattle.run_lines.specs.ReplayText.{entry_lines}
 use Rattle.run_lines.specs.declared.uplink_counts.UplinkCounts.{UplinkCounts}
 use Rattle.run_lines.specs.UplinkCounts.{counts_of, counts_sum, counts_of-append, AreCountsUpTo}
-use Rattle.run_shifts.specs.WorkersRun.{run_state, IsDone}
+use Rattle.run_server.specs.WorkersRun.{run_state, IsDone}
 use Rattle.std.proofs.Math.Bool.{or-false}
 use Rattle.listen_texts.specs.Receives.{datagram_room, Received, Seen, AreMade}
 use Rattle.listen_texts.specs.Turns.{Account, empty_account, Said, nothing, said_both, HasAnswer, IsAnswered, IsTurn, AreTurns}

@@ -15,9 +15,9 @@ use Rattle.text_words.specs.Words.{has_refusal}
 use Rattle.run_lines.specs.declared.uplink_counts.UplinkCounts.{UplinkCounts}
 use Rattle.run_lines.specs.UplinkCounts.{counts_of}
 use Rattle.run_lines.specs.ReplayText.{report_of}
-use Rattle.run_shifts.specs.Bookings.{open_receipts}
-use Rattle.run_shifts.specs.FinishFaults.{IsFinishName}
-use Rattle.run_shifts.specs.WorkersRun.{IsClosing, IsClosingFault}
+use Rattle.run_server.specs.Bookings.{open_receipts}
+use Rattle.run_server.specs.FinishFaults.{IsFinishName}
+use Rattle.run_server.specs.WorkersRun.{IsClosing, IsClosingFault}
 use Rattle.listen_texts.specs.Receives.{datagram_room, Received, Seen, AreMade}
 use Rattle.listen_texts.specs.Turns.{Account, Said, empty_account, HasAnswer, IsTurn, AreTurns}
 

@@ -7,8 +7,8 @@ use Rattle.text_words.specs.declared.fault.TextFault.TheVariants.{NoMemory}
 use Rattle.text_words.specs.Words.{has_refusal}
 use Rattle.run_lines.specs.declared.uplink_counts.UplinkCounts.{UplinkCounts}
 use Rattle.run_lines.specs.UplinkCounts.{counts_of, counts_sum, AreCountsUpTo}
-use Rattle.run_passes.specs.Booking.{Booking}
-use Rattle.run_shifts.specs.WorkersRun.{opening_till}
+use Rattle.run_server.specs.Booking.{Booking}
+use Rattle.run_server.specs.WorkersRun.{opening_till}
 use Rattle.listen_texts.specs.Receives.{datagram_room, Received, Seen, AreMade}
 use Rattle.listen_texts.specs.Turns.{Account, Said, account_of}
 use Rattle.listen_texts.specs.Listening.{IsReport, SaysInPart}

@@ -7,8 +7,8 @@ use Rattle.text_words.specs.Words.{spaced}
 use Rattle.run_lines.specs.Datagram.{datagram_event}
 use Rattle.run_lines.specs.ReplayText.{entry_lines}
 use Rattle.air_ledger.specs.Tills.{Holding}
-use Rattle.run_passes.specs.Booking.{Booking}
-use Rattle.run_shifts.specs.WorkersRun.{run_state, opening_till, IsDone}
+use Rattle.run_server.specs.Booking.{Booking}
+use Rattle.run_server.specs.WorkersRun.{run_state, opening_till, IsDone}
 use Rattle.listen_texts.specs.Receives.{Received}
 
 -- What a server that listens answers, turn by turn (docs/FORMATS.md, "airbook listen").

@@ -1,7 +1,7 @@
 // The text of `airbook listen`: datagrams in, each answered at once, and a report out.
 ghost use Rattle.std.specs.Prelude.{◌≡◌, IfOk, IfErr, codes};
 ghost use Rattle.text_words.specs.Fault.{CountsWrites};
-ghost use Rattle.run_shifts.specs.WorkersRun.{IsStaffed};
+ghost use Rattle.run_server.specs.WorkersRun.{IsStaffed};
 ghost use Rattle.listen_texts.specs.Listening.{Listens, ListensInPart, IsWithinLimit, IsRefusedAs, IsListenFault};
 
 use crate::listener::Listener;

@@ -3,7 +3,7 @@ ghost use Rattle.std.specs.Prelude.{◌≡◌, ◌^◌, [], Some, None, IfOk, If
 ghost use Rattle.text_words.specs.Fault.{CountsWrites};
 ghost use Rattle.server_station.specs.Stations.{AreInOrder};
 ghost use Rattle.run_lines.specs.UplinkCounts.{AreCountsUpTo};
-ghost use Rattle.run_shifts.specs.WorkersRun.{IsStaffed};
+ghost use Rattle.run_server.specs.WorkersRun.{IsStaffed};
 ghost use Rattle.listen_texts.specs.Turns.{account_of, HasAnswer, IsAnswered, IsTurn};
 ghost use Rattle.listen_texts.specs.Listening.{Hears, HearsInPart, SaysInPart, ReportsInPart, IsWithinLimit, IsListenFault};
 ghost use Rattle.listen_texts.specs.Steps.{progress, opened, Says, Turns, TurnsInPart, Reports};
@@ -11,7 +11,7 @@ ghost use Rattle.listen_texts.specs.Steps.{progress, opened, Says, Turns, TurnsI
 use crate::source::Source;
 use crate::unread::write_unread;
 use run_lines::{DATAGRAM_ROOM, UplinkCounts, datagram_event, write_entries, write_report};
-use run_shifts::Shift;
+use run_server::Shift;
 use server_core::{DeviceSetting, Event, NoMemory, Settings};
 use server_workers::{Blank, Ledger, PARTS};
 use std::alloc::Global;

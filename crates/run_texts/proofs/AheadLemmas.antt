@@ -6,7 +6,7 @@ use Rattle.server_desk.specs.declared.setting.DeviceSetting.{DeviceSetting}
 use Rattle.server_desk.specs.declared.setting.GatewaySetting.{GatewaySetting}
 use Rattle.run_lines.specs.RunEvents.{events_from, events_of}
 use Rattle.run_lines.proofs.PartLemmas.{events-append}
-use Rattle.run_shifts.specs.WorkersRun.{RunState, run_state, opening_till, AreDone}
+use Rattle.run_server.specs.WorkersRun.{RunState, run_state, opening_till, AreDone}
 use Rattle.run_texts.specs.Ahead.{IsAhead}
 
 -- what was done for some events, and then for those behind them

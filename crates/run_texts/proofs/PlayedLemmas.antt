@@ -9,10 +9,10 @@ use Rattle.server_desk.specs.declared.setting.GatewaySetting.{GatewaySetting}
 use Rattle.server_station.specs.Stations.{AreInOrder}
 use Rattle.text_words.specs.declared.fault.TextFault.{TextFault}
 use Rattle.text_words.specs.declared.fault.TextFault.TheVariants.{NoMemory}
-use Rattle.run_passes.specs.Booking.{Booking}
-use Rattle.run_shifts.specs.WorkersRun.{run_state, opening_till, AreDone, IsClosing, IsClosingFault}
-use Rattle.run_shifts.specs.Bookings.{open_receipts}
-use Rattle.run_shifts.specs.declared.station_run.Played.{Played}
+use Rattle.run_server.specs.Booking.{Booking}
+use Rattle.run_server.specs.WorkersRun.{run_state, opening_till, AreDone, IsClosing, IsClosingFault}
+use Rattle.run_server.specs.Bookings.{open_receipts}
+use Rattle.run_server.specs.declared.station_run.Played.{Played}
 use Rattle.run_texts.specs.Played.{IsFinished, IsPlayed, IsFinishedApart, IsPlayedApart}
 
 -- what was done for all events, and the books then

@@ -3,7 +3,7 @@ use Rattle.std.specs.Global.{Global}
 use Rattle.server_core.specs.declared.event.Event.{Event}
 use Rattle.server_desk.specs.declared.setting.GatewaySetting.{GatewaySetting}
 use Rattle.server_station.specs.Stations.{AreInOrder}
-use Rattle.run_shifts.specs.WorkersRun.{RunState, run_state, opening_till, AreDone}
+use Rattle.run_server.specs.WorkersRun.{RunState, run_state, opening_till, AreDone}
 
 -- A run with workers answers the first events while those behind them are still made.
 

@@ -9,9 +9,9 @@ use Rattle.server_desk.specs.declared.setting.GatewaySetting.{GatewaySetting}
 use Rattle.book_audit.specs.Audit.{booked_by}
 use Rattle.server_station.specs.Stations.{AreInOrder}
 use Rattle.text_words.specs.declared.fault.TextFault.{TextFault}
-use Rattle.run_passes.specs.Booking.{Booking}
-use Rattle.run_shifts.specs.Bookings.{open_receipts}
-use Rattle.run_shifts.specs.WorkersRun.{run_state, opening_till, AreDone, IsClosing, IsClosingFault}
+use Rattle.run_server.specs.Booking.{Booking}
+use Rattle.run_server.specs.Bookings.{open_receipts}
+use Rattle.run_server.specs.WorkersRun.{run_state, opening_till, AreDone, IsClosing, IsClosingFault}
 
 -- A run at a station of workers, and how it ends.
 

@@ -18,7 +18,7 @@ use Rattle.settings_text.specs.SettingsOfBytes.{settings_in, IsNamed, IsRefusedB
 use Rattle.run_lines.specs.ReplayText.{replay_lines}
 use Rattle.run_lines.specs.RunInput.{settings_part, event_part}
 use Rattle.run_lines.specs.RunEvents.{events_of}
-use Rattle.run_shifts.specs.FinishFaults.{IsPlayFault}
+use Rattle.run_server.specs.FinishFaults.{IsPlayFault}
 use Rattle.run_texts.specs.Played.{IsPlayed, IsPlayedApart}
 
 -- The output of `airbook run`, and what its text promises of a reader and a writer that tell their bytes.

@@ -3,15 +3,15 @@ ghost use Rattle.std.specs.Prelude.{◌≡◌, ◌≢◌, ◌+◌, ◌^◌, ◌<
 ghost use Rattle.std.specs.Str.Lines.{lines};
 ghost use Rattle.run_lines.specs.RunEvents.{events_from, events_of};
 ghost use Rattle.run_lines.specs.RunInput.{event_part};
-ghost use Rattle.run_shifts.specs.FinishFaults.{IsPlayFault};
-ghost use Rattle.run_shifts.specs.WorkersRun.{HasOpened, IsStaffed, run_state};
+ghost use Rattle.run_server.specs.FinishFaults.{IsPlayFault};
+ghost use Rattle.run_server.specs.WorkersRun.{HasOpened, IsStaffed, run_state};
 ghost use Rattle.run_texts.specs.Played.{IsPlayed, IsPlayedApart};
 ghost use Rattle.server_station.specs.Stations.{AreInOrder};
 ghost use Rattle.run_texts.specs.Ahead.{IsAhead};
 
 use crate::given_events::given_back;
 use run_lines::{events_from, first_quarter, parts_of};
-use run_shifts::{Played, Shift};
+use run_server::{Played, Shift};
 use server_core::{Event, NoMemory, Settings};
 use server_workers::{Blank, Ledger, PARTS};
 use std::alloc::Global;

@@ -1,6 +1,6 @@
 use Rattle.std.proofs.Common.{◌+◌, ap, subst, IfOk}
 use Rattle.std.specs.Str.Lines.{lines}
-use Rattle.run_shifts.specs.WorkersRun.{run_state}
+use Rattle.run_server.specs.WorkersRun.{run_state}
 use Rattle.run_texts.specs.Ahead.{IsAhead}
 use Rattle.run_texts.proofs.AheadLemmas.{in_parts}
 use Rattle.run_texts.proofs.run_ahead.opened_for.Goals as goal

@@ -3,8 +3,8 @@ use Rattle.std.specs.Str.Lines.{lines}
 use Rattle.text_words.specs.declared.fault.TextFault.TheVariants.{NoMemory}
 use Rattle.run_lines.specs.RunEvents.{events_of}
 use Rattle.run_lines.specs.RunInput.{event_part}
-use Rattle.run_shifts.specs.Bookings.{open_receipts}
-use Rattle.run_shifts.specs.WorkersRun.{run_state, IsClosing, IsClosingFault}
+use Rattle.run_server.specs.Bookings.{open_receipts}
+use Rattle.run_server.specs.WorkersRun.{run_state, IsClosing, IsClosingFault}
 use Rattle.run_texts.specs.Ahead.{IsAhead}
 use Rattle.run_texts.proofs.AheadLemmas.{ahead_done}
 use Rattle.run_texts.proofs.PlayedLemmas.{finished_with, apart_with, played_apart, played_with}

@@ -7,8 +7,8 @@ use Rattle.server_core.specs.declared.entry.Entry.{Entry}
 use Rattle.run_lines.specs.ReplayText.{entry_lines}
 use Rattle.air_ledger.specs.Tills.{Holding}
 use Rattle.run_lines.specs.UplinkCounts.{counts_of, counts_sum, AreCountsUpTo}
-use Rattle.run_shifts.specs.WorkersRun.{run_state, IsDone}
-use Rattle.run_shifts.specs.declared.receipts.Receipts.{Receipts}
+use Rattle.run_server.specs.WorkersRun.{run_state, IsDone}
+use Rattle.run_server.specs.declared.receipts.Receipts.{Receipts}
 use Rattle.listen_texts.specs.Turns.{account_of}
 use Rattle.listen_texts.proofs.ListenLemmas.{answered_by}
 use Rattle.listen_texts.proofs.listener.Listener.event.Goals as goal

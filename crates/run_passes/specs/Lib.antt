@@ -1,4 +1,0 @@
-pub mod Numbered
-pub mod Booking
-pub mod PassEnds
-pub mod PassAnswers

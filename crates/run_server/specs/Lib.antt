@@ -1,0 +1,9 @@
+pub mod Numbered
+pub mod Booking
+pub mod PassEnds
+pub mod PassAnswers
+pub mod Bookings
+pub mod PassTurns
+pub mod PassTold
+pub mod FinishFaults
+pub mod WorkersRun

@@ -1,4 +1,0 @@
-pub mod BookingLemmas
-pub mod TurnLemmas
-pub mod DoneLemmas
-pub mod ClosingLemmas
