@@ -128,7 +128,8 @@ module _ (rules : Rules) (s : State) where
   each_ask_is_followed ask asks = refl
 
   pub each_start_is_there : (ask : Ask) (a z : ℕ) →
-      earliest_after rules s [] ask a z ≡ earliest_of (record { floor = s.floor; rules = rules; booked = s.booked }) s.list ask a z
+      earliest_after rules s [] ask a z
+      ≡ earliest_of (record { floor = s.floor; rules = rules; booked = s.booked }) s.list ask a z
   each_start_is_there ask a z = refl
 
 -- the answers stand behind what was there, and each is right; without memory some stand there

@@ -19,8 +19,8 @@ use Rattle.gateway_book.specs.declared.ask.Ask.{Ask}
 use Rattle.airtime_planner.specs.EarliestAfter.{after_asks, earliest_after}
 use Rattle.airtime_planner.specs.WhatIf.{Answer, AreAnswers, IsAnswer}
 use Rattle.book_texts.specs.Answering.{reply_of, start_reply}
-use Rattle.book_texts.specs.Laws.{OneAnswerALine, AnswersComeFirst, PlanIsBook, PlanTellsAnswers, PlanTellsBookings, PlanTellsStarts}
-use Rattle.book_texts.specs.Laws.{tried_lines, asks_of}
+use Rattle.book_texts.specs.Laws.{OneAnswerALine, AnswersComeFirst, PlanIsBook, PlanTellsAnswers, PlanTellsBookings}
+use Rattle.book_texts.specs.Laws.{PlanTellsStarts, tried_lines, asks_of}
 use Rattle.book_texts.specs.Output.{answers, opened, output}
 use Rattle.book_texts.specs.Planning.{opens_plan, plan_output, plan_turns}
 use Rattle.book_texts.specs.Reply.{reply_words}

@@ -280,7 +280,8 @@ module _ (given : Rules) where
   each_setting_is_named NoMemory h = tt
 
   pub each_is_opened_or_resumed : (left : Option (List ℕ)) (result : Result Bool TextFault)
-      → (IsOpeningOf true given left result → IsLoadingOf left result) × (IsOpeningOf false given left result → IsSettingOf given result)
+      → (IsOpeningOf true given left result → IsLoadingOf left result)
+      × (IsOpeningOf false given left result → IsSettingOf given result)
   each_is_opened_or_resumed left result = ((λ h. h), (λ h. h))
 
 module _ (bytes : List ℕ) where
@@ -320,12 +321,12 @@ each_line_at_fault_is_named line = (refl, refl)
 pub want_of_memory_opens_nothing : is_unopened NoMemory ≡ true
 want_of_memory_opens_nothing = refl
 
-pub bad_setting_opens_nothing : (fault : TextFault) → IsNamed (codes "BadCap") fault → is_unopened fault ≡ true
-bad_setting_opens_nothing (Settings name) n = refl
-bad_setting_opens_nothing Read n = absurd n
-bad_setting_opens_nothing Write n = absurd n
-bad_setting_opens_nothing TooMuch n = absurd n
-bad_setting_opens_nothing NoMemory n = absurd n
+pub bad_setting_opens_nothing : (text : List ℕ) (fault : TextFault) → IsNamed text fault → is_unopened fault ≡ true
+bad_setting_opens_nothing text (Settings name) n = refl
+bad_setting_opens_nothing text Read n = absurd n
+bad_setting_opens_nothing text Write n = absurd n
+bad_setting_opens_nothing text TooMuch n = absurd n
+bad_setting_opens_nothing text NoMemory n = absurd n
 
 -- A booking is answered without `no` just where it is accepted and finds memory.
 

@@ -325,7 +325,7 @@ pub each_within_the_hour_is_kept : (l : List Reservation) (floor : ℕ) →
 unfolding kept
 each_within_the_hour_is_kept l floor = refl
 
--- What a book tells beside a state that forgets nothing: it has that state's floor and totals, and keeps what is kept of its list.
+-- A book beside a state that forgets nothing: it has that state's floor and totals, and keeps what is kept of its list.
 
 module _ (b : GatewaysBook) (s : State) where
   pub each_remembers : Remembers b s

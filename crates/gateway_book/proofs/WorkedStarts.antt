@@ -1,5 +1,5 @@
--- What the laws of the earliest start say of worked lists: each tells a fact there, and no premise is one that nothing meets. Then
--- what they say of every list.
+-- What the laws of the earliest start say of worked lists: each tells a fact there, and no premise is one that nothing meets.
+-- Then what they say of every list.
 use Rattle.std.proofs.Common.{ℕ, ◌≡◌, ◌+◌, ◌≤◌, ◌<◌, ◌⊎◌, max, List, [], ◌∷◌, Some, None, Contains}
 use Rattle.std.proofs.Common.{refl, sym, subst, arith, ap, zero, suc, inl, inr}
 use Rattle.std.proofs.lemmas.Option.{same_Some}
