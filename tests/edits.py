@@ -13,7 +13,6 @@ not refused in company. Each edit has a line with the function and the goal that
 failed'. The status is 0 where none failed, 1 where one did, 2 where nothing could be run.
 """
 import concurrent.futures
-import os
 import pathlib
 import resource
 import shutil
@@ -25,6 +24,7 @@ import time
 sys.dont_write_bytecode = True
 import antt_source
 import edit_files
+import machine
 import prover
 import rattle_source
 from edit_files import BadEdit
@@ -160,9 +160,7 @@ def gathered(folder, crates):
 
 def lanes():
     """How many checks go on side by side: one a processor, as far as memory holds them."""
-    words = dict(line.split(":") for line in pathlib.Path("/proc/meminfo").read_text().splitlines())
-    free = int(words["MemAvailable"].split()[0]) * 1024
-    return max(1, min(len(os.sched_getaffinity(0)), free // BYTES_OF_A_CHECK))
+    return max(1, min(machine.processors(), machine.free_memory() // BYTES_OF_A_CHECK))
 
 
 class Progress:
@@ -181,8 +179,12 @@ class Progress:
 
 
 def tried_of(crate, edits, progress):
-    """Tries the edits of a crate, one check after another: what is proved for one need not be proved for the next."""
+    """Tries the edits of a crate, one check after another: what is proved for one need not be proved for the next, nor what the
+    crate's own checks (rt check) have left."""
     with tempfile.TemporaryDirectory(prefix="edits-kept-") as kept:
+        left = folder_of(crate) / "out" / "incremental"
+        if left.is_dir():
+            shutil.copytree(left, kept, dirs_exist_ok=True)
         for batch in Batches(crate).of(edits):
             for edit, verdict in verdicts(crate, batch, kept).items():
                 progress.tell(edit.label, verdict)

@@ -7,10 +7,9 @@ First it times the proof of one small crate, which tells this machine's pace, an
 here. The toolchain runs as many proofs side by side as it reckons memory for, and reckons with two to four times of what they
 take; so it is told how many to run, by its variable RT_JOBS, unless that is set already: one a processor, as far as memory
 holds them. Once all is proved, the sums of the crates' files are kept in crates/*/out/proved, by which tests/edits.py knows
-that the gate speaks of them, and the sum of a program in crates/*/out/program_sum, by which tests/install.py does.
+that the gate speaks of them.
 """
 import os
-import pathlib
 import re
 import resource
 import shutil
@@ -19,6 +18,7 @@ import sys
 import time
 
 sys.dont_write_bytecode = True
+import machine
 import prover
 
 # What a gate from nothing took on the machine of bench/results, in processor seconds: all proofs and tests, the longest row of
@@ -29,11 +29,6 @@ PACE_CRATE = "radio_airtime"
 BYTES_OF_A_PROOF = 3_500_000_000
 LEAST_BYTES_OF_DISK = 3_000_000_000
 PROVED = re.compile(r"^rt: (\w+)(: its tests are)? (proved|NOT PROVED)|^rt: (\w+) is kept")
-
-
-def free_memory():
-    words = dict(line.split(":") for line in pathlib.Path("/proc/meminfo").read_text().splitlines())
-    return int(words["MemAvailable"].split()[0]) * 1024
 
 
 def pace():
@@ -101,7 +96,7 @@ def main():
     if shutil.disk_usage(prover.TOP).free < LEAST_BYTES_OF_DISK:
         print("gate.py: the disk has less than 3 GB free, which the gate wants", file=sys.stderr)
         return 2
-    processors, memory = len(os.sched_getaffinity(0)), free_memory()
+    processors, memory = machine.processors(), machine.free_memory()
     side_by_side = lanes(processors, memory)
     tell_plan(processors, memory, side_by_side, pace())
     before = {crate: prover.sum_of(crate) for crate in prover.crates()}
@@ -110,8 +105,6 @@ def main():
         for crate, told in before.items():
             if prover.sum_of(crate) == told:
                 prover.sum_file(crate).write_text(told)
-                if prover.program(crate).is_file():
-                    prover.program_sum_file(crate).write_text(prover.program_sum(crate))
     return status
 
 
