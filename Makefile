@@ -14,7 +14,7 @@ help:
 	@echo 'make quick     before a commit: the documents, and the cases on the program that is there'
 	@echo 'make cases     the cases alone, on the program that make test has proved'
 	@echo 'make mutants   more edits that have to be refused: before a release'
-	@echo 'make install   copies the proved program to PREFIX/bin/airbook (PREFIX=/usr/local), and what it is made of beside it'
+	@echo 'make install   copies the proved program to PREFIX/bin/airbook, its pages to PREFIX/share (PREFIX=/usr/local)'
 
 # The main job on a machine where nothing is built. rt try compiles and runs, and proves nothing.
 demo:
@@ -26,7 +26,7 @@ demo:
 # after the script that tries them was tried itself; what must not compile; and then, on the program that the gate has proved and
 # built, the cases, random runs and saved books beside plain models, allocations that are refused, workers beside one thread,
 # inputs of as many bytes and uplinks as there may be, the commands of the pages, talks line by line, the example of a converter,
-# and a server that listens. Where one fails, what comes after it is not run.
+# a server that listens, and what is installed. Where one fails, what comes after it is not run.
 test: documents
 	python3 tests/gate.py
 	python3 tests/edit_trials.py
@@ -43,6 +43,7 @@ test: documents
 	python3 tests/dialogue.py $(PROGRAM)
 	python3 tests/forwarder.py $(PROGRAM)
 	python3 tests/listen.py $(PROGRAM)
+	python3 tests/installed.py
 
 # Whether links lead somewhere, sentences are short, the lists of definitions, of calls that take memory and of changes of
 # statements are those of the sources, and the version is told alike everywhere.
@@ -72,6 +73,7 @@ mutants:
 	python3 tests/gate.py
 	python3 tests/edits.py mutants
 
-# The proved program as PREFIX/bin/airbook, and what it is made of as PREFIX/share/airbook/BUILD.
+# The proved program as PREFIX/bin/airbook; below PREFIX/share its manual page, completions for bash, formats and examples, and
+# what it is made of as airbook/BUILD.
 install:
 	python3 tests/install.py '$(DESTDIR)$(PREFIX)'

@@ -1,7 +1,7 @@
 #!/usr/bin/env python3
-"""Installs the proved program, and beside it what it was made of.
+"""Installs the proved program, with its manual page, completions for bash, examples and formats, and what it was made of.
 
-Usage: tests/install.py FOLDER      (FOLDER/bin/airbook and FOLDER/share/airbook/BUILD are written)
+Usage: tests/install.py FOLDER      (writes FOLDER/bin/airbook, and below FOLDER/share what PAGES names)
 
 It refuses a program that tests/gate.py did not leave, or that it left of other sources than those that stand here now. BUILD has
 the version, the toolchain's line, the commit and the program's sum. The status is 0 where both were written, 1 where there is no
@@ -13,10 +13,18 @@ import subprocess
 import sys
 
 sys.dont_write_bytecode = True
+import manual
 import prover
 import version
 
 CRATE = "airbook"
+# What is copied below the folder, from where in the repository.
+PAGES = {
+    "share/doc/airbook/FORMATS.md": "docs/FORMATS.md",
+    "share/doc/airbook/RUNNING.md": "docs/RUNNING.md",
+    "share/doc/airbook/examples": "examples",
+    "share/bash-completion/completions/airbook": "share/airbook.bash",
+}
 
 
 def answer_of(*words):
@@ -43,23 +51,40 @@ def record():
     ]
 
 
+def put_program(folder):
+    """The program, put in the place of another one at once."""
+    (folder / "bin").mkdir(parents=True, exist_ok=True)
+    made = folder / "bin" / f".{CRATE}.new"
+    shutil.copyfile(prover.program(CRATE), made)
+    made.chmod(0o755)
+    made.rename(folder / "bin" / CRATE)
+
+
+def put_pages(folder):
+    """What is read beside the program."""
+    for to, source in PAGES.items():
+        (folder / to).parent.mkdir(parents=True, exist_ok=True)
+        if (prover.TOP / source).is_dir():
+            shutil.copytree(prover.TOP / source, folder / to, dirs_exist_ok=True)
+        else:
+            shutil.copyfile(prover.TOP / source, folder / to)
+    for part in ("share/airbook", "share/man/man1"):
+        (folder / part).mkdir(parents=True, exist_ok=True)
+    (folder / "share/airbook/BUILD").write_text("\n".join(record()) + "\n")
+    (folder / "share/man/man1/airbook.1").write_text(manual.page(prover.program(CRATE)))
+
+
 def main():
     if len(sys.argv) != 2:
         print(__doc__.strip(), file=sys.stderr)
         return 2
-    folder = pathlib.Path(sys.argv[1])
+    if not prover.is_proved(CRATE) or not prover.is_gates_program(CRATE):
+        print("install.py: the gate has not proved this program as the sources stand: run make test first", file=sys.stderr)
+        return 1
     try:
-        if not prover.is_proved(CRATE) or not prover.is_gates_program(CRATE):
-            print("install.py: the gate has not proved this program as the sources stand: run make test first", file=sys.stderr)
-            return 1
-        for part in ("bin", "share/airbook"):
-            (folder / part).mkdir(parents=True, exist_ok=True)
-        (folder / "share/airbook/BUILD").write_text("\n".join(record()) + "\n")
-        made = folder / "bin" / f".{CRATE}.new"
-        shutil.copyfile(prover.program(CRATE), made)
-        made.chmod(0o755)
-        made.rename(folder / "bin" / CRATE)
-    except OSError as why:
+        put_pages(pathlib.Path(sys.argv[1]))
+        put_program(pathlib.Path(sys.argv[1]))
+    except (OSError, subprocess.SubprocessError) as why:
         print(f"install.py: {why}", file=sys.stderr)
         return 2
     return 0

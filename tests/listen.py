@@ -274,9 +274,17 @@ def at_random(program, datagrams, seed):
 
 
 def example(program):
-    """The example of README.md and of the help."""
+    """The example of README.md."""
     with Server(program, 1, settings=EXAMPLE.read_text()) as server:
         server.send(b"tick 1 5")
+        got = server.rest()
+    return None if got == (["floor 1 5", *NO_REPORT], 0, "") else f"got {got}"
+
+
+def example_of_help(program):
+    """The example of the help, in which bash sends the datagram."""
+    with Server(program, 1, settings=EXAMPLE.read_text()) as server:
+        subprocess.run(["bash", "-c", f"echo tick 1 5 > /dev/udp/127.0.0.1/{server.port}"], check=True, timeout=SECONDS)
         got = server.rest()
     return None if got == (["floor 1 5", *NO_REPORT], 0, "") else f"got {got}"
 
@@ -323,6 +331,7 @@ def main():
     datagrams, seed = (int(word) for word in (sys.argv[2:] + ["5000", "1"][len(sys.argv) - 2:])[:2])
     trials = [
         ("the example", lambda: example(program)),
+        ("the example of the help", lambda: example_of_help(program)),
         ("worked turns", lambda: worked(program)),
         ("threads", lambda: threads_started(program)),
         ("no threads", lambda: threads_refused(program)),

@@ -1,4 +1,5 @@
 // The command line.
+use crate::help;
 use crate::listen_command::listen;
 use crate::listening::Listening;
 use airbook_text::MAX_WORKERS;
@@ -42,18 +43,9 @@ pub enum Task {
 pub fn program<'a>(alloc: Global) -> Result<Command<'a>, AllocError> {
     Command::new(alloc, "airbook")
         .version(VERSION)
-        .about(
-            "Answers LoRaWAN uplinks in EU868: which gateway sends the downlink, in which window, and whether its \
-             duty cycle lets it.",
-        )
-        .after_help(
-            "Statuses:\n  0  no line of the output begins with no or bad\n  1  one does\n  2  the arguments were refused, \
-             with a text on standard error; or the run stopped, with a last line airbook: NAME there (docs/FORMATS.md \
-             lists the names)\n\n\
-             Examples:\n  airbook toa 5 12\n  airbook book < examples/two-bookings.txt\
-             \n  airbook plan < examples/plan.txt\n  airbook run < examples/two-gateways.txt\
-             \n  airbook listen --port 1700 --turns 1 < examples/settings.toml",
-        )
+        .about(help::ABOUT)
+        .after_help(help::MORE_OF_PROGRAM)
+        .after_long_help(help::AFTER)
         .subcommand_required(true)
         .subcommand(toa(alloc)?)?
         .subcommand(book(alloc)?)?
@@ -65,11 +57,9 @@ pub fn program<'a>(alloc: Global) -> Result<Command<'a>, AllocError> {
 /// The arguments of `toa`.
 fn toa<'a>(alloc: Global) -> Result<Command<'a>, AllocError> {
     Command::new(alloc, "toa")
-        .about("Writes the time on air of a frame, in microseconds")
-        .after_help(
-            "It answers no NoRate for a DR above 6, and no TooLong for a LEN above the rate's greatest. Statuses: see \
-             airbook --help.\n\nExample:\n  $ airbook toa 5 12\n  41216",
-        )
+        .about(help::TOA)
+        .after_help(help::MORE)
+        .after_long_help(help::AFTER_TOA)
         .arg(rate(alloc))?
         .arg(len(alloc))
 }
@@ -93,22 +83,10 @@ fn len<'a>(alloc: Global) -> Arg<'a> {
 /// The arguments of `book`.
 fn book<'a>(alloc: Global) -> Result<Command<'a>, AllocError> {
     Command::new(alloc, "book")
-        .about(
-            "Keeps the airtime book of one gateway. Lines of standard input: book NUMBER START FREQ DR LEN, cancel \
-             NUMBER START, tick NOW, earliest NUMBER NOT_BEFORE LAST FREQ DR LEN",
-        )
-        .after_help(
-            "NUMBER is the caller's own for a transmission, below 2^64; two may have the same. START, NOW, NOT_BEFORE and \
-             LAST are microseconds of the gateway's clock, FREQ is the centre of the channel in Hz, DR the data rate 0 to \
-             6, and LEN the length of the PHYPayload in bytes, 0 to 255. Statuses: see airbook --help.\n\n\
-             Examples:\n  $ echo book 1 10000000 868100000 5 12 | airbook book\n  ok 1 10000000 10041216\
-             \n  booked 41216\n  cancelled 0\n  retired 0\n  kept 1 41216\n  floor 0\n  busiest M 10000000 41216\
-             \n  $ echo book 1 10000000 868100000 5 12 | airbook book --save\n  ok 1 10000000 10041216\n  airbook 2\
-             \n  gateway 1 4096 0 0\n  r 1 10000000 868100000 5 12\n  end 1\
-             \n  $ airbook book --resume < examples/saved-book.txt\n  no 4 DutyFull K 0 2973696\
-             \n  ok 5 3600000000 3600991232\n  booked 3964928\n  cancelled 0\n  retired 0\n  kept 4 3964928\
-             \n  floor 0\n  busiest K 0 2973696",
-        )
+        .about(help::BOOK)
+        .long_about(help::LONG_BOOK)
+        .after_help(help::MORE)
+        .after_long_help(help::AFTER_BOOK)
         .arg(cap(alloc))?
         .arg(gap(alloc))?
         .arg(resume(alloc))?
@@ -118,18 +96,10 @@ fn book<'a>(alloc: Global) -> Result<Command<'a>, AllocError> {
 /// The arguments of `plan`.
 fn plan<'a>(alloc: Global) -> Result<Command<'a>, AllocError> {
     Command::new(alloc, "plan")
-        .about(
-            "Keeps the airtime book of one gateway, as book does, and tells what it would answer to the lines book \
-             and earliest that follow a line plan. Nothing is booked; each booking that would be accepted stays for \
-             the next",
-        )
-        .after_help(
-            "The words are those of book: see airbook book --help. A line that begins with if doesn't make the status \
-             1. Statuses: see airbook --help.\n\n\
-             Example:\n  $ airbook plan < examples/plan.txt\n  ok 1 10000000 10041216\n  if no 8 Taken 10000000\
-             \n  if ok 9 10041216 10082432\n  if no 10 Taken 10000000\n  booked 41216\n  cancelled 0\n  retired 0\
-             \n  kept 1 41216\n  floor 0\n  busiest M 10000000 41216",
-        )
+        .about(help::PLAN)
+        .long_about(help::LONG_PLAN)
+        .after_help(help::MORE)
+        .after_long_help(help::AFTER_PLAN)
         .arg(cap(alloc))?
         .arg(gap(alloc))
 }
@@ -137,7 +107,7 @@ fn plan<'a>(alloc: Global) -> Result<Command<'a>, AllocError> {
 /// How many transmissions a book keeps at most; where it isn't said, as many as a gateway's in the settings.
 fn cap<'a>(alloc: Global) -> Arg<'a> {
     Arg::new(alloc, "cap")
-        .help("How many transmissions the book keeps at most, 1 to 65536")
+        .help("Keeps at most so many transmissions, 1 to 65536")
         .long("cap")
         .value_name("N")
         .default_value("4096")
@@ -147,7 +117,7 @@ fn cap<'a>(alloc: Global) -> Arg<'a> {
 /// How long a gateway needs between two transmissions.
 fn gap<'a>(alloc: Global) -> Arg<'a> {
     Arg::new(alloc, "gap")
-        .help("Microseconds that the gateway needs between two transmissions, 0 to 100000")
+        .help("Microseconds between transmissions, 0 to 100000")
         .long("gap")
         .value_name("N")
         .default_value("0")
@@ -157,9 +127,7 @@ fn gap<'a>(alloc: Global) -> Arg<'a> {
 /// Whether the input begins with a saved book.
 fn resume<'a>(alloc: Global) -> Arg<'a> {
     Arg::new(alloc, "resume")
-        .help(
-            "The input begins with a saved book, and the lines follow it; --cap and --gap are not looked at",
-        )
+        .help("Reads a saved book first; --cap and --gap are not looked at")
         .long("resume")
         .action(ArgAction::SetTrue)
 }
@@ -175,9 +143,8 @@ fn save<'a>(alloc: Global) -> Arg<'a> {
 /// How many workers a run has.
 fn workers<'a>(alloc: Global) -> Arg<'a> {
     Arg::new(alloc, "workers")
-        .help(
-            "At most how many workers answer the uplinks that one pass closes, 0 to 16; with 0 one thread does all",
-        )
+        .help("Workers for the uplinks of a pass, 0 to 16")
+        .long_help(help::WORKERS_OF_RUN)
         .long("workers")
         .value_name("N")
         .default_value("0")
@@ -187,24 +154,10 @@ fn workers<'a>(alloc: Global) -> Arg<'a> {
 /// The arguments of `run`.
 fn run<'a>(alloc: Global) -> Result<Command<'a>, AllocError> {
     Command::new(alloc, "run")
-        .about(
-            "Answers the uplinks that gateways heard. Standard input: the settings in TOML, a line ---, and then \
-             lines queue ADDR PORT HEX, hear GATEWAY AT FREQ DR SNR RSSI ARRIVED HEX, pass NOW, tick GATEWAY NOW, \
-             cancel N",
-        )
-        .after_help(
-            "GATEWAY is the id of a gateway of the settings, and N the number of an uplink, which opened N tells. AT is \
-             microseconds of the gateway's clock, and so is NOW of tick; ARRIVED and NOW of pass are microseconds of the \
-             server's. FREQ is the centre of the channel in Hz, DR the data rate 0 to 6, SNR tenths of a dB, RSSI dBm. ADDR \
-             is a DevAddr, PORT the FPort, 1 to 223, and HEX bytes in hexadecimal, or - for none: an FRMPayload after queue, \
-             a PHYPayload after hear. There @KIND:ADDR:COUNTER stands for an uplink of that device and counter which is \
-             made here: KIND is c for confirmed, u for unconfirmed, a for one that asks for an answer by ADRACKReq. \
-             Statuses: see airbook --help.\n\nExample:\n  $ airbook run < examples/two-gateways.txt\n  opened 1\n  joined 1 2\
-             \n  send 1 2 RX1 10000000 868100000 5 12\n  frame 1 60da1b0126200000240347ca\
-             \n  gateway 1 booked 0 cancelled 0 retired 0 kept 0\
-             \n  gateway 2 booked 41216 cancelled 0 retired 0 kept 1\n  busiest 2 M 10000000 41216\
-             \n  answered 1 unanswered 0 silent 0\n  $ airbook run --workers 2 < examples/two-gateways.txt",
-        )
+        .about(help::RUN)
+        .long_about(help::LONG_RUN)
+        .after_help(help::MORE)
+        .after_long_help(help::AFTER_RUN)
         .arg(workers(alloc))
 }
 

@@ -2,6 +2,7 @@
 #![tactic(auto)]
 
 mod arguments;
+mod help;
 mod listen_command;
 mod listening;
 mod tasks;

@@ -1,0 +1,168 @@
+// What `--help` tells, in lines of at most 80 columns. `-h` tells the first line of each and the options alone.
+
+/// What `-h` says behind the options of a command.
+pub const MORE: &str = "--help tells also the lines that are read, the statuses, and an example.";
+
+/// The same of the program.
+pub const MORE_OF_PROGRAM: &str =
+    "airbook COMMAND --help tells what it reads and writes, with an example.";
+
+pub const ABOUT: &str = "\
+Answers LoRaWAN uplinks in EU868: which gateway sends the downlink, in which
+window, and whether its duty cycle lets it.";
+
+pub const AFTER: &str = "\
+Statuses:
+  0  no line of the output begins with no or bad
+  1  one does
+  2  the arguments were refused, with a text on standard error; or the run
+     stopped, with a last line airbook: NAME there (docs/FORMATS.md has them)
+
+Examples:
+  airbook toa 5 12
+  airbook book < examples/two-bookings.txt
+  airbook plan < examples/plan.txt
+  airbook run < examples/two-gateways.txt
+  airbook listen --port 1700 --turns 1 < examples/settings.toml";
+
+pub const TOA: &str = "Tells the time on air of a frame, in microseconds";
+
+pub const AFTER_TOA: &str = "\
+It answers no NoRate for a DR above 6, and no TooLong for a LEN above the
+greatest of the rate: 64 bytes at DR0 to DR2, 128 at DR3, 255 from DR4 on.
+Statuses: see airbook --help.
+
+Example:
+  $ airbook toa 5 12
+  41216";
+
+pub const BOOK: &str = "Keeps the airtime book of one gateway";
+
+pub const LONG_BOOK: &str = "\
+Keeps the airtime book of one gateway. Lines of standard input:
+  book NUMBER START FREQ DR LEN
+  cancel NUMBER START
+  tick NOW
+  earliest NUMBER NOT_BEFORE LAST FREQ DR LEN";
+
+pub const AFTER_BOOK: &str = "\
+NUMBER is the caller's own for a transmission, below 2^64; two may have the
+same. START, NOW, NOT_BEFORE and LAST are microseconds of the gateway's clock.
+FREQ is the centre of the channel in Hz, DR the data rate 0 to 6, and LEN the
+length of the PHYPayload in bytes, 0 to 255. Each line is answered before the
+next one is waited for. Statuses: see airbook --help.
+
+Examples:
+  $ echo book 1 10000000 868100000 5 12 | airbook book
+  ok 1 10000000 10041216
+  booked 41216
+  cancelled 0
+  retired 0
+  kept 1 41216
+  floor 0
+  busiest M 10000000 41216
+  $ echo book 1 10000000 868100000 5 12 | airbook book --save
+  ok 1 10000000 10041216
+  airbook 2
+  gateway 1 4096 0 0
+  r 1 10000000 868100000 5 12
+  end 1
+  $ airbook book --resume < examples/saved-book.txt
+  no 4 DutyFull K 0 2973696
+  ok 5 3600000000 3600991232
+  booked 3964928
+  cancelled 0
+  retired 0
+  kept 4 3964928
+  floor 0
+  busiest K 0 2973696";
+
+pub const PLAN: &str = "Keeps such a book, and tells what it would answer to more bookings";
+
+pub const LONG_PLAN: &str = "\
+Keeps the airtime book of one gateway, as book does, and tells what it would
+answer to the lines book and earliest that follow a line plan. Nothing of these
+is booked; each booking that would be accepted stays for the next.";
+
+pub const AFTER_PLAN: &str = "\
+The words are those of book: see airbook book --help. A line that begins with
+if doesn't make the status 1. Statuses: see airbook --help.
+
+Example:
+  $ airbook plan < examples/plan.txt
+  ok 1 10000000 10041216
+  if no 8 Taken 10000000
+  if ok 9 10041216 10082432
+  if no 10 Taken 10000000
+  booked 41216
+  cancelled 0
+  retired 0
+  kept 1 41216
+  floor 0
+  busiest M 10000000 41216";
+
+pub const RUN: &str = "Answers the uplinks that gateways heard, from settings and lines";
+
+pub const LONG_RUN: &str = "\
+Answers the uplinks that gateways heard. Standard input: the settings in TOML, a
+line ---, and then lines
+  queue ADDR PORT HEX
+  hear GATEWAY AT FREQ DR SNR RSSI ARRIVED HEX
+  pass NOW
+  tick GATEWAY NOW
+  cancel N";
+
+pub const AFTER_RUN: &str = "\
+GATEWAY    the id of a gateway of the settings
+N          the number of an uplink, which opened N tells
+AT         microseconds of the gateway's clock, and so is NOW of tick
+ARRIVED    microseconds of the server's clock, and so is NOW of pass
+FREQ, DR   the centre of the channel in Hz, and the data rate, 0 to 6
+SNR, RSSI  tenths of a dB, and dBm
+ADDR       a DevAddr, 8 hexadecimal digits
+PORT       the FPort, 1 to 223
+HEX        bytes in hexadecimal, or - for none: an FRMPayload after queue, a
+           PHYPayload after hear
+
+After hear @KIND:ADDR:COUNTER stands for an uplink of that device and counter
+which is made here. KIND is c for confirmed, u for unconfirmed, a for one that
+asks for an answer by ADRACKReq. Statuses: see airbook --help.
+
+Example:
+  $ airbook run < examples/two-gateways.txt
+  opened 1
+  joined 1 2
+  send 1 2 RX1 10000000 868100000 5 12
+  frame 1 60da1b0126200000240347ca
+  gateway 1 booked 0 cancelled 0 retired 0 kept 0
+  gateway 2 booked 41216 cancelled 0 retired 0 kept 1
+  busiest 2 M 10000000 41216
+  answered 1 unanswered 0 silent 0
+  $ airbook run --workers 2 < examples/two-gateways.txt";
+
+pub const WORKERS_OF_RUN: &str = "\
+At most how many workers answer the uplinks that one pass closes, 0 to
+16; with 0 one thread does all";
+
+pub const LISTEN: &str = "Answers uplinks as they come, by datagrams on 127.0.0.1";
+
+pub const LONG_LISTEN: &str = "\
+Answers the uplinks that gateways heard, as they come: each datagram on a UDP
+port of 127.0.0.1 is one line as run reads them, but for @KIND:ADDR:COUNTER, and
+is answered at once. Standard input: the settings in TOML";
+
+pub const AFTER_LISTEN: &str = "\
+The words are those of run: see airbook run --help. Statuses: see airbook
+--help.
+
+Example:
+  $ airbook listen --port 1700 --turns 1 < examples/settings.toml &
+  $ bash -c 'echo tick 1 5 > /dev/udp/127.0.0.1/1700'
+  floor 1 5
+  gateway 1 booked 0 cancelled 0 retired 0 kept 0
+  gateway 2 booked 0 cancelled 0 retired 0 kept 0
+  answered 0 unanswered 0 silent 0";
+
+pub const TURNS: &str = "\
+After how many datagrams the report is written and the program ends, 1
+to 1000000; a receive that fails counts too";

@@ -1,0 +1,21 @@
+# Completions of airbook for bash: commands, and each command's options.
+
+_airbook() {
+    local word=${COMP_WORDS[COMP_CWORD]} options='--help'
+    COMPREPLY=()
+    if ((COMP_CWORD == 1)); then
+        mapfile -t COMPREPLY < <(compgen -W 'toa book plan run listen help --help --version' -- "$word")
+        return
+    fi
+    case ${COMP_WORDS[1]} in
+        book) options='--cap --gap --resume --save --help' ;;
+        plan) options='--cap --gap --help' ;;
+        run) options='--workers --help' ;;
+        listen) options='--port --turns --workers --help' ;;
+        help) options='toa book plan run listen help' ;;
+    esac
+    if [[ $word == -* || ${COMP_WORDS[1]} == help ]]; then
+        mapfile -t COMPREPLY < <(compgen -W "$options" -- "$word")
+    fi
+}
+complete -F _airbook airbook
