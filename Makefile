@@ -23,13 +23,15 @@ demo:
 	@cd crates/airbook && rt try -- run < ../../examples/two-gateways.txt
 
 # First what takes seconds: whether the documents go with the sources. Then the gate; the edits that the prover has to refuse,
-# after the script that tries them was tried itself; what must not compile; and then, on the program that the gate has proved and
-# built, the cases, random runs and saved books beside plain models, allocations that are refused, workers beside one thread,
-# inputs of as many bytes and uplinks as there may be, the commands of the pages, talks line by line, the example of a converter,
-# a server that listens, and what is installed. Where one fails, what comes after it is not run.
+# after the script that tries them was tried itself; the installation of a program that is none; what must not compile; and then,
+# on the program that the gate has proved and built, the cases, random runs and saved books beside plain models, allocations that
+# are refused, workers beside one thread, inputs of as many bytes and uplinks as there may be, the commands of the pages, talks
+# line by line, the example of a converter, a server that listens, and what is installed. Where one fails, what comes after it is
+# not run.
 test: documents
 	python3 tests/gate.py
 	python3 tests/edit_trials.py
+	python3 tests/install_trials.py
 	python3 tests/edits.py edits
 	python3 tests/misuse.py
 	python3 tests/cases.py $(PROGRAM)
@@ -46,7 +48,7 @@ test: documents
 	python3 tests/installed.py
 
 # Whether links lead somewhere, sentences are short, the lists of definitions, of calls that take memory and of changes of
-# statements are those of the sources, and the version is told alike everywhere.
+# statements are those of the sources, the version is told alike everywhere, and the program of docs/BUILDING.md is the crate's.
 documents:
 	python3 tests/links.py
 	python3 tests/english.py
@@ -54,6 +56,7 @@ documents:
 	python3 tests/growths.py
 	python3 tests/edit_table.py
 	python3 tests/version.py
+	python3 tests/examples.py
 
 # One crate, over the libraries below it, as make check CRATE=gateway_book.
 check:

@@ -1,11 +1,10 @@
 #!/usr/bin/env python3
-"""Compiles and runs the two programs of docs/BUILDING.md, each in a repository of its own with the crates that it wants.
+"""Compiles and runs the station of docs/BUILDING.md, in a repository of its own with the crates that it wants.
 
-Usage: builds.py [NAME ..]      (one_book, one_station; none: both)
+Usage: builds.py
 
-The book's program stands in the page, the station's in examples/one-station.rt.txt. What each writes stands in the page, behind
-"It writes:". It is `rt try` that compiles and runs, some minutes each, and nothing is proved. A failing one has a line; the last
-line is 'N passed, M failed'. The status is 0 where none failed, 1 where one did, 2 where there is no such program.
+The program is examples/one-station.rt.txt. What it writes stands in the page, behind "It writes:". It is `rt try` that compiles
+and runs, some minutes, and nothing is proved. The last line is 'N passed, M failed'. The status is 0 where none failed, else 1.
 """
 import pathlib
 import re
@@ -30,8 +29,7 @@ def code_behind(text, words):
 def programs():
     """A name, its source, and the lines that it writes."""
     page = (TOP / "docs" / "BUILDING.md").read_text(encoding="utf-8")
-    book, station = page[page.index("## A book alone"):].split("## A station with workers")
-    yield "one_book", code_behind(book, "is `src/main.rt`"), code_behind(book, "It writes:").splitlines()
+    station = page[page.index("## A station with workers"):]
     source = (TOP / "examples" / "one-station.rt.txt").read_text(encoding="utf-8")
     yield "one_station", source, code_behind(station, "It writes:").splitlines()
 
@@ -62,14 +60,9 @@ def written(name, source):
 
 
 def main():
-    known = {name: (source, wanted) for name, source, wanted in programs()}
-    names = sys.argv[1:] or list(known)
-    if any(name not in known for name in names):
-        print("usage: builds.py [one_book] [one_station]", file=sys.stderr)
-        return 2
+    known = list(programs())
     failed = 0
-    for name in names:
-        source, wanted = known[name]
+    for name, source, wanted in known:
         try:
             got = written(name, source).splitlines()
         except subprocess.TimeoutExpired:
@@ -77,7 +70,7 @@ def main():
         if got[: len(wanted)] != wanted:
             failed += 1
             print(f"FAIL {name}: wanted {wanted}, got {got}")
-    print(f"{len(names) - failed} passed, {failed} failed")
+    print(f"{len(known) - failed} passed, {failed} failed")
     return 1 if failed else 0
 
 

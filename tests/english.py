@@ -57,7 +57,8 @@ def sentences(lines):
 
 
 def main():
-    pages = [pathlib.Path(name) for name in sys.argv[1:]] or [TOP / "README.md", TOP / "CHANGELOG.md", *sorted((TOP / "docs").glob("*.md"))]
+    own = [TOP / "README.md", TOP / "CHANGELOG.md", *sorted((TOP / "docs").glob("*.md"))]
+    pages = [pathlib.Path(name) for name in sys.argv[1:]] or own
     failed = 0
     for page in pages:
         try:

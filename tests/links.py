@@ -1,5 +1,5 @@
 #!/usr/bin/env python3
-"""Looks whether what README.md, CHANGELOG.md and docs/*.md name is there: each path in backticks or in plain words, and each link.
+"""Looks whether what README.md, CHANGELOG.md and docs/*.md name is there: each path in backticks or plain words, and each link.
 
 Usage: tests/links.py [ROOT]      (ROOT: the repository's top; none: that of this script)
 

@@ -4,8 +4,9 @@
 Usage: tests/version.py
 
 The constant VERSION of crates/airbook/src/arguments.rt has the version of CHANGELOG.md's first heading `## VERSION - ..`, and the
-toolchain's line that README.md ends with. Where there is a command rt, `rt version` has to tell the same logic; its kit may be
-another. Prints a line for each that differs; the last line is 'N passed, M failed'. The status is 0 where none failed, else 1.
+toolchain's line that README.md ends with. The case clap_version wants both. Where there is a command rt, `rt version` has to tell
+the same logic; its kit may be another. Prints a line for each that differs; the last line is 'N passed, M failed'. The status is
+0 where none failed, else 1.
 """
 import pathlib
 import re
@@ -44,6 +45,9 @@ def faults():
     named = found("README.md", rf"Proved with `({LINE})`")[0]
     if line != named:
         yield f"the program tells {line}, README.md {named}"
+    wanted = f"airbook {version} (sources proved with {line})\n"
+    if (TOP / "cases/clap_version/stdout").read_text(encoding="utf-8") != wanted:
+        yield f"the case clap_version wants something else than {wanted.strip()}"
     if shutil.which("rt"):
         here = subprocess.run(["rt", "version"], stdin=subprocess.DEVNULL, capture_output=True, text=True).stdout.strip()
         if logic_of(here or "-") != logic_of(line):
@@ -57,7 +61,7 @@ def main():
     at_fault = list(faults())
     for fault in at_fault:
         print(fault)
-    print(f"{3 - len(at_fault)} passed, {len(at_fault)} failed")
+    print(f"{4 - len(at_fault)} passed, {len(at_fault)} failed")
     return 1 if at_fault else 0
 
 

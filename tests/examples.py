@@ -1,0 +1,65 @@
+#!/usr/bin/env python3
+"""Compares docs/BUILDING.md with the program of a book that it shows, which the gate proves and runs.
+
+Usage: tests/examples.py
+
+The program behind "is `src/main.rt`" is that of crates/example_book. What stands behind "It writes:" is what the gate wants of
+that crate. The lines of crates.txt that the page shows are what the book's program needs, and no
+more. Prints what differs; the last line is 'N passed, M failed'. The status is 0 where none failed, else 1.
+"""
+import difflib
+import pathlib
+import re
+import sys
+
+sys.dont_write_bytecode = True
+import prover
+
+PAGE = prover.TOP / "docs" / "BUILDING.md"
+BOOK = "example_book"
+
+
+def code_behind(text, words):
+    """The first lines behind these words that are set off by four blanks."""
+    block = re.search(r"\n\n((?:    .*\n|\n(?=    ))+)", text[text.index(words):])[1]
+    return "".join(line[4:] if line.strip() else line for line in block.splitlines(keepends=True)).rstrip("\n") + "\n"
+
+
+def wanted_lines():
+    """The lines of crates.txt for the book's program and the crates below it, in the order of that file."""
+    named = set(prover.below([BOOK], prover.crates()))
+    lines = (prover.TOP / "crates.txt").read_text().splitlines(keepends=True)
+    return "".join(line for line in lines if line.split(":")[0] in named)
+
+
+def pairs():
+    """What is compared: a name, the page's text, and the file's."""
+    whole = PAGE.read_text(encoding="utf-8")
+    book = whole[whole.index("## A book alone"):].split("## A station with workers")[0]
+    crates = prover.TOP / "crates"
+    yield "the book's program", code_behind(book, "is `src/main.rt`"), (crates / BOOK / "src/main.rt").read_text()
+    yield "what it writes", code_behind(book, "It writes:"), (crates / BOOK / "stdout").read_text()
+    yield "lines of crates.txt", code_behind(whole, "these are the lines of `crates.txt`"), wanted_lines()
+
+
+def main():
+    if len(sys.argv) > 1:
+        print(__doc__.strip(), file=sys.stderr)
+        return 2
+    passed = failed = 0
+    try:
+        for name, shown, wanted in pairs():
+            passed += shown == wanted
+            failed += shown != wanted
+            lines = shown.splitlines(), wanted.splitlines()
+            differing = difflib.unified_diff(*lines, f"{name}: the page", "the crate", lineterm="")
+            print("".join(line + "\n" for line in differing), end="")
+    except (OSError, ValueError, TypeError) as why:
+        print(f"examples.py: docs/BUILDING.md or a program of it can't be read: {why}")
+        failed += 1
+    print(f"{passed} passed, {failed} failed")
+    return 1 if failed else 0
+
+
+if __name__ == "__main__":
+    sys.exit(main())
