@@ -84,7 +84,7 @@ def main():
     try:
         put_pages(pathlib.Path(sys.argv[1]))
         put_program(pathlib.Path(sys.argv[1]))
-    except (OSError, subprocess.SubprocessError) as why:
+    except (OSError, subprocess.SubprocessError, IndexError) as why:
         print(f"install.py: {why}", file=sys.stderr)
         return 2
     return 0

@@ -1,5 +1,5 @@
 #!/usr/bin/env python3
-"""Tries `make install` on a copy of the repository with a program that does nothing.
+"""Tries `make install` on a copy of the repository with a program that tells a version and nothing else.
 
 Usage: tests/install_trials.py      (it needs the toolchain, and proves nothing)
 
@@ -15,8 +15,8 @@ import sys
 import tempfile
 
 TOP = pathlib.Path(__file__).resolve().parent.parent
-PARTS = ["Makefile", "CHANGELOG.md", "README.md", "crates.txt", "crates", "tests"]
-PROGRAM = b"#!/bin/sh\nexit 0\n"
+PARTS = ["Makefile", "CHANGELOG.md", "README.md", "crates.txt", "crates", "docs", "examples", "share", "tests"]
+PROGRAM = b"#!/bin/sh\necho airbook 0.0.0\n"
 LEAVE = """import sys
 sys.path.insert(0, "tests")
 sys.dont_write_bytecode = True
