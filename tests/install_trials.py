@@ -35,6 +35,7 @@ def copied(room):
             shutil.copy(TOP / part, room / part)
     (room / "crates/airbook/out").mkdir()
     (room / "crates/airbook/out/airbook").write_bytes(PROGRAM)
+    (room / "crates/airbook/out/airbook").chmod(0o755)
     subprocess.run([sys.executable, "-c", LEAVE], cwd=room, check=True)
 
 
