@@ -1,3 +1,11 @@
+pub mod Ahead
+pub mod Played
+pub mod RunOutput
+pub mod ListenSettings
+pub mod Receives
+pub mod ListenTurns
+pub mod Listening
+pub mod ListenSteps
 pub use Rattle.text_words.specs.Fault
 pub use Rattle.text_words.specs.Words
 pub use Rattle.book_texts.specs.Output
@@ -7,8 +15,4 @@ pub use Rattle.book_texts.specs.Laws
 pub use Rattle.settings_text.specs.SettingsFaultName
 pub use Rattle.settings_text.specs.SettingsOfTable
 pub use Rattle.run_lines.specs.RunInput
-pub use Rattle.run_texts.specs.RunOutput
 pub use Rattle.run_lines.specs.Datagram
-pub use Rattle.listen_texts.specs.Receives
-pub use Rattle.listen_texts.specs.Turns
-pub use Rattle.listen_texts.specs.Listening

@@ -1,12 +1,14 @@
 -- Texts that are put behind what is gathered, one after the other.
 use Rattle.std.proofs.Common.{◌≡◌, ℕ, ◌+◌, ◌/◌, ◌%◌, ◌<◌, slice_index, List, [], ◌∷◌, ◌++◌}
 use Rattle.std.proofs.Common.{length, take, drop, get_or, codes}
-use Rattle.std.proofs.Common.{Option, Result, Ok, Err, OnOk, OnErr, refl, sym, ap, ◌∙◌, append_assoc, append-nil}
+use Rattle.std.proofs.Common.{Option, Result, Ok, Err, IsErr, OnOk, OnErr, refl, sym, ap, ◌∙◌, subst, append_assoc, append-nil}
 use Rattle.std.proofs.lemmas.List.{take_more, take-append-drop}
 use Rattle.hex.specs.Hex.{encode_with, encode_lower, lower_digits}
 use Rattle.text_lines.specs.Writing.{WritesAllBut, WritesFront, WritesAllBut-refl, WritesAllBut-more, WritesAllBut-trans}
 use Rattle.text_lines.specs.Writing.{WritesFront-more, WritesFront-after}
+use Rattle.text_lines.specs.Calls.{CountsFailure}
 use Rattle.text_words.specs.Words.{spaced}
+use Rattle.run_lines.specs.Putting.{Puts}
 
 -- at first nothing was put
 pub put-none : (a : Option (List ℕ)) (out : List ℕ) → WritesAllBut a a (out ++ []) out
@@ -40,6 +42,26 @@ pub OnErr-both : {T E : Type 0} (r : Result T E) (a b c : Option (List ℕ)) (ou
     → WritesAllBut a b (out ++ x) mid → OnErr r (WritesFront b c (mid ++ y)) → OnErr r (WritesFront a c (out ++ (x ++ y)))
 OnErr-both (Ok done) a b c out x mid y first second = tt
 OnErr-both (Err fault) a b c out x mid y first second = put-front a b c out x mid y first second
+
+pub puts-then : {T U E F : Type 0} {done : U} (r : Result T E) (a b c : Option (List ℕ)) (k l m : ℕ) (out x mid y now : List ℕ)
+    → Puts {T = U} {E = F} a b k l (out ++ x) mid (Ok done) → Puts b c l m (mid ++ y) now r → Puts a c k m (out ++ (x ++ y)) now r
+puts-then r a b c k l m out x mid y now first second = record {
+  ok = OnOk-both r a b c out x mid y now first.ok second.ok;
+  err = OnErr-both r a b c out x mid y first.ok second.err;
+  failed = subst (λ n. CountsFailure n m r) first.failed second.failed;
+}
+
+-- the same where the first ends it
+pub puts-stopped : {T U E F : Type 0} {fault : F} (r : Result T E) (a b : Option (List ℕ)) (k l : ℕ) (out x mid y now : List ℕ)
+    → Puts {T = U} {E = F} a b k l (out ++ x) mid (Err fault) → IsErr r → Puts a b k l (out ++ (x ++ y)) now r
+puts-stopped (Ok done) a b k l out x mid y now first stopped = absurd (cc)
+puts-stopped (Err fault) a b k l out x mid y now first stopped =
+    record { ok = tt; err = front-of_both a b out x y first.err; failed = first.failed }
+
+-- what is known anyway is known after an Err
+pub on_err_anyway : {T E P : Type 0} (r : Result T E) → P → OnErr r P
+on_err_anyway (Ok done) known = tt
+on_err_anyway (Err fault) known = known
 
 -- the text of items is that of each, one after the other
 module _ {X : Type 0} (text : List X → List ℕ) (joins : (xs ys : List X) → text (xs ++ ys) ≡ text xs ++ text ys) where

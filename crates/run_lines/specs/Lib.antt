@@ -1,3 +1,4 @@
+pub mod Putting
 pub mod EntryName
 pub mod EntryLine
 pub mod UplinkCounts

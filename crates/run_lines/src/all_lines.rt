@@ -63,14 +63,9 @@ fn write_made<B: Roster, W: ByteOut>(
         (text_of (replay_lines entries.now (map gateway_of books.now)))) }
     ensures failed { CountsFailure (W.failed_calls writer.old) (W.failed_calls writer.new) result }
 {
-    match write_texts(texts, writer) {
-        Err(failed) => return Err(failed),
-        Ok(()) => {}
-    }
-    match write_report(&UplinkCounts::of(entries), books, writer) {
-        Err(failed) => Err(failed),
-        Ok(()) => Ok(has_refused(entries)),
-    }
+    write_texts(texts, writer)?;
+    write_report(&UplinkCounts::of(entries), books, writer)?;
+    Ok(has_refused(entries))
 }
 
 /// Writes some texts, one behind another. After an Err a front of them was written.
@@ -80,10 +75,7 @@ fn write_texts<W: ByteOut>(texts: &[Vec<u8>], writer: &mut W) -> Result<(), Call
     ensures failed { CountsFailure (W.failed_calls writer.old) (W.failed_calls writer.new) result }
 {
     for text in texts {
-        match write_all(writer, text.as_slice()) {
-            Err(failed) => return Err(failed),
-            Ok(()) => {}
-        }
+        write_all(writer, text.as_slice())?;
     }
     Ok(())
 }
@@ -121,10 +113,7 @@ fn text_alone(alloc: Global, entries: &[Entry<Global>]) -> Result<Vec<Vec<u8>>, 
     ensures { IfOk result (λ texts. bytes_of texts.items ≡ text_of (entry_lines entries.now)) }
 {
     let mut writer = MemoryOut::new(alloc);
-    match write_entries(entries, &mut writer) {
-        Ok(_) => {}
-        Err(_) => return Err(AllocError),
-    }
+    write_entries(entries, &mut writer).map_err(|_| AllocError)?;
     let mut texts = Vec::new(alloc);
     texts.push(writer.bytes)?;
     Ok(texts)

@@ -1,8 +1,7 @@
 // The lines that answer events.
-ghost use Rattle.std.specs.Prelude.{◌≡◌, ◌+◌, ◌≤◌, [], ◌∷◌, ◌++◌, length, decimal, OnOk, OnErr, codes};
+ghost use Rattle.std.specs.Prelude.{◌≡◌, ◌+◌, ◌≤◌, [], ◌∷◌, ◌++◌, length, decimal, codes};
 ghost use Rattle.hex.specs.Hex.{encode_lower};
-ghost use Rattle.text_lines.specs.Calls.{CountsFailure};
-ghost use Rattle.text_lines.specs.Writing.{WritesAllBut, WritesFront};
+ghost use Rattle.run_lines.specs.Putting.{Puts};
 ghost use Rattle.text_words.specs.Words.{spaced, is_refusal};
 ghost use Rattle.run_lines.specs.EntryLine.{addr_digits, hex_digits, heard_words, candidate_words, line_text, text_but_frame};
 
@@ -24,11 +23,8 @@ pub(crate) fn put_line<A: Allocator, W: ByteOut>(
     output: &mut WriteBehind,
     writer: &mut W,
 ) -> Result<(), CallFailed>
-    ensures ok { OnOk result (WritesAllBut (W.taken writer.old) (W.taken writer.new)
-        (output.old ++ (line_text line.now ++ (10 ∷ []))) output.new) }
-    ensures err { OnErr result (WritesFront (W.taken writer.old) (W.taken writer.new)
-        (output.old ++ (line_text line.now ++ (10 ∷ [])))) }
-    ensures failed { CountsFailure (W.failed_calls writer.old) (W.failed_calls writer.new) result }
+    ensures { Puts (W.taken writer.old) (W.taken writer.new) (W.failed_calls writer.old) (W.failed_calls writer.new)
+        (output.old ++ (line_text line.now ++ (10 ∷ []))) output.new result }
 {
     match line {
         // It may be longer than a text line has room for.
@@ -183,20 +179,12 @@ fn put_frame<W: ByteOut>(
     output: &mut WriteBehind,
     writer: &mut W,
 ) -> Result<(), CallFailed>
-    ensures ok { OnOk result (WritesAllBut (W.taken writer.old) (W.taken writer.new)
-        (output.old ++ (spaced (codes "frame" ∷ decimal number ∷ hex_digits bytes.now ∷ []) ++ (10 ∷ []))) output.new) }
-    ensures err { OnErr result (WritesFront (W.taken writer.old) (W.taken writer.new)
-        (output.old ++ (spaced (codes "frame" ∷ decimal number ∷ hex_digits bytes.now ∷ []) ++ (10 ∷ [])))) }
-    ensures failed { CountsFailure (W.failed_calls writer.old) (W.failed_calls writer.new) result }
+    ensures { Puts (W.taken writer.old) (W.taken writer.new) (W.failed_calls writer.old) (W.failed_calls writer.new)
+        (output.old ++ (spaced (codes "frame" ∷ decimal number ∷ hex_digits bytes.now ∷ []) ++ (10 ∷ []))) output.new result }
 {
-    match put_frame_number(number, text, output, writer) {
-        Err(failed) => return Err(failed),
-        Ok(()) => {}
-    }
-    match put_hex(bytes, output, writer) {
-        Err(failed) => Err(failed),
-        Ok(()) => output.put(writer, b"\n"),
-    }
+    put_frame_number(number, text, output, writer)?;
+    put_hex(bytes, output, writer)?;
+    output.put(writer, b"\n")
 }
 
 /// Writes `frame`, a number and a space behind what is gathered.
@@ -206,11 +194,8 @@ fn put_frame_number<W: ByteOut>(
     output: &mut WriteBehind,
     writer: &mut W,
 ) -> Result<(), CallFailed>
-    ensures ok { OnOk result (WritesAllBut (W.taken writer.old) (W.taken writer.new)
-        (output.old ++ (codes "frame " ++ (decimal number ++ (32 ∷ [])))) output.new) }
-    ensures err { OnErr result (WritesFront (W.taken writer.old) (W.taken writer.new)
-        (output.old ++ (codes "frame " ++ (decimal number ++ (32 ∷ []))))) }
-    ensures failed { CountsFailure (W.failed_calls writer.old) (W.failed_calls writer.new) result }
+    ensures { Puts (W.taken writer.old) (W.taken writer.new) (W.failed_calls writer.old) (W.failed_calls writer.new)
+        (output.old ++ (codes "frame " ++ (decimal number ++ (32 ∷ [])))) output.new result }
 {
     text.clear();
     add_numbered(text, b"frame", number);
@@ -224,10 +209,8 @@ fn put_hex<W: ByteOut>(
     output: &mut WriteBehind,
     writer: &mut W,
 ) -> Result<(), CallFailed>
-    ensures ok { OnOk result (WritesAllBut (W.taken writer.old) (W.taken writer.new)
-        (output.old ++ hex_digits bytes.now) output.new) }
-    ensures err { OnErr result (WritesFront (W.taken writer.old) (W.taken writer.new) (output.old ++ hex_digits bytes.now)) }
-    ensures failed { CountsFailure (W.failed_calls writer.old) (W.failed_calls writer.new) result }
+    ensures { Puts (W.taken writer.old) (W.taken writer.new) (W.failed_calls writer.old) (W.failed_calls writer.new)
+        (output.old ++ hex_digits bytes.now) output.new result }
 {
     match bytes {
         [] => output.put(writer, b"-"),
@@ -241,16 +224,11 @@ fn put_digits<W: ByteOut>(
     output: &mut WriteBehind,
     writer: &mut W,
 ) -> Result<(), CallFailed>
-    ensures ok { OnOk result (WritesAllBut (W.taken writer.old) (W.taken writer.new)
-        (output.old ++ encode_lower bytes.now) output.new) }
-    ensures err { OnErr result (WritesFront (W.taken writer.old) (W.taken writer.new) (output.old ++ encode_lower bytes.now)) }
-    ensures failed { CountsFailure (W.failed_calls writer.old) (W.failed_calls writer.new) result }
+    ensures { Puts (W.taken writer.old) (W.taken writer.new) (W.failed_calls writer.old) (W.failed_calls writer.new)
+        (output.old ++ encode_lower bytes.now) output.new result }
 {
     for few in bytes.chunks(BYTES_AT_ONCE) {
-        match put_few(few, output, writer) {
-            Err(failed) => return Err(failed),
-            Ok(()) => {}
-        }
+        put_few(few, output, writer)?;
     }
     Ok(())
 }
@@ -262,10 +240,8 @@ fn put_few<W: ByteOut>(
     writer: &mut W,
 ) -> Result<(), CallFailed>
     requires { length bytes.now ≤ BYTES_AT_ONCE }
-    ensures ok { OnOk result (WritesAllBut (W.taken writer.old) (W.taken writer.new)
-        (output.old ++ encode_lower bytes.now) output.new) }
-    ensures err { OnErr result (WritesFront (W.taken writer.old) (W.taken writer.new) (output.old ++ encode_lower bytes.now)) }
-    ensures failed { CountsFailure (W.failed_calls writer.old) (W.failed_calls writer.new) result }
+    ensures { Puts (W.taken writer.old) (W.taken writer.new) (W.failed_calls writer.old) (W.failed_calls writer.new)
+        (output.old ++ encode_lower bytes.now) output.new result }
 {
     let mut room = [0; 2 * BYTES_AT_ONCE];
     let digits = &mut room[..2 * bytes.len()];

@@ -28,14 +28,9 @@ pub fn write_entries<A: Allocator, W: ByteOut>(
     ensures failed { CountsFailure (W.failed_calls writer.old) (W.failed_calls writer.new) result }
 {
     let mut output = WriteBehind::new();
-    match put_entries(entries, &mut output, writer) {
-        Err(failed) => return Err(failed),
-        Ok(()) => {}
-    }
-    match output.flush(writer) {
-        Err(failed) => Err(failed),
-        Ok(()) => Ok(has_refused(entries)),
-    }
+    put_entries(entries, &mut output, writer)?;
+    output.flush(writer)?;
+    Ok(has_refused(entries))
 }
 
 /// Writes the report of the gateways' books and of some counts, of which no line begins with `no` or `bad`. After an Err a front
@@ -53,9 +48,6 @@ pub fn write_report<B: Roster, W: ByteOut>(
     ensures failed { CountsFailure (W.failed_calls writer.old) (W.failed_calls writer.new) result }
 {
     let mut output = WriteBehind::new();
-    match put_report(counts, books, &mut output, writer) {
-        Err(failed) => return Err(failed),
-        Ok(()) => {}
-    }
+    put_report(counts, books, &mut output, writer)?;
     output.flush(writer)
 }

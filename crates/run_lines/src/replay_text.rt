@@ -4,7 +4,8 @@ ghost use Rattle.std.specs.List.{list_any};
 ghost use Rattle.std.specs.Io.KnownBytes.{Appends};
 ghost use Rattle.text_lines.specs.Calls.{CountsFailure};
 ghost use Rattle.text_lines.specs.Line.{text_of};
-ghost use Rattle.text_lines.specs.Writing.{WritesAllBut, WritesFront};
+ghost use Rattle.text_lines.specs.Writing.{WritesFront};
+ghost use Rattle.run_lines.specs.Putting.{Puts};
 ghost use Rattle.server_core.specs.Entries.{gateway_of};
 ghost use Rattle.text_words.specs.Words.{is_refusal};
 ghost use Rattle.text_words.specs.Words.{has_refusal};
@@ -35,14 +36,9 @@ pub fn write_lines<A: Allocator, B: Roster, W: ByteOut>(
     ensures failed { CountsFailure (W.failed_calls writer.old) (W.failed_calls writer.new) result }
 {
     let mut output = WriteBehind::new();
-    match put_lines(entries, books, &mut output, writer) {
-        Err(failed) => return Err(failed),
-        Ok(()) => {}
-    }
-    match output.flush(writer) {
-        Err(failed) => Err(failed),
-        Ok(()) => Ok(has_refused(entries)),
-    }
+    put_lines(entries, books, &mut output, writer)?;
+    output.flush(writer)?;
+    Ok(has_refused(entries))
 }
 
 /// Whether a line that answers an event begins with `no` or `bad`.
@@ -59,16 +55,11 @@ fn put_lines<A: Allocator, B: Roster, W: ByteOut>(
     output: &mut WriteBehind,
     writer: &mut W,
 ) -> Result<(), CallFailed>
-    ensures ok { OnOk result (WritesAllBut (W.taken writer.old) (W.taken writer.new)
-        (output.old ++ text_of (replay_lines entries.now (map gateway_of books.now))) output.new) }
-    ensures err { OnErr result (WritesFront (W.taken writer.old) (W.taken writer.new)
-        (output.old ++ text_of (replay_lines entries.now (map gateway_of books.now)))) }
-    ensures failed { CountsFailure (W.failed_calls writer.old) (W.failed_calls writer.new) result }
+    ensures { Puts (W.taken writer.old) (W.taken writer.new) (W.failed_calls writer.old) (W.failed_calls writer.new)
+        (output.old ++ text_of (replay_lines entries.now (map gateway_of books.now))) output.new result }
 {
-    match put_entries(entries, output, writer) {
-        Err(failed) => Err(failed),
-        Ok(()) => put_report(&UplinkCounts::of(entries), books, output, writer),
-    }
+    put_entries(entries, output, writer)?;
+    put_report(&UplinkCounts::of(entries), books, output, writer)
 }
 
 /// Writes the report of the gateways' books and of some counts behind what is gathered.
@@ -78,16 +69,11 @@ pub(crate) fn put_report<B: Roster, W: ByteOut>(
     output: &mut WriteBehind,
     writer: &mut W,
 ) -> Result<(), CallFailed>
-    ensures ok { OnOk result (WritesAllBut (W.taken writer.old) (W.taken writer.new)
-        (output.old ++ text_of (report_of counts.now (map gateway_of books.now))) output.new) }
-    ensures err { OnErr result (WritesFront (W.taken writer.old) (W.taken writer.new)
-        (output.old ++ text_of (report_of counts.now (map gateway_of books.now)))) }
-    ensures failed { CountsFailure (W.failed_calls writer.old) (W.failed_calls writer.new) result }
+    ensures { Puts (W.taken writer.old) (W.taken writer.new) (W.failed_calls writer.old) (W.failed_calls writer.new)
+        (output.old ++ text_of (report_of counts.now (map gateway_of books.now))) output.new result }
 {
-    match put_gateways(books, output, writer) {
-        Err(failed) => Err(failed),
-        Ok(()) => put_uplink_counts(counts, output, writer),
-    }
+    put_gateways(books, output, writer)?;
+    put_uplink_counts(counts, output, writer)
 }
 
 /// Writes the lines that answer the events behind what is gathered.
@@ -96,18 +82,12 @@ pub(crate) fn put_entries<A: Allocator, W: ByteOut>(
     output: &mut WriteBehind,
     writer: &mut W,
 ) -> Result<(), CallFailed>
-    ensures ok { OnOk result (WritesAllBut (W.taken writer.old) (W.taken writer.new)
-        (output.old ++ text_of (entry_lines entries.now)) output.new) }
-    ensures err { OnErr result (WritesFront (W.taken writer.old) (W.taken writer.new)
-        (output.old ++ text_of (entry_lines entries.now))) }
-    ensures failed { CountsFailure (W.failed_calls writer.old) (W.failed_calls writer.new) result }
+    ensures { Puts (W.taken writer.old) (W.taken writer.new) (W.failed_calls writer.old) (W.failed_calls writer.new)
+        (output.old ++ text_of (entry_lines entries.now)) output.new result }
 {
     let mut text = TextLine::new();
     for entry in entries {
-        match put_line(&entry.line, &mut text, output, writer) {
-            Err(failed) => return Err(failed),
-            Ok(()) => {}
-        }
+        put_line(&entry.line, &mut text, output, writer)?;
     }
     Ok(())
 }

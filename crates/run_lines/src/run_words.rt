@@ -110,10 +110,8 @@ fn made_uplink(
     ensures { IfOk result (λ bytes. bytes ≡ with_mic keys.now 0 addr counter
         (bare_message (kind.confirmed, kind.adr_ack_req) addr counter)) }
 {
-    match uplink_bytes(alloc, &bare_up(kind, addr, counter), keys) {
-        Ok(bytes) => Ok(Bytes::new(bytes)),
-        Err(_) => Err(AllocError),
-    }
+    let bytes = uplink_bytes(alloc, &bare_up(kind, addr, counter), keys).map_err(|_| AllocError)?;
+    Ok(Bytes::new(bytes))
 }
 
 /// The uplink, with four zeros for its MIC.

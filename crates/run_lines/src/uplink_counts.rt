@@ -1,11 +1,8 @@
 // How many uplinks were answered, and the last line of a text, which tells it.
-ghost use Rattle.std.specs.Prelude.{◌≡◌, ◌+◌, ◌^◌, ◌≤◌, [], ◌∷◌, ◌++◌, length, decimal, OnOk, OnErr};
-ghost use Rattle.std.specs.List.{count_by};
-ghost use Rattle.text_lines.specs.Calls.{CountsFailure};
+ghost use Rattle.std.specs.Prelude.{◌≡◌, ◌+◌, ◌^◌, ◌≤◌, [], ◌∷◌, ◌++◌, length, decimal};
 ghost use Rattle.text_lines.specs.Line.{text_of};
-ghost use Rattle.text_lines.specs.Writing.{WritesAllBut, WritesFront};
-ghost use Rattle.run_lines.specs.UplinkCounts.{is_sent, is_unanswered, is_silent, counts_of, counts_sum, counts_text};
-ghost use Rattle.run_lines.specs.UplinkCounts.{AreCountsUpTo};
+ghost use Rattle.run_lines.specs.Putting.{Puts};
+ghost use Rattle.run_lines.specs.UplinkCounts.{AreCountsUpTo, counts_of, counts_sum, counts_text};
 
 use itoa::Buffer;
 use server_core::{Entry, Line};
@@ -31,10 +28,27 @@ impl UplinkCounts {
         ensures counts { result ≡ counts_of entries.now }
         ensures small { AreCountsUpTo (2 ^ 64) result }
     {
-        UplinkCounts {
-            sent: sent(entries) as u128,
-            unanswered: unanswered(entries) as u128,
-            silent: silent(entries) as u128,
+        let mut counts = UplinkCounts {
+            sent: 0,
+            unanswered: 0,
+            silent: 0,
+        };
+        for entry in entries {
+            counts.count(entry);
+        }
+        counts
+    }
+
+    /// Counts the uplink of one line more, where it tells of one.
+    fn count<A: Allocator>(&mut self, entry: &Entry<A>)
+        requires { AreCountsUpTo (2 ^ 126) self.old }
+        ensures { self.new ≡ counts_sum self.old (counts_of (entry.now ∷ [])) }
+    {
+        match &entry.line {
+            Line::Send { .. } => self.sent += 1,
+            Line::Unanswered { .. } => self.unanswered += 1,
+            Line::Silent { .. } => self.silent += 1,
+            _ => {}
         }
     }
 
@@ -56,11 +70,8 @@ pub(crate) fn put_uplink_counts<W: ByteOut>(
     output: &mut WriteBehind,
     writer: &mut W,
 ) -> Result<(), CallFailed>
-    ensures ok { OnOk result (WritesAllBut (W.taken writer.old) (W.taken writer.new)
-        (output.old ++ text_of (counts_text counts.now ∷ [])) output.new) }
-    ensures err { OnErr result (WritesFront (W.taken writer.old) (W.taken writer.new)
-        (output.old ++ text_of (counts_text counts.now ∷ []))) }
-    ensures failed { CountsFailure (W.failed_calls writer.old) (W.failed_calls writer.new) result }
+    ensures { Puts (W.taken writer.old) (W.taken writer.new) (W.failed_calls writer.old) (W.failed_calls writer.new)
+        (output.old ++ text_of (counts_text counts.now ∷ [])) output.new result }
 {
     let mut text = TextLine::new();
     write_uplink_counts(counts, &mut text);
@@ -90,34 +101,4 @@ fn add_count(text: &mut TextLine, count: u128)
     let mut digits = Buffer::new();
     text.text(b" ");
     text.text(digits.format(count).as_bytes());
-}
-
-/// How many uplinks were answered.
-fn sent<A: Allocator>(entries: &[Entry<A>]) -> usize
-    ensures { result ≡ count_by (λ e. is_sent e.line) entries.now }
-{
-    entries
-        .iter()
-        .filter(|entry| matches!(&entry.line, Line::Send { .. }))
-        .count()
-}
-
-/// How many uplinks were not, though an answer was owed.
-fn unanswered<A: Allocator>(entries: &[Entry<A>]) -> usize
-    ensures { result ≡ count_by (λ e. is_unanswered e.line) entries.now }
-{
-    entries
-        .iter()
-        .filter(|entry| matches!(&entry.line, Line::Unanswered { .. }))
-        .count()
-}
-
-/// How many uplinks were owed no answer.
-fn silent<A: Allocator>(entries: &[Entry<A>]) -> usize
-    ensures { result ≡ count_by (λ e. is_silent e.line) entries.now }
-{
-    entries
-        .iter()
-        .filter(|entry| matches!(&entry.line, Line::Silent { .. }))
-        .count()
 }

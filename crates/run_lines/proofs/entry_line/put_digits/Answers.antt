@@ -2,7 +2,7 @@ use Rattle.std.proofs.Common.{rules, List, ℕ, [], ◌≡◌, ◌++◌, ap, sym
 use Rattle.std.proofs.lemmas.List.{nil_from_length}
 use Rattle.std.specs.Slice.Iter.{chunks_rest}
 use Rattle.hex.specs.Hex.{encode_with, encode_lower}
-use Rattle.run_lines.proofs.PutLemmas.{put-none, put-both, put-front, front-of_both, digits-append}
+use Rattle.run_lines.proofs.PutLemmas.{put-none, put-both, put-front, front-of_both, digits-append, on_err_anyway}
 use Rattle.run_lines.proofs.entry_line.put_digits.Goals as goal
 
 -- what is put, the first of what is left, and then the others
@@ -23,14 +23,19 @@ loop-few-init g c = record {
   calls = search rules;
 }
 
-pub returns-in-Err-clause-err : goal.returns-in-Err-clause-err
-returns-in-Err-clause-err g c =
+pub returns-in_err-put_few : goal.returns-in_err-put_few
+returns-in_err-put_few g c =
     let was = c.loop-few.invariant in
     let digits = encode_lower c.in-Some.few.now in
     let rest = chunks_rest c.next.new.self in
-    rw (← next_digits was.done c.in-Some.few.now rest _ _ c.in-Some.ensures.steps.1.0 was.whole)
-    (front-of_both _ _ c.args.output.now (was.done ++ digits) (encode_lower rest)
-    (put-front _ _ _ c.args.output.now was.done c.loop-few.output digits was.written c.in-Err.ensures.err))
+    let whole = next_digits was.done c.in-Some.few.now rest _ _ c.in-Some.ensures.steps.1.0 was.whole in
+    record {
+      ok = search rules;
+      err = rw (← whole)
+          (on_err_anyway _ (front-of_both _ _ c.args.output.now (was.done ++ digits) (encode_lower rest)
+          (put-front _ _ _ c.args.output.now was.done c.loop-few.output digits was.written c.in_err-put_few.ensures.err)));
+      failed = search rules;
+    }
 
 pub loop-few-preserved : goal.loop-few-preserved
 loop-few-preserved g c =
@@ -44,12 +49,17 @@ loop-few-preserved g c =
       done = was.done ++ encode_lower few;
       whole = next_digits was.done few (chunks_rest c.next.new.self) _ _ steps.1.0 was.whole;
       written = put-both _ _ _ c.args.output.now was.done c.loop-few.output (encode_lower few) c.put_few.new.output was.written
-          c.in-Ok.ensures.ok;
+          c.in_ok-put_few.ensures.ok;
       calls = search rules;
     }
 
-pub returns-clause-ok : goal.returns-clause-ok
+pub returns : goal.returns
 unfolding encode_with
-returns-clause-ok g c =
+returns g c =
     let none = nil_from_length _ c.in-None.ensures.steps.1.0 in
-    rw (← (rw (none, append-nil) at c.loop-few.invariant.whole)) c.loop-few.invariant.written
+    let was = c.loop-few.invariant in
+    record {
+      ok = rw (← (rw (none, append-nil) at was.whole)) was.written;
+      err = tt;
+      failed = was.calls;
+    }

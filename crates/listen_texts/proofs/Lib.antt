@@ -1,3 +1,0 @@
-pub mod SourceLemmas
-pub mod SaidLemmas
-pub mod ListenLemmas

@@ -1,5 +1,0 @@
-pub mod Settings
-pub mod Receives
-pub mod Turns
-pub mod Listening
-pub mod Steps

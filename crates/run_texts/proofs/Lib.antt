@@ -1,3 +1,0 @@
-pub mod RunWhole
-pub mod AheadLemmas
-pub mod PlayedLemmas

@@ -1,3 +1,0 @@
-pub mod Ahead
-pub mod Played
-pub mod RunOutput
