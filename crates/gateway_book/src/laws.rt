@@ -99,6 +99,7 @@ fn each_law()
     ensures few_hours_suffice { FewHoursSuffice }
     ensures duty_row_is_exact { DutyRowIsExact }
     ensures busiest_is_exact { BusiestIsExact }
+    ensures on_air_keeps_limit { OnAirKeepsLimit }
     ensures earliest_is_exact { EarliestIsExact }
     ensures earliest_candidates { EarliestCandidates }
     ensures forgetting { ForgettingIsUnseen }
@@ -113,6 +114,7 @@ fn each_law()
     law_few_hours_suffice();
     law_duty_row_is_exact();
     law_busiest_is_exact();
+    law_on_air_keeps_limit();
     law_earliest_is_exact();
     law_earliest_candidates();
     law_forgetting();
