@@ -19,12 +19,13 @@ use Rattle.std.proofs.lemmas.Option.{slice_get-get_or}
 use Rattle.answer_ticket.specs.declared.outcome.Ending.TheVariants.{Answered, Unanswered, GivenUp}
 use Rattle.answer_ticket.specs.declared.tried.Receipt.{Receipt}
 use Rattle.server_core.specs.declared.entry.Line.TheVariants as lines
+use Rattle.server_workers.specs.declared.filed.Filed.{Filed}
+use Rattle.server_workers.specs.Filing.{Filing, filing, IsByNumber}
 use Rattle.run_server.specs.declared.pass_answers.Answer.{Answer}
 use Rattle.run_server.specs.declared.pass_ends.End.{End}
 use Rattle.run_server.specs.declared.pass_ends.End.TheVariants as ends
-use Rattle.run_server.specs.declared.pass_ends.Ends.{Ends}
 use Rattle.run_server.specs.Booking.{Booking, booking_of}
-use Rattle.run_server.specs.PassEnds.{AreByNumber, end_of}
+use Rattle.run_server.specs.PassEnds.{end_of}
 use Rattle.run_server.specs.PassAnswers.{line_alone, sent_answer, answer_to, answer_in, told_receipt, AreTold, IsToldOf}
 
 -- what is found passes
@@ -112,8 +113,9 @@ answer_same old new m None e = refl
 answer_same old new m (Some end) e = answer_to_same old new m end e
 
 -- number n was told, and nothing but receipts has changed
-pub ends_told : (is_moved : Bool) (n : ℕ) (e : Ends) (new : List (Receipt Global)) → AreByNumber e
-    → AreTold is_moved n e.receipts.items new → IsToldOf is_moved n e (record e { receipts = with_items e.receipts new })
+pub ends_told : (is_moved : Bool) (n : ℕ) (e : Filed Global) (new : List (Receipt Global))
+    → IsByNumber (filing e) → AreTold is_moved n e.receipts.items new
+    → IsToldOf is_moved n (filing e) (filing (record e { receipts = with_items e.receipts new }))
 ends_told is_moved n e new by_number told =
     let long : length new ≡ length e.receipts.items =
     sym (length-map new booking_of) ∙ ap length told.same ∙ length-map e.receipts.items booking_of in
@@ -123,11 +125,12 @@ ends_told is_moved n e new by_number told =
         receipts = subst (IsNonDecreasingBy (λ (r : Receipt Global). r.number)) (sym are)
             (still_by_number e.receipts.items new told.same by_number.receipts);
         outcomes = by_number.outcomes;
+        skipped = by_number.skipped;
         refused = by_number.refused;
         strays = by_number.strays;
       };
       same = ap (map booking_of) are ∙ told.same;
-      answer = λ m other. answer_same e.receipts.items (with_items e.receipts new).items m (end_of e m)
+      answer = λ m other. answer_same e.receipts.items (with_items e.receipts new).items m (end_of (filing e) m)
           (ap (find (λ (r : Receipt Global). r.number == m)) are ∙ told.found m other);
     }
 
@@ -141,7 +144,7 @@ told_more f numbers at answers more answer within so_far one is =
     ∙ sym (map_more f numbers at 0 within)
 
 -- each number behind it is another, or no frame was moved
-pub left_more : (numbers : List ℕ) (at : ℕ) (is_moved : Bool) (first old new : Ends) → at < length numbers
+pub left_more : (numbers : List ℕ) (at : ℕ) (is_moved : Bool) (first old new : Filing Global) → at < length numbers
     → (is_moved ≡ true → IsStrictlyIncreasing numbers) → IsToldOf is_moved (get_or numbers at 0) old new
     → All (λ n. answer_in old n ≡ answer_in first n) (drop at numbers)
     → All (λ n. answer_in new n ≡ answer_in first n) (drop (at + 1) numbers)
@@ -159,7 +162,7 @@ left_more numbers at is_moved first old new within rise told left = λ k d l.
     (subst (All (λ n. answer_in old n ≡ answer_in first n)) (drop_more numbers at 0 within) left) k d l
 
 -- the number at this place still has the answer that it had first
-pub still_first : (numbers : List ℕ) (at : ℕ) (first old : Ends) → at < length numbers
+pub still_first : (numbers : List ℕ) (at : ℕ) (first old : Filing Global) → at < length numbers
     → All (λ n. answer_in old n ≡ answer_in first n) (drop at numbers)
     → answer_in old (get_or numbers at 0) ≡ answer_in first (get_or numbers at 0)
 still_first numbers at first old within left =

@@ -10,12 +10,12 @@ use Rattle.server_core.specs.declared.entry.Line.{Line}
 use Rattle.server_core.specs.declared.entry.Line.TheVariants as lines
 use Rattle.server_core.specs.Entries.{not_taken}
 use Rattle.server_desk.specs.declared.faults.TakeFault.{TakeFault}
+use Rattle.server_workers.specs.Filing.{Filing, IsByNumber}
 use Rattle.run_server.specs.declared.pass_answers.Answer.{Answer}
 use Rattle.run_server.specs.declared.pass_ends.End.{End}
 use Rattle.run_server.specs.declared.pass_ends.End.TheVariants as ends
-use Rattle.run_server.specs.declared.pass_ends.Ends.{Ends}
 use Rattle.run_server.specs.Booking.{booking_of}
-use Rattle.run_server.specs.PassEnds.{AreByNumber, end_of}
+use Rattle.run_server.specs.PassEnds.{end_of}
 
 -- What a run with workers answers to the uplinks that one `pass` closed (docs/FORMATS.md, "airbook run").
 
@@ -47,8 +47,8 @@ answer_to receipts n (ends.Refused fault) = refused_answer n fault
 answer_to receipts n ends.Stray = line_alone n (lines.Stray n)
 
 -- the answer to number n; one of which nothing is known is a stray
-abbrev pub answer_in : Ends → ℕ → Answer
-answer_in e n = option_map_or (answer_to e.receipts.items n) (end_of e n) (line_alone n (lines.Stray n))
+abbrev pub answer_in : Filing Global → ℕ → Answer
+answer_in f n = option_map_or (answer_to f.receipts n) (end_of f n) (line_alone n (lines.Stray n))
 
 -- a receipt that was told: where frames are moved it has none any more
 abbrev pub told_receipt : Bool → Receipt Global → Receipt Global
@@ -63,9 +63,9 @@ pub record AreTold (is_moved : Bool) (n : ℕ) (old new : List (Receipt Global))
       → find (λ (r : Receipt Global). r.number == m) new ≡ find (λ (r : Receipt Global). r.number == m) old
 
 -- the same of all ends: each other number still has the same answer
-pub record IsToldOf (is_moved : Bool) (n : ℕ) (old new : Ends) : Type 0 where
-  pub by_number : AreByNumber new
-  pub same : map booking_of new.receipts.items ≡ map booking_of old.receipts.items
+pub record IsToldOf (is_moved : Bool) (n : ℕ) (old new : Filing Global) : Type 0 where
+  pub by_number : IsByNumber new
+  pub same : map booking_of new.receipts ≡ map booking_of old.receipts
   pub answer : (m : ℕ) → (is_moved ≡ true → m ≢ n) → answer_in new m ≡ answer_in old m
 
 -- the lines of an answer: its own, and that of its frame

@@ -12,6 +12,6 @@ mod station_pass;
 mod station_run;
 
 pub use pass_answers::Answer;
-pub use pass_ends::Ends;
+pub use pass_ends::answers;
 pub use station_pass::{Answered, Told, answer_with_workers};
 pub use station_run::{Played, Shift};

@@ -1,17 +1,18 @@
 // The uplinks that one `pass` of a run on a station closes: workers answer them, and the calling thread the rest.
 ghost use Rattle.std.specs.Prelude.{◌≡◌, ◌≤◌, ◌↔◌, Ok, Err, IfOk, IfErr, OnOk, IsErrAnd};
 ghost use Rattle.server_workers.specs.Serving.{IsOutside, IsSortedByNumber};
-ghost use Rattle.run_server.specs.PassEnds.{AreByNumber};
-ghost use Rattle.run_server.specs.PassTurns.{ends_of, IsFiled, HasFiled, HasFiledInOrder};
+ghost use Rattle.server_workers.specs.Filing.{filing, nothing, IsByNumber};
+ghost use Rattle.server_workers.specs.Lists.{lists_of_served};
+ghost use Rattle.run_server.specs.PassTurns.{IsFiled, HasFiled, HasFiledInOrder};
 ghost use Rattle.run_server.specs.PassTold.{IsPassTold, IsPassToldFrom, IsPassToldAlone};
 
 use crate::pass_answers::Answer;
-use crate::pass_ends::Ends;
+use crate::pass_ends::{answers, left_of};
 use answer_ticket::Receipt;
 use server_core::NoMemory;
 use server_workers::{
-    Handled, Ledger, MAX_WORKERS, NoGate, PARTS, ServeCause, ServeFault, Served, Station, Till,
-    serve,
+    Filed, Handled, Ledger, MAX_WORKERS, NoGate, PARTS, ServeCause, ServeFault, Served, Station,
+    Till, serve,
 };
 use std::alloc::Global;
 use std::hash::BuildHasher;
@@ -100,27 +101,28 @@ fn told_behind<B: Ledger, S: BuildHasher, R: Wait>(
     requires { IsSortedByNumber served }
     ensures parts { result.till.parts ≡ served.till.parts }
     ensures ran { result.ran ≡ Ok served.ran }
-    ensures told { IfOk result.told (λ told. IsPassToldFrom station.now served.till result.till (ends_of served) numbers.now
+    ensures told { IfOk result.told (λ told. IsPassToldFrom station.now served.till result.till (filing (lists_of_served served)) numbers.now
         told.answers.items told.booked.items) }
 {
     let Served {
         mut till,
         receipts,
         outcomes,
-        skipped: _,
+        skipped,
         refused,
         strays,
         overrun: _,
         ran,
         ..
     } = served;
-    let ends = Ends {
+    let filed = Filed {
         receipts,
         outcomes,
+        skipped,
         refused,
         strays,
     };
-    let told = told_of(rt, alloc, station, numbers, &mut till, ends);
+    let told = told_of(rt, alloc, station, numbers, &mut till, filed);
     Answered {
         till,
         ran: Ok(ran),
@@ -142,7 +144,7 @@ fn told_alone<B: Ledger, S: BuildHasher, R: Wait>(
         told.answers.items told.booked.items) }
 {
     let ServeFault { cause, mut till } = fault;
-    let told = told_of(rt, alloc, station, numbers, &mut till, Ends::none(alloc));
+    let told = told_of(rt, alloc, station, numbers, &mut till, Filed::none(alloc));
     Answered {
         till,
         ran: Err(cause),
@@ -157,20 +159,20 @@ fn told_of<B: Ledger, S: BuildHasher, R: Wait>(
     station: &Station<B, S>,
     numbers: &[u64],
     till: &mut Till<B>,
-    ends: Ends,
+    filed: Filed,
 ) -> Result<Told, NoMemory>
-    requires { AreByNumber ends }
+    requires { IsByNumber (filing filed) }
     ensures parts { till.new.parts ≡ till.old.parts }
     ensures told { IfOk result
-        (λ told. IsPassToldFrom station.now till.old till.new ends numbers.now told.answers.items told.booked.items) }
+        (λ told. IsPassToldFrom station.now till.old till.new (filing filed) numbers.now told.answers.items told.booked.items) }
 {
-    let mut ends = ends;
-    let left = ends.left_of(alloc, numbers)?;
-    take_up(rt, station, left.as_slice(), till, &mut ends)?;
-    let answers = ends.answers(alloc, numbers)?;
+    let mut filed = filed;
+    let left = left_of(alloc, &filed, numbers)?;
+    take_up(rt, station, left.as_slice(), till, &mut filed)?;
+    let answers = answers(alloc, &mut filed, numbers)?;
     Ok(Told {
         answers,
-        booked: ends.receipts,
+        booked: filed.receipts,
     })
 }
 
@@ -181,18 +183,18 @@ fn take_up<B: Ledger, S: BuildHasher, R: Wait>(
     station: &Station<B, S>,
     numbers: &[u64],
     till: &mut Till<B>,
-    ends: &mut Ends,
+    filed: &mut Filed,
 ) -> Result<(), NoMemory>
-    requires { AreByNumber ends.old }
+    requires { IsByNumber (filing filed.old) }
     ensures parts { till.new.parts ≡ till.old.parts }
-    ensures filed { OnOk result (HasFiledInOrder station.now numbers.now till.old till.new ends.old ends.new) }
-    ensures sorted { OnOk result (AreByNumber ends.new) }
+    ensures filed { OnOk result (HasFiledInOrder station.now numbers.now till.old till.new (filing filed.old) (filing filed.new)) }
+    ensures sorted { OnOk result (IsByNumber (filing filed.new)) }
 {
     if numbers.is_empty() {
         return Ok(());
     }
-    answer_each(rt, station, numbers, till, ends)?;
-    ends.sort();
+    answer_each(rt, station, numbers, till, filed)?;
+    filed.sort();
     Ok(())
 }
 
@@ -202,38 +204,38 @@ fn answer_each<B: Ledger, S: BuildHasher, R: Wait>(
     station: &Station<B, S>,
     numbers: &[u64],
     till: &mut Till<B>,
-    ends: &mut Ends,
+    filed: &mut Filed,
 ) -> Result<(), NoMemory>
     ensures parts { till.new.parts ≡ till.old.parts }
-    ensures filed { OnOk result (HasFiled station.now numbers.now till.old till.new ends.old ends.new) }
+    ensures filed { OnOk result (HasFiled station.now numbers.now till.old till.new (filing filed.old) (filing filed.new)) }
 {
     for number in numbers {
         let turn = station.answer(rt, &NoGate, *number, till, &mut 0);
-        file(ends, *number, turn)?;
+        file(filed, *number, turn)?;
     }
     Ok(())
 }
 
 /// Files what became of the uplink with this number.
-fn file(ends: &mut Ends, number: u64, turn: Handled<Global>) -> Result<(), NoMemory>
-    ensures { OnOk result (IsFiled number turn ends.old ends.new) }
+fn file(filed: &mut Filed, number: u64, turn: Handled<Global>) -> Result<(), NoMemory>
+    ensures { OnOk result (IsFiled number turn (filing filed.old) (filing filed.new)) }
 {
     let receipt = match turn {
         Handled::NotTaken(fault) => {
-            ends.refused.push((number, fault))?;
+            filed.refused.push((number, fault))?;
             None
         }
         Handled::Settled(outcome, receipt) => {
-            ends.outcomes.push(outcome)?;
+            filed.outcomes.push(outcome)?;
             receipt
         }
         Handled::Stray(_, receipt) => {
-            ends.strays.push(number)?;
+            filed.strays.push(number)?;
             receipt
         }
     };
     if let Some(receipt) = receipt {
-        ends.receipts.push(receipt)?;
+        filed.receipts.push(receipt)?;
     }
     Ok(())
 }

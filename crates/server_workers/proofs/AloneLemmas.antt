@@ -1,10 +1,8 @@
 -- What one worker does who works alone.
 use Rattle.std.proofs.Common.{ℕ, ◌≡◌, ◌==◌, ◌+◌, ◌<◌, ◌≤◌, ◌++◌, List, [], ◌∷◌, Some, None, Option, Bool, true, false}
-use Rattle.std.proofs.Common.{length, Vec, if◌then◌else◌, refl, sym, ap, subst, ◌∙◌, ◌^◌, append-nil, arith, get_or}
+use Rattle.std.proofs.Common.{length, Vec, if◌then◌else◌, refl, sym, ap, subst, ◌∙◌, ◌^◌, arith, get_or}
 use Rattle.std.proofs.Math.Logic.{∥∥₁_map}
 use Rattle.std.specs.Option.{option_to_list}
-use Rattle.std.specs.List.{flat_map}
-use Rattle.std.specs.List.Sorted.{IsPermutation}
 use Rattle.std.proofs.lemmas.List.{length-append, map-append}
 use Rattle.std.proofs.lemmas.List.Sums.{sum_by-cons}
 use Rattle.std.proofs.lemmas.Bool.Decides.{nat_tests}
@@ -14,14 +12,17 @@ use Rattle.server_station.specs.declared.handled.Handled.{Handled}
 use Rattle.server_station.specs.declared.handled.Handled.TheVariants.{NotTaken, Settled, Stray}
 use Rattle.server_workers.specs.declared.served.Served.{Served}
 use Rattle.server_workers.specs.declared.worked.Worked.{Worked}
-use Rattle.server_workers.specs.Alone.{HasRoomForAll, HasTakenUp, IsServedAlone}
+use Rattle.server_workers.specs.Alone.{HasTakenUp, IsServedAlone}
 use Rattle.server_workers.specs.Served.{IsIdle, IsServed}
-use Rattle.server_workers.specs.Serving.{Fits, IsSummedUp}
+use Rattle.server_workers.specs.Filing.{Filing, put_behind, filing, IsReordered, HasRoomFor}
+use Rattle.server_workers.specs.Lists.{lists_of, lists_of_served}
+use Rattle.server_workers.specs.Serving.{IsSummedUp}
 use Rattle.server_workers.specs.Working.{IsMore, HasFiled, may_come_later}
 use Rattle.server_workers.specs.Working.{receipts_of, outcomes_of, skipped_of, refused_of, strays_of}
-use Rattle.server_workers.specs.Works.{IsLonger}
+use Rattle.server_workers.specs.Works.{Fits, IsLonger}
+use Rattle.server_workers.proofs.FilingLemmas.{put_behind-nothing}
 use Rattle.server_workers.proofs.ServedLemmas.{each_told}
-use Rattle.server_workers.specs.Turns.{IsOneOf}
+use Rattle.server_workers.specs.Turns.{IsOneOf, of_turns}
 use Rattle.server_workers.proofs.TurnLemmas.{filed_none, filed_on}
 
 -- a number that stands in a list is among its numbers
@@ -70,17 +71,22 @@ still_fits n m old new more fits less one filed longer =
     let len : length new.items ≡ length old.items + length more = ap length filed ∙ length-append old.items more in
     omega (arith, fits, less, one, len, longer.fits)
 
-pub room_on : {B A : Type 0} (ids : List ℕ) (n count left : ℕ) (old new : Worked B A) → HasRoomForAll count old
-    → left + 1 ≡ count → HasFiled ids n old new → IsMore old new → HasRoomForAll left new
-room_on ids n count left old new room less filed more =
+pub room_on : {B A : Type 0} (ids : List ℕ) (n count left : ℕ) (old new : Worked B A) → HasRoomFor count (lists_of old)
+    → left + 1 ≡ count → HasFiled ids n old new → IsMore old new → HasRoomFor left (lists_of new)
+room_on {B} {A} ids n count left old new room less filed more =
     let turn = filed.0 in
-    let one = filed.1 in
+    let one = filed.1.filed in
     record {
-      receipts = still_fits count left _ _ _ room.receipts less (one_receipt turn) one.receipts more.receipts;
-      outcomes = still_fits count left _ _ _ room.outcomes less (one_outcome turn) one.outcomes more.outcomes;
-      skipped = still_fits count left _ _ _ room.skipped less (one_skipped n turn) one.skipped more.skipped;
-      refused = still_fits count left _ _ _ room.refused less (one_refused n turn) one.refused more.refused;
-      strays = still_fits count left _ _ _ room.strays less (one_stray n turn) one.strays more.strays;
+      receipts = still_fits count left _ _ (receipts_of turn) room.receipts less (one_receipt turn)
+          (ap (λ (f : Filing A). f.receipts) one) more.lists.receipts;
+      outcomes = still_fits count left _ _ (outcomes_of turn) room.outcomes less (one_outcome turn)
+          (ap (λ (f : Filing A). f.outcomes) one) more.lists.outcomes;
+      skipped = still_fits count left _ _ (skipped_of n turn) room.skipped less (one_skipped n turn)
+          (ap (λ (f : Filing A). f.skipped) one) more.lists.skipped;
+      refused = still_fits count left _ _ (refused_of n turn) room.refused less (one_refused n turn)
+          (ap (λ (f : Filing A). f.refused) one) more.lists.refused;
+      strays = still_fits count left _ _ (strays_of n turn) room.strays less (one_stray n turn)
+          (ap (λ (f : Filing A). f.strays) one) more.lists.strays;
     }
 
 -- one more number was taken up
@@ -98,39 +104,16 @@ taken_on {B} {A} known ids numbers n old mid new is so_far filed = (
   filed_on (Some known) ids so_far.0 n filed.0 old mid new (known_one known n is) so_far.2 filed.1,
 )
 
--- a list that was taken over, and then put in order
-pub in_order : {X Z : Type 0} (old taken : Vec X Z) (new : List X) → taken ≡ old → IsPermutation taken.items new
-    → IsPermutation old.items new
-in_order {X} {Z} old taken new same h = subst (λ (v : Vec X Z). IsPermutation v.items new) same h
-
 -- what a worker kept who worked alone is all that is kept
-kept_alone : {W X : Type 0} (kept : W → List X) (w : W) (new : List X) → IsPermutation (kept w) new
-    → IsPermutation (flat_map kept (w ∷ [])) new
-kept_alone kept w new h = subst (λ l. IsPermutation l new) (sym (append-nil (kept w))) h
-
 pub alone_summed_up : {B A : Type 0} (w : Worked B A) (new : Served B A) → w.overrun < 2 ^ 64
-    → IsPermutation w.receipts.items new.receipts.items → IsPermutation w.outcomes.items new.outcomes.items
-    → IsPermutation w.skipped.items new.skipped.items → IsPermutation w.refused.items new.refused.items
-    → IsPermutation w.strays.items new.strays.items → new.overrun ≡ w.overrun → IsSummedUp (w ∷ []) new
-alone_summed_up {B} {A} w new small receipts outcomes skipped refused strays overrun =
+    → IsReordered (filing (lists_of w)) (filing (lists_of_served new)) → new.overrun ≡ w.overrun → IsSummedUp (w ∷ []) new
+alone_summed_up {B} {A} w new small same overrun =
     record {
-      receipts = kept_alone (λ (v : Worked B A). v.receipts.items) w _ receipts;
-      outcomes = kept_alone (λ (v : Worked B A). v.outcomes.items) w _ outcomes;
-      skipped = kept_alone (λ (v : Worked B A). v.skipped.items) w _ skipped;
-      refused = kept_alone (λ (v : Worked B A). v.refused.items) w _ refused;
-      strays = kept_alone (λ (v : Worked B A). v.strays.items) w _ strays;
+      filed = subst (λ f. IsReordered f (filing (lists_of_served new))) (sym (put_behind-nothing (filing (lists_of w)))) same;
       overrun =
           let all = sum_by-cons (λ (v : Worked B A). v.overrun) w [] in
           omega (arith, small, overrun, all);
     }
-
--- what a worker kept who began with nothing is what the numbers came to
-filed_alone : {W T X : Type 0} (kept : W → List X) (f : T → List X) (old w : W) (turns : List T) (new : List X)
-    → kept old ≡ [] → kept w ≡ kept old ++ flat_map f turns → IsPermutation (flat_map kept (w ∷ [])) new
-    → IsPermutation (flat_map f turns) new
-filed_alone kept f old w turns new none filed h =
-    subst (λ l. IsPermutation l new)
-    (append-nil (kept w) ∙ filed ∙ ap (λ l. l ++ flat_map f turns) none) h
 
 -- what became of the numbers that a worker took up alone is what was served
 pub alone_served : {B A : Type 0} (numbers ids : List ℕ) (idle worked : Worked B A) (served : Served B A) → IsIdle idle
@@ -148,16 +131,9 @@ alone_served {B} {A} numbers ids idle worked served none taken all =
             let kept = filed.idle quiet in
             let sum = sum_by-cons (λ (v : Worked B A). v.overrun) worked [] in
             omega (arith, all.overrun, kept, none.overrun, sum);
-        receipts = filed_alone (λ (v : Worked B A). v.receipts.items) (λ (t : ℕ × Handled A). receipts_of t.1)
-            idle worked turns _ none.receipts filed.receipts all.receipts;
-        outcomes = filed_alone (λ (v : Worked B A). v.outcomes.items) (λ (t : ℕ × Handled A). outcomes_of t.1)
-            idle worked turns _ none.outcomes filed.outcomes all.outcomes;
-        skipped = filed_alone (λ (v : Worked B A). v.skipped.items) (λ (t : ℕ × Handled A). skipped_of t.0 t.1)
-            idle worked turns _ none.skipped filed.skipped all.skipped;
-        refused = filed_alone (λ (v : Worked B A). v.refused.items) (λ (t : ℕ × Handled A). refused_of t.0 t.1)
-            idle worked turns _ none.refused filed.refused all.refused;
-        strays = filed_alone (λ (v : Worked B A). v.strays.items) (λ (t : ℕ × Handled A). strays_of t.0 t.1)
-            idle worked turns _ none.strays filed.strays all.strays;
+        filed = subst (λ f. IsReordered f (filing (lists_of_served served)))
+            (put_behind-nothing (filing (lists_of worked)) ∙ filed.filed
+            ∙ ap (λ f. put_behind f (of_turns turns)) none.filed) all.filed;
       },
     ) ∣₁
 

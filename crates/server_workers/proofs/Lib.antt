@@ -1,3 +1,4 @@
+pub mod FilingLemmas
 pub mod CrewLemmas
 pub mod WorkLemmas
 pub mod TurnLemmas

@@ -13,19 +13,19 @@ pub outcomes_airtime-append : (l more : List Outcome) → outcomes_airtime (l ++
 outcomes_airtime-append l more = sum_by-append (λ (o : Outcome). airtime_of_ending o.result) l more
 
 -- a till by its parts and its amount
-pub holds : (a b : Holding) (n : ℕ) → b.parts ≡ a.parts → b.amount ≡ n → b ≡ record a { amount = n }
-holds a b n p e = ap (λ k. record { parts = k; amount = b.amount }) p ∙ ap (λ k. record { parts = a.parts; amount = k }) e
+pub holds : (b : Holding) (parts n : ℕ) → b.parts ≡ parts → b.amount ≡ n → b ≡ record { parts = parts; amount = n }
+holds b parts n p e = ap (λ k. record { parts = k; amount = b.amount }) p ∙ ap (λ k. record { parts = parts; amount = k }) e
 
 -- a worker's till has risen by the airtime of the new outcomes
 pub risen : {B A : Type 0} (old new : Worked B A) → IsMore old new
     → (more : List Outcome) × (new.outcomes.items ≡ old.outcomes.items ++ more)
     × (new.till ≡ record old.till { amount = old.till.amount + outcomes_airtime more })
 risen old new m =
-    let more = m.outcomes.begins.0 in
+    let more = m.lists.outcomes.begins.0 in
     let all : outcomes_airtime new.outcomes.items ≡ outcomes_airtime old.outcomes.items + outcomes_airtime more =
-    ap outcomes_airtime m.outcomes.begins.1 ∙ outcomes_airtime-append old.outcomes.items more in (
+    ap outcomes_airtime m.lists.outcomes.begins.1 ∙ outcomes_airtime-append old.outcomes.items more in (
       more,
-      m.outcomes.begins.1,
-      holds old.till new.till (old.till.amount + outcomes_airtime more) (new.one_part ∙ sym old.one_part)
+      m.lists.outcomes.begins.1,
+      holds new.till old.till.parts (old.till.amount + outcomes_airtime more) (new.one_part ∙ sym old.one_part)
           (omega (arith, all, old.counted, new.counted)),
     )

@@ -3,18 +3,9 @@ use Rattle.server_station.specs.declared.handled.Handled.{Handled}
 use Rattle.server_workers.specs.declared.worked.Worked.{Worked}
 use Rattle.server_workers.specs.declared.served.Served.{Served}
 use Rattle.server_workers.specs.Served.{HaveServed}
-use Rattle.server_workers.specs.Serving.{Fits}
 use Rattle.server_workers.specs.Turns.{Turns, AreFiled}
 
 -- One worker alone.
-
--- so many items more fit into each list of a worker
-pub record HasRoomForAll {B A : Type 0} (n : ℕ) (worked : Worked B A) : Type 0 where
-  pub receipts : Fits n worked.receipts
-  pub outcomes : Fits n worked.outcomes
-  pub skipped : Fits n worked.skipped
-  pub refused : Fits n worked.refused
-  pub strays : Fits n worked.strays
 
 -- a worker took up just these numbers, of those that are known, each once and in their order, at a station of these gateways, and
 -- filed what became of each

@@ -1,5 +1,6 @@
 pub mod Works
-pub mod EmptyLists
+pub mod Filing
+pub mod Lists
 pub mod Working
 pub mod Turns
 pub mod Served

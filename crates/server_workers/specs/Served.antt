@@ -1,23 +1,18 @@
-use Rattle.std.specs.Prelude.{ℕ, ◌≡◌, List, [], All, Some}
-use Rattle.std.specs.List.{flat_map}
-use Rattle.std.specs.List.Sorted.{IsPermutation}
+use Rattle.std.specs.Prelude.{ℕ, ◌≡◌, List, All, Some}
 use Rattle.air_ledger.specs.Tills.{Holding}
 use Rattle.server_station.specs.Handling.{IsHandled}
 use Rattle.server_station.specs.declared.handled.Handled.{Handled}
 use Rattle.server_workers.specs.declared.served.Served.{Served}
 use Rattle.server_workers.specs.declared.worked.Worked.{Worked}
-use Rattle.server_workers.specs.Turns.{Turns, AreAmong, AreIdle}
-use Rattle.server_workers.specs.Working.{receipts_of, outcomes_of, skipped_of, refused_of, strays_of}
+use Rattle.server_workers.specs.Filing.{nothing, filing, IsReordered}
+use Rattle.server_workers.specs.Lists.{lists_of, lists_of_served}
+use Rattle.server_workers.specs.Turns.{Turns, AreAmong, AreIdle, of_turns}
 
 -- What becomes of the numbers that several workers take up.
 
 -- a worker that hasn't begun has done nothing
 pub record IsIdle {B A : Type 0} (worked : Worked B A) : Type 0 where
-  pub receipts : worked.receipts.items ≡ []
-  pub outcomes : worked.outcomes.items ≡ []
-  pub skipped : worked.skipped.items ≡ []
-  pub refused : worked.refused.items ≡ []
-  pub strays : worked.strays.items ≡ []
+  pub filed : filing (lists_of worked) ≡ nothing
   pub overrun : worked.overrun ≡ 0
 
 -- each of these numbers got what is told of it, at some station and counted with some till
@@ -31,11 +26,7 @@ pub record HasDone {B A : Type 0} (given : List ℕ) (turns : Turns A) (worked :
   pub among : AreAmong (Some given) turns
   pub told : AreTold turns
   pub idle : AreIdle turns → worked.overrun ≡ 0
-  pub receipts : worked.receipts.items ≡ flat_map (λ (t : ℕ × Handled A). receipts_of t.1) turns
-  pub outcomes : worked.outcomes.items ≡ flat_map (λ (t : ℕ × Handled A). outcomes_of t.1) turns
-  pub skipped : worked.skipped.items ≡ flat_map (λ (t : ℕ × Handled A). skipped_of t.0 t.1) turns
-  pub refused : worked.refused.items ≡ flat_map (λ (t : ℕ × Handled A). refused_of t.0 t.1) turns
-  pub strays : worked.strays.items ≡ flat_map (λ (t : ℕ × Handled A). strays_of t.0 t.1) turns
+  pub filed : filing (lists_of worked) ≡ of_turns turns
 
 -- a worker keeps what became of some of the given numbers, and nothing else
 abbrev pub IsDone : {B A : Type 0} → List ℕ → Worked B A → Type 0
@@ -46,11 +37,7 @@ pub record HaveServed {B A : Type 0} (given : List ℕ) (turns : Turns A) (serve
   pub among : AreAmong (Some given) turns
   pub told : AreTold turns
   pub idle : AreIdle turns → served.overrun ≡ 0
-  pub receipts : IsPermutation (flat_map (λ (t : ℕ × Handled A). receipts_of t.1) turns) served.receipts.items
-  pub outcomes : IsPermutation (flat_map (λ (t : ℕ × Handled A). outcomes_of t.1) turns) served.outcomes.items
-  pub skipped : IsPermutation (flat_map (λ (t : ℕ × Handled A). skipped_of t.0 t.1) turns) served.skipped.items
-  pub refused : IsPermutation (flat_map (λ (t : ℕ × Handled A). refused_of t.0 t.1) turns) served.refused.items
-  pub strays : IsPermutation (flat_map (λ (t : ℕ × Handled A). strays_of t.0 t.1) turns) served.strays.items
+  pub filed : IsReordered (of_turns turns) (filing (lists_of_served served))
 
 -- some of the given numbers were taken up, and the lists have what became of them, and nothing else
 abbrev pub IsServed : {B A : Type 0} → List ℕ → Served B A → Type 0

@@ -1,5 +1,4 @@
-use Rattle.std.specs.Prelude.{ℕ, ◌≡◌, true, false, List, [], ◌∷◌, ◌++◌, All, Option, IsSomeAnd, ⊤}
-use Rattle.std.specs.List.{flat_map}
+use Rattle.std.specs.Prelude.{ℕ, ◌≡◌, true, false, List, [], ◌∷◌, All, Option, IsSomeAnd, ⊤}
 use Rattle.std.specs.Option.{ForSome}
 use Rattle.air_ledger.specs.Tills.{Holding}
 use Rattle.server_desk.specs.Register.{is_among}
@@ -8,7 +7,9 @@ use Rattle.server_station.specs.declared.handled.Handled.{Handled}
 use Rattle.server_workers.specs.declared.worked.Stopped.{Stopped}
 use Rattle.server_workers.specs.declared.worked.Stopped.TheVariants.{Full, AtEnd}
 use Rattle.server_workers.specs.declared.worked.Worked.{Worked}
-use Rattle.server_workers.specs.Working.{HasRoom, receipts_of, outcomes_of, skipped_of, refused_of, strays_of}
+use Rattle.server_workers.specs.Filing.{Filing, put_behind, gathered, filing, HasRoom}
+use Rattle.server_workers.specs.Lists.{lists_of}
+use Rattle.server_workers.specs.Working.{of_turn}
 
 -- What a worker does from when it begins until it stops.
 
@@ -19,6 +20,10 @@ IsOneOf known n = ForSome known (λ numbers. is_among numbers n ≡ true)
 -- numbers that were taken up, one after another, and what became of each
 abbrev pub Turns : Type 0 → Type 0
 Turns A = List (ℕ × Handled A)
+
+-- what became of them, one after another
+abbrev pub of_turns : {A : Type 0} → Turns A → Filing A
+of_turns {A} turns = gathered (λ (t : ℕ × Handled A). of_turn t.0 t.1) turns
 
 -- the till went from hand to hand: each number's answer counted with it what the last one had left
 abbrev pub AreHandled : {A : Type 0} → List ℕ → Turns A → Holding → Holding → Type 0
@@ -40,11 +45,7 @@ pub record AreFiled {B A : Type 0} (known : Option (List ℕ)) (ids : List ℕ) 
   pub among : AreAmong known turns
   pub told : AreHandled ids turns old.till new.till
   pub idle : AreIdle turns → new.overrun ≡ old.overrun
-  pub receipts : new.receipts.items ≡ old.receipts.items ++ flat_map (λ (t : ℕ × Handled A). receipts_of t.1) turns
-  pub outcomes : new.outcomes.items ≡ old.outcomes.items ++ flat_map (λ (t : ℕ × Handled A). outcomes_of t.1) turns
-  pub skipped : new.skipped.items ≡ old.skipped.items ++ flat_map (λ (t : ℕ × Handled A). skipped_of t.0 t.1) turns
-  pub refused : new.refused.items ≡ old.refused.items ++ flat_map (λ (t : ℕ × Handled A). refused_of t.0 t.1) turns
-  pub strays : new.strays.items ≡ old.strays.items ++ flat_map (λ (t : ℕ × Handled A). strays_of t.0 t.1) turns
+  pub filed : filing (lists_of new) ≡ put_behind (filing (lists_of old)) (of_turns turns)
 
 -- a worker took up some numbers, of those that are known if any are, at a station of these gateways, and filed what became of
 -- each
@@ -53,7 +54,7 @@ HasWorked {B} {A} known ids old new = (turns : Turns A) × AreFiled known ids tu
 
 -- a worker may stop where one more number may not fit, and where the channel told that it is closed and empty
 abbrev pub IsReason : {B A : Type 0} → Worked B A → Stopped → Type 0
-IsReason worked Full = HasRoom worked → ⊥
+IsReason worked Full = HasRoom (lists_of worked) → ⊥
 IsReason worked (AtEnd drained) = ⊤
 
 -- it stopped for such a reason

@@ -1,4 +1,4 @@
-use Rattle.std.specs.Prelude.{ℕ, ◌≡◌, ◌≤◌, Bool, true, false, if◌then◌else◌, List, [], ◌∷◌, ◌++◌}
+use Rattle.std.specs.Prelude.{ℕ, ◌≡◌, ◌≤◌, Bool, true, false, if◌then◌else◌, List, [], ◌∷◌}
 use Rattle.std.specs.Option.{option_to_list}
 use Rattle.answer_ticket.specs.declared.outcome.Outcome.{Outcome}
 use Rattle.answer_ticket.specs.declared.tried.Receipt.{Receipt}
@@ -8,25 +8,14 @@ use Rattle.server_station.specs.declared.handled.Handled.{Handled}
 use Rattle.server_station.specs.declared.handled.Handled.TheVariants.{NotTaken, Settled, Stray}
 use Rattle.server_workers.specs.declared.worked.Worked.{Worked}
 use Rattle.server_station.specs.Handling.{IsHandled, was_taken}
-use Rattle.server_workers.specs.Works.{IsOpen, IsLonger}
+use Rattle.server_workers.specs.Filing.{Filing, put_behind, filing, AreLonger}
+use Rattle.server_workers.specs.Lists.{lists_of}
 
 -- How a worker goes on.
 
--- one more number fits, whatever becomes of it
-pub record HasRoom {B A : Type 0} (worked : Worked B A) : Type 0 where
-  pub receipts : IsOpen worked.receipts
-  pub outcomes : IsOpen worked.outcomes
-  pub skipped : IsOpen worked.skipped
-  pub refused : IsOpen worked.refused
-  pub strays : IsOpen worked.strays
-
 -- a worker has done what it had done before, and maybe more; no list has outgrown its room
 pub record IsMore {B A : Type 0} (old new : Worked B A) : Type 0 where
-  pub receipts : IsLonger old.receipts new.receipts
-  pub outcomes : IsLonger old.outcomes new.outcomes
-  pub skipped : IsLonger old.skipped new.skipped
-  pub refused : IsLonger old.refused new.refused
-  pub strays : IsLonger old.strays new.strays
+  pub lists : AreLonger (lists_of old) (lists_of new)
   pub overrun : old.overrun ≤ new.overrun
 
 -- a number without a ticket is only skipped where its device is engaged, or there is no memory: it may get one later
@@ -64,14 +53,20 @@ strays_of n (NotTaken fault) = []
 strays_of n (Settled outcome receipt) = []
 strays_of n (Stray outcome receipt) = n ∷ []
 
+abbrev pub of_turn : {A : Type 0} → ℕ → Handled A → Filing A
+of_turn n turn =
+    record {
+      receipts = receipts_of turn;
+      outcomes = outcomes_of turn;
+      skipped = skipped_of n turn;
+      refused = refused_of n turn;
+      strays = strays_of n turn;
+    }
+
 -- what became of number n stands at the ends of the lists, and nothing else was added
 pub record IsFiled {B A : Type 0} (ids : List ℕ) (n : ℕ) (old new : Worked B A) (turn : Handled A) : Type 0 where
   pub told : IsHandled ids n old.till new.till turn
-  pub receipts : new.receipts.items ≡ old.receipts.items ++ receipts_of turn
-  pub outcomes : new.outcomes.items ≡ old.outcomes.items ++ outcomes_of turn
-  pub skipped : new.skipped.items ≡ old.skipped.items ++ skipped_of n turn
-  pub refused : new.refused.items ≡ old.refused.items ++ refused_of n turn
-  pub strays : new.strays.items ≡ old.strays.items ++ strays_of n turn
+  pub filed : filing (lists_of new) ≡ put_behind (filing (lists_of old)) (of_turn n turn)
   pub idle : was_taken turn ≡ false → new.overrun ≡ old.overrun
 
 -- a worker took up number n once, at a station of these gateways, and filed what became of it

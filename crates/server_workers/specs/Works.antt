@@ -17,6 +17,10 @@ pub record IsEmptyFor {X Z : Type 0} (room : ℕ) (list : Vec X Z) : Type 0 wher
 abbrev pub IsOpen : {X Z : Type 0} → Vec X Z → Type 0
 IsOpen list = vec_len list < vec_capacity list
 
+-- so many items more fit into the list
+abbrev pub Fits : {X Z : Type 0} → ℕ → Vec X Z → Type 0
+Fits n list = vec_len list + n ≤ vec_capacity list
+
 -- a list begins with another
 abbrev pub BeginsWith : {X : Type 0} → List X → List X → Type 0
 BeginsWith {X} old new = (more : List X) × (new ≡ old ++ more)

@@ -1,13 +1,15 @@
 // One worker alone, on the calling thread.
 ghost use Rattle.std.specs.Prelude.{◌≡◌, ◌+◌, ◌<◌, IfOk, IfErr, length};
-ghost use Rattle.server_workers.specs.Alone.{HasRoomForAll, HasTakenUp, IsServedAlone};
+ghost use Rattle.server_workers.specs.Alone.{HasTakenUp, IsServedAlone};
 ghost use Rattle.server_workers.specs.Counts.{WereAsked};
+ghost use Rattle.server_workers.specs.Filing.{HasRoomFor};
+ghost use Rattle.server_workers.specs.Lists.{lists_of};
 ghost use Rattle.server_workers.specs.Served.{IsServed};
 ghost use Rattle.server_workers.specs.Serving.{IsSortedByNumber};
 ghost use Rattle.server_workers.specs.Working.{IsMore};
 ghost use Rattle.server_workers.specs.Works.{outcomes_airtime};
 
-use crate::lists::Lists;
+use crate::filed::Filed;
 use crate::served::{ServeCause, ServeFault, Served};
 use crate::serving::fault;
 use crate::summing::taken_over;
@@ -38,11 +40,11 @@ pub(crate) fn serve_alone<R: Wait, B: Ledger, S: BuildHasher, A: Allocator + Cop
     ensures back { IfErr result (λ fault. fault.till ≡ till) }
     ensures memory { IfErr result (λ fault. fault.cause ≡ ServeCause.NoMemory) }
 {
-    let Ok(lists) = Lists::new(alloc, numbers.len()) else {
+    let Ok(filed) = Filed::with_room(alloc, numbers.len()) else {
         return Err(fault(ServeCause::NoMemory, till));
     };
     prove!(till.parts() <= PARTS); // So the worker's part fits when it is joined again.
-    let mut worked = Worked::idle(till.split(), lists);
+    let mut worked = Worked::idle(till.split(), filed);
     worked.answer_all(rt, station, gate, numbers);
     Ok(taken_over(till, worked))
 }
@@ -57,7 +59,7 @@ impl<B: Ledger, A: Allocator + Copy> Worked<B, A> {
         gate: &G,
         numbers: &[u64],
     )
-        requires { HasRoomForAll (length numbers.now) self.old }
+        requires { HasRoomFor (length numbers.now) (lists_of self.old) }
         ensures more { IsMore self.old self.new }
         ensures turns { HasTakenUp numbers.now station.now numbers.now self.old self.new }
     {

@@ -3,8 +3,9 @@
 #![tactic(auto)]
 
 mod alone;
+mod filed;
 mod gathering;
-mod lists;
+mod idle;
 mod member;
 mod served;
 mod serving;
@@ -13,6 +14,7 @@ mod turns;
 mod worked;
 mod working;
 
+pub use filed::Filed;
 pub use served::{ServeCause, ServeFault, Served};
 pub use server_station::{
     Blank, Closing, FinishCause, FinishFault, Gate, Handled, Ledger, MAX_TURNS, NoGate, NoMemory,

@@ -1,7 +1,9 @@
 // A worker among others.
 ghost use Rattle.std.specs.Prelude.{◌≡◌, true, [], Some, List, ℕ, length};
 ghost use Rattle.server_desk.specs.Register.{is_among};
-ghost use Rattle.server_workers.specs.Crew.{IsWithin, HasSettledNone, HasDoneItsPart};
+ghost use Rattle.server_workers.specs.Crew.{HasSettledNone, HasDoneItsPart};
+ghost use Rattle.server_workers.specs.Filing.{IsWithin};
+ghost use Rattle.server_workers.specs.Lists.{lists_of};
 ghost use Rattle.server_workers.specs.Served.{IsIdle, IsDone};
 ghost use Rattle.server_workers.specs.Turns.{HasWorked, HasStopped};
 ghost use Rattle.server_workers.specs.Working.{IsMore};
@@ -52,7 +54,7 @@ pub(crate) struct Member<K: Room, B: Ledger, A: Allocator> {
     has_begun: bool,
     worked: Worked<B, A>,
     crew: PhantomData<K>,
-    ghost within: { IsWithin K.room worked },
+    ghost within: { IsWithin K.room (lists_of worked) },
     ghost before: { HasSettledNone has_begun worked },
     ghost after: { HasDoneItsPart has_begun worked },
     ghost done: { IsDone K.numbers worked },
@@ -97,7 +99,7 @@ impl<K: Room, A: Allocator + Copy> Numbers<K, A> {
 impl<K: Room, B: Ledger, A: Allocator> Member<K, B, A> {
     /// A worker that hasn't begun.
     pub(crate) fn new(worked: Worked<B, A>) -> Self
-        requires within { IsWithin K.room worked }
+        requires within { IsWithin K.room (lists_of worked) }
         requires none { IsIdle worked }
         ensures { result.worked ≡ worked }
     {
@@ -112,7 +114,7 @@ impl<K: Room, B: Ledger, A: Allocator> Member<K, B, A> {
     pub(crate) fn parted(self) -> (bool, Worked<B, A>)
         ensures begun { result.0 ≡ self.has_begun }
         ensures same { result.1 ≡ self.worked }
-        ensures within { IsWithin K.room result.1 }
+        ensures within { IsWithin K.room (lists_of result.1) }
         ensures before { HasSettledNone result.0 result.1 }
     {
         let Member {

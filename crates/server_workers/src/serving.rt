@@ -4,12 +4,12 @@ ghost use Rattle.std.specs.Prelude.{vec_len, vec_capacity};
 ghost use Rattle.server_workers.specs.Works.{outcomes_airtime};
 ghost use Rattle.server_workers.specs.Alone.{IsServedAlone};
 ghost use Rattle.server_workers.specs.Counts.{WereAsked};
-ghost use Rattle.server_workers.specs.EmptyLists.{AreEmptyFor};
+ghost use Rattle.server_workers.specs.Filing.{AreEmptyFor};
 ghost use Rattle.server_workers.specs.Served.{IsServed};
 ghost use Rattle.server_workers.specs.Serving.{IsOutside, IsSortedByNumber};
 
 use crate::alone::serve_alone;
-use crate::lists::Lists;
+use crate::filed::Filed;
 use crate::member::{Member, Numbers, Room};
 use crate::served::{ServeCause, ServeFault, Served};
 use crate::summing::summed_up;
@@ -29,11 +29,11 @@ struct Outfit<K: Room, B: Ledger, A: Allocator> {
     /// What it works at.
     numbers: Numbers<K, A>,
     /// Lists for each worker.
-    lists: Vec<Lists<A>, A>,
+    lists: Vec<Filed<A>, A>,
     /// No worker yet, with room for all of them.
     crew: Vec<Member<K, B, A>, A>,
     /// Lists for what all workers do.
-    all: Lists<A>,
+    all: Filed<A>,
 }
 
 /// Has some workers, 1 to 16, take, try and settle these numbers of a station, as `work` does, each with a part of a till
@@ -185,7 +185,7 @@ fn fitted_out<K: Room, R: Wait, B: Ledger, A: Allocator + Copy>(
         numbers: Numbers::new(rt, alloc, numbers)?,
         lists: lists_for(alloc, workers, numbers.len())?,
         crew: Vec::with_capacity(alloc, usize::from(workers))?,
-        all: Lists::new(alloc, room)?,
+        all: Filed::with_room(alloc, room)?,
     })
 }
 
@@ -194,13 +194,13 @@ fn lists_for<A: Allocator + Copy>(
     alloc: A,
     workers: u8,
     room: usize,
-) -> Result<Vec<Lists<A>, A>, AllocError>
+) -> Result<Vec<Filed<A>, A>, AllocError>
     ensures empty { IfOk result (λ lists. All (λ own. AreEmptyFor room own) lists.items) }
     ensures count { IfOk result (λ lists. vec_len lists ≡ workers) }
 {
     let mut lists = Vec::with_capacity(alloc, usize::from(workers))?;
     for _worker in 0..workers {
-        lists.push_reserved(Lists::new(alloc, room)?);
+        lists.push_reserved(Filed::with_room(alloc, room)?);
     }
     Ok(lists)
 }
@@ -208,7 +208,7 @@ fn lists_for<A: Allocator + Copy>(
 /// A worker for each of the lists, with a part of the till.
 fn hired<K: Room, B: Ledger, A: Allocator>(
     till: &mut Till<B>,
-    lists: Vec<Lists<A>, A>,
+    lists: Vec<Filed<A>, A>,
     mut crew: Vec<Member<K, B, A>, A>,
 ) -> Vec<Member<K, B, A>, A>
     requires empty { All (λ own. AreEmptyFor K.room own) lists.items }

@@ -1,8 +1,10 @@
 // A worker takes, tries and settles one number after another.
 ghost use Rattle.std.specs.Prelude.{◌≡◌, ◌+◌, ◌↔◌, ◌++◌, List, None, IsTrue};
 ghost use Rattle.answer_ticket.specs.declared.outcome.Outcome.{Outcome as Ends};
+ghost use Rattle.server_workers.specs.Filing.{HasRoom};
+ghost use Rattle.server_workers.specs.Lists.{lists_of};
 ghost use Rattle.server_workers.specs.Works.{IsOpen, outcomes_airtime};
-ghost use Rattle.server_workers.specs.Working.{HasFiled, HasRoom, IsMore};
+ghost use Rattle.server_workers.specs.Working.{HasFiled, IsMore};
 ghost use Rattle.server_workers.specs.Turns.{HasWorked, HasStopped};
 
 use crate::turns::{Given, InChannel, next_of};
@@ -64,7 +66,7 @@ pub(crate) fn work_on<
 impl<B: Ledger, A: Allocator> Worked<B, A> {
     /// Whether one more number fits, whatever becomes of it.
     fn has_room(&self) -> bool
-        ensures { IsTrue result ↔ HasRoom self.now }
+        ensures { IsTrue result ↔ HasRoom (lists_of self.now) }
     {
         is_open(&self.receipts)
             && is_open(&self.outcomes)
@@ -83,7 +85,7 @@ impl<B: Ledger, A: Allocator + Copy> Worked<B, A> {
         gate: &G,
         given: Given,
     )
-        requires { HasRoom self.old }
+        requires { HasRoom (lists_of self.old) }
         ensures more { IsMore self.old self.new }
         ensures filed { HasFiled station.now given.number self.old self.new }
     {

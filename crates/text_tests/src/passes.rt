@@ -6,9 +6,9 @@ use airbook_text::{Settings, read_settings};
 use answer_ticket::{Ending, Outcome};
 use gateway_book::Refusal;
 use run_lines::{events_from, write_lines};
-use run_server::{Answer, Answered, Ends, Told, answer_with_workers};
+use run_server::{Answer, Answered, Told, answer_with_workers, answers};
 use server_core::{Book, DeskFault, Entry, Event, Line, NoMemory, TakeFault};
-use server_workers::{Blank, Ledger, PARTS, ServeCause, Station, Till};
+use server_workers::{Blank, Filed, Ledger, PARTS, ServeCause, Station, Till};
 use std::alloc::Global;
 use std::hash::{BuildHasherDefault, FoldHasher};
 use std::marker::Brand;
@@ -262,8 +262,8 @@ fn as_many_workers_start_as_there_is_work_for(rt: HostRuntime) -> Result<(), Fai
 }
 
 /// How seven uplinks ended, of which no run tells some so.
-fn rare_ends(alloc: Global) -> Result<Ends, Fail> {
-    let mut ends = Ends::none(alloc);
+fn rare_ends(alloc: Global) -> Result<Filed, Fail> {
+    let mut ends = Filed::none(alloc);
     ends.strays.push(4)?;
     for refused in [
         (6, TakeFault::Taken),
@@ -286,7 +286,7 @@ fn rare_ends(alloc: Global) -> Result<Ends, Fail> {
 fn rare_answers_are_told(rt: HostRuntime) -> Result<(), Fail> {
     let mut ends = rare_ends(rt.alloc())?;
     ends.sort();
-    let answers = ends.answers(rt.alloc(), &[1, 2, 3, 4, 5, 6, 7])?;
+    let answers = answers(rt.alloc(), &mut ends, &[1, 2, 3, 4, 5, 6, 7])?;
     let (refused, text) = text_of(rt.alloc(), answers)?;
     holds(refused)?;
     equal(&text.as_slice(), &RARE)

@@ -2,10 +2,11 @@ use Rattle.std.proofs.Common.{subst, sym}
 use Rattle.std.specs.Prelude.{IfOk, IfErr}
 use Rattle.std.proofs.lemmas.Result.{IfOk-weaker}
 use Rattle.air_ledger.specs.Tills.{Holding}
+use Rattle.server_workers.specs.Filing.{filing}
+use Rattle.server_workers.specs.Lists.{lists_of_served}
 use Rattle.run_server.specs.declared.station_pass.Told.{Told}
 use Rattle.run_server.specs.PassTold.{IsPassTold, IsPassToldFrom, IsPassToldAlone}
-use Rattle.run_server.specs.PassTurns.{ends_of}
-use Rattle.run_server.proofs.TurnLemmas.{served_ended, served_by_number, told_alone}
+use Rattle.run_server.proofs.TurnLemmas.{served_ended, told_alone}
 use Rattle.run_server.proofs.station_pass.answer_with_workers.Goals as goal
 
 pub returns-in-Ok-clause-told : goal.returns-in-Ok-clause-told
@@ -13,14 +14,14 @@ returns-in-Ok-clause-told g c =
     let served = c.in-Ok.served in
     let made = c.told_behind.result in
     IfOk-weaker made.told
-    (λ (t : Told). IsPassToldFrom c.args.station.now served.till made.till (ends_of served) c.args.numbers.now
+    (λ (t : Told). IsPassToldFrom c.args.station.now served.till made.till (filing (lists_of_served served)) c.args.numbers.now
     t.answers.items t.booked.items)
     (λ (t : Told). IsPassTold c.args.station.now c.args.till made.till c.args.numbers.now t.answers.items t.booked.items)
     (λ t told. record {
-      workers = ends_of served;
-      by_number = served_by_number served c.in-Ok.ensures.sorted;
+      workers = filing (lists_of_served served);
+      by_number = c.in-Ok.ensures.sorted;
       ended = served_ended c.args.numbers.now served c.in-Ok.ensures.turns;
-      told = subst (λ (h : Holding). IsPassToldFrom c.args.station.now h made.till (ends_of served) c.args.numbers.now
+      told = subst (λ (h : Holding). IsPassToldFrom c.args.station.now h made.till (filing (lists_of_served served)) c.args.numbers.now
           t.answers.items t.booked.items) c.in-Ok.ensures.till told;
     })
     c.told_behind.ensures.told

@@ -1,4 +1,6 @@
 use Rattle.std.proofs.Common.{ap, ◌∙◌}
+use Rattle.server_workers.specs.Filing.{filing}
+use Rattle.server_workers.proofs.FilingLemmas.{empty}
 use Rattle.server_workers.proofs.AloneLemmas.{alone_served, served_alone}
 use Rattle.server_workers.proofs.alone.serve_alone.Goals as goal
 
@@ -7,14 +9,7 @@ returns-clause-each g c =
     let made = c.idle-worked.ensures in
     let none = c.in-Ok.ensures in
     alone_served c.args.numbers.now c.args.station.now c.idle-worked.result c.answer_all.new.self c.taken_over.result
-    (record {
-      receipts = ap (λ v. v.items) made.receipts ∙ none.receipts.none;
-      outcomes = ap (λ v. v.items) made.outcomes ∙ none.outcomes.none;
-      skipped = ap (λ v. v.items) made.skipped ∙ none.skipped.none;
-      refused = ap (λ v. v.items) made.refused ∙ none.refused.none;
-      strays = ap (λ v. v.items) made.strays ∙ none.strays.none;
-      overrun = made.overrun;
-    })
+    (record { filed = ap filing made.lists ∙ empty _ _ none; overrun = made.overrun })
     c.answer_all.ensures.turns c.taken_over.ensures.all
 
 pub returns-clause-turns : goal.returns-clause-turns

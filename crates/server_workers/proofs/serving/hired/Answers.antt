@@ -1,7 +1,8 @@
-use Rattle.std.proofs.Common.{refl, ap, arith, vec_capacity, ◌∙◌}
+use Rattle.std.proofs.Common.{refl, ap, arith, subst, sym, ◌∙◌}
 use Rattle.std.proofs.lemmas.List.Elements.{All-head, All-tail}
 use Rattle.std.specs.Vec.Iter.{into_iter_items}
-use Rattle.server_workers.specs.EmptyLists.{AreEmptyFor}
+use Rattle.server_workers.specs.Filing.{filing, IsWithin, AreEmptyFor}
+use Rattle.server_workers.proofs.FilingLemmas.{empty, within}
 use Rattle.server_workers.proofs.serving.hired.Goals as goal
 
 pub loop-own-init : goal.loop-own-init
@@ -26,28 +27,14 @@ pub new-requires-clause-within : goal.new-requires-clause-within
 new-requires-clause-within g c =
     let own = All-head (λ own. AreEmptyFor g.K.Room.room own) c.in-Some.own (into_iter_items c.next.new.self)
     (rw c.in-Some.ensures.steps.0 at c.loop-own.invariant.empty) in
-    let made = c.idle.ensures in
-    record {
-      receipts = omega (arith, own.receipts.fits, ap (λ v. vec_capacity v) made.receipts);
-      outcomes = omega (arith, own.outcomes.fits, ap (λ v. vec_capacity v) made.outcomes);
-      skipped = omega (arith, own.skipped.fits, ap (λ v. vec_capacity v) made.skipped);
-      refused = omega (arith, own.refused.fits, ap (λ v. vec_capacity v) made.refused);
-      strays = omega (arith, own.strays.fits, ap (λ v. vec_capacity v) made.strays);
-    }
+    subst (IsWithin g.K.Room.room) (sym c.idle.ensures.lists) (within g.K.Room.room c.in-Some.own own)
 
 pub new-requires-clause-none : goal.new-requires-clause-none
 new-requires-clause-none g c =
     let own = All-head (λ own. AreEmptyFor g.K.Room.room own) c.in-Some.own (into_iter_items c.next.new.self)
     (rw c.in-Some.ensures.steps.0 at c.loop-own.invariant.empty) in
     let made = c.idle.ensures in
-    record {
-      receipts = ap (λ v. v.items) made.receipts ∙ own.receipts.none;
-      outcomes = ap (λ v. v.items) made.outcomes ∙ own.outcomes.none;
-      skipped = ap (λ v. v.items) made.skipped ∙ own.skipped.none;
-      refused = ap (λ v. v.items) made.refused ∙ own.refused.none;
-      strays = ap (λ v. v.items) made.strays ∙ own.strays.none;
-      overrun = made.overrun;
-    }
+    record { filed = ap filing made.lists ∙ empty g.K.Room.room c.in-Some.own own; overrun = made.overrun }
 
 pub loop-own-preserved : goal.loop-own-preserved
 loop-own-preserved g c =

@@ -1,6 +1,6 @@
 use Rattle.std.proofs.Common.{◌≡◌, ◌+◌, ◌<◌, ◌≤◌, All, vec_len, vec_capacity}
 use Rattle.std.specs.Vec.Iter.{into_iter_items, into_iter_len}
-use Rattle.server_workers.specs.EmptyLists.{AreEmptyFor}
+use Rattle.server_workers.specs.Filing.{AreEmptyFor}
 use Rattle.server_workers.proofs.serving.hired.Given as goal
 
 abbrev pub invariant-loop-own : goal.invariant-loop-own

@@ -1,5 +1,5 @@
 use Rattle.std.proofs.Common.{◌≡◌, All, vec_len, vec_capacity}
-use Rattle.server_workers.specs.EmptyLists.{AreEmptyFor}
+use Rattle.server_workers.specs.Filing.{AreEmptyFor}
 use Rattle.server_workers.proofs.serving.lists_for.Given as goal
 
 abbrev pub invariant-loop-worker : goal.invariant-loop-worker

@@ -1,11 +1,12 @@
-use Rattle.std.proofs.Common.{rules}
-use Rattle.server_workers.proofs.AloneLemmas.{in_order, alone_summed_up}
+use Rattle.std.proofs.Common.{rules, subst, ◌∙◌}
+use Rattle.server_workers.specs.Filing.{filing, IsReordered}
+use Rattle.server_workers.specs.Lists.{lists_of_served}
+use Rattle.server_workers.proofs.AloneLemmas.{alone_summed_up}
 use Rattle.server_workers.proofs.summing.taken_over.Goals as goal
 
 pub returns-clause-all : goal.returns-clause-all
 returns-clause-all g c =
-    let new = c.new-all.ensures in
-    let same = c.sort.ensures.same in
-    alone_summed_up c.args.worked _ (search rules) (in_order _ _ _ new.receipts same.receipts)
-    (in_order _ _ _ new.outcomes same.outcomes) (in_order _ _ _ new.skipped same.skipped)
-    (in_order _ _ _ new.refused same.refused) (in_order _ _ _ new.strays same.strays) same.overrun
+    let own = c.parted-own.ensures in
+    alone_summed_up c.args.worked c.sorted.result (search rules)
+    (subst (λ l. IsReordered (filing l) (filing (lists_of_served c.sorted.result))) own.lists c.sorted.ensures.same)
+    (c.sorted.ensures.overrun ∙ own.overrun)

@@ -1,6 +1,8 @@
 use Rattle.std.proofs.Common.{rules, subst, sym, take, get_or, length, ◌≡◌, ◌+◌, ◌-◌, ◌<◌, arith}
 use Rattle.std.proofs.lemmas.List.{take_more}
-use Rattle.server_workers.specs.Alone.{HasRoomForAll, HasTakenUp}
+use Rattle.server_workers.specs.Alone.{HasTakenUp}
+use Rattle.server_workers.specs.Filing.{HasRoomFor}
+use Rattle.server_workers.specs.Lists.{lists_of}
 use Rattle.server_workers.specs.Working.{HasFiled}
 use Rattle.server_workers.proofs.AloneLemmas.{listed, room_on, taken_none, taken_on}
 use Rattle.server_workers.proofs.TurnLemmas.{more_none, more_on}
@@ -10,7 +12,7 @@ pub loop-number-init : goal.loop-number-init
 loop-number-init g c =
     let all : length c.args.numbers.now ≡ length c.args.numbers.now - 0 = omega arith in
     record {
-      room = subst (λ n. HasRoomForAll n c.args.self.now) all c.requires;
+      room = subst (λ n. HasRoomFor n (lists_of c.args.self.now)) all c.requires;
       more = more_none c.args.self.now;
       taken = taken_none c.args.numbers.now c.args.station.now c.args.self.now;
     }

@@ -1,6 +1,6 @@
-use Rattle.std.proofs.Common.{rules, refl}
+use Rattle.std.proofs.Common.{rules}
 use Rattle.std.proofs.lemmas.List.Sorted.{IsNonDecreasingBy-from_sort, IsNonDecreasingBy-from_sort_by_key}
-use Rattle.server_workers.proofs.served.Served.sort.Goals as goal
+use Rattle.server_workers.proofs.filed.Filed.sort.Goals as goal
 
 pub returns-clause-sorted : goal.returns-clause-sorted
 returns-clause-sorted g c =
@@ -17,12 +17,9 @@ returns-clause-sorted g c =
 pub returns-clause-same : goal.returns-clause-same
 returns-clause-same g c =
     record {
-      till = refl;
       receipts = c.sort_unstable_by_key.ensures.permutation;
       outcomes = c.sort_unstable_by_key-2.ensures.permutation;
       skipped = c.sort_unstable.ensures.permutation;
       refused = c.sort_unstable_by_key-3.ensures.permutation;
       strays = c.sort_unstable-2.ensures.permutation;
-      overrun = refl;
-      ran = refl;
     }
