@@ -4,8 +4,7 @@ ghost use Rattle.std.specs.Prelude.{◌≡◌, not, filter, find, All, IsNone};
 ghost use Rattle.book_audit.specs.Audit.{airtime_at, are_apart, has_book, of_books, of_others, all_amounts};
 ghost use Rattle.book_audit.specs.Audit.{AreTogether, HasWholeSum};
 
-use server_desk::Desk;
-use server_opening::Book;
+use server_desk::{Book, Desk};
 use std::alloc::Allocator;
 use std::hash::BuildHasher;
 

@@ -10,8 +10,7 @@ use crate::held::{first_doubled, held_by_number};
 use crate::lost::first_lost;
 use crate::marks::are_told;
 use answer_ticket::Receipt;
-use server_desk::Desk;
-use server_opening::Book;
+use server_desk::{Book, Desk};
 use std::alloc::Allocator;
 use std::hash::BuildHasher;
 

@@ -6,8 +6,7 @@ ghost use Rattle.book_audit.specs.Audit.{held_by};
 ghost use Rattle.book_audit.specs.Held.{AllDiffer, AreAlike};
 
 use resv_list::Reservation;
-use server_desk::NoMemory;
-use server_opening::Book;
+use server_desk::{Book, NoMemory};
 use std::alloc::Allocator;
 
 /// A reservation that a book keeps, beside its gateway's number.

@@ -9,7 +9,7 @@ use crate::held::Held;
 use answer_ticket::Receipt;
 use gateway_book::HOUR;
 use resv_list::Reservation;
-use server_opening::Book;
+use server_desk::Book;
 use std::alloc::Allocator;
 
 /// The number of the first receipt whose gateway is unknown, or whose reservation is not kept there though the book's floor

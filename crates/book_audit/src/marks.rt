@@ -7,8 +7,7 @@ ghost use Rattle.book_audit.specs.Marks.{AreMarked, DoRise};
 use crate::lost::{is_past, is_same};
 use answer_ticket::Receipt;
 use resv_list::Reservation;
-use server_desk::NoMemory;
-use server_opening::Book;
+use server_desk::{Book, NoMemory};
 use std::alloc::Allocator;
 
 /// Whether what the books keep are reservations of these receipts, none of them twice, and the book of each other receipt is

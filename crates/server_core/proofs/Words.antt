@@ -63,7 +63,7 @@ pub use Rattle.server_core.specs.{Promise.setting_of, Promise.with_given, Tries.
 pub use Rattle.server_core.specs.{declared.event.Event.Event}
 pub use Rattle.server_core.specs.Schedule.{answer_steps, closing_steps, due_from, due_numbers, given_steps, is_accepted}
 pub use Rattle.server_core.specs.Schedule.{reached, schedule, step_of, up_to_first}
-pub use Rattle.server_opening.specs.UsualLimits.{usual_limits}
+pub use Rattle.server_desk.specs.UsualLimits.{usual_limits}
 pub use Rattle.server_core.specs.Server.{AreBooksOf, AreHeard, AreHere, Does, HasHeard, IsAt, IsBookOf, IsCancelled, IsIdle}
 pub use Rattle.server_core.specs.Server.{IsOpened, IsBetweenCalls, Makes, Moves, Seen, cancelled_line, heard_line, ids_of}
 pub use Rattle.server_core.specs.Server.{noting, pass_whole, queued_line, seen, with_lines, with_step}

@@ -17,7 +17,7 @@ use Rattle.server_desk.specs.Answers.{Answer, Open}
 use Rattle.server_desk.specs.World.{World, Gateway, opening}
 use Rattle.server_core.specs.Steps.{Step, Queue, Hear, Take, Settle, Try, Cancel, Tick, Reply, Queued, Heard, Given, Ended, Tried}
 use Rattle.server_core.specs.Steps.{Cancelled, Ticked, step, run}
-use Rattle.server_opening.specs.UsualLimits.{usual_limits}
+use Rattle.server_desk.specs.UsualLimits.{usual_limits}
 use Rattle.server_core.specs.Schedule.{reached, event_steps, schedule}
 
 -- The lines that answer events, by the steps that one thread makes of them and the replies to these (docs/FORMATS.md,

@@ -10,7 +10,7 @@ use Rattle.server_core.specs.declared.event.Step.{Step as Made}
 use Rattle.server_core.specs.declared.event.Step.TheVariants as made
 use Rattle.server_desk.specs.Settings.{SettingLists}
 use Rattle.server_desk.specs.World.{World, Gateway, gateway_with, opening}
-use Rattle.server_opening.specs.UsualLimits.{usual_limits}
+use Rattle.server_desk.specs.UsualLimits.{usual_limits}
 use Rattle.server_core.specs.Steps.{Step, Queue, Hear, Pass, Take, Settle, Try, Cancel, Tick, Reply, Given, terms, step, run_from}
 
 -- The steps that one thread makes of events, after this project's profile: all gatherings that are due are closed one by

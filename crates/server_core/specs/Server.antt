@@ -25,7 +25,7 @@ use Rattle.server_desk.specs.Desk.{DeskView, desk_of}
 use Rattle.server_desk.specs.World.{World, Gateway, opening}
 use Rattle.server_core.specs.Steps.{Step, Cancel, step}
 use Rattle.server_core.specs.Steps as replies
-use Rattle.server_opening.specs.UsualLimits.{usual_limits}
+use Rattle.server_desk.specs.UsualLimits.{usual_limits}
 use Rattle.server_core.specs.Schedule.{reached, due_numbers, pass_steps, event_steps, step_of}
 use Rattle.server_core.specs.Entries.{step_lines, event_lines, entry_at}
 

@@ -7,7 +7,7 @@ ghost use Rattle.server_desk.specs.World.{opened_gateway, gateway_with};
 ghost use Rattle.server_core.specs.Entries.{gateway_of};
 
 use crate::{Book, GatewaySetting};
-use server_opening::empty_book;
+use server_desk::empty_book;
 use std::alloc::{AllocError, Allocator};
 
 /// An empty book for each gateway, in their order.

@@ -24,7 +24,7 @@ pub use lines::{cancelled_line, heard_line, queued_line, refused_line};
 pub use replayed::{Answers, Replay};
 pub use replaying::{answer_events, replay};
 pub use server_desk::{
-    DataRate, Desk, DeskFault, DeskHeard, DeviceSetting, GatewaySetting, Heard1, Limits,
-    MAX_DEVICES, MAX_GATEWAYS, NoMemory, QueueFault, Settings, SettingsFault, TakeFault, keys_of,
+    Book, DataRate, Desk, DeskFault, DeskHeard, DeviceSetting, GatewaySetting, Heard1, Limits,
+    MAX_DEVICES, MAX_GATEWAYS, NoMemory, QueueFault, Settings, SettingsFault, TakeFault,
+    USUAL_LIMITS, keys_of,
 };
-pub use server_opening::{Book, USUAL_LIMITS};

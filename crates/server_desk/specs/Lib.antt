@@ -11,6 +11,7 @@ pub mod Passing
 pub mod World
 pub mod Desk
 pub mod Invariant
+pub mod UsualLimits
 pub use Rattle.radio_airtime.specs.DataRate
 pub use Rattle.radio_airtime.specs.TimeOnAir
 pub use Rattle.radio_airtime.specs.Bounds

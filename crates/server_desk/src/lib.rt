@@ -1,10 +1,12 @@
 //! What a server knows beside the books of its gateways: its settings, and the desk, which knows devices, the uplinks that
-//! were heard, and how far each answer is.
+//! were heard, and how far each answer is. And what a server opens with: the usual limits, and the empty book of a gateway.
 #![tactic(auto)]
 
 mod airtimes;
 mod answers;
+mod book;
 mod desk;
+mod desk_limits;
 mod device;
 mod device_calls;
 mod faults;
@@ -20,7 +22,9 @@ mod verdict;
 
 pub use answer_ticket::NoMemory;
 pub use answers::{Asked, Known, Sent};
+pub use book::{Book, empty_book};
 pub use desk::Desk;
+pub use desk_limits::USUAL_LIMITS;
 pub use faults::{DeskFault, QueueFault, TakeFault};
 pub use heard::{DeskHeard, Heard1};
 pub use radio_airtime::DataRate;

@@ -4,8 +4,7 @@ ghost use Rattle.std.specs.Prelude.{◌≡◌};
 use crate::{Ledger, Station, Till};
 use book_audit::FinishCause;
 use gateway_book::Totals;
-use server_desk::Desk;
-use server_opening::Book;
+use server_desk::{Book, Desk};
 use std::alloc::{Allocator, Global};
 use std::hash::BuildHasher;
 

@@ -3,8 +3,7 @@ ghost use Rattle.std.specs.Option.{option_map};
 ghost use Rattle.server_desk.specs.Settings.{IsGatewayInRange};
 ghost use Rattle.server_station.specs.Stations.{AreInOrder};
 
-use server_desk::GatewaySetting;
-use server_opening::{Book, empty_book};
+use server_desk::{Book, GatewaySetting, empty_book};
 use std::alloc::{AllocError, Allocator};
 use std::marker::Model;
 use std::sync::Mutex;

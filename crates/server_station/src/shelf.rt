@@ -6,7 +6,7 @@ ghost use Rattle.server_station.specs.Closings.{with_totals};
 use crate::NoMemory;
 use crate::place::Place;
 use gateway_book::Totals;
-use server_opening::Book;
+use server_desk::Book;
 use std::alloc::Allocator;
 use std::sync::Mutex;
 

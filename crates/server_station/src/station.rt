@@ -3,7 +3,7 @@ ghost use Rattle.std.specs.Prelude.{MatchBool, MatchOption};
 ghost use Rattle.answer_ticket.specs.Ended.{IsOfCandidate, gateway_of};
 ghost use Rattle.server_desk.specs.Airtime.{airtime_of_ending};
 ghost use Rattle.server_desk.specs.Desk.{desk_of};
-ghost use Rattle.server_opening.specs.UsualLimits.{usual_limits};
+ghost use Rattle.server_desk.specs.UsualLimits.{usual_limits};
 ghost use Rattle.server_desk.specs.World.{opening};
 ghost use Rattle.server_desk.specs.Register.{is_among};
 ghost use Rattle.server_station.specs.Stations.{AreInOrder, gateway_to_try, WasQueued, WasHeard, WasPassed};
@@ -16,8 +16,9 @@ use crate::{Blank, Gate, Ledger, NoMemory, Office, PARTS, Till, TotalsFault};
 use air_ledger::begin;
 use answer_ticket::{Outcome, Receipt, Stub, Ticket, Tried};
 use gateway_book::{CancelFault, Totals};
-use server_desk::{Desk, DeskFault, DeskHeard, Heard1, QueueFault, Settings, TakeFault};
-use server_opening::{Book, USUAL_LIMITS};
+use server_desk::{
+    Book, Desk, DeskFault, DeskHeard, Heard1, QueueFault, Settings, TakeFault, USUAL_LIMITS,
+};
 use std::alloc::{Allocator, Global};
 use std::hash::BuildHasher;
 use std::marker::Model;

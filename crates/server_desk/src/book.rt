@@ -3,9 +3,9 @@ ghost use Rattle.std.specs.Prelude.{◌≡◌, []};
 ghost use Rattle.server_desk.specs.Settings.{IsGatewayInRange};
 ghost use Rattle.server_desk.specs.World.{rules_of};
 
+use crate::GatewaySetting;
 use gateway_book::GatewayBook;
 use resv_tree::TreeRoster;
-use server_desk::GatewaySetting;
 use std::alloc::Allocator;
 
 /// The book that a server keeps of a gateway.
