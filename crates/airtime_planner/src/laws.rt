@@ -11,12 +11,3 @@ pub fn law_live_book_answers_alike()
 pub fn law_live_book_starts_alike()
     ensures { LiveBookStartsAlike }
 {}
-
-/// Each law by a call of its own: so each ensures just this statement, and asks for nothing.
-fn each_law()
-    ensures live_book_answers_alike { LiveBookAnswersAlike }
-    ensures live_book_starts_alike { LiveBookStartsAlike }
-{
-    law_live_book_answers_alike();
-    law_live_book_starts_alike();
-}

@@ -3,6 +3,7 @@
 
 mod asking;
 mod earliest;
+mod law_calls;
 mod laws;
 
 pub use asking::{answer_to, what_if};

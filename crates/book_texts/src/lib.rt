@@ -3,6 +3,7 @@
 
 mod booking;
 mod command;
+mod law_calls;
 mod laws;
 mod planning;
 mod reply;

@@ -9,6 +9,7 @@ mod cancel;
 mod duty;
 mod earliest;
 mod following;
+mod law_calls;
 mod laws;
 mod loading;
 mod opening;
