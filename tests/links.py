@@ -18,7 +18,7 @@ FOLDERS = {"bench", "cases", "crates", "docs", "edits", "examples", "mutants", "
 ENDS = r"\.(?:md|py|sh|txt|toml|rt|antt|edit)"
 WORD = re.compile(rf"(?<![\w./<@:-])([\w.*-]+(?:/[\w.*-]+)+/?|[\w*-]+{ENDS})(?![\w/])")
 # What an operator or a builder makes, and what stands in other repositories.
-OTHERS = {"book.txt", "book.new", "lines.txt", "out.txt", "settings.toml"}
+OTHERS = {"book.txt", "book.new", "lines.txt", "out.txt", "settings.toml", "proofs/main/Invariants.antt"}
 PARTS = {"src", "specs", "proofs"}
 
 
