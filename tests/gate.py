@@ -7,7 +7,7 @@ First it times the proof of one small crate, which tells this machine's pace, an
 here. The toolchain runs as many proofs side by side as it reckons memory for, and reckons with two to four times of what they
 take; so it is told how many to run, by its variable RT_JOBS, unless that is set already: one a processor, as far as memory
 holds them. Once all is proved, the sums of the crates' files are kept in crates/*/out/proved, by which tests/edits.py knows
-that the gate speaks of them.
+that the gate speaks of them, and the sum of a program in crates/*/out/program_sum, by which tests/install.py does.
 """
 import os
 import re
@@ -105,6 +105,8 @@ def main():
         for crate, told in before.items():
             if prover.sum_of(crate) == told:
                 prover.sum_file(crate).write_text(told)
+                if prover.program(crate).is_file():
+                    prover.program_sum_file(crate).write_text(prover.program_sum(crate))
     return status
 
 
