@@ -3,13 +3,13 @@
 PROGRAM := crates/airbook/out/airbook
 PREFIX ?= /usr/local
 
-.PHONY: help demo test documents check quick cases mutants install
+.PHONY: help demo test documents docs check quick cases mutants install
 
 # What can be asked for, with a line each.
 help:
 	@echo 'make demo      the main job on a fresh machine, by a build that is not proved'
 	@echo 'make test      every proof, every edit that has to be refused, and every test'
-	@echo 'make documents whether the documents go with the sources: seconds'
+	@echo 'make docs      whether the documents go with the sources, and how long their sentences are: seconds'
 	@echo 'make check CRATE=NAME   proves one crate, over the libraries below it'
 	@echo 'make quick     before a commit: the documents, and the cases on the program that is there'
 	@echo 'make cases     the cases alone, on the program that make test has proved'
@@ -57,6 +57,8 @@ documents:
 	python3 tests/edit_table.py
 	python3 tests/version.py
 	python3 tests/examples.py
+
+docs: documents
 
 # One crate, over the libraries below it, as make check CRATE=gateway_book.
 check:
