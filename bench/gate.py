@@ -37,14 +37,14 @@ import prover
 
 
 def processes():
-    """Each process: its parent, and its processor seconds with those of its children that have ended."""
+    """Each process: its parent, its processor seconds with those of its children that have ended, and when it began."""
     found = {}
     for pid in filter(str.isdigit, os.listdir("/proc")):
         try:
             fields = pathlib.Path(f"/proc/{pid}/stat").read_text().rpartition(")")[2].split()
         except OSError:
             continue
-        found[int(pid)] = int(fields[1]), sum(map(int, fields[11:15])) / TICKS
+        found[int(pid)] = int(fields[1]), sum(map(int, fields[11:15])) / TICKS, int(fields[19])
     return found
 
 
@@ -89,25 +89,27 @@ class Meter:
     def look(self):
         found = processes()
         below = collections.defaultdict(list)
-        for pid, (parent, _) in found.items():
+        for pid, (parent, _, _) in found.items():
             below[parent].append(pid)
         waiting = [self.top]
         while waiting:
             for pid in below[waiting.pop()]:
-                task = self.runs.get(pid, (None, 0))[0] or task_of(pid)
+                # A number is given again to a later process: when it began tells the two apart.
+                run = pid, found[pid][2]
+                task = self.runs.get(run, (None, 0))[0] or task_of(pid)
                 if task is None:
                     waiting.append(pid)
                 else:
-                    self.note(pid, task, found, below)
+                    self.note(run, task, found, below)
 
-    def note(self, pid, task, found, below):
-        seconds, waiting = 0, [pid]
+    def note(self, run, task, found, below):
+        seconds, waiting = 0, [run[0]]
         while waiting:
             one = waiting.pop()
             seconds += found[one][1]
             waiting += below[one]
             self.peaks[task[0]] = max(self.peaks[task[0]], peak_of(one))
-        self.runs[pid] = task, max(seconds, self.runs.get(pid, (task, 0))[1])
+        self.runs[run] = task, max(seconds, self.runs.get(run, (task, 0))[1])
 
     def sums(self):
         sums = collections.Counter()
