@@ -1,11 +1,11 @@
 #!/usr/bin/env python3
-"""Compares docs/BUILDING.md with the program of a book that it shows, which the gate proves and runs.
+"""Compares docs/BUILDING.md with its two programs, that of a book and that of a station, which the gate proves and runs.
 
 Usage: tests/examples.py
 
 The program behind "is `src/main.rt`" is that of crates/example_book. What stands behind "It writes:" is what the gate wants of
-that crate. The lines of crates.txt that the page shows are what the book's program needs, and no
-more. Prints what differs; the last line is 'N passed, M failed'. The status is 0 where none failed, else 1.
+that crate. The lines of crates.txt that the page shows are what the book's program needs, and no more. Of the station's program,
+crates/example_station, the page shows what it writes and its file of the proof. Prints what differs; the last line is 'N passed, M failed'. The status is 0 where none failed, else 1.
 """
 import difflib
 import pathlib
@@ -16,7 +16,7 @@ sys.dont_write_bytecode = True
 import prover
 
 PAGE = prover.TOP / "docs" / "BUILDING.md"
-BOOK = "example_book"
+BOOK, STATION = "example_book", "example_station"
 
 
 def code_behind(text, words):
@@ -35,10 +35,13 @@ def wanted_lines():
 def pairs():
     """What is compared: a name, the page's text, and the file's."""
     whole = PAGE.read_text(encoding="utf-8")
-    book = whole[whole.index("## A book alone"):].split("## A station with workers")[0]
+    book, station = whole[whole.index("## A book alone"):].split("## A station with workers")
     crates = prover.TOP / "crates"
     yield "the book's program", code_behind(book, "is `src/main.rt`"), (crates / BOOK / "src/main.rt").read_text()
     yield "what it writes", code_behind(book, "It writes:"), (crates / BOOK / "stdout").read_text()
+    yield "what the station writes", code_behind(station, "It writes:"), (crates / STATION / "stdout").read_text()
+    proof = crates / STATION / "proofs/main/Invariants.antt"
+    yield "the file that picks the ledger", code_behind(station, "The file that picks the ledger:"), proof.read_text()
     yield "lines of crates.txt", code_behind(whole, "these are the lines of `crates.txt`"), wanted_lines()
 
 
