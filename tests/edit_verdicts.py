@@ -101,8 +101,10 @@ class Said:
 
 
 def is_own(edit, path):
-    """Whether an error there is one of the function's own proof; of a law whose statement is changed also one of its lemmas."""
-    if path.startswith(f"proofs/{edit.only.replace('::', '/')}/"):
+    """Whether an error there is one of the function's own proof, which functions that call one another share; of a law whose
+    statement is changed also one of its lemmas."""
+    module = edit.only.rpartition("::")[0]
+    if path.startswith((f"proofs/{edit.only.replace('::', '/')}/", f"proofs/{module.replace('::', '/')}/+")):
         return True
     return LEMMAS.fullmatch(path) is not None and all(file.startswith("specs/") for file in edit.files())
 
