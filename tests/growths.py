@@ -1,32 +1,39 @@
 #!/usr/bin/env python3
-"""Compares docs/MEMORY.md with the sources, or writes its rows: each public call that can answer out of memory has a row there,
-and the tests and scripts that it names are there.
+"""Which call of the libraries may find no memory, how often it allocates, and which test refuses that: compares the table in
+docs/MEMORY.md with the sources, or writes it.
 
-Usage: tests/growths.py [--write] [ROOT]      (ROOT: the repository's top; none: that of this script)
+Usage: tests/growths.py [--write]
 
 Such a call is a `pub fn`, or a function of a public trait, that a library passes on from its root and whose result names
 NoMemory or AllocError, or a type of the repository that does: an enum with that variant, a struct with such a field, and a
-fault or a cause that holds one of these; and the calls of UNNAMED, which name none. Crates of tests are left out. A row begins
-with the crate and the call, as `| `gateway_book` | `GatewayBook::book` |`; a test is named behind its crate, as
-`` `book_tests`: `a_booking` ``. Prints a line for each call without a row, for each row of another call, for each row of which a
-column is `?`, and for each test and script that isn't there. With --write it first adds a row with `?` in the other columns for
-each call without one, behind the last row of its crate or of the table, and drops the rows of other calls; it keeps all others as
-they are. The status is 0 where nothing is found, 1 where something is, 2 where the page can't be read or written.
+fault or a cause that holds one of these; and the calls of UNNAMED, which name none. Crates of tests are left out. What is told
+of a call stands above the test that refuses its allocations, as `Refuses `gateway_book` `GatewayBook::load` (over a tree): ..`,
+in a crate of tests or in a script of tests/; of a call that takes nothing it stands in NOTHING. Each call has to be told of
+once, and nothing else. The last line is 'N passed, M failed', over the calls and the table; status 0 where none failed, 1 where
+one did, 2 where the page can't be read or written.
 """
 import pathlib
 import re
 import sys
 
-WORDS = [word for word in sys.argv[1:] if word != "--write"]
-TOP = pathlib.Path(WORDS[0] if WORDS else pathlib.Path(__file__).resolve().parent.parent)
+TOP = pathlib.Path(__file__).resolve().parent.parent
 PAGE = TOP / "docs" / "MEMORY.md"
 FOR_TESTS = {"worked_inputs", "refusing_alloc", "test_asserts"}
 WANT = r"\b(NoMemory|AllocError)\b"
-ROW = re.compile(r"\| `(\w+)` \| `([\w:]+)` \|")
+BEGIN, END = "<!-- allocations: written by tests/growths.py -->", "<!-- end -->"
+TOLD = re.compile(r"Refuses `(\w+)` `([\w:]+)`(?: \((.+?)\))?: (.+)\.$")
+COMMENT = re.compile(r"^(?://|#) ")
 # They answer out of memory by handing back what was given, within what another call's fault is told in, or go on without it.
 UNNAMED = {
     ("server_workers", "Worked::new"), ("server_station", "Station::answer"), ("server_workers", "work"),
     ("run_lines", "write_lines_by_threads"),
+}
+# They take none, and no test refuses it: the fault is that of another call, or is handed on, or comes of a type that has it.
+NOTHING = {
+    ("uplink_gather", "Gather::place"): "0: its fault is that of `hear`, of which it gives the first three",
+    ("server_core", "queued_line"): "0: it hands NoMemory on",
+    ("server_core", "heard_line"): "0: it hands NoMemory on",
+    ("book_texts", "toa_text"): "0: only `Write` comes",
 }
 
 
@@ -100,56 +107,83 @@ def calls():
                 yield crate, name
 
 
-def absent(page):
-    """The tests and scripts that the page names and that are not there."""
-    for crate, names in re.findall(r"`(\w+_tests)`: (`\w+`(?:, `\w+`)*)", page):
-        text = "".join(path.read_text() for path in TOP.glob(f"crates/{crate}/src/**/*.rt"))
-        for name in re.findall(r"\w+", names):
-            if not re.search(rf"#\[test\]\nfn {name}\(", text):
-                yield f"`{name}` of {crate}"
-    yield from sorted(path for path in set(re.findall(r"`(tests/\w+\.py)`", page)) if not (TOP / path).exists())
+def paragraphs(lines):
+    """What is told of a call in comments, each as one text, with the number of the line behind it."""
+    text = None
+    for number, line in enumerate([*lines, ""]):
+        is_comment = COMMENT.match(line)
+        begins = is_comment and line[is_comment.end() :].startswith("Refuses `")
+        if text is not None and (begins or not is_comment):
+            yield number, text
+            text = None
+        if begins:
+            text = line[is_comment.end() :]
+        elif text is not None:
+            text += " " + line[is_comment.end() :]
 
 
-def written(page, wanted):
-    """The page with a row for each of these calls, and for no other."""
-    lines = [line for line in page.splitlines() if not (row := ROW.match(line)) or (row[1], row[2]) in wanted]
-    had = {(row[1], row[2]) for line in lines if (row := ROW.match(line))}
-    for crate, name in sorted(wanted - had):
-        of_crate = [place for place, line in enumerate(lines) if (row := ROW.match(line)) and row[1] == crate]
-        of_table = [place for place, line in enumerate(lines) if ROW.match(line) or line.startswith("| Crate | Call |")]
-        # (behind the row of dashes where the table has no other)
-        place = (of_crate or of_table)[-1] + (2 if lines[(of_crate or of_table)[-1]].startswith("| Crate") else 1)
-        lines.insert(place, f"| `{crate}` | `{name}` | ? | ? |")
-    return "\n".join(lines) + "\n"
+def told_in(path):
+    """What a file tells of calls: of each its allocations, and what refuses them."""
+    lines = path.read_text(encoding="utf-8").splitlines()
+    is_script = path.suffix == ".py"
+    for number, text in paragraphs(lines):
+        told = TOLD.match(text)
+        if not told:
+            raise ValueError(f"{path}: {text}")
+        crate, call, note, allocations = told.groups()
+        if is_script:
+            by = f"`tests/{path.name}`"
+        else:
+            test = next(found[1] for line in lines[number:] if (found := re.match(r"fn (\w+)\(", line)))
+            by = f"`{path.relative_to(TOP).parts[1]}`: `{test}`"
+        yield (crate, call), allocations, by + (f" ({note})" if note else "")
+
+
+def all_told():
+    """What is told of each call, and what is told of twice."""
+    found, twice = {call: (told, "") for call, told in NOTHING.items()}, []
+    for path in [*sorted(TOP.glob("crates/*_tests/src/**/*.rt")), *sorted(TOP.glob("tests/*.py"))]:
+        if path.name != pathlib.Path(__file__).name:
+            for call, allocations, by in told_in(path):
+                twice += [call] if call in found else []
+                found[call] = allocations, by
+    return found, twice
+
+
+def table(told):
+    crates = [line.split(":")[0] for line in (TOP / "crates.txt").read_text(encoding="utf-8").splitlines()]
+    rows = sorted(told.items(), key=lambda row: (crates.index(row[0][0]), row[0][1]))
+    lines = [f"| `{crate}` | `{call}` | {allocations} | {by} |" for (crate, call), (allocations, by) in rows]
+    return "\n".join([BEGIN, "", "| Crate | Call | Allocations | Refused by |", "|---|---|---|---|", *lines, "", END])
 
 
 def main():
-    if len(WORDS) > 1 or any(word.startswith("-") for word in WORDS):
+    if sys.argv[1:] not in ([], ["--write"]):
         print(__doc__.strip(), file=sys.stderr)
         return 2
     wanted = set(calls()) | UNNAMED
     try:
-        page = PAGE.read_text()
-        if "--write" in sys.argv[1:]:
-            page = written(page, wanted)
-            PAGE.write_text(page)
-    except (OSError, ValueError, IndexError) as why:
-        print(f"growths.py: {PAGE}: {why}", file=sys.stderr)
+        told, twice = all_told()
+        page, of_sources = PAGE.read_text(encoding="utf-8"), table(told)
+        start, end = page.index(BEGIN), page.index(END) + len(END)
+        if sys.argv[1:]:
+            page = page[:start] + of_sources + page[end:]
+            PAGE.write_text(page, encoding="utf-8")
+    except (OSError, ValueError, StopIteration) as why:
+        print(f"growths.py: {why}", file=sys.stderr)
         return 2
-    rows = set(re.findall(rf"(?m)^{ROW.pattern}", page))
-    unsaid = [ROW.match(line) for line in page.splitlines() if ROW.match(line) and re.search(r"\| \? \|", line)]
-    for crate, name in sorted(wanted - rows):
-        print(f"docs/MEMORY.md has no row of {name} of {crate}")
-    for crate, name in sorted(rows - wanted):
-        print(f"docs/MEMORY.md has a row of {name} of {crate}, which can't answer out of memory")
-    for row in unsaid:
-        print(f"docs/MEMORY.md doesn't say how often {row[2]} of {row[1]} allocates, or what refuses it")
-    gone = list(absent(page))
-    for name in gone:
-        print(f"docs/MEMORY.md names {name}, which isn't there")
-    at_fault = len(wanted ^ rows) + len(unsaid) + len(gone)
-    print(f"{len(wanted & rows)} calls with a row, {at_fault} at fault")
-    return 1 if at_fault else 0
+    for crate, call in sorted(wanted - set(told)):
+        print(f"no test says that it refuses the allocations of {call} of {crate}")
+    for crate, call in sorted(set(told) - wanted):
+        print(f"a test speaks of {call} of {crate}, which can't answer out of memory")
+    for crate, call in twice:
+        print(f"two tests speak of {call} of {crate}")
+    same = of_sources in page
+    if not same:
+        print("docs/MEMORY.md has another table than the sources: tests/growths.py --write")
+    failed = len(wanted ^ set(told)) + len(twice) + (not same)
+    print(f"{len(wanted & set(told)) + same} passed, {failed} failed")
+    return 1 if failed else 0
 
 
 if __name__ == "__main__":

@@ -1,16 +1,12 @@
 #!/usr/bin/env python3
-"""Compares docs/MODEL.md with the sources: each definition that a row names is a public one of the file that the row names.
+"""Lists the definitions that contracts speak of, from the comments in the sources: compares docs/MODEL.md with them, or writes it.
 
-Usage: tests/model.py [--list]
+Usage: tests/model.py [--write | --bare]
 
-A section's heading names the crates whose specs/ its rows mean. In the last column of a row `NAME.antt` is a file, `law_..` a
-law, and any other code a definition of the file before it (also a record, a data type or an abbreviation). A row that names no
-file means that of the row above. Another crate is named before its file, as `` `text_lines`: `Words.antt` ``, up to the next
-`;`. Behind the word type stands a public type of the crates' src/. A law has to be a public function of some crate. A file that
-the text between the tables names has to stand in specs/ or proofs/ of one of the section's crates. Code with a blank, a point
-or a slash is left out, but for files. Prints a line for each that isn't there; with --list also one for each public definition
-of specs/ that no row names, which is no fault. The last line is 'N passed, M failed'; status 0 where none failed, 1 where one
-did, 2 where the page or the crates can't be read.
+A row has a definition that a contract in src/ names by a `ghost use`, also of another crate, and the comment above it in its
+file of specs/. Above a file's rows stands the comment at the file's head. Crates without such definitions have no section, and
+crates of tests none. With --bare the definitions are listed that have no comment. Lemmas are left out. Other text of the page is written by hand.
+The last line is 'N passed, M failed'; status 0 where the page is that of the sources, 1 where it isn't, 2 where it can't be told.
 """
 import pathlib
 import re
@@ -18,105 +14,93 @@ import sys
 
 TOP = pathlib.Path(__file__).resolve().parent.parent
 PAGE = TOP / "docs" / "MODEL.md"
-KIND = "(?:(?:abbrev|unfoldable|opaque|record|data) )*"
-MADE = re.compile(rf"(?m)^ *{KIND}pub {KIND}([^\s(){{}},.;:]+)(?=[\s:({{])")
-RECORD = re.compile(r"(?m)^( *)((?:pub )?record .*\n)(?:\1 +.*\n|\n)*")
-LAW = re.compile(r"(?m)^pub fn (law_\w+)")
-TYPE = re.compile(r"(?m)^pub (?:struct|enum) (\w+)")
-NO_NAMES = {"mod", "use", "fn", "crate"}
+BEGIN, END = "<!-- definitions: written by tests/model.py -->", "<!-- end -->"
+# A definition, which says its kind; a lemma says none.
+KIND = "(?:abbrev|unfoldable|opaque|record|data) "
+MADE = re.compile(rf"(?:{KIND}pub |pub {KIND})([^\s(){{}},.;:]+)(?=[\s:({{])")
+NAMED = re.compile(r"ghost use Rattle\.(\w+)\.specs\.(\w+)(?:\.\{([^}]*)\}| as (\w+))")
+OF_TESTS = re.compile(r"_tests$|^example_|^worked_|^test_|^refusing_")
 
 
-def public(path):
-    """The public definitions of a file of specs/."""
-    text = re.sub(r"(?m)--.*$", "", path.read_text(encoding="utf-8"))
-    without_fields = RECORD.sub(lambda made: made[1] + made[2], text)
-    return set(MADE.findall(without_fields)) - NO_NAMES
+def product():
+    """The crates in the order of crates.txt, but for those of tests."""
+    lines = (TOP / "crates.txt").read_text(encoding="utf-8").splitlines()
+    crates = [line.split(":")[0] for line in lines if ":" in line and not line.startswith("#")]
+    return [crate for crate in crates if not OF_TESTS.search(crate)]
 
 
-def in_sources(crates, what):
-    """What this expression finds in the sources of these crates."""
-    paths = [path for crate in crates for path in sorted((TOP / "crates" / crate / "src").rglob("*.rt"))]
-    return {name for path in paths for name in what.findall(path.read_text(encoding="utf-8"))}
+def named_by_contracts():
+    """For each file of specs/, as its crate and its name, the definitions that a contract names."""
+    found = {}
+    for path in (path for crate in product() for path in (TOP / "crates" / crate / "src").rglob("*.rt")):
+        text = path.read_text(encoding="utf-8")
+        for crate, file, names, other in NAMED.findall(text):
+            told = names.split(",") if names else re.findall(rf"\b{other}\.([\w-]+)", text)
+            found.setdefault((crate, file), set()).update(name.split(" as ")[0].strip() for name in told)
+    return found
 
 
-class Page:
-    """What the page names, and what of that isn't there."""
-
-    def __init__(self, crates):
-        self.crates, self.laws = crates, in_sources(crates, LAW)
-        folders = [TOP / "crates" / crate / "specs" for crate in crates]
-        self.files = {path: public(path) for folder in folders for path in sorted(folder.glob("*.antt"))}
-        self.named, self.told, self.passed = {}, [], 0
-        self.section, self.within, self.at = [], [], []
-
-    def check(self, is_there, number, what):
-        self.passed += is_there
-        if not is_there:
-            self.told.append(f"docs/MODEL.md:{number}: {what}")
-
-    def head(self, line):
-        self.section = [word for word in re.findall(r"\w+", line.split(":", 1)[-1]) if word in self.crates] if ":" in line else []
-        self.at = []
-
-    def text(self, number, line):
-        for name in re.findall(r"`(\w+\.antt)`", line) if self.section else []:
-            places = [TOP / "crates" / crate / part / name for crate in self.section for part in ("specs", "proofs")]
-            is_there = any(path.exists() for path in places)
-            self.check(is_there, number, f"no {name} in specs/ or proofs/ of {', '.join(self.section)}")
-
-    def row(self, number, line):
-        cells = line.strip().strip("|").split(" | ")
-        for law in re.findall(r"`(law_\w+)`", " ".join(cells[2:])):
-            self.check(law in self.laws, number, f"no law {law}")
-        self.within = self.section
-        for found in re.finditer(r"(\btype )?`([^`]+)`(:)?|;", cells[-1]):
-            name = found[2]
-            if name is None:
-                self.within = self.section
-            elif found[1]:
-                is_there = name in in_sources(self.within, TYPE)
-                self.check(is_there, number, f"no public type {name} in src/ of {', '.join(self.within)}")
-            elif found[3] and name in self.crates:
-                self.within = [name]
-            elif name.endswith(".antt"):
-                self.at = [path for path in self.files if path.name == name and path.parts[-3] in self.within]
-                self.check(bool(self.at), number, f"no {name} in specs/ of {', '.join(self.within)}")
-            elif not re.search(r"[\s./]", name) and not name.startswith("law_"):
-                holding = [path for path in self.at if name in self.files[path]]
-                files = " or ".join(str(path.relative_to(TOP)) for path in self.at)
-                self.check(bool(holding), number, f"no public {name} in {files or 'any file, since none is named'}")
-                for path in holding:
-                    self.named.setdefault(path, set()).add(name)
+def sentence(lines):
+    """A comment as a cell of a table."""
+    return " ".join(line.lstrip("- ").strip() for line in lines).replace("|", "\\|")
 
 
-def read(page):
-    for number, line in enumerate(PAGE.read_text(encoding="utf-8").splitlines(), 1):
-        if line.startswith("## "):
-            page.head(line)
-        elif line.startswith("| ") and not line.startswith("| Name |"):
-            page.row(number, line)
-        elif not line.startswith(("|", "#")):
-            page.text(number, line)
+def comment_above(lines, at):
+    first = at
+    while first and lines[first - 1].startswith("--"):
+        first -= 1
+    return sentence(lines[first:at])
+
+
+def definitions(path):
+    """The comment at the head of a file, and each public definition with its comment, in order."""
+    lines = path.read_text(encoding="utf-8").splitlines()
+    begins = next((at for at, line in enumerate(lines) if line and not line.startswith("use ")), len(lines))
+    ends = next((at for at in range(begins, len(lines)) if not lines[at].startswith("--")), len(lines))
+    head = sentence(lines[begins:ends]) if ends < len(lines) and not lines[ends] else ""
+    made = [(found[1], comment_above(lines, at)) for at, line in enumerate(lines) if (found := MADE.match(line))]
+    return head, made
+
+
+def sections(named):
+    """The lines of each crate's section, and the definitions without a comment."""
+    lines, bare = [], []
+    for crate in product():
+        files = sorted((TOP / "crates" / crate / "specs").glob("*.antt"))
+        told = [(path, named[crate, path.stem]) for path in files if (crate, path.stem) in named]
+        lines += ["", f"## {crate}"] if told else []
+        for path, wanted in told:
+            head, made = definitions(path)
+            rows = [(name, comment) for name, comment in made if name in wanted]
+            bare += [f"crates/{crate}/specs/{path.name}: {name}" for name, comment in rows if not comment]
+            if rows:
+                lines += ["", f"`{path.name}`" + (f": {head}" if head else ""), "", "| Definition | What it says |", "|---|---|"]
+                lines += [f"| `{name}` | {comment} |" for name, comment in rows]
+    return lines, bare
 
 
 def main():
-    if sys.argv[1:] not in ([], ["--list"]):
+    if sys.argv[1:] not in ([], ["--write"], ["--bare"]):
         print(__doc__.strip(), file=sys.stderr)
         return 2
     try:
-        crates = sorted(path.name for path in (TOP / "crates").iterdir() if (path / "specs").is_dir())
-        page = Page(crates)
-        read(page)
+        lines, bare = sections(named_by_contracts())
+        text, wanted = PAGE.read_text(encoding="utf-8"), "\n".join([BEGIN, *lines, "", END])
+        start, end = text.index(BEGIN), text.index(END) + len(END)
     except (OSError, ValueError) as why:
         print(f"model.py: {why}", file=sys.stderr)
         return 2
-    print("\n".join(page.told), end="\n" if page.told else "")
-    if sys.argv[1:]:
-        for path, names in page.files.items():
-            for name in sorted(names - page.named.get(path, set())):
-                print(f"{path.relative_to(TOP)}: {name}")
-    print(f"{page.passed} passed, {len(page.told)} failed")
-    return 1 if page.told or not page.passed else 0
+    if "--write" in sys.argv:
+        PAGE.write_text(text[:start] + wanted + text[end:], encoding="utf-8")
+        return 0
+    if "--bare" in sys.argv:
+        print("\n".join(bare))
+        return 0
+    same = text[start:end] == wanted
+    if not same:
+        print("docs/MODEL.md has other definitions than the sources: tests/model.py --write")
+    print(f"{int(same)} passed, {int(not same)} failed")
+    return 0 if same else 1
 
 
 if __name__ == "__main__":

@@ -23,6 +23,10 @@ from cases import TOP
 from preloaded import library_of
 from refused_growths import ALL, MOST, REFUSING, run_on
 
+# Refuses `airtime_planner` `answer_to` (`plan_text` calls it): as `GatewayBook::book`.
+# Refuses `book_texts` `book_text`: 1 for each booking that is accepted, and for each member of a saved book.
+# Refuses `book_texts` `plan_text`: as `book_text`; 1 for the list of the book, and chunks of an arena by size.
+
 BOOKINGS = b"book 1 10000000 868100000 5 12\nbook 2 10041216 868100000 5 12\n"
 SAVED = b"airbook 1\ngateway 1 4096 0\nr 1 10000000 868100000 5 12\nend 1\nbook 2 10041216 868100000 5 12\n"
 PLAN = b"".join([

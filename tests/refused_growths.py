@@ -35,6 +35,24 @@ from listen import SETTINGS, UPLINK, free_port, is_bound
 from preloaded import library_of
 from starved_server import is_followed
 
+# Refuses `server_core` `answer_events` (a run without workers calls it; no test counts them): as `replay`, but for its
+# steps and their copies of bytes.
+# Refuses `settings_text` `read_settings`: by size.
+# Refuses `settings_text` `settings_in`: by size.
+# Refuses `run_lines` `read_all`: by size.
+# Refuses `run_lines` `events_from` (of a text in two parts too): by size.
+# Refuses `run_lines` `datagram_event` (`listen`): by size.
+# Refuses `run_lines` `write_lines_by_threads` (two workers): by size: 0 for fewer than two threads.
+# Refuses `run_server` `answers` (workers): by size.
+# Refuses `run_server` `Shift::new` (workers): by size.
+# Refuses `run_server` `Shift::answer` (workers): by size.
+# Refuses `run_server` `Shift::answer_all` (workers): as `Shift::answer` for each event.
+# Refuses `run_server` `Shift::close` (workers): by size.
+# Refuses `run_server` `answer_with_workers` (workers): by size.
+# Refuses `airbook_text` `run_text`: by size.
+# Refuses `airbook_text` `read_whole_settings` (`listen`): by size.
+# Refuses `airbook_text` `listen_text` (`listen`): by size.
+
 CASES = [
     ("run_two_gateways", ""), ("run_two_gateways", "--workers 1"), ("run_two_gateways", "--workers 2"),
     ("run_three_devices_at_once", ""), ("run_three_devices_at_once", "--workers 1"), ("run_payload_in_rx1", "--workers 1"),

@@ -21,6 +21,7 @@ pub record Progress : Type 0 where
   pub counts : UplinkCounts
   pub refused : Bool
 
+-- that of a till, what was booked, the counts, and whether a line was a refusal
 abbrev pub progress : Holding → List Booking → UplinkCounts → Bool → Progress
 progress till bookings counts refused = record { account = account_of till bookings; counts = counts; refused = refused }
 

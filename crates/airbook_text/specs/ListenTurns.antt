@@ -22,6 +22,7 @@ pub record Account : Type 0 where
   pub till : Holding
   pub bookings : List Booking
 
+-- that of a till and of what was booked
 abbrev pub account_of : Holding → List Booking → Account
 account_of till bookings = record { till = till; bookings = bookings }
 

@@ -34,6 +34,7 @@ booked_by (b ∷ books) = b.booked + booked_by books
 abbrev pub Amounts : Type 0
 Amounts = ℕ × (ℕ × ℕ)
 
+-- the two amounts differ
 abbrev pub are_apart : Amounts → Bool
 are_apart amounts = not (amounts.1.0 == amounts.1.1)
 
@@ -46,9 +47,11 @@ has_book shelf gateway = list_any (λ (s : Shelved). s.0 == gateway) shelf
 abbrev pub of_books : DeskView → List Shelved → List Amounts
 of_books desk shelf = map (λ (s : Shelved). (s.0, (s.1.booked, airtime_at desk s.0))) shelf
 
+-- the amounts of gateways that have no book here
 abbrev pub of_others : DeskView → List ℕ → List Amounts
 of_others desk ids = map (λ id. (id, (0, airtime_at desk id))) ids
 
+-- the amounts of all books, and then of the gateways that have none
 abbrev pub all_amounts : DeskView → List Shelved → List Amounts
 all_amounts desk shelf = of_books desk shelf ++ of_others desk (filter (λ id. not (has_book shelf id)) desk.ids)
 

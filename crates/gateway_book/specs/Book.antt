@@ -41,6 +41,7 @@ abbrev pub at_floor : Book → ℕ → Book
 at_floor b floor =
     record b { floor = floor; list = kept b.list floor; retired = b.retired + net (retired_of b.list floor) }
 
+-- the book after a tick: its floor is the greater of the two
 abbrev pub ticked : Book → ℕ → Book
 ticked b now = at_floor b (max b.floor now)
 

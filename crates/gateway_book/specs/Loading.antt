@@ -118,6 +118,7 @@ entry_with (Some ask) count = Some (Member ask)
 entry_with None (Some count) = Some (End count)
 entry_with None None = None
 
+-- what a line behind the second says by its words: a member, or how many there were
 abbrev pub entry_in : List (List ℕ) → Option Entry
 entry_in words = entry_with (member_in words) (count_in words)
 

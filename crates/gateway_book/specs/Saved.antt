@@ -17,6 +17,7 @@ pub record Saved : Type 0 where
   pub floor : ℕ
   pub list : List Reservation
 
+-- what is saved of a book
 abbrev pub saved_of : Book → Saved
 saved_of b = record { id = b.id; rules = b.rules; floor = b.floor; list = b.list }
 

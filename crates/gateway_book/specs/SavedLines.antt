@@ -56,6 +56,7 @@ Faults said Read = ⊤
 Faults said NoMemory = ⊥
 Faults said fault = said ≡ Err fault
 
+-- a fault is the one that the bytes say, where the reader tells what it has left
 abbrev pub IsFault : (List ℕ → Loaded) → Option (List ℕ) → LoadFault → Type 0
 IsFault all None fault = ⊤
 IsFault all (Some bytes) fault = Faults (all bytes) fault

@@ -3,6 +3,7 @@ use Rattle.std.specs.Prelude.{ℕ, ◌≤◌, Bool, List, [], ◌∷◌, Option,
 -- Lists whose members begin at a key and last until their end, in the form that the code looks at:
 -- neighbours are spaced.
 
+-- what is there, where it passes the test
 abbrev pub keep_if : {X : Type 0} → (X → Bool) → Option X → Option X
 keep_if test None = None
 keep_if test (Some x) = cond (test x) (Some x) None

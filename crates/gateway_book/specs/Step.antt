@@ -81,6 +81,8 @@ abbrev pub found_or : Option Reservation → Result Reservation CancelFault
 found_or None = Err NotHere
 found_or (Some r) = Ok r
 
+-- the answer to a cancel: Begun where the start is not above the floor; else the member with the number and the start,
+-- or NotHere
 abbrev pub cancel_answer : ℕ → List Reservation → ℕ → ℕ → Result Reservation CancelFault
 cancel_answer floor l number start =
     if nat_le start floor then Err Begun else found_or (find (is_named number start) l)

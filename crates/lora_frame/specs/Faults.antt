@@ -18,6 +18,7 @@ down_body_fault (Some body) =
     else if nat_lt longest_payload (length body.payload.now) then Some down.Long
     else None
 
+-- the fault of a downlink: a port outside those of applications, then a payload above 242 bytes
 abbrev pub down_fault : Down → Option DownFault
 down_fault d = down_body_fault d.body
 

@@ -29,6 +29,7 @@ abbrev pub parts_of : Option Body → Option (ℕ × List ℕ)
 parts_of None = None
 parts_of (Some body) = Some (body.port, body.payload.now)
 
+-- FPort and FRMPayload of a body, encrypted; nothing where there is none
 abbrev pub body_bytes : Keys → ℕ → ℕ → ℕ → Option Body → List ℕ
 body_bytes keys direction addr counter body = parts_bytes keys direction addr counter (parts_of body)
 
@@ -44,6 +45,7 @@ bit_worth b n = if b then n else 0
 abbrev pub control_bits : Bool → Bool → ℕ
 control_bits ack pending = bit_worth ack 0x20 + bit_worth pending 0x10
 
+-- FCtrl of a downlink: ACK and FPending
 abbrev pub down_control : Down → ℕ
 down_control down = control_bits down.ack down.pending
 

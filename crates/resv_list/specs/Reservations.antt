@@ -9,6 +9,7 @@ use Rattle.resv_list.specs.Sorted.{RisesFrom, place_by, sort_by, last_below, fir
 
 -- Words for lists of reservations.
 
+-- when it begins
 abbrev pub start_of : Reservation → ℕ
 start_of r = r.start
 

@@ -30,6 +30,7 @@ members es = map member_of es
 abbrev pub entry_at : ℕ → List Entry → Option Entry
 entry_at key es = find (λ e. key_of e == key) es
 
+-- the entries without the one that has this key
 abbrev pub entries_without : ℕ → List Entry → List Entry
 entries_without key es = filter (λ e. not (key_of e == key)) es
 
@@ -39,6 +40,7 @@ abbrev pub at_band : (Band → ℕ) → Option Band → ℕ
 at_band f None = 0
 at_band f (Some band) = f band
 
+-- what a member takes of amounts by sub-bands: that of its own, and 0 where it lies in none
 abbrev pub amount : (Band → ℕ) → Reservation → ℕ
 amount f r = at_band f (band_of r.freq_hz r.rate)
 

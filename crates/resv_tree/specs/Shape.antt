@@ -38,6 +38,7 @@ entry_of n = (out-Node _ n).entry
 abbrev pub left_of : {A : Type 0} → Node A → Shape
 left_of n = shape_of (out-Node _ n).left
 
+-- what stands to the right of a node
 abbrev pub right_of : {A : Type 0} → Node A → Shape
 right_of n = shape_of (out-Node _ n).right
 

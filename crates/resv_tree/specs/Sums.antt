@@ -27,6 +27,7 @@ order_of N = 3
 order_of P = 4
 order_of Q = 5
 
+-- whether two sub-bands are the same
 abbrev pub is_same : Band → Band → Bool
 is_same a b = nat_eq (order_of a) (order_of b)
 

@@ -25,11 +25,13 @@ abbrev pub queue_event : {A : Type 0} → List (List ℕ) → Option (Event A)
 queue_event (addr ∷ port ∷ payload ∷ []) = queue_with (addr_word addr) (number_of 8 port) (hex_word payload)
 queue_event _ = None
 
+-- a copy, where each of its words is one
 abbrev pub heard_with : Option ℕ → Option ℕ → Option ℕ → Option ℕ → Option ℤ → Option ℤ → Option Heard1
 heard_with (Some gateway) (Some at) (Some freq_hz) (Some rate) (Some snr) (Some rssi) =
     Some (record { gateway = gateway; at = at; freq_hz = freq_hz; rate = rate; snr = snr; rssi = rssi })
 heard_with _ _ _ _ _ _ = None
 
+-- the event of a line `hear`, where its words are right
 abbrev pub hear_with : {A : Type 0} → Option Heard1 → Option ℕ → Option (List ℕ) → Option (Event A)
 hear_with (Some heard) (Some arrived) (Some bytes) = Some (Hear bytes heard arrived)
 hear_with _ _ _ = None

@@ -43,6 +43,7 @@ pub record RunState : Type 0 where
   pub bookings : List Booking
   pub entries : List (Entry Global)
 
+-- that of a till, what was booked, and the lines that were told
 abbrev pub run_state : Holding → List Booking → List (Entry Global) → RunState
 run_state till bookings entries = record { till = till; bookings = bookings; entries = entries }
 

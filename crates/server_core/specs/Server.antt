@@ -39,6 +39,7 @@ pub record Seen (A : Type 0) : Type 0 where
   pub steps : Option (List Step)
   pub outcomes : List (Entry A)
 
+-- what a server is seen as
 abbrev pub seen : {S A R : Type 0} {C : _} → Server S A R C → Seen A
 seen s =
     record {
@@ -56,6 +57,7 @@ noting ss kept = option_map (λ made. made ++ ss) kept
 abbrev pub with_step : {A : Type 0} → Step → Seen A → Seen A
 with_step made s = record s { steps = noting (made ∷ []) s.steps }
 
+-- after these lines were told for the event at this place
 abbrev pub with_lines : {A : Type 0} → ℕ → List (Line A) → Seen A → Seen A
 with_lines place lines s = record s { outcomes = s.outcomes ++ map (entry_at place) lines }
 
@@ -114,6 +116,7 @@ AreHeard ids l = (n : ℕ) (g : Gathering) → numbered n l ≡ Some g → HasHe
 abbrev pub AreHere : List ℕ → Job → Type 0
 AreHere ids job = (k : ℕ) (c : Candidate) → candidate_at job k ≡ Some c → IsTrue (is_among ids c.gateway)
 
+-- the gateways of these books
 abbrev pub ids_of : List Book → List ℕ
 ids_of books = map (λ b. b.id) books
 
@@ -140,10 +143,12 @@ abbrev pub queued_line : {A : Type 0} → ℕ → Result ℕ QueueFault → Line
 queued_line addr (Ok count) = says.Queued addr count
 queued_line addr (Err fault) = says.NotQueued fault
 
+-- the line for what a copy was answered
 abbrev pub heard_line : {A : Type 0} → Result DeskHeard DeskFault → Line A
 heard_line (Ok place) = says.Heard place
 heard_line (Err fault) = says.NotHeard fault
 
+-- the line for what a cancel was answered
 abbrev pub cancelled_line : {A : Type 0} → ℕ → Result ℕ CancelFault → Line A
 cancelled_line n (Ok airtime) = says.Cancelled n airtime
 cancelled_line n (Err fault) = says.NotCancelled n fault

@@ -40,6 +40,7 @@ gateway_asked w (Cancel n) = option_map (λ s. s.gateway) (sent_at w n)
 gateway_asked w (Tick id now) = Some id
 gateway_asked w s = None
 
+-- the law: what is held of the system, a book, a ticket or a stub, stays what it is through the steps of others
 pub record OthersLeaveAlone : Type 0 where
   -- before the first step each gateway's book is the world's
   pub opened : (settings : SettingLists) → AreSettings settings.gateways settings.devices → (limits : Limits) (at : ℕ)

@@ -49,6 +49,7 @@ abbrev pub sent_airtime : Option Sent → ℕ
 sent_airtime None = 0
 sent_airtime (Some sent) = sent.airtime
 
+-- how long an answer that ended so is on air: 0 where none was booked
 abbrev pub airtime_of_ending : Ending → ℕ
 airtime_of_ending ending = sent_airtime (sent_of ending)
 
@@ -90,6 +91,7 @@ abbrev pub raised_at : Option (ℕ × ℕ) → ℕ → List ℕ → List ℕ
 raised_at None airtime airtimes = airtimes
 raised_at (Some found) airtime airtimes = slice_set airtimes found.0 (get_or airtimes found.0 0 + airtime)
 
+-- the airtimes, by the gateways with these ids, after one more answer was settled
 abbrev pub raised : List ℕ → Option Sent → List ℕ → List ℕ
 raised ids None airtimes = airtimes
 raised ids (Some sent) airtimes = raised_at (first_at (λ id. id == sent.gateway) ids) sent.airtime airtimes

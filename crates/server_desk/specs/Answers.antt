@@ -26,6 +26,7 @@ known_of (Booked sent window carried) = Pending
 known_of (Out refusal) = Pending
 known_of (Settled sent) = Done sent
 
+-- no ticket was given
 abbrev pub is_not_given : Known → Bool
 is_not_given NotGiven = true
 is_not_given Pending = false

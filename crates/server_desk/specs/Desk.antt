@@ -18,11 +18,13 @@ use Rattle.server_desk.specs.World.{World, ids, known}
 -- The desk's part of the world: all but the books, and of an answer that is out no more than that it is out. What each call
 -- of the desk makes of it, and that this is the world's step.
 
+-- the desk's part of the world
 pub record DeskView : Type 0 where
   pub ids : List ℕ
   pub reg : Register
   pub known : List Known
 
+-- the desk's part of a world
 abbrev pub desk_of : World → DeskView
 desk_of w = record { ids = ids w; reg = w.reg; known = known w }
 
@@ -30,6 +32,7 @@ desk_of w = record { ids = ids w; reg = w.reg; known = known w }
 abbrev pub total_of : DeskView → ℕ
 total_of d = settled_airtime d.known
 
+-- after a payload for the device with this address
 abbrev pub desk_queue : DeskView → ℕ → Payload → DeskView
 desk_queue d addr payload = record d { reg = queue_step d.reg addr payload }
 
@@ -39,6 +42,7 @@ known_after (Refuse fault) known = known
 known_after (Join n) known = known
 known_after (hearing.Open o) known = known ++ NotGiven ∷ []
 
+-- after a copy was heard
 abbrev pub desk_hear : DeskView → List ℕ → Heard1 → ℕ → DeskView
 desk_hear d bytes heard arrived =
     record d {
@@ -46,6 +50,7 @@ desk_hear d bytes heard arrived =
       known = known_after (decide d.ids d.reg bytes heard arrived) d.known;
     }
 
+-- after time has passed until now
 abbrev pub desk_pass : DeskView → ℕ → DeskView
 desk_pass d now = record d { reg = pass_step d.reg now }
 
@@ -54,6 +59,7 @@ abbrev pub desk_taken : Result Job TakeFault → ℕ → DeskView → DeskView
 desk_taken (Ok job) n d = record d { reg = after_taking (Ok job) n d.reg; known = rewritten (λ k. Pending) n d.known }
 desk_taken (Err fault) n d = d
 
+-- after a ticket of number n was asked for
 abbrev pub desk_take : DeskView → ℕ → DeskView
 desk_take d n = desk_taken (take_answer d.reg d.known n) n d
 

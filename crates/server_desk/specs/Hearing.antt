@@ -80,6 +80,7 @@ decide_mic crowded bytes found (Some counter) =
     then decide_room crowded (record { place = found.0; device = found.1; counter = counter })
     else Refuse BadMic
 
+-- what a copy that opens a gathering comes to, by the device with its address, if there is one
 abbrev pub decide_device : Bool → List ℕ → Uplink → Option (ℕ × Device) → Decision
 decide_device crowded bytes uplink None = Refuse UnknownDevice
 decide_device crowded bytes uplink (Some found) =

@@ -43,6 +43,7 @@ pub record IsDeviceInRange (d : DeviceSetting) : Type 0 where
   pub offset : IsFrom 0 5 d.offset
   pub down : IsFrom 0 (2 ^ 32) d.down
 
+-- the same as a test
 abbrev pub is_device_in_range : DeviceSetting → Bool
 is_device_in_range d = is_from 1 15 d.delay && is_from 0 5 d.offset && is_from 0 (2 ^ 32) d.down
 

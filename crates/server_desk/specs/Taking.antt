@@ -40,6 +40,7 @@ plan_for setting payload = record {
   payload = option_map payload_len payload;
 }
 
+-- a device's session keys
 abbrev pub keys_of : DeviceSetting → Keys
 keys_of setting = record { nwk = setting.nwk; app = setting.app }
 

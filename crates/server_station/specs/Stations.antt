@@ -39,10 +39,12 @@ IsSaid said memory answer =
 abbrev pub WasQueued : ℕ → Payload → Result ℕ QueueFault → Type 0
 WasQueued addr payload answer = (old : DeskView) × IsSaid (queue_answer old.reg addr payload) queueing.NoMemory answer
 
+-- the same of a copy that is heard
 abbrev pub WasHeard : List ℕ → Heard1 → ℕ → Result DeskHeard DeskFault → Type 0
 WasHeard bytes heard arrived answer =
     (old : DeskView) × IsSaid (answer_to (decide old.ids old.reg bytes heard arrived) old.reg) hearing.NoMemory answer
 
+-- the same of time that passes
 abbrev pub WasPassed : ℕ → Option ℕ → Type 0
 WasPassed now answer = (old : DeskView) × (answer ≡ pass_answer old.reg now)
 
@@ -52,6 +54,7 @@ IsGiven said answer =
     MatchResult said (λ _. IsOkUnless answer taking.NoMemory) (λ fault. answer ≡ Err fault)
     × IfOk answer (λ ticket. (said ≡ Ok ticket.job) × (ticket.at ≡ 0))
 
+-- the same of a ticket that is asked for
 abbrev pub WasTaken : ℕ → Result Standing TakeFault → Type 0
 WasTaken n answer = (old : DeskView) × IsGiven (take_answer old.reg old.known n) answer
 

@@ -19,6 +19,7 @@ added_up count more = min (count + more) (2 ^ 64 - 1)
 abbrev pub all_filed : {B A : Type 0} → List (Worked B A) → Filing A
 all_filed {B} {A} crew = gathered (λ (w : Worked B A). filing (lists_of w)) crew
 
+-- how many tries of theirs went on at a gate that did not let them in
 abbrev pub all_overrun : {B A : Type 0} → List (Worked B A) → ℕ
 all_overrun {B} {A} crew = sum_by (λ (w : Worked B A). w.overrun) crew
 

@@ -33,21 +33,25 @@ receipts_of (NotTaken fault) = []
 receipts_of (Settled outcome receipt) = option_to_list receipt
 receipts_of (Stray outcome receipt) = option_to_list receipt
 
+-- the outcome of an answer that was settled
 abbrev pub outcomes_of : {A : Type 0} → Handled A → List Outcome
 outcomes_of (NotTaken fault) = []
 outcomes_of (Settled outcome receipt) = outcome ∷ []
 outcomes_of (Stray outcome receipt) = []
 
+-- the number, where it may come later
 abbrev pub skipped_of : {A : Type 0} → ℕ → Handled A → List ℕ
 skipped_of n (NotTaken fault) = if may_come_later fault then n ∷ [] else []
 skipped_of n (Settled outcome receipt) = []
 skipped_of n (Stray outcome receipt) = []
 
+-- the number with its fault, where it may not
 abbrev pub refused_of : {A : Type 0} → ℕ → Handled A → List (ℕ × TakeFault)
 refused_of n (NotTaken fault) = if may_come_later fault then [] else (n, fault) ∷ []
 refused_of n (Settled outcome receipt) = []
 refused_of n (Stray outcome receipt) = []
 
+-- the number of a stray
 abbrev pub strays_of : {A : Type 0} → ℕ → Handled A → List ℕ
 strays_of n (NotTaken fault) = []
 strays_of n (Settled outcome receipt) = []

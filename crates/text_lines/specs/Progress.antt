@@ -74,6 +74,7 @@ abbrev pub ReadsAll : ℕ → Option (List ℕ) → Option (List ℕ) → (List 
 ReadsAll taken None left_after Holds = ⊤
 ReadsAll taken (Some bytes) left_after Holds = IsWholly taken bytes left_after Holds
 
+-- and of such a part of the input, after a fault
 abbrev pub ReadsPart : Option (List ℕ) → Option (List ℕ) → (List (List ℕ) → Type 0) → Type 0
 ReadsPart None left_after Holds = ⊤
 ReadsPart (Some bytes) left_after Holds = IsInPart bytes left_after Holds

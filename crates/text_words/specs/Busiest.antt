@@ -20,6 +20,7 @@ hour_lines gateway band None = []
 hour_lines gateway band (Some (from, sum)) =
     spaced (codes "busiest" ∷ gateway_words gateway ++ band_word band ∷ decimal from ∷ decimal sum ∷ []) ∷ []
 
+-- the line of one band, where it has a member
 abbrev pub busiest_lines : Option ℕ → List Reservation → Band → List (List ℕ)
 busiest_lines gateway l band = hour_lines gateway band (busiest_of l band)
 

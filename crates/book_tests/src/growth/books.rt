@@ -94,6 +94,8 @@ fn bookings_take<A: Allocator + Copy>(alloc: &Refuser, own: A) -> Result<(), Fai
     each_takes_one_over(alloc, VecRoster::new(own), 1)
 }
 
+// Refuses `resv_list` `Roster::insert`: 1 in a tree, a node; in a vector 0 or 1, by size.
+// Refuses `gateway_book` `GatewayBook::book`: as `insert`, for what is accepted.
 #[test]
 fn a_booking(rt: HostRuntime) -> Result<(), Fail> {
     let alloc = &Refusing::new(rt.alloc());
@@ -188,6 +190,10 @@ fn copies_of_a_tree_take<A: Allocator + Copy>(alloc: &Refuser, own: A) -> Result
     copies_take_over(alloc, own, TreeRoster::new(own))
 }
 
+// Refuses `resv_list` `Roster::filled` (over a tree): in a tree 1 for each member; in a vector by size.
+// Refuses `resv_list` `Roster::members` (a book's `list` calls it): 1, none where there is no member.
+// Refuses `gateway_book` `GatewayBook::list` (over a tree): 1, none where there is no member.
+// Refuses `gateway_book` `GatewayBook::trial` (over a tree): as `filled`.
 #[test]
 fn the_list_and_a_copy_of_a_book(rt: HostRuntime) -> Result<(), Fail> {
     let alloc = &Refusing::new(rt.alloc());
@@ -237,6 +243,9 @@ fn loads_take<A: Allocator + Copy>(alloc: &Refuser, own: A) -> Result<(), Fail> 
     same(growths_of(alloc, &mut Loading(own, false))?, 1)
 }
 
+// Refuses `gateway_book` `GatewayBook::load` (of forty members in `each_growth_that_is_refused_is_told`; in a tree by
+// `tests/refused_books.py`): as `insert`, for each member.
+// Refuses `gateway_book` `GatewayBook::load_counted` (`load` calls it): as `load`.
 #[test]
 fn a_saved_book(rt: HostRuntime) -> Result<(), Fail> {
     let alloc = &Refusing::new(rt.alloc());

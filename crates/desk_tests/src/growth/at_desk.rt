@@ -28,6 +28,7 @@ impl<'m, A: Allocator + Copy> Call for Making<'m, A> {
     }
 }
 
+// Refuses `server_desk` `Desk::new`: by size; 7 for one device and two gateways.
 #[test]
 fn a_desk_is_made(rt: HostRuntime) -> Result<(), Fail> {
     let settings = settings_of(rt.alloc(), &[device(1)])?;

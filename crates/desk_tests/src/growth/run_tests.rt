@@ -123,6 +123,8 @@ impl<'r, A: Allocator + Copy> Call for Run<'r, A> {
     }
 }
 
+// Refuses `server_core` `replay`: by size: what its events take, its lists of outcomes and steps, and one list for
+// each book; 42 for nine events.
 /// A run takes so many growths.
 #[test]
 fn a_run_is_replayed(rt: HostRuntime) -> Result<(), Fail> {

@@ -77,6 +77,9 @@ fn they_take(alloc: &Refuser) -> Result<(), Fail> {
     each_takes_one(alloc, &[1, 2, 3], Some(Body { port: 9, payload }))
 }
 
+// Refuses `lora_frame` `downlink`: 1.
+// Refuses `lora_frame` `uplink_bytes`: 1.
+// Refuses `rx_windows` `candidates`: 1, none where there is no copy.
 #[test]
 fn a_downlink_an_uplink_and_its_candidates(rt: HostRuntime) -> Result<(), Fail> {
     they_take(&Refusing::new(rt.alloc()))

@@ -107,6 +107,9 @@ fn gathers_anew<A: Allocator + Copy>(alloc: &Refuser, own: A) -> Result<(), Fail
     }
 }
 
+// Refuses `uplink_gather` `Gather::new` (none is counted): 0.
+// Refuses `uplink_gather` `Gather::hear`: by size.
+// Refuses `uplink_gather` `Gather::hear_at` (`hear` calls it): as `hear`.
 #[test]
 fn a_copy_that_opens_and_copies_that_join(rt: HostRuntime) -> Result<(), Fail> {
     let alloc = &Refusing::new(rt.alloc());

@@ -202,6 +202,8 @@ fn growths_on<R: Roster, A: Allocator + Copy>(
     equal(&book.totals(), &before)
 }
 
+// Refuses `airtime_planner` `what_if`: 1 for the answers, and chunks of the arena by size.
+// Refuses `airtime_planner` `what_if_earliest`: chunks of the arena by size.
 #[test]
 fn each_growth_on_a_copy_is_refused(rt: HostRuntime) -> Result<(), Fail> {
     let answers = answers_like(rt.alloc(), &ROWS, &ASK)?;

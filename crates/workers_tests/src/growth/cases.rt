@@ -81,6 +81,13 @@ impl<'c> AtWork for Calling<'c> {
     }
 }
 
+// Refuses `server_desk` `Desk::queue` (the station calls it): 1 for the payload, and by size.
+// Refuses `server_desk` `Desk::hear` (the station calls it): by size: 10 for the first uplink, 2 for the second, 1
+// for a second copy.
+// Refuses `server_office` `Office::queue` (the station calls it): as the desk's.
+// Refuses `server_office` `Office::hear` (the station calls it): as the desk's.
+// Refuses `server_station` `Station::queue`: as the desk's.
+// Refuses `server_station` `Station::hear`: as the desk's.
 /// Payloads are queued and copies are heard, each with each of its growths refused.
 #[test]
 fn calls_of_a_station(rt: HostRuntime) -> Result<(), Fail> {

@@ -171,6 +171,11 @@ impl AtWork for Finishes {
     }
 }
 
+// Refuses `book_audit` `compare` (`finish` calls it): by size: a byte for each receipt, in one, and the lists of the
+// books up to the first that keeps what no receipt tells; where there is one, the lists of all, and one of all their
+// members; only these last where the receipts don't rise by number.
+// Refuses `server_station` `Station::finish`: by size: 6 for two gateways and two receipts, 7 where no receipt is
+// given.
 #[test]
 fn a_station_is_finished(rt: HostRuntime) -> Result<(), Fail> {
     takes(&rt, rt.alloc(), 2, &Finishes { are_given: true }, 6)?;

@@ -206,6 +206,12 @@ const TRIALS: [((u8, bool), u64); 4] = [
     ((2, true), 99),
 ];
 
+// Refuses `server_station` `Station::answer` (a worker calls it): as `take`, and for each try as `try_once`.
+// Refuses `server_workers` `work` (the workers work by the same function): as `Station::answer`, for each number.
+// Refuses `server_workers` `serve` (one worker and two, with one allocation refused and with all that follow it): by
+// size: before anything else five lists for one worker, and for several a channel, the lists of workers and of their
+// lists, and five for each and for all; then what `take` and `try_on` take for each number; 85 for one worker and 20
+// numbers, 99 for two.
 #[test]
 fn workers_serve(rt: HostRuntime) -> Result<(), Fail> {
     let settings = settings_of(rt.alloc(), &[1, 2], 20)?;

@@ -59,6 +59,7 @@ impl AtWork for Starts {
     }
 }
 
+// Refuses `server_workers` `Worked::new`: 5, a list each; its Err hands the till back, and names nothing.
 #[test]
 fn a_worker_starts(rt: HostRuntime) -> Result<(), Fail> {
     takes(&rt, rt.alloc(), 0, &Starts, 5)

@@ -114,6 +114,7 @@ fn is_made_without<B: Ledger, A: Allocator + Copy>(
     was_refused(alloc, number, is_starved, true)
 }
 
+// Refuses `server_station` `Station::new`: by size: 1 more than its desk.
 /// It takes eight growths.
 #[test]
 fn a_station_is_made(rt: HostRuntime) -> Result<(), Fail> {

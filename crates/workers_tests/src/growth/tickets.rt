@@ -132,6 +132,8 @@ fn is_tried_anew<A: Allocator + Copy>(alloc: &Refuser, own: A, number: u64) -> R
     is_tried_without(alloc, own, &mut book, number)
 }
 
+// Refuses `answer_ticket` `Ticket::new`: 1.
+// Refuses `answer_ticket` `Ticket::try_on`: 2: the frame, and the book's.
 /// It takes a growth to make a ticket, and two to try it: the frame's, and the book's.
 #[test]
 fn a_ticket_is_made_and_tried(rt: HostRuntime) -> Result<(), Fail> {

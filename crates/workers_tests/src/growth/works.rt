@@ -92,6 +92,11 @@ impl AtWork for Tries {
     }
 }
 
+// Refuses `server_desk` `Desk::take` (the station calls it): 2: the copies, and the candidates; 1 more for a payload.
+// Refuses `server_office` `Office::take` (the station calls it): as the desk's.
+// Refuses `server_station` `Station::take` (without a payload in `a_worker_leaves_where_a_try_finds_no_memory`): as
+// the desk's.
+// Refuses `server_station` `Station::try_once`: 2, as `Ticket::try_on`.
 /// It takes three growths to take it, of which one is the payload's, and two to try it.
 #[test]
 fn a_ticket_is_taken_and_tried(rt: HostRuntime) -> Result<(), Fail> {
