@@ -20,10 +20,10 @@ use Rattle.book_texts.specs.Reply.{reply_words, reply_line}
 use Rattle.book_texts.specs.Answering.{booking_reply, start_reply, answer_to, state_after_line}
 use Rattle.book_texts.specs.Output.{opened, report_at}
 
--- The output of `airbook plan` as a list of lines: up to a line `plan` that of `airbook book`; from there on bookings are only
--- tried, on what the book keeps then, and each accepted one stays for the next, and the earliest start is looked for beside
--- them; and at the end the report of the book itself. A line `plan` that finds no memory opens a plan without a copy of the book,
--- in which whatever is asked finds none.
+-- The output of `airbook plan` as a list of lines: up to a line `plan` that of `airbook book`. From there on bookings are only
+-- tried, on what the book keeps then. Each accepted one stays for the next, and the earliest start is looked for beside them. At
+-- the end comes the report of the book itself. A line `plan` that finds no memory opens a plan without a copy of the book, in
+-- which whatever is asked finds none.
 
 -- whether the words are the one word `plan`
 abbrev pub are_plan : List (List ℕ) → Bool

@@ -3,9 +3,9 @@ use Rattle.std.specs.Int.{div_ceil}
 use Rattle.radio_airtime.specs.declared.data_rate.DataRate.{DataRate}
 use Rattle.radio_airtime.specs.DataRate.{spreading_factor_of, bandwidth_of}
 
--- Time on air of a LoRa frame: Semtech SX1276 datasheet, section 4.1.1.7, with what LoRaWAN sends
--- (LoRaWAN L2 1.0.4, section 3, and RP002, EU863-870): a preamble of 8 symbols, the explicit header
--- (IH = 0), coding rate 4/5 (CR = 1), and no CRC on a downlink (CRC = 0).
+-- Time on air of a LoRa frame (Semtech SX1276 datasheet, section 4.1.1.7). What LoRaWAN sends (L2 1.0.4, section 3, and
+-- RP002, EU863-870) has a preamble of 8 symbols, the explicit header (IH = 0), coding rate 4/5 (CR = 1), and no CRC on a
+-- downlink (CRC = 0).
 
 -- Tsym = 2^SF / BW, in microseconds: whole at each of these rates
 abbrev pub symbol_us : DataRate → ℕ
