@@ -93,11 +93,11 @@ module _ (keys : Keys) (nwk : length keys.nwk ≡ 16) (app : length keys.app ≡
         ≡ body.payload.now
     each_payload_is_decrypted law is = law down keys body (record { nwk = nwk; app = app }) is
 
-  module _ (law : UplinkReadsBack) (up : Up) (addr : up.addr < 4294967296) (counter : up.counter < 4294967296) where
+  module _ (up : Up) (addr : up.addr < 4294967296) (counter : up.counter < 4294967296) where
     abbrev sent : List ℕ
     sent = up_bytes up keys
 
-    pub each_is_read_back : up_fault up ≡ None → uplink_of sent ≡ Ok (record {
+    pub each_is_read_back : UplinkReadsBack → up_fault up ≡ None → uplink_of sent ≡ Ok (record {
       confirmed = up.confirmed;
       addr = up.addr;
       adr = up.adr;
@@ -109,8 +109,8 @@ module _ (keys : Keys) (nwk : length keys.nwk ≡ 16) (app : length keys.app ≡
       payload_at = 8 + length up.options.now + (if is_some up.body then 1 else 0);
       mic = mic_of keys.nwk 0 up.addr up.counter (up_message up keys);
     })
-    each_is_read_back fine = (law up keys (record { nwk = nwk; app = app }) addr counter fine).0
+    each_is_read_back law fine = (law up keys (record { nwk = nwk; app = app }) addr counter fine).0
 
-    pub each_has_its_mic : up_fault up ≡ None
+    pub each_has_its_mic : UplinkReadsBack → up_fault up ≡ None
         → drop (length sent - 4) sent ≡ mic_of keys.nwk 0 (addr_of sent) up.counter (take (length sent - 4) sent)
-    each_has_its_mic fine = (law up keys (record { nwk = nwk; app = app }) addr counter fine).1
+    each_has_its_mic law fine = (law up keys (record { nwk = nwk; app = app }) addr counter fine).1
