@@ -57,6 +57,11 @@ pub first_behind : FirstHasLeastStart → first_start (λ r. nat_lt 1000 r.start
 unfolding early late last
 first_behind law = law (λ r. nat_lt 1000 r.start) sent by_start
 
+-- whatever is asked of the three, the first that passes has the start
+pub first_found : FirstHasLeastStart → (test : Reservation → Bool)
+    → least (map start_of (filter test sent)) ≡ option_map start_of (find test sent)
+first_found law test = law test sent by_start
+
 pub none_behind : FirstHasLeastStart → first_start (λ r. nat_lt 3600500000 r.start) sent ≡ None
 unfolding early late last
 none_behind law = law (λ r. nat_lt 3600500000 r.start) sent by_start

@@ -4,6 +4,7 @@
 
 mod blocks;
 mod counting;
+mod law_calls;
 mod laws;
 mod layout;
 mod parts;

@@ -1,1 +1,2 @@
 pub mod BandLaws
+pub mod WorkedBands

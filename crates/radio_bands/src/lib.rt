@@ -4,6 +4,7 @@
 
 mod band;
 mod duty;
+mod law_calls;
 mod laws;
 
 pub use band::Band;

@@ -10,3 +10,4 @@ pub mod WorkedOnAir
 pub mod FilterLemmas
 pub mod SortLemmas
 pub mod FilledLaws
+pub mod WorkedNearest

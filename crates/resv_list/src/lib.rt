@@ -2,6 +2,7 @@
 #![tactic(auto)]
 
 mod airtime;
+mod law_calls;
 mod laws;
 mod reservation;
 mod roster;

@@ -2,3 +2,4 @@ pub mod RankLaws
 pub mod WindowLaws
 pub mod KeyLemmas
 pub mod RankLemmas
+pub mod WorkedWindows

@@ -3,6 +3,7 @@
 #![tactic(auto)]
 
 mod candidate;
+mod law_calls;
 mod laws;
 mod plan;
 mod ranking;

@@ -6,3 +6,4 @@ pub mod RestLemmas
 pub mod SoFar
 pub mod TurnLemmas
 pub mod WordLemmas
+pub mod WorkedNumbers

@@ -8,6 +8,7 @@ mod buffered;
 mod byte_in;
 mod byte_out;
 mod held_line;
+mod law_calls;
 mod line_answerer;
 mod memory;
 mod numbers;
