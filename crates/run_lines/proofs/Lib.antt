@@ -10,3 +10,4 @@ pub mod InputLemmas
 pub mod Worked
 pub mod WholeLineLemmas
 pub mod WholeRunLemmas
+pub mod WorkedWhole

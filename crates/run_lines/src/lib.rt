@@ -8,6 +8,7 @@ mod entry_line;
 mod entry_name;
 mod gateway_report;
 mod key_ring;
+mod law_calls;
 mod laws;
 mod part_text;
 mod replay_text;

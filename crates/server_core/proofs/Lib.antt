@@ -19,3 +19,4 @@ pub mod Settled
 pub mod Answered
 pub mod Passes
 pub mod Replays
+pub mod WorkedStaying

@@ -7,6 +7,7 @@ mod books;
 mod calling;
 mod entry;
 mod event;
+mod law_calls;
 mod laws;
 mod lines;
 mod replayed;

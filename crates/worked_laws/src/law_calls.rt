@@ -1,4 +1,4 @@
-// Each law of the crates below, beside those that call their own, is called here: its clause can say no less than its statement.
+// Laws of the crates below are called here, as a crate above sees them: their clauses can say no less than their statements.
 ghost use Rattle.text_lines.specs.Number.{NumbersReadBack};
 ghost use Rattle.radio_bands.specs.Band.{AtMostOneBand};
 ghost use Rattle.resv_list.specs.Nearest.{NearestAreFound};
