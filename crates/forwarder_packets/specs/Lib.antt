@@ -1,2 +1,5 @@
 pub mod Head
 pub mod Scaled
+pub mod Entry
+pub mod Seen
+pub mod Entries
