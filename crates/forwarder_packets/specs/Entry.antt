@@ -1,7 +1,7 @@
-use Rattle.std.specs.Prelude.{ℕ, ◌+◌, ◌*◌, ◌^◌, ◌==◌, Bool, true, false, not, if◌then◌else◌, nat_lt, List, [], ◌∷◌, length, codes, find}
+use Rattle.std.specs.Prelude.{ℕ, ◌^◌, ◌==◌, Bool, false, not, if◌then◌else◌, nat_lt, List, length, codes, find}
 use Rattle.std.specs.Prelude.{Option, Some, None, option_and_then, Result, Ok, Err, ℤ, pos, negsuc, drop}
 use Rattle.std.specs.List.{list_all}
-use Rattle.std.specs.Option.{option_map, ok_or}
+use Rattle.std.specs.Option.{option_map}
 use Rattle.std.specs.Str.{bytes_eq}
 use Rattle.json.specs.Json.{Json}
 use Rattle.json.specs.Find.{get, as_number, as_str}
@@ -10,7 +10,6 @@ use Rattle.base64.specs.Engines.{standard_pad_indifferent}
 use Rattle.radio_airtime.specs.declared.data_rate.DataRate.{DataRate}
 use Rattle.radio_airtime.specs.declared.data_rate.DataRate.TheVariants.{Dr0, Dr1, Dr2, Dr3, Dr4, Dr5, Dr6}
 use Rattle.radio_airtime.specs.DataRate.{rates}
-use Rattle.text_lines.specs.Number.{is_digit}
 use Rattle.forwarder_packets.specs.Scaled.{scaled, fraction_of}
 use Rattle.forwarder_packets.specs.declared.entry.EntryFault.{EntryFault}
 use Rattle.forwarder_packets.specs.declared.entry.EntryFault.TheVariants.{Shape, Crc, Modulation, Rate, Number, Data, Size}

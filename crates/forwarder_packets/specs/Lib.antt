@@ -2,4 +2,3 @@ pub mod Head
 pub mod Scaled
 pub mod Entry
 pub mod Seen
-pub mod Entries
