@@ -1,2 +1,4 @@
 pub mod Head
 pub mod Scaled
+pub mod Entry
+pub mod Seen

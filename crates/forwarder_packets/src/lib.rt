@@ -2,7 +2,13 @@
 //! a server acknowledges. Each reading is a function of the bytes; nothing here opens a socket.
 #![tactic(auto)]
 
+mod entries;
+mod entry;
 mod head;
+mod packet;
 mod scaled;
 
+pub use entries::read_entries;
+pub use entry::EntryFault;
 pub use head::{Head, HeadFault, Kind, acknowledgement, read_head};
+pub use packet::{Entry, NoMemory, Packet};

@@ -2,7 +2,7 @@
 ghost use Rattle.std.specs.Prelude.{◌≡◌, ◌≤◌, ◌^◌, ◌<◌, ◌&&◌, ◌||◌, ◌+◌, ◌*◌, ◌==◌, true, length, drop, position, nat_le, IfSome};
 ghost use Rattle.std.specs.List.{list_all};
 ghost use Rattle.text_lines.specs.Number.{is_digit, is_digits, value_of};
-ghost use Rattle.forwarder_packets.specs.Scaled.{point_of, places_of, unsigned_scaled, scaled};
+ghost use Rattle.forwarder_packets.specs.Scaled.{point_of, fraction_of, places_of, unsigned_scaled, scaled};
 
 /// How many digits may stand before the point: more fit no number that a packet forwarder tells.
 const MOST_DIGITS: usize = 10;
@@ -28,11 +28,18 @@ fn unsigned_scaled(text: &[u8], places: usize) -> Option<u64>
 {
     let point = point_of(text);
     let whole = &text[..point];
-    let fraction = behind(text, point);
+    let fraction = fraction_of(text);
     if !is_plain(whole, fraction, point == text.len()) {
         return None;
     }
     Some(joined(value_of(whole), places, places_of(fraction, places)))
+}
+
+/// The digits behind the point.
+pub fn fraction_of(text: &[u8]) -> &[u8]
+    ensures { result.now ≡ fraction_of text.now }
+{
+    behind(text, point_of(text))
 }
 
 /// Where the point stands, or the end.

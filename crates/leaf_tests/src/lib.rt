@@ -14,6 +14,8 @@ mod counters;
 #[cfg(test)]
 mod cuts;
 #[cfg(test)]
+mod forwarded;
+#[cfg(test)]
 mod frame_growth;
 #[cfg(test)]
 mod frames;

@@ -1,4 +1,4 @@
-use Rattle.std.proofs.Common.{◌≡◌, ◌≤◌, ◌<◌, ◌*◌, ◌-◌, ℕ, List, arith, rules, length, take, sym, subst, ◌∙◌}
+use Rattle.std.proofs.Common.{◌≤◌, ◌<◌, ◌*◌, ℕ, List, arith, length, take, sym, subst}
 use Rattle.std.proofs.lemmas.List.{length-take}
 use Rattle.forwarder_packets.proofs.Digits.{taken_digits, shifted_small}
 use Rattle.forwarder_packets.proofs.scaled.places_of.Goals as goal

@@ -1,4 +1,4 @@
-use Rattle.std.proofs.Common.{◌≡◌, ◌+◌, ◌-◌, ◌*◌, ◌^◌, ◌≤◌, subst, get_or, arith, rules, sym, ap, ◌∙◌}
+use Rattle.std.proofs.Common.{◌≡◌, ◌+◌, ◌-◌, ◌*◌, ◌^◌, subst, get_or, arith}
 use Rattle.std.proofs.Math.Nat.{pow-succ'}
 use Rattle.text_lines.proofs.NumberLemmas.{IsFront, digit_more}
 use Rattle.forwarder_packets.proofs.Digits.{digit_small}
