@@ -1,12 +1,10 @@
 // A station is finished.
 
-ghost use Rattle.std.specs.Prelude.{◌≡◌, ◌≢◌, ◌≤◌, [], map, All, MatchBool, IfOk, IfErr, OnOk, IsErrAnd, vec_len, vec_capacity};
+ghost use Rattle.std.specs.Prelude.{◌≡◌, ◌≢◌, ◌≤◌, [], map, MatchBool, IfOk, IfErr, IsErrAnd, vec_len, vec_capacity};
 ghost use Rattle.std.specs.List.Sorted.{IsStrictlyIncreasing};
 ghost use Rattle.air_ledger.specs.Tills.{all_parts, parts_of, amount_of};
-ghost use Rattle.gateway_book.specs.Book.{totals_of};
 ghost use Rattle.server_desk.specs.Desk.{total_of};
-ghost use Rattle.book_audit.specs.Audit.{airtime_at, booked_by, kept_numbers, EachStandsOnce, IsAccountedFor};
-ghost use Rattle.server_station.specs.Closings.{shelved, with_totals, IsFinishCause};
+ghost use Rattle.server_station.specs.Closings.{with_totals, IsClosed, IsHandedBack};
 
 use crate::place::Place;
 use crate::shelf::{ClosingLists, Shelf, part, put_back, take_out};
@@ -30,48 +28,28 @@ impl<B: Ledger, S: BuildHasher, A: Allocator + Copy> Station<B, S, A> {
         tills: Vec<Till<B>, A>,
         receipts: &[Receipt<A>],
     ) -> Result<Closing<S, A>, FinishFault<B, S, A>>
-        ensures all_in { OnOk result (parts_of tills.items ≡ all_parts) }
-        ensures booked { IfOk result (λ closing. closing.booked ≡ amount_of tills.items) }
-        ensures answered { IfOk result (λ closing. closing.booked ≡ total_of closing.desk) }
-        ensures sum { IfOk result (λ closing. booked_by closing.books.items ≡ closing.booked) }
-        ensures gateways { IfOk result (λ closing. map (λ t. t.0) closing.totals.items ≡ self) }
-        ensures totals { IfOk result (λ closing. map (λ t. t.1) closing.totals.items ≡ map totals_of closing.books.items) }
-        ensures equal { IfOk result (λ closing. All (λ t. t.1.booked ≡ airtime_at closing.desk t.0) closing.totals.items) }
-        ensures once { IfOk result (λ closing. EachStandsOnce (kept_numbers closing.books.items)) }
-        ensures accounted { IfOk result (λ closing. All (IsAccountedFor (shelved closing.totals.items closing.books.items))
-            receipts.now) }
+        ensures closed { IfOk result (λ closing. IsClosed self tills.items receipts.now closing.booked closing.desk
+            closing.totals.items closing.books.items) }
         ensures missing { parts_of tills.items ≢ all_parts → IsErrAnd result (λ fault. fault.cause ≡ FinishCause.TillMissing) }
-        ensures cause { IfErr result (λ fault. IsFinishCause tills.items self receipts.now fault.cause) }
-        ensures station_back { IfErr result (λ fault. fault.station ≡ self) }
-        ensures tills_back { IfErr result (λ fault. fault.tills.items ≡ tills.items) }
+        ensures back { IfErr result (λ fault. IsHandedBack self tills.items receipts.now fault.station fault.tills.items fault.cause) }
     {
         if !are_all_in(&tills) {
             return Err(FinishFault::new(FinishCause::TillMissing, self, tills));
         }
-        self.emptied(alloc, tills, receipts)
+        self.empty_books(alloc, tills, receipts)
     }
 
     /// The same where all parts of the ledger are in: the books leave their locks, and are compared.
-    fn emptied(
+    fn empty_books(
         self,
         alloc: A,
         tills: Vec<Till<B>, A>,
         receipts: &[Receipt<A>],
     ) -> Result<Closing<S, A>, FinishFault<B, S, A>>
         requires { parts_of tills.items ≡ all_parts }
-        ensures all_in { OnOk result (parts_of tills.items ≡ all_parts) }
-        ensures booked { IfOk result (λ closing. closing.booked ≡ amount_of tills.items) }
-        ensures answered { IfOk result (λ closing. closing.booked ≡ total_of closing.desk) }
-        ensures sum { IfOk result (λ closing. booked_by closing.books.items ≡ closing.booked) }
-        ensures gateways { IfOk result (λ closing. map (λ t. t.0) closing.totals.items ≡ self) }
-        ensures totals { IfOk result (λ closing. map (λ t. t.1) closing.totals.items ≡ map totals_of closing.books.items) }
-        ensures equal { IfOk result (λ closing. All (λ t. t.1.booked ≡ airtime_at closing.desk t.0) closing.totals.items) }
-        ensures once { IfOk result (λ closing. EachStandsOnce (kept_numbers closing.books.items)) }
-        ensures accounted { IfOk result (λ closing. All (IsAccountedFor (shelved closing.totals.items closing.books.items))
-            receipts.now) }
-        ensures cause { IfErr result (λ fault. IsFinishCause tills.items self receipts.now fault.cause) }
-        ensures station_back { IfErr result (λ fault. fault.station ≡ self) }
-        ensures tills_back { IfErr result (λ fault. fault.tills.items ≡ tills.items) }
+        ensures closed { IfOk result (λ closing. IsClosed self tills.items receipts.now closing.booked closing.desk
+            closing.totals.items closing.books.items) }
+        ensures back { IfErr result (λ fault. IsHandedBack self tills.items receipts.now fault.station fault.tills.items fault.cause) }
     {
         let Station { office, mut places } = self;
         let Ok(mut lists) = ClosingLists::with_room(alloc, places.len()) else {
@@ -80,13 +58,13 @@ impl<B: Ledger, S: BuildHasher, A: Allocator + Copy> Station<B, S, A> {
         };
         take_out(&mut places, &mut lists.shelf);
         let (desk, tally) = office.into_inner().parted();
-        compared(alloc, desk, tally, lists, places, tills, receipts)
+        compare_books(alloc, desk, tally, lists, places, tills, receipts)
     }
 }
 
 /// The same where the books stand beside their gateways' numbers: whether they go with the desk, with one another and with the
 /// receipts.
-fn compared<B: Ledger, S: BuildHasher, A: Allocator + Copy>(
+fn compare_books<B: Ledger, S: BuildHasher, A: Allocator + Copy>(
     alloc: A,
     desk: Desk<S, A>,
     tally: Tally<B>,
@@ -104,30 +82,20 @@ fn compared<B: Ledger, S: BuildHasher, A: Allocator + Copy>(
     requires empty { places.items ≡ [] }
     requires room { vec_len lists.shelf ≤ vec_capacity places }
     requires rising { IsStrictlyIncreasing (map (λ s. s.0) lists.shelf.items) }
-    ensures all_in { OnOk result (parts_of tills.items ≡ all_parts) }
-    ensures booked { IfOk result (λ closing. closing.booked ≡ amount_of tills.items) }
-    ensures answered { IfOk result (λ closing. closing.booked ≡ total_of closing.desk) }
-    ensures sum { IfOk result (λ closing. booked_by closing.books.items ≡ closing.booked) }
-    ensures gateways { IfOk result (λ closing. map (λ t. t.0) closing.totals.items ≡ map (λ s. s.0) lists.shelf.items) }
-    ensures totals { IfOk result (λ closing. map (λ t. t.1) closing.totals.items ≡ map totals_of closing.books.items) }
-    ensures equal { IfOk result (λ closing. All (λ t. t.1.booked ≡ airtime_at closing.desk t.0) closing.totals.items) }
-    ensures once { IfOk result (λ closing. EachStandsOnce (kept_numbers closing.books.items)) }
-    ensures accounted { IfOk result (λ closing. All (IsAccountedFor (shelved closing.totals.items closing.books.items))
-        receipts.now) }
-    ensures cause { IfErr result
-        (λ fault. IsFinishCause tills.items (map (λ s. s.0) lists.shelf.items) receipts.now fault.cause) }
-    ensures station_back { IfErr result (λ fault. fault.station ≡ map (λ s. s.0) lists.shelf.items) }
-    ensures tills_back { IfErr result (λ fault. fault.tills.items ≡ tills.items) }
+    ensures closed { IfOk result (λ closing. IsClosed (map (λ s. s.0) lists.shelf.items) tills.items receipts.now closing.booked
+        closing.desk closing.totals.items closing.books.items) }
+    ensures back { IfErr result (λ fault. IsHandedBack (map (λ s. s.0) lists.shelf.items) tills.items receipts.now fault.station
+        fault.tills.items fault.cause) }
 {
     if let Err(cause) = compare(alloc, &desk, &lists.shelf, receipts) {
-        let station = shut(desk, tally, lists.shelf, places);
+        let station = lock_again(desk, tally, lists.shelf, places);
         return Err(FinishFault::new(cause, station, tills));
     }
     Ok(close(desk, tally, tills, lists))
 }
 
 /// The station with its desk and its books behind locks again.
-fn shut<B: Ledger, S: BuildHasher, A: Allocator + Copy>(
+fn lock_again<B: Ledger, S: BuildHasher, A: Allocator + Copy>(
     desk: Desk<S, A>,
     tally: Tally<B>,
     shelf: Shelf<A>,
@@ -170,7 +138,7 @@ fn close<B: Ledger, S: BuildHasher, A: Allocator + Copy>(
     } = lists;
     part(shelf, &mut totals, &mut books);
     Closing {
-        booked: audited(tally, tills),
+        booked: audit(tally, tills),
         totals,
         books,
         desk,
@@ -178,7 +146,7 @@ fn close<B: Ledger, S: BuildHasher, A: Allocator + Copy>(
 }
 
 /// The airtime that was counted with these tills, which is all that was counted.
-fn audited<B: Ledger, A: Allocator + Copy>(mut tally: Tally<B>, tills: Vec<Till<B>, A>) -> u64
+fn audit<B: Ledger, A: Allocator + Copy>(mut tally: Tally<B>, tills: Vec<Till<B>, A>) -> u64
     requires { parts_of tills.items ≡ all_parts }
     ensures amount { result ≡ amount_of tills.items }
     ensures total { result ≡ tally }

@@ -40,15 +40,15 @@ impl<B: Ledger, S: BuildHasher, A: Allocator + Copy> Station<B, S, A> {
     {
         match self.take(rt, number) {
             Ok(ticket) => {
-                let ended = self.tried(rt, gate, ticket, overrun);
-                self.settled(rt, ended, till)
+                let ended = self.try_all(rt, gate, ticket, overrun);
+                self.settle_end(rt, ended, till)
             }
             Err(fault) => Handled::NotTaken(fault),
         }
     }
 
     /// Tries a ticket until it is booked or refused to the last, or gives it up.
-    fn tried<R: Wait, G: Gate>(
+    fn try_all<R: Wait, G: Gate>(
         &self,
         rt: &R,
         gate: &G,
@@ -62,7 +62,7 @@ impl<B: Ledger, S: BuildHasher, A: Allocator + Copy> Station<B, S, A> {
     {
         loop {
             let gateway = ticket.gateway();
-            let Some(mut book) = self.entered(rt, gate, gateway, overrun) else {
+            let Some(mut book) = self.enter(rt, gate, gateway, overrun) else {
                 return given_up(ticket);
             };
             let tried = ticket.try_on(&mut book);
@@ -88,7 +88,7 @@ impl<B: Ledger, S: BuildHasher, A: Allocator + Copy> Station<B, S, A> {
     }
 
     /// Settles what is left of a ticket.
-    fn settled<R: Wait>(&self, rt: &R, ended: TriedOut<A>, till: &mut Till<B>) -> Handled<A>
+    fn settle_end<R: Wait>(&self, rt: &R, ended: TriedOut<A>, till: &mut Till<B>) -> Handled<A>
         requires ended { IsEndOf ended.stub.number ended }
         requires answered { IsAnswered self.now ended.stub.number ended.stub.result ended.receipt }
         ensures turn { IsHandled self.now ended.stub.number till.old till.new result }

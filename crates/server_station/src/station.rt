@@ -135,7 +135,7 @@ impl<B: Ledger, S: BuildHasher, A: Allocator + Copy> Station<B, S, A> {
 
     /// Gives the book of the gateway with this number, once its lock is free and the gate lets the caller ask it; where the gate
     /// didn't let it in in time, that is counted. `None` where the station has no such gateway.
-    pub(crate) fn entered<R: Wait, G: Gate>(
+    pub(crate) fn enter<R: Wait, G: Gate>(
         &self,
         rt: &R,
         gate: &G,

@@ -7,7 +7,7 @@ use Rattle.run_server.proofs.station_run.Shift.close.Goals as goal
 pub returns-in-Ok-finish-clause-books : goal.returns-in-Ok-finish-clause-books
 returns-in-Ok-finish-clause-books g c =
     let closing = c.in-Ok-finish.field-0 in
-    let done = c.in-Ok-finish.ensures in
+    let done = c.in-Ok-finish.ensures.closed in
     record {
       desk = closing.desk;
       gateways = done.gateways ∙ c.into_inner.ensures;
@@ -26,10 +26,10 @@ returns-in-Err-clause-cause g c other =
     (subst (λ l. IsFinishCause c.push_reserved.new.self.items c.args.self.station.value l c.in-Err.fault.cause)
     (c.as_slice.ensures.value ∙ c.in-Ok.ensures)
     (subst (λ s. IsFinishCause c.push_reserved.new.self.items s c.as_slice.result.now c.in-Err.fault.cause)
-    c.into_inner.ensures c.in-Err.ensures.cause))
+    c.into_inner.ensures c.in-Err.ensures.back.cause))
     c.named.ensures.exact other
 
 pub returns-in-Ok-finish-clause-booked : goal.returns-in-Ok-finish-clause-booked
 returns-in-Ok-finish-clause-booked g c =
-    let done = c.in-Ok-finish.ensures in
+    let done = c.in-Ok-finish.ensures.closed in
     done.sum ∙ done.booked ∙ one_till _ c.args.self.till (search rules)

@@ -1,7 +1,7 @@
 use Rattle.std.proofs.Common.{◌≡◌, ◌≤◌, ◌-◌, length}
 use Rattle.answer_ticket.specs.Job.{candidates}
 use Rattle.server_station.specs.Tries.{AreRefused}
-use Rattle.server_station.proofs.station.Station.tried.Given as goal
+use Rattle.server_station.proofs.station.Station.try_all.Given as goal
 
 abbrev pub invariant-loop-book : goal.invariant-loop-book
 invariant-loop-book g l = record {

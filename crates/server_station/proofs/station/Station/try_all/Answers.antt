@@ -3,7 +3,7 @@ use Rattle.answer_ticket.specs.Tried.{stub_of}
 use Rattle.answer_ticket.specs.declared.outcome.Ending.TheVariants.{GivenUp}
 use Rattle.server_station.proofs.TriedLemmas.{refused_there, booked_there, out_there, given_up_there, tried_in_vain}
 use Rattle.server_station.proofs.TriedLemmas.{is_among_tried, stands_at}
-use Rattle.server_station.proofs.station.Station.tried.Goals as goal
+use Rattle.server_station.proofs.station.Station.try_all.Goals as goal
 
 pub loop-book-preserved : goal.loop-book-preserved
 loop-book-preserved g c =
@@ -16,7 +16,7 @@ loop-book-preserved g c =
       refused = on.1;
       overrun =
           let first = c.loop-book.invariant.overrun in
-          let then = c.entered.ensures.overrun in omega (arith, first, then);
+          let then = c.enter.ensures.overrun in omega (arith, first, then);
     }
 
 pub returns-in-Booked-clause-tries : goal.returns-in-Booked-clause-tries
