@@ -75,6 +75,7 @@ pub(crate) fn shown_value(
     rule: Option<Rule>,
 ) -> Result<String, AllocError> {
     let words = match value {
+        Value::Integer(_) if matches!(rule, Some(Rule::Secret(_))) => "a whole number",
         Value::Integer(number) => return format!(in alloc; "{number}"),
         Value::String(text) => return shown_string(alloc, text.as_str(), rule),
         Value::Float(_) => "a number with a point",
