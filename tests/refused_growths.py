@@ -40,6 +40,7 @@ CASES = [
     ("run_three_devices_at_once", ""), ("run_three_devices_at_once", "--workers 1"), ("run_payload_in_rx1", "--workers 1"),
     ("run_each_line_again", ""), ("run_each_line_again", "--workers 1"), ("run_queue_refusals", ""),
     ("run_lines_passed_over_and_malformed", ""), ("run_settings_alone", ""), ("run_settings_not_toml", ""),
+    ("check_misspelt", ""), ("check_faults_of_each_kind", ""),
     ("book_two_bookings_example", ""), ("book_resume_example", ""), ("plan_earliest_example", ""), ("toa_dr5_12_bytes", ""),
     ("listen", "--workers 1"), ("run_in_two_parts", "--workers 2"),
 ]
