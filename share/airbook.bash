@@ -4,7 +4,7 @@ _airbook() {
     local word=${COMP_WORDS[COMP_CWORD]} options='--help'
     COMPREPLY=()
     if ((COMP_CWORD == 1)); then
-        mapfile -t COMPREPLY < <(compgen -W 'toa book plan run listen help --help --version' -- "$word")
+        mapfile -t COMPREPLY < <(compgen -W 'toa book plan check run listen help --help --version' -- "$word")
         return
     fi
     case ${COMP_WORDS[1]} in
@@ -12,7 +12,7 @@ _airbook() {
         plan) options='--cap --gap --help' ;;
         run) options='--workers --help' ;;
         listen) options='--port --turns --workers --help' ;;
-        help) options='toa book plan run listen help' ;;
+        help) options='toa book plan check run listen help' ;;
     esac
     if [[ $word == -* || ${COMP_WORDS[1]} == help ]]; then
         mapfile -t COMPREPLY < <(compgen -W "$options" -- "$word")

@@ -39,6 +39,10 @@ from starved_server import is_followed
 # steps and their copies of bytes.
 # Refuses `settings_text` `read_settings`: by size.
 # Refuses `settings_text` `settings_in`: by size.
+# Refuses `settings_text` `document_settings` (a check): by size: two lists.
+# Refuses `settings_check` `report_of` (a check): by size: the document, and what each finding says.
+# Refuses `settings_check` `Report::text` (a check): by size.
+# Refuses `check_texts` `check_text` (a check): by size.
 # Refuses `run_lines` `read_all`: by size.
 # Refuses `run_lines` `events_from` (of a text in two parts too): by size.
 # Refuses `run_lines` `datagram_event` (`listen`): by size.
@@ -58,6 +62,7 @@ CASES = [
     ("run_three_devices_at_once", ""), ("run_three_devices_at_once", "--workers 1"), ("run_payload_in_rx1", "--workers 1"),
     ("run_each_line_again", ""), ("run_each_line_again", "--workers 1"), ("run_queue_refusals", ""),
     ("run_lines_passed_over_and_malformed", ""), ("run_settings_alone", ""), ("run_settings_not_toml", ""),
+    ("check_misspelt", ""), ("check_faults_of_each_kind", ""),
     ("book_two_bookings_example", ""), ("book_resume_example", ""), ("plan_earliest_example", ""), ("toa_dr5_12_bytes", ""),
     ("listen", "--workers 1"), ("run_in_two_parts", "--workers 2"),
 ]

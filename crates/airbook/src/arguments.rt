@@ -31,6 +31,8 @@ pub enum Task {
         cap: u32,
         gap: u32,
     },
+    /// Whether settings of a server are right, and what is wrong with them.
+    Check,
     /// Settings of a server, and what happens there, with so many workers; with none one thread does all.
     Run {
         workers: u8,
@@ -50,6 +52,7 @@ pub fn program<'a>(alloc: Global) -> Result<Command<'a>, AllocError> {
         .subcommand(toa(alloc)?)?
         .subcommand(book(alloc)?)?
         .subcommand(plan(alloc)?)?
+        .subcommand(check(alloc)?)?
         .subcommand(run(alloc)?)?
         .subcommand(listen(alloc)?)
 }
@@ -140,6 +143,15 @@ fn save<'a>(alloc: Global) -> Arg<'a> {
         .action(ArgAction::SetTrue)
 }
 
+/// The arguments of `check`: none.
+fn check<'a>(alloc: Global) -> Result<Command<'a>, AllocError> {
+    Ok(Command::new(alloc, "check")
+        .about(help::CHECK)
+        .long_about(help::LONG_CHECK)
+        .after_help(help::MORE)
+        .after_long_help(help::AFTER_CHECK))
+}
+
 /// How many workers a run has.
 fn workers<'a>(alloc: Global) -> Arg<'a> {
     Arg::new(alloc, "workers")
@@ -178,6 +190,7 @@ pub fn task_of(matches: &ArgMatches<'_>) -> Option<Task> {
             cap: plan.get_one::<u32>("cap")?,
             gap: plan.get_one::<u32>("gap")?,
         }),
+        Some(("check", _)) => Some(Task::Check),
         Some(("run", run)) => Some(Task::Run {
             workers: run.get_one::<u8>("workers")?,
         }),

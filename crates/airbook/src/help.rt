@@ -17,11 +17,13 @@ Statuses:
   1  one does
   2  the arguments were refused, with a text on standard error; or the run
      stopped, with a last line airbook: NAME there (docs/FORMATS.md has them)
+check has its own: see airbook check --help.
 
 Examples:
   airbook toa 5 12
   airbook book < examples/two-bookings.txt
   airbook plan < examples/plan.txt
+  airbook check < examples/misspelt.toml
   airbook run < examples/two-gateways.txt
   airbook listen --port 1700 --turns 1 < examples/settings.toml";
 
@@ -100,6 +102,41 @@ Example:
   kept 1 41216
   floor 0
   busiest M 10000000 41216";
+
+pub const CHECK: &str = "Tells what is wrong or doubtful in the settings of a server";
+
+pub const LONG_CHECK: &str = "\
+Tells what is wrong or doubtful in the settings of a server. Standard input: the
+settings in TOML, or an input of run, which is read up to its line ---. Each
+finding is a line, by its place:
+  error NAME LINE:COLUMN WORDS   run and listen refuse the settings
+  warning LINE:COLUMN WORDS      they take them, maybe not as they were meant
+Behind them stand how many gateways and devices there are, the greatest payload
+in bytes at each data rate, and the keys left out, each with its default.";
+
+pub const AFTER_CHECK: &str = "\
+The first fault that run and listen meet is one of the errors, by its NAME.
+docs/FORMATS.md has all findings, and what to do.
+
+Statuses:
+  0  nothing was found
+  1  there are warnings alone
+  2  run and listen refuse the settings; or the check stopped, with a last line
+     airbook: NAME on standard error
+
+Example:
+  $ airbook check < examples/misspelt.toml
+  warning 10:1 device 1 (26011bda) dealy: unknown key, did you mean delay?
+  error Range 11:1 device 1 (26011bda) offset: 6, allowed: a whole number 0 to 5
+  found errors 1 warnings 1
+  gateways 1 devices 1
+  payload DR0 51 DR1 51 DR2 51 DR3 115 DR4 242 DR5 242 DR6 242
+  default gateway cap 4096 of 1
+  default device delay 1 of 1
+  default device rx2_freq 869525000 of 1
+  default device rx2_dr 0 of 1
+  default device up none of 1
+  default device down 0 of 1";
 
 pub const RUN: &str = "Answers the uplinks that gateways heard, from settings and lines";
 

@@ -1,7 +1,7 @@
 // The tasks of the program, over any runtime, and the status that each ends with.
 use crate::arguments::{Task, program, task_of};
 use crate::listening::{Stopped, listen};
-use airbook_text::{TextFault, book_text, plan_text, run_text, toa_text};
+use airbook_text::{TextFault, Verdict, book_text, check_text, plan_text, run_text, toa_text};
 use log::Log;
 use std::env::Env;
 use std::hash::RandomState;
@@ -77,6 +77,10 @@ fn perform<
             save,
         } => book_text(rt.alloc(), cap, gap, resume, save, &mut reader, &mut writer),
         Task::Plan { cap, gap } => plan_text(rt.alloc(), cap, gap, &mut reader, &mut writer),
+        Task::Check => match check_text(rt.alloc(), &mut reader, &mut writer) {
+            Ok(verdict) => return status_of(verdict),
+            Err(stopped) => Err(stopped),
+        },
         Task::Run { workers } => match RandomState::new(rt) {
             Ok(hasher) => run_text(rt, rt.alloc(), hasher, workers, &mut reader, &mut writer),
             Err(_) => Err(TextFault::Read),
@@ -91,6 +95,15 @@ fn perform<
         Ok(false) => ExitCode::SUCCESS,
         Ok(true) => ExitCode::from(REFUSED),
         Err(stopped) => fault(rt, stopped.name()),
+    }
+}
+
+/// The status of a check that came to this.
+fn status_of(verdict: Verdict) -> ExitCode {
+    match verdict {
+        Verdict::Clean => ExitCode::SUCCESS,
+        Verdict::Doubtful => ExitCode::from(REFUSED),
+        Verdict::Refused => ExitCode::from(FAULT),
     }
 }
 

@@ -81,9 +81,14 @@ abbrev pub or_refused : SettingLists → Option SettingsFault → Result Setting
 or_refused lists None = Ok lists
 or_refused lists (Some fault) = Err (Checked fault)
 
+-- the settings of a document, or why it gives none
+abbrev pub settings_of_document : Members → Result SettingLists ReadFault
+settings_of_document document = do
+  lists ← lists_of document
+  or_refused lists (settings_fault lists.gateways lists.devices)
+
 -- the settings of a text, or why it gives none
 unfoldable pub settings_of : List ℕ → Result SettingLists ReadFault
 settings_of text = do
   document ← ok_or (parse_document text) NotToml
-  lists ← lists_of document
-  or_refused lists (settings_fault lists.gateways lists.devices)
+  settings_of_document document

@@ -9,4 +9,4 @@ mod settings_reading;
 pub use server_desk::{DataRate, DeviceSetting, GatewaySetting, Settings, SettingsFault};
 pub use settings_fault::ReadFault;
 pub use settings_of_bytes::settings_in;
-pub use settings_reading::read_settings;
+pub use settings_reading::{document_settings, read_settings};

@@ -5,6 +5,7 @@ ghost use Rattle.toml.specs.Parse.{parse_document};
 ghost use Rattle.toml.specs.View.{view, table_view, items_view};
 ghost use Rattle.settings_text.specs.declared.settings_fault.ReadFault.{ReadFault};
 ghost use Rattle.settings_text.specs.SettingsOfTable.{gateway_setting, device_setting, setting_in, each_in, list_at, settings_of};
+ghost use Rattle.settings_text.specs.SettingsOfTable.{settings_of_document};
 
 use crate::ReadFault;
 use crate::settings_fields::{
@@ -112,7 +113,16 @@ pub fn read_settings(alloc: Global, text: &str) -> Result<Settings<Global>, Read
     ensures fault { IfErr result (λ fault. fault ≢ ReadFault.NoMemory → settings_of text.now ≡ Err fault) }
 {
     let document = document_of(alloc, text)?;
-    let gateways = list_at(alloc, &document, "gateway")?;
-    let devices = list_at(alloc, &document, "device")?;
+    document_settings(alloc, &document)
+}
+
+/// The settings of a document that was parsed already, as `read_settings` gives them for its text: never `NotToml`.
+pub fn document_settings(alloc: Global, document: &Table) -> Result<Settings<Global>, ReadFault>
+    ensures given { IfOk result (λ settings. settings_of_document (table_view document.now) ≡ Ok settings) }
+    ensures fault { IfErr result (λ fault. fault ≢ ReadFault.NoMemory
+        → settings_of_document (table_view document.now) ≡ Err fault) }
+{
+    let gateways = list_at(alloc, document, "gateway")?;
+    let devices = list_at(alloc, document, "device")?;
     Settings::new(gateways, devices).map_err(ReadFault::Checked)
 }
