@@ -145,11 +145,13 @@ fn save<'a>(alloc: Global) -> Arg<'a> {
 
 /// The arguments of `check`: none.
 fn check<'a>(alloc: Global) -> Result<Command<'a>, AllocError> {
-    Ok(Command::new(alloc, "check")
-        .about(help::CHECK)
-        .long_about(help::LONG_CHECK)
-        .after_help(help::MORE)
-        .after_long_help(help::AFTER_CHECK))
+    Ok(
+        Command::new(alloc, "check")
+            .about(help::CHECK)
+            .long_about(help::LONG_CHECK)
+            .after_help(help::MORE)
+            .after_long_help(help::AFTER_CHECK),
+    )
 }
 
 /// How many workers a run has.
