@@ -24,10 +24,10 @@ demo:
 
 # First what takes seconds: whether the documents go with the sources. Then the gate; the edits that the prover has to refuse,
 # after the script that tries them was tried itself; the installation of a program that is none; what must not compile; and then,
-# on the program that the gate has proved and built, the cases, settings with every kind of slip, random runs and saved books beside plain models, allocations that
-# are refused, workers beside one thread, inputs of as many bytes and uplinks as there may be, the commands of the pages, talks
-# line by line, the example of a converter, a server that listens, and what is installed. Where one fails, what comes after it is
-# not run.
+# on the program that the gate has proved and built, the cases, settings with every kind of slip, random runs and saved books
+# beside plain models, allocations that are refused, workers beside one thread, inputs of as many bytes and uplinks as there may
+# be, the commands of the pages, talks line by line, the example of a converter, a server that listens, and what is installed.
+# Where one fails, what comes after it is not run.
 test: documents
 	python3 tests/gate.py
 	python3 tests/edit_trials.py
