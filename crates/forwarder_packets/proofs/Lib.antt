@@ -1,3 +1,6 @@
+mod Arrays
 mod Digits
+mod Ghosts
+mod Outdone
 mod Reading
 mod Worked

@@ -1,6 +1,6 @@
 -- Worked heads and numbers, by computation.
-use Rattle.std.proofs.Common.{◌≡◌, refl, List, [], ◌∷◌, Some, None}
-use Rattle.std.specs.Prelude.{codes, Ok, Err, pos, negsuc}
+use Rattle.std.proofs.Common.{◌≡◌, refl, [], ◌∷◌, Some, None}
+use Rattle.std.specs.Prelude.{codes, Ok, Err, negsuc}
 use Rattle.forwarder_packets.specs.Head.{head_of, acknowledgement_of}
 use Rattle.forwarder_packets.specs.declared.head.HeadFault.TheVariants.{Short, Version, Kind}
 use Rattle.forwarder_packets.specs.declared.head.Kind.TheVariants.{PullData}

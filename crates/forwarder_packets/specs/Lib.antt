@@ -2,3 +2,4 @@ pub mod Head
 pub mod Scaled
 pub mod Entry
 pub mod Seen
+pub mod Entries

@@ -1,6 +1,7 @@
 use Rattle.std.specs.Prelude.{Result, Ok, Err}
 use Rattle.forwarder_packets.specs.declared.entry.EntryFault.{EntryFault}
 use Rattle.forwarder_packets.specs.declared.packet.Entry.{Entry}
+use Rattle.forwarder_packets.specs.declared.packet.Packet.{Packet}
 use Rattle.forwarder_packets.specs.declared.packet.Entry.TheVariants.{Heard, Dropped}
 use Rattle.forwarder_packets.specs.declared.entry.Texts.{Texts}
 use Rattle.forwarder_packets.specs.declared.entry.Numbers.{Numbers as Fields}
@@ -24,8 +25,10 @@ told t = record {
 abbrev pub counted : Fields → Numbers
 counted n = record { tmst = n.tmst; freq_hz = n.freq_hz; snr = n.snr; rssi = n.rssi; size = n.size }
 
+abbrev pub shown : {A : Type 0} → Packet A → Received
+shown p = record { tmst = p.tmst; freq_hz = p.freq_hz; rate = p.rate; snr = p.snr; rssi = p.rssi; bytes = p.bytes.items }
+
 -- an entry that is heard, or not
 abbrev pub received : {A : Type 0} → Entry A → Result Received EntryFault
-received (Heard p) =
-    Ok (record { tmst = p.tmst; freq_hz = p.freq_hz; rate = p.rate; snr = p.snr; rssi = p.rssi; bytes = p.bytes.items })
+received (Heard p) = Ok (shown p)
 received (Dropped fault) = Err fault

@@ -17,6 +17,9 @@ use thiserror::Error;
 /// Why an entry of `rxpk` isn't heard. The first that holds is told.
 #[derive(Clone, Copy, Debug, PartialEq, Eq, Error)]
 pub enum EntryFault {
+    /// 32 entries stand before it.
+    #[error("more than 32 packets in one datagram")]
+    Many,
     /// It is no object, or lacks a field that is read, or one is of another kind.
     #[error("a field of the packet is missing or of another kind")]
     Shape,
@@ -38,6 +41,9 @@ pub enum EntryFault {
     /// `size` is not how many bytes `data` has.
     #[error("the packet has another length than it tells")]
     Size,
+    /// Another entry of the datagram has the same bytes, and was received better, or as well and stands before it.
+    #[error("another packet of the datagram is the same")]
+    Ghost,
 }
 
 /// The text of a number that a field is.

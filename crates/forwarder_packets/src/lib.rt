@@ -8,7 +8,7 @@ mod head;
 mod packet;
 mod scaled;
 
-pub use entries::read_entries;
+pub use entries::{PushFault, read_packets};
 pub use entry::EntryFault;
 pub use head::{Head, HeadFault, Kind, acknowledgement, read_head};
 pub use packet::{Entry, NoMemory, Packet};

@@ -2,7 +2,7 @@ use Rattle.std.proofs.Common.{◌≡◌, ◌++◌, drop, map}
 use Rattle.json.specs.Value.{value_view}
 use Rattle.forwarder_packets.specs.Entry.{entry_of}
 use Rattle.forwarder_packets.specs.Seen.{received}
-use Rattle.forwarder_packets.proofs.entries.read_entries.Given as goal
+use Rattle.forwarder_packets.proofs.entries.read_each.Given as goal
 
 -- what was read so far, and what the rest tells, is what all tell
 abbrev pub invariant-loop-item : goal.invariant-loop-item

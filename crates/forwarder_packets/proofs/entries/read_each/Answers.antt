@@ -4,7 +4,7 @@ use Rattle.json.specs.Value.{value_view}
 use Rattle.forwarder_packets.specs.Entry.{entry_of}
 use Rattle.forwarder_packets.specs.Seen.{received}
 use Rattle.forwarder_packets.proofs.Reading.{read_more, read_whole}
-use Rattle.forwarder_packets.proofs.entries.read_entries.Goals as goal
+use Rattle.forwarder_packets.proofs.entries.read_each.Goals as goal
 
 pub loop-item-preserved : goal.loop-item-preserved
 loop-item-preserved g c =
