@@ -1,3 +1,4 @@
+mod Acks
 mod Arrays
 mod Digits
 mod Ghosts

@@ -6,6 +6,7 @@ use Rattle.forwarder_packets.specs.declared.head.HeadFault.TheVariants.{Short, V
 use Rattle.forwarder_packets.specs.declared.head.Kind.TheVariants.{PullData}
 use Rattle.forwarder_packets.specs.Scaled.{scaled}
 use Rattle.forwarder_packets.specs.Entry.{frequency_of}
+use Rattle.forwarder_packets.specs.TxAck.{failure_named, failure_of}
 
 -- PULL_DATA of a gateway, and what acknowledges it
 pub pull_data : head_of (2 ∷ 0 ∷ 7 ∷ 2 ∷ 0xaa ∷ 0x55 ∷ 0x5a ∷ 0 ∷ 0 ∷ 0 ∷ 0 ∷ 2 ∷ [])
@@ -44,3 +45,16 @@ tenths = refl
 
 pub no_exponent : scaled 0 (codes "1e3") ≡ None
 no_exponent = refl
+
+-- errors of a TX_ACK by their names
+pub no_error : failure_named (codes "NONE") ≡ None
+no_error = refl
+
+pub too_late : failure_named (codes "TOO_LATE") ≡ Some (codes "TOO_LATE")
+too_late = refl
+
+pub no_name : failure_named (codes "too late") ≡ Some (codes "Other")
+no_name = refl
+
+pub nothing_told : failure_of [] ≡ None
+nothing_told = refl

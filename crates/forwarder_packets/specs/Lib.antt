@@ -3,3 +3,4 @@ pub mod Scaled
 pub mod Entry
 pub mod Seen
 pub mod Entries
+pub mod TxAck

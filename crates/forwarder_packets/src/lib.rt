@@ -7,8 +7,10 @@ mod entry;
 mod head;
 mod packet;
 mod scaled;
+mod tx_ack;
 
 pub use entries::{PushFault, read_packets};
 pub use entry::EntryFault;
 pub use head::{Head, HeadFault, Kind, acknowledgement, read_head};
 pub use packet::{Entry, NoMemory, Packet};
+pub use tx_ack::{TxAck, read_tx_ack};

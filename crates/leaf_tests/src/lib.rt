@@ -4,6 +4,8 @@
 #![tactic(auto)]
 
 #[cfg(test)]
+mod acks;
+#[cfg(test)]
 mod calls;
 #[cfg(test)]
 mod candidate_growth;
