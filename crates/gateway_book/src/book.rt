@@ -284,4 +284,12 @@ impl<R: Roster> GatewayBook<R> {
     {
         self.roster.members(alloc)
     }
+
+    /// What every book keeps, as a law of this one: its list is one that a book with its rules, its floor and its booked
+    /// airtime may keep. A call does nothing.
+    pub fn law_whole(&self)
+        ensures { IsBookList self.now.rules self.now.floor self.now.booked self.now.list }
+    {
+        let _kept = &self.roster;
+    }
 }

@@ -1,4 +1,4 @@
-ghost use Rattle.std.specs.Prelude.{◌≡◌, map, IfOk, OnOk, OnErr, MatchResult, IsOkUnless};
+ghost use Rattle.std.specs.Prelude.{◌≡◌, map, is_some, IfOk, OnOk, OnErr, MatchResult, IsOkUnless};
 ghost use Rattle.std.specs.Option.{option_map};
 ghost use Rattle.lora_frame.specs.Reading.{uplink_of};
 ghost use Rattle.uplink_gather.specs.Hearing.{is_crowded};
@@ -201,6 +201,14 @@ impl<S: BuildHasher, A: Allocator> Desk<S, A> {
         let number = self.gather.due(now)?;
         self.gather.close(number);
         Some(number)
+    }
+
+    /// Whether a gathering is due at `now`, in microseconds of the server's clock: exactly then `pass` closes one. Takes no
+    /// memory.
+    pub fn is_due(&self, now: u64) -> bool
+        ensures { result ≡ is_some (pass_answer self.now.reg now) }
+    {
+        self.gather.due(now).is_some()
     }
 
     /// What is to be done with a copy of an uplink.
