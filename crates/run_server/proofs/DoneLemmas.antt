@@ -1,10 +1,11 @@
 -- What is done for events, one after another.
 use Rattle.std.proofs.Common.{◌≡◌, ℕ, ◌+◌, ◌<◌, ◌++◌, List, [], ◌∷◌, length, refl, sym}
-use Rattle.std.proofs.Common.{arith, subst, Result, Ok, IfOk, Bool, false, ◌==◌}
+use Rattle.std.proofs.Common.{ap, arith, subst, Option, Some, None, Result, Ok, IfOk, Bool, false, ◌==◌}
 use Rattle.std.specs.Global.{Global}
 use Rattle.server_core.specs.declared.event.Event.{Event}
 use Rattle.server_core.specs.declared.event.Event.TheVariants as events
-use Rattle.run_server.specs.WorkersRun.{RunState, HasPassed, IsDone, AreDone, AreAnswered, AreDealtWith}
+use Rattle.server_core.specs.Engine.{IsDoneButPass}
+use Rattle.run_server.specs.WorkersRun.{RunState, ShiftState, HasPassed, IsDone, IsShiftDone, AreDone, AreAnswered, AreDealtWith}
 
 -- one more event was done for
 pub done_more : (ids : List ℕ) (place : ℕ) (es : List (Event Global)) (e : Event Global) (old mid new : RunState)
@@ -36,7 +37,19 @@ some_left [] m t e f same = absurd (cc (e, f))
 some_left (n ∷ l) m t e f same = subst (λ k. 0 < length k) same (omega arith)
 
 -- what was left of a `Pass` was done
-pub passed_then : (ids : List ℕ) (place now : ℕ) (e : Event Global) (old mid new : RunState)
-    → (e ≡ events.Pass now) × (mid ≡ old) → HasPassed ids place now mid new → IsDone ids place e old new
-passed_then ids place now e old mid new left passed =
-    subst (λ f. IsDone ids place f old new) (sym left.0) (subst (λ k. HasPassed ids place now k new) left.1 passed)
+pub passed_then : (place now : ℕ) (e : Event Global) (old mid new : ShiftState) → (e ≡ events.Pass now) × (mid ≡ old)
+    → new.ids ≡ mid.ids → new.workers ≡ mid.workers → HasPassed mid.ids place now mid.run new.run
+    → IsShiftDone place e old new
+passed_then place now e old mid new left ids workers passed =
+    subst (λ (s : ShiftState). IsShiftDone place e s new) left.1 (record {
+      ids = ids;
+      workers = workers;
+      done = subst (λ f. IsDone mid.ids place f mid.run new.run) (sym left.0) passed;
+    })
+
+-- what was done, of what is seen of a shift
+pub seen_done : {X A : Type 0} {Y : Type 0} (f : X → Y) (R : ℕ → Event A → Y → Y → Type 0) (place : ℕ) (e : Event A)
+    (old new : X) (left : Option ℕ) → IsDoneButPass (λ p d a b. R p d (f a) (f b)) place e old new left
+    → IsDoneButPass R place e (f old) (f new) left
+seen_done f R place e old new None done = done
+seen_done f R place e old new (Some now) done = (done.0, ap f done.1)

@@ -109,10 +109,20 @@ IsDone ids place (events.Tick gateway now) old new =
 IsDone ids place (events.Cancel n) old new = HasCancelled ids place n old new
 IsDone ids place (events.Bad line) old new = HasOneLine place (lines.Bad line) old new
 
--- the same for all but a `Pass`: of that nothing was done, and the moment until which time passes is left
-abbrev pub IsDoneButPass : List ℕ → ℕ → Event Global → RunState → RunState → Option ℕ → Type 0
-IsDoneButPass ids place e old new None = IsDone ids place e old new
-IsDoneButPass ids place e old new (Some now) = (e ≡ events.Pass now) × (new ≡ old)
+-- a shift: its station's gateways, for as many workers as it is, and the run so far
+pub record ShiftState : Type 0 where
+  pub ids : List ℕ
+  pub workers : ℕ
+  pub run : RunState
+
+abbrev pub shift_state : List ℕ → ℕ → RunState → ShiftState
+shift_state ids workers run = record { ids = ids; workers = workers; run = run }
+
+-- what was done for the event at this place, at a shift that stays for so many workers
+pub record IsShiftDone (place : ℕ) (e : Event Global) (old new : ShiftState) : Type 0 where
+  pub ids : new.ids ≡ old.ids
+  pub workers : new.workers ≡ old.workers
+  pub done : IsDone old.ids place e old.run new.run
 
 -- what was done for some events, the first of them at this place, one after another
 abbrev pub AreDone : List ℕ → ℕ → List (Event Global) → RunState → RunState → Type 0

@@ -6,6 +6,7 @@ mod numbered;
 mod pass_answers;
 mod pass_ends;
 mod receipts;
+mod shift_events;
 mod shift_pass;
 mod station_close;
 mod station_pass;

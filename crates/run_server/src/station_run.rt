@@ -1,20 +1,16 @@
 // A run on a station with workers: what the events ask for, one after another.
-ghost use Rattle.std.specs.Prelude.{◌≡◌, ◌+◌, ◌^◌, ◌<◌, ◌++◌, [], ◌∷◌, IfOk, OnOk, vec_len};
+ghost use Rattle.std.specs.Prelude.{◌≡◌, ◌+◌, ◌^◌, ◌<◌, IfOk, vec_len};
 ghost use Rattle.air_ledger.specs.Tills.{all_parts};
-ghost use Rattle.server_core.specs.Entries.{entry_at};
+ghost use Rattle.server_core.specs.Engine.{IsDoneButPass};
 ghost use Rattle.server_station.specs.Stations.{AreInOrder};
-ghost use Rattle.run_server.specs.Bookings.{booked_for, IsCancelTold};
-ghost use Rattle.run_server.specs.WorkersRun.{run_state, floor_line, IsDone, IsDoneButPass, AreDone, HasOpened, IsStaffed};
+ghost use Rattle.run_server.specs.WorkersRun.{run_state, shift_state, IsDone, IsShiftDone, AreDone, HasOpened, IsStaffed};
 
 use crate::receipts::Receipts;
-use gateway_book::{CancelFault, Totals};
-use server_core::{
-    Book, Entry, Event, Line, NoMemory, Settings, cancelled_line, heard_line, queued_line,
-};
+use gateway_book::Totals;
+use server_core::{Book, Entry, Event, NoMemory, Settings, do_all_but_pass};
 use server_workers::{Blank, Ledger, PARTS, Station, Till};
 use std::alloc::Global;
 use std::hash::BuildHasher;
-use std::mem::replace;
 use std::sync::Wait;
 use std::thread::Threads;
 
@@ -108,20 +104,20 @@ where
         Ok(shift)
     }
 
-    /// Does what the event at this place asks for, as `answer_all_but_pass` does, and drops it.
+    /// Does what the event at this place asks for, as `do_all_but_pass` does, and drops it.
     fn use_up<R: Wait>(
         &mut self,
         rt: &R,
         place: usize,
         event: Event<Global>,
     ) -> Result<Option<u64>, NoMemory>
-        ensures station { self.new.station.value ≡ self.old.station.value }
-        ensures workers { self.new.workers ≡ self.old.workers }
-        ensures done { IfOk result (IsDoneButPass self.old.station.value place event
-            (run_state self.old.till self.old.receipts self.old.entries.items)
-            (run_state self.new.till self.new.receipts self.new.entries.items)) }
+        ensures { IfOk result (IsDoneButPass IsShiftDone place event
+            (shift_state self.old.station.value self.old.workers
+            (run_state self.old.till self.old.receipts self.old.entries.items))
+            (shift_state self.new.station.value self.new.workers
+            (run_state self.new.till self.new.receipts self.new.entries.items))) }
     {
-        self.answer_all_but_pass(rt, place, &event)
+        do_all_but_pass(self, rt, place, &event)
     }
 
     /// Does what this event asks for: its lines go behind those that were told, each with this place. Err(NoMemory) where a
@@ -140,103 +136,9 @@ where
             (run_state shift.till shift.receipts shift.entries.items)) }
     {
         let mut shift = self;
-        match shift.answer_all_but_pass(rt, place, event)? {
+        match do_all_but_pass(&mut shift, rt, place, event)? {
             None => Ok(shift),
             Some(now) => shift.pass(rt, alloc, place, now),
         }
-    }
-
-    /// Does what the event at this place asks for, unless it is a `Pass`, which is left to be done until the moment that is
-    /// answered. Err(NoMemory) where a growth was refused.
-    fn answer_all_but_pass<R: Wait>(
-        &mut self,
-        rt: &R,
-        place: usize,
-        event: &Event<Global>,
-    ) -> Result<Option<u64>, NoMemory>
-        ensures station { self.new.station.value ≡ self.old.station.value }
-        ensures workers { self.new.workers ≡ self.old.workers }
-        ensures done { IfOk result (IsDoneButPass self.old.station.value place event.now
-            (run_state self.old.till self.old.receipts self.old.entries.items)
-            (run_state self.new.till self.new.receipts self.new.entries.items)) }
-    {
-        let line = match event {
-            Event::Pass { now } => return Ok(Some(*now)),
-            Event::Queue {
-                addr,
-                port,
-                payload,
-            } => queued_line(
-                *addr,
-                self.station.queue(rt, *addr, *port, payload.as_slice()),
-            )?,
-            Event::Hear {
-                bytes,
-                heard,
-                arrived,
-            } => heard_line(self.station.hear(rt, bytes.as_slice(), *heard, *arrived))?,
-            Event::Tick { gateway, now } => {
-                floor_line(*gateway, self.station.tick(rt, *gateway, *now))
-            }
-            Event::Cancel { number } => self.cancel(rt, *number),
-            Event::Bad { line } => Line::Bad { line: *line },
-        };
-        self.tell(place, line)?;
-        Ok(None)
-    }
-
-    /// Takes the lines out that were told.
-    pub fn take_lines(&mut self, alloc: Global) -> Vec<Entry<Global>>
-        ensures station { self.new.station.value ≡ self.old.station.value }
-        ensures workers { self.new.workers ≡ self.old.workers }
-        ensures till { self.new.till ≡ self.old.till }
-        ensures receipts { self.new.receipts ≡ self.old.receipts }
-        ensures taken { result.items ≡ self.old.entries.items }
-        ensures none { self.new.entries.items ≡ [] }
-    {
-        replace(&mut self.entries, Vec::new(alloc))
-    }
-
-    /// Tells a line.
-    pub(crate) fn tell(&mut self, place: usize, line: Line<Global>) -> Result<(), NoMemory>
-        ensures station { self.new.station.value ≡ self.old.station.value }
-        ensures workers { self.new.workers ≡ self.old.workers }
-        ensures till { self.new.till ≡ self.old.till }
-        ensures receipts { self.new.receipts ≡ self.old.receipts }
-        ensures told { OnOk result (self.new.entries.items ≡ self.old.entries.items ++ entry_at place line ∷ []) }
-    {
-        Ok(self.entries.push(Entry { event: place, line })?)
-    }
-
-    /// Cancels what was booked for the uplink with this number.
-    fn cancel<R: Wait>(&mut self, rt: &R, number: u64) -> Line<Global>
-        ensures station { self.new.station.value ≡ self.old.station.value }
-        ensures workers { self.new.workers ≡ self.old.workers }
-        ensures till { self.new.till ≡ self.old.till }
-        ensures entries { self.new.entries ≡ self.old.entries }
-        ensures told { IsCancelTold self.old.station.value number (booked_for number self.old.receipts)
-            self.old.receipts self.new.receipts result }
-    {
-        let Some(at) = self.receipts.place_of(number) else {
-            return Line::NotCancelled {
-                number,
-                fault: CancelFault::NotHere,
-            };
-        };
-        let answer = self.station.cancel(rt, self.receipts.receipt_at(at));
-        if answer.is_ok() {
-            self.receipts.mark(at);
-        }
-        cancelled_line(number, answer)
-    }
-}
-
-/// The line for a gateway's floor, if the station has the gateway.
-fn floor_line(gateway: u16, floor: Option<u64>) -> Line<Global>
-    ensures { result ≡ floor_line gateway floor }
-{
-    match floor {
-        Some(floor) => Line::Floor { gateway, floor },
-        None => Line::NotTicked,
     }
 }

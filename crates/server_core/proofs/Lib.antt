@@ -18,5 +18,7 @@ pub mod TrySteps
 pub mod Settled
 pub mod Answered
 pub mod Passes
+pub mod Events
+pub mod Openings
 pub mod Replays
 pub mod WorkedStaying

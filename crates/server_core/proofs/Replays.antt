@@ -1,61 +1,12 @@
 -- Events, one after another, from a server that has heard nothing.
 use Rattle.server_core.proofs.Words
 use Words.{ap, append-nil, append_assoc, sym, ◌∙◌, List, [], Option, Some, get_or, length, map, refl, ℕ, ◌++◌, ◌+◌, ◌<◌, ◌∷◌, ◌≡◌}
-use Words.{◌≤◌, map-map, Book, orderly_nil, kept-nil, remembers_own, desk_of, Gateway, World, opened_gateway, opening}
-use Words.{AreSettings, SettingLists, GatewaySetting, entries, gateway_of, kept_gateway, reached, noting, schedule, usual_limits}
+use Words.{Book, Gateway, World, opening, SettingLists, entries, gateway_of, kept_gateway, reached, noting, schedule, usual_limits}
 use Words.{AreBooksOf, Does, IsAt, IsOpened, IsBetweenCalls, Seen, with_lines, Step, Event, event_steps, entry_at, length-append}
-use Words.{subst, schedule_from, entries_from, run_from, same_Some, arith, All, All-head, All-tail, IsGatewayInRange}
-use Rattle.server_core.proofs.{Calls.noting_none, Calls.noting_twice, Calls.reached_append, Members.none_numbered}
+use Words.{subst, schedule_from, entries_from, run_from, same_Some, arith}
+use Rattle.server_core.proofs.{Calls.noting_none, Calls.noting_twice, Calls.reached_append}
 use Rattle.server_core.specs.Entries.{event_lines, gateways_after}
 use Rattle.std.proofs.{Common.take, lemmas.List.length-take-le, lemmas.List.take_more}
-use Rattle.server_core.specs.declared.event.Event.TheVariants as events
-use Rattle.server_core.specs.declared.entry.Line.TheVariants as says
-
--- a server that has heard nothing
-
-within_range : (b : Book) (g : GatewaySetting) → IsGatewayInRange g → gateway_of b ≡ opened_gateway g → b.rules.gap ≤ 100000
-within_range b g r e =
-    let same : b.rules.gap ≡ g.gap = ap (λ (x : Gateway). x.rules.gap) e in
-    omega (arith, same, r.gap.1)
-
-opened_books : (books : List Book) (gs : List GatewaySetting) → All IsGatewayInRange gs
-    → map gateway_of books ≡ map opened_gateway gs
-    → AreBooksOf books (map opened_gateway gs)
-opened_books [] [] a e = tt
-opened_books [] (g ∷ gs) a e = absurd (cc (e))
-opened_books (b ∷ bs) [] a e = absurd (cc (e))
-opened_books (b ∷ bs) (g ∷ gs) a e = (
-  record {
-    id = cc (e);
-    rules = cc (e);
-    orderly = orderly_nil b.rules.gap (within_range b g (All-head IsGatewayInRange g gs a) (cc (e)));
-    remembers = remembers_own b _ (cc (e)) (kept-nil 0);
-  },
-  opened_books bs gs (All-tail IsGatewayInRange g gs a) (cc (e)),
-)
-
-pub server_opened : {A : Type 0} (settings : SettingLists) (s : Seen A) → s.desk ≡ desk_of (opening settings usual_limits)
-    → map gateway_of s.books ≡ map opened_gateway settings.gateways
-    → s.outcomes ≡ [] → AreSettings settings.gateways settings.devices → IsOpened settings s.steps s
-server_opened settings s d b o are =
-    record {
-      are = are;
-      at = record { desk = d; books = opened_books s.books settings.gateways are.gateways_in_range b };
-      ready = rw d (record {
-        books = sym (map-map (λ (g : Gateway). g.id) gateway_of s.books) ∙ ap (map (λ (g : Gateway). g.id)) b;
-        heard = λ n g e c k. absurd (none_numbered n g e);
-        idle = λ n k e. absurd (none_numbered n k e);
-      });
-      steps = refl;
-      outcomes = o;
-    }
-
--- a line that can't be read
-pub bad_told : {A : Type 0} (place line : ℕ) (e : Event A) (old new : Seen A) → e ≡ events.Bad line
-    → new ≡ with_lines place (says.Bad line ∷ []) old → Does place e old new
-unfolding event_steps run_from
-bad_told place line e old new is told =
-    rw is (λ w at. record { at = rw told at; steps = rw told (sym (noting_none old.steps)); outcomes = rw told refl })
 
 -- one event more
 
@@ -85,7 +36,7 @@ pub record IsReplaying {A : Type 0} (settings : SettingLists) (kept : Option (Li
   pub outcomes : s.outcomes ≡ entries settings es
 
 pub replaying_first : {A : Type 0} (settings : SettingLists) (kept : Option (List Step)) (s : Seen A)
-    → IsOpened settings kept s → IsReplaying settings s.steps [] s
+    → IsOpened (opening settings usual_limits) kept s → IsReplaying settings s.steps [] s
 unfolding run_from schedule_from entries_from
 replaying_first settings kept s o =
     record { at = o.at; ready = o.ready; steps = sym (noting_none s.steps); outcomes = o.outcomes }

@@ -65,7 +65,8 @@ pub use Rattle.server_core.specs.Schedule.{answer_steps, closing_steps, due_from
 pub use Rattle.server_core.specs.Schedule.{reached, schedule, step_of, up_to_first}
 pub use Rattle.server_desk.specs.UsualLimits.{usual_limits}
 pub use Rattle.server_core.specs.Server.{AreBooksOf, AreHeard, AreHere, Does, HasHeard, IsAt, IsBookOf, IsCancelled, IsIdle}
-pub use Rattle.server_core.specs.Server.{IsOpened, IsBetweenCalls, Makes, Moves, Seen, cancelled_line, heard_line, ids_of}
+pub use Rattle.server_core.specs.Opened.{AreBooksFor, IsBookFor, IsOpened, IsWhole, resuming}
+pub use Rattle.server_core.specs.Server.{IsBetweenCalls, Makes, Moves, Seen, cancelled_line, heard_line, ids_of}
 pub use Rattle.server_core.specs.Server.{noting, pass_whole, queued_line, seen, with_lines, with_step}
 pub use Rattle.server_core.specs.Steps.{After, Cancel, Given, Hear, Heard, Pass, Queue, Queued, Reply, Run, Settle, Step, Take}
 pub use Rattle.server_core.specs.Steps.{Tick, Try, answers_after, cancel, cancel_at, cancel_of, cancel_sent, ending_of, hear}

@@ -7,6 +7,8 @@ pub mod Headline
 pub mod Schedule
 pub mod Entries
 pub mod Server
+pub mod Opened
+pub mod Engine
 pub mod Tries
 pub use Rattle.radio_airtime.specs.DataRate
 pub use Rattle.radio_airtime.specs.TimeOnAir

@@ -18,14 +18,12 @@ use Rattle.server_desk.specs.Register.{is_among}
 use Rattle.server_desk.specs.declared.heard.DeskHeard.{DeskHeard}
 use Rattle.server_desk.specs.declared.faults.QueueFault.{QueueFault}
 use Rattle.server_desk.specs.declared.faults.DeskFault.{DeskFault}
-use Rattle.server_desk.specs.Settings.{SettingLists, AreSettings}
 use Rattle.server_desk.specs.declared.answers.Known.{Known}
 use Rattle.server_desk.specs.Answers.{is_given}
 use Rattle.server_desk.specs.Desk.{DeskView, desk_of}
-use Rattle.server_desk.specs.World.{World, Gateway, opening}
+use Rattle.server_desk.specs.World.{World, Gateway}
 use Rattle.server_core.specs.Steps.{Step, Cancel, step}
 use Rattle.server_core.specs.Steps as replies
-use Rattle.server_desk.specs.UsualLimits.{usual_limits}
 use Rattle.server_core.specs.Schedule.{reached, due_numbers, pass_steps, event_steps, step_of}
 use Rattle.server_core.specs.Entries.{step_lines, event_lines, entry_at}
 
@@ -52,6 +50,10 @@ seen s =
 -- these steps more are kept, where any are
 abbrev pub noting : List Step → Option (List Step) → Option (List Step)
 noting ss kept = option_map (λ made. made ++ ss) kept
+
+-- without the lines that were told
+abbrev pub without_lines : {A : Type 0} → Seen A → Seen A
+without_lines s = record s { outcomes = [] }
 
 -- after one more step, and after more lines
 abbrev pub with_step : {A : Type 0} → Step → Seen A → Seen A
@@ -129,14 +131,6 @@ pub record AreReady (d : DeskView) (bs : List Book) : Type 0 where
 -- it is ready for an event
 abbrev pub IsBetweenCalls : {A : Type 0} → Seen A → Type 0
 IsBetweenCalls s = AreReady s.desk s.books
-
--- it keeps what there is before the first step, and these steps
-pub record IsOpened {A : Type 0} (settings : SettingLists) (kept : Option (List Step)) (s : Seen A) : Type 0 where
-  pub are : AreSettings settings.gateways settings.devices
-  pub at : IsAt (opening settings usual_limits) s
-  pub ready : IsBetweenCalls s
-  pub steps : s.steps ≡ kept
-  pub outcomes : s.outcomes ≡ []
 
 -- the line that answers a payload, a copy of an uplink, or what was to be cancelled
 abbrev pub queued_line : {A : Type 0} → ℕ → Result ℕ QueueFault → Line A

@@ -5,13 +5,25 @@ ghost use Rattle.std.specs.Option.{option_map};
 ghost use Rattle.server_desk.specs.Settings.{IsGatewayInRange};
 ghost use Rattle.server_desk.specs.World.{opened_gateway, gateway_with};
 ghost use Rattle.server_core.specs.Entries.{gateway_of};
+ghost use Rattle.server_core.specs.Opened.{AreBooksFor, IsWhole};
 
-use crate::{Book, GatewaySetting};
+use crate::{Book, GatewaySetting, NoMemory, Settings};
 use server_desk::empty_book;
 use std::alloc::{AllocError, Allocator};
 
-/// An empty book for each gateway, in their order.
-pub(crate) fn books_of<A: Allocator + Copy>(
+/// An empty book for each gateway of these settings, in their order. Err(NoMemory) where a growth was refused.
+pub fn empty_books<A: Allocator + Copy, B: Allocator>(
+    alloc: A,
+    settings: &Settings<B>,
+) -> Result<Vec<Book<A>, A>, NoMemory>
+    ensures each { IfOk result (λ books. AreBooksFor settings.now.gateways books.items) }
+    ensures empty { IfOk result (λ books. map gateway_of books.items ≡ map opened_gateway settings.now.gateways) }
+{
+    books_of(alloc, settings.gateways())
+}
+
+/// An empty book for each of these gateways, in their order.
+fn books_of<A: Allocator + Copy>(
     alloc: A,
     gateways: &[GatewaySetting],
 ) -> Result<Vec<Book<A>, A>, AllocError>
@@ -23,6 +35,15 @@ pub(crate) fn books_of<A: Allocator + Copy>(
         books.push(empty_book(alloc, gateway))?;
     }
     Ok(books)
+}
+
+/// What every book keeps, as a law of these. A call does nothing but walk over them.
+pub(crate) fn law_each_whole<A: Allocator + Copy>(books: &[Book<A>])
+    ensures { All IsWhole books.now }
+{
+    for book in books {
+        book.law_whole();
+    }
 }
 
 /// The place of the gateway with this number.

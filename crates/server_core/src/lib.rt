@@ -5,6 +5,8 @@
 mod answering;
 mod books;
 mod calling;
+mod dispatch;
+mod engine;
 mod entry;
 mod event;
 mod law_calls;
@@ -15,6 +17,9 @@ mod replaying;
 mod server;
 mod trying;
 
+pub use books::empty_books;
+pub use dispatch::do_all_but_pass;
+pub use engine::Engine;
 pub use entry::{Entry, Line};
 pub use event::{Event, Step};
 pub use laws::{
@@ -24,6 +29,7 @@ pub use laws::{
 pub use lines::{cancelled_line, heard_line, queued_line, refused_line};
 pub use replayed::{Answers, Replay};
 pub use replaying::{answer_events, replay};
+pub use server::Server;
 pub use server_desk::{
     Book, DataRate, Desk, DeskFault, DeskHeard, DeviceSetting, GatewaySetting, Heard1, Limits,
     MAX_DEVICES, MAX_GATEWAYS, NoMemory, QueueFault, Settings, SettingsFault, TakeFault,

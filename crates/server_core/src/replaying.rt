@@ -6,7 +6,7 @@ ghost use Rattle.server_core.specs.Entries.{entries, gateways_after, kept_gatewa
 ghost use Rattle.server_core.specs.Server.{seen, Does, Makes, IsBetweenCalls, pass_whole};
 
 use crate::server::Server;
-use crate::{Answers, Event, Line, NoMemory, Replay, Settings, Step};
+use crate::{Answers, Event, NoMemory, Replay, Settings, Step, do_all_but_pass};
 use std::alloc::Allocator;
 use std::hash::BuildHasher;
 
@@ -72,28 +72,17 @@ pub fn answer_events<S: BuildHasher + Clone, A: Allocator + Copy, B: Allocator>(
 }
 
 impl<S: BuildHasher, A: Allocator + Copy> Server<S, A> {
-    /// Does what the event at this place asks for.
-    #[tactic(auto, unfolding(crate::specs::Schedule::event_steps))]
-    fn event(&mut self, place: usize, event: &Event<A>) -> Result<(), NoMemory>
+    /// Does what this event asks for: its lines go behind those that were told, each with this place. All gatherings that are
+    /// due at a `Pass` are closed one by one, the least number first, and each is answered before the next is closed.
+    /// Err(NoMemory) where a growth was refused; then the server may have done a part of it, and does no further event.
+    pub fn event(&mut self, place: usize, event: &Event<A>) -> Result<(), NoMemory>
         requires { IsBetweenCalls (seen self.old) }
         ensures ready { OnOk result (IsBetweenCalls (seen self.new)) }
         ensures done { OnOk result (Does place event.now (seen self.old) (seen self.new)) }
     {
-        match event {
-            Event::Queue {
-                addr,
-                port,
-                payload,
-            } => self.queue(place, *addr, *port, payload.as_slice()),
-            Event::Hear {
-                bytes,
-                heard,
-                arrived,
-            } => self.hear(place, bytes.as_slice(), *heard, *arrived),
-            Event::Pass { now } => self.pass(place, *now),
-            Event::Tick { gateway, now } => self.tick(place, *gateway, *now),
-            Event::Cancel { number } => self.cancel(place, *number),
-            Event::Bad { line } => self.told(place, Line::Bad { line: *line }),
+        match do_all_but_pass(self, &(), place, event)? {
+            None => Ok(()),
+            Some(now) => self.pass(place, now),
         }
     }
 

@@ -1,21 +1,26 @@
 // A server on one thread: what it keeps, and how it opens.
 
-ghost use Rattle.std.specs.Prelude.{◌≡◌, ◌∷◌, [], map, IfOk, OnOk};
+ghost use Rattle.std.specs.Prelude.{◌≡◌, ◌∷◌, [], map, is_some, None, IfOk, OnOk};
 ghost use Rattle.std.specs.Option.{option_map};
 ghost use Rattle.server_core.specs.Schedule.{step_of};
 ghost use Rattle.server_core.specs.Steps.{Queue, Hear};
-ghost use Rattle.server_core.specs.Server.{seen, with_step, with_lines, IsOpened};
+ghost use Rattle.server_core.specs.Server.{seen, with_step, with_lines, without_lines};
+ghost use Rattle.server_core.specs.Opened.{AreBooksFor, IsOpened, resuming};
+ghost use Rattle.server_desk.specs.Passing.{pass_answer};
+ghost use Rattle.server_desk.specs.UsualLimits.{usual_limits};
+ghost use Rattle.server_desk.specs.World.{opening};
 
-use crate::books::books_of;
-use crate::{Book, Desk, Entry, Heard1, Line, NoMemory, Settings, Step, USUAL_LIMITS};
+use crate::books::{empty_books, law_each_whole};
+use crate::{Book, Desk, Entry, Heard1, Limits, Line, NoMemory, Settings, Step, USUAL_LIMITS};
 use answer_ticket::Bytes;
 use std::alloc::Allocator;
 use std::hash::BuildHasher;
+use std::mem::replace;
 
 /// A server on one thread: what its desk knows, its gateways' books in the order of the settings, the steps that it
 /// made, and the lines that it told.
 #[derive(Drop)]
-pub(crate) struct Server<S: BuildHasher, A: Allocator + Copy> {
+pub struct Server<S: BuildHasher, A: Allocator + Copy> {
     pub(crate) desk: Desk<S, A>,
     pub(crate) books: Vec<Book<A>, A>,
     /// None where nobody asks for them.
@@ -24,24 +29,87 @@ pub(crate) struct Server<S: BuildHasher, A: Allocator + Copy> {
 }
 
 impl<S: BuildHasher + Clone, A: Allocator + Copy> Server<S, A> {
-    /// A server with these settings that has heard nothing. Its steps go behind these.
+    /// A server with these settings that has heard nothing, on these books, one for each gateway in the order of the
+    /// settings: what they hold stays booked. It gathers no more than these limits allow, and keeps no steps. Devices and
+    /// uplinks are looked up through this hasher and a clone of it. Err(NoMemory) where a growth was refused; the books are
+    /// gone then.
+    pub fn resumed<B: Allocator>(
+        alloc: A,
+        hasher: S,
+        settings: &Settings<B>,
+        limits: Limits,
+        books: Vec<Book<A>, A>,
+    ) -> Result<Self, NoMemory>
+        requires { AreBooksFor settings.now.gateways books.items }
+        ensures opens { IfOk result
+            (λ server. IsOpened (resuming settings.now limits books.items) None (seen server)) }
+        ensures books { IfOk result (λ server. (seen server).books ≡ books.items) }
+    {
+        Server::opened(alloc, hasher, settings, limits, books, None)
+    }
+
+    /// A server with these settings that has heard nothing, on empty books, with the usual limits. Its steps go behind these.
     pub(crate) fn new<B: Allocator>(
         alloc: A,
         hasher: S,
         settings: &Settings<B>,
         steps: Option<Vec<Step<A>, A>>,
     ) -> Result<Self, NoMemory>
-        ensures { IfOk result
-            (λ server. IsOpened settings.now (option_map (λ kept. map step_of kept.items) steps) (seen server)) }
+        ensures { IfOk result (λ server. IsOpened (opening settings.now usual_limits)
+            (option_map (λ kept. map step_of kept.items) steps) (seen server)) }
     {
-        let desk = Desk::new(alloc, hasher, settings, USUAL_LIMITS)?;
-        let books = books_of(alloc, settings.gateways())?;
+        let books = empty_books(alloc, settings)?;
+        Server::opened(alloc, hasher, settings, USUAL_LIMITS, books, steps)
+    }
+
+    /// A server with these settings that has heard nothing, on these books. Its steps go behind these.
+    fn opened<B: Allocator>(
+        alloc: A,
+        hasher: S,
+        settings: &Settings<B>,
+        limits: Limits,
+        books: Vec<Book<A>, A>,
+        steps: Option<Vec<Step<A>, A>>,
+    ) -> Result<Self, NoMemory>
+        requires { AreBooksFor settings.now.gateways books.items }
+        ensures opens { IfOk result (λ server. IsOpened (resuming settings.now limits books.items)
+            (option_map (λ kept. map step_of kept.items) steps) (seen server)) }
+        ensures books { IfOk result (λ server. (seen server).books ≡ books.items) }
+    {
+        law_each_whole(&books);
+        let desk = Desk::new(alloc, hasher, settings, limits)?;
         Ok(Server {
             desk,
             books,
             steps,
             outcomes: Vec::new(alloc),
         })
+    }
+}
+
+impl<S: BuildHasher, A: Allocator + Copy> Server<S, A> {
+    /// The gateways' books, in the order of the settings.
+    pub fn books(&self) -> &[Book<A>]
+        ensures { result.now ≡ (seen self.now).books }
+    {
+        &self.books
+    }
+
+    /// Whether a gathering is due at `now`, in microseconds of the server's clock: exactly then an `Event::Pass` of that
+    /// moment closes one. Takes no memory.
+    pub fn is_due(&self, now: u64) -> bool
+        ensures { result ≡ is_some (pass_answer (seen self.now).desk.reg now) }
+    {
+        self.desk.is_due(now)
+    }
+
+    /// Takes the lines out that were told and not taken out, in the order in which they were told. All else stays as it is.
+    /// Takes no memory.
+    pub fn take_lines(&mut self, alloc: A) -> Vec<Entry<A>, A>
+        ensures taken { result.items ≡ (seen self.old).outcomes }
+        ensures rest { seen self.new ≡ without_lines (seen self.old) }
+    {
+        replace(&mut self.outcomes, Vec::new(alloc))
     }
 }
 

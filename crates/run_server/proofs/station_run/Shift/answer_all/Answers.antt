@@ -1,6 +1,7 @@
 use Rattle.std.proofs.Common.{ap, append_assoc, arith, refl, sym, ◌≡◌, ◌++◌, ◌∙◌, subst, length}
 use Rattle.server_core.proofs.Replays.{one_more}
-use Rattle.run_server.specs.WorkersRun.{run_state, HasPassed, IsDone, IsDoneButPass}
+use Rattle.server_core.specs.Engine.{IsDoneButPass}
+use Rattle.run_server.specs.WorkersRun.{run_state, shift_state, IsDone, IsShiftDone}
 use Rattle.run_server.proofs.DoneLemmas.{passed_then, done_more}
 use Rattle.run_server.proofs.station_run.Shift.answer_all.Goals as goal
 use Rattle.run_server.proofs.station_run.Shift.answer_all.Goals.{in-Some-left+in_ok-shift, in_default}
@@ -9,29 +10,23 @@ pub loop-event-preserved : goal.loop-event-preserved
 loop-event-preserved g c =
     let before = c.loop-event in
     let here = before.shift in
+    let used = c.use_up.new.self in
     let after = c.match-left.shift in
-    let old = run_state here.till here.receipts here.entries.items in
-    let new = run_state after.till after.receipts after.entries.items in
-    let mid = run_state c.use_up.new.self.till c.use_up.new.self.receipts c.use_up.new.self.entries.items in
-    let ids = here.station.value in
+    let old = shift_state here.station.value here.workers (run_state here.till here.receipts here.entries.items) in
+    let mid = shift_state used.station.value used.workers (run_state used.till used.receipts used.entries.items) in
+    let new = shift_state after.station.value after.workers (run_state after.till after.receipts after.entries.items) in
     let begun = run_state c.args.self.till c.args.self.receipts c.args.self.entries.items in
-    let step : (after.station.value ≡ ids) × (after.workers ≡ here.workers) × IsDone ids before.place c.in-Some.event old new =
+    let step : IsShiftDone before.place c.in-Some.event old new =
     elim c.match-left.branch [
       | in-Some-left+in_ok-shift w ↦
           rw w.shift-is (
-            w.in_ok-shift.ensures.station ∙ c.use_up.ensures.station,
-            w.in_ok-shift.ensures.workers ∙ c.use_up.ensures.workers,
-            passed_then ids before.place w.in-Some-left.now c.in-Some.event old mid _
-                (subst (IsDoneButPass ids before.place c.in-Some.event old mid) w.in-Some-left.is c.in_ok-left.ensures.done)
-                (subst (λ s. HasPassed s before.place w.in-Some-left.now mid (run_state w.in_ok-shift.shift.till
-                w.in_ok-shift.shift.receipts w.in_ok-shift.shift.entries.items)) c.use_up.ensures.station
-                w.in_ok-shift.ensures.done),
+          passed_then before.place w.in-Some-left.now c.in-Some.event old mid _
+          (subst (IsDoneButPass IsShiftDone before.place c.in-Some.event old mid) w.in-Some-left.is c.in_ok-left.ensures)
+          w.in_ok-shift.ensures.station w.in_ok-shift.ensures.workers w.in_ok-shift.ensures.done
           )
       | in_default w ↦
           rw w.shift-is (
-            c.use_up.ensures.station,
-            c.use_up.ensures.workers,
-            subst (IsDoneButPass ids before.place c.in-Some.event old mid) w.in_default.is c.in_ok-left.ensures.done,
+          subst (IsDoneButPass IsShiftDone before.place c.in-Some.event old mid) w.in_default.is c.in_ok-left.ensures
           )
     ] in
     let place = before.invariant.place in
@@ -39,10 +34,10 @@ loop-event-preserved g c =
       left = append_assoc before.yielded _ _ ∙ ap (λ rest. before.yielded ++ rest) (sym c.in-Some.ensures.steps.0)
           ∙ before.invariant.left;
       place = omega (arith, place, one_more before.yielded c.in-Some.event (length before.yielded) refl);
-      station = step.0 ∙ before.invariant.station;
-      workers = step.1 ∙ before.invariant.workers;
+      station = step.ids ∙ before.invariant.station;
+      workers = step.workers ∙ before.invariant.workers;
       done =
-          done_more c.args.self.station.value c.args.first before.yielded c.in-Some.event begun old new before.invariant.done
-          (subst (λ p. IsDone c.args.self.station.value p c.in-Some.event old new) place
-          (subst (λ l. IsDone l before.place c.in-Some.event old new) before.invariant.station step.2));
+          done_more c.args.self.station.value c.args.first before.yielded c.in-Some.event begun old.run new.run before.invariant.done
+          (subst (λ p. IsDone c.args.self.station.value p c.in-Some.event old.run new.run) place
+          (subst (λ l. IsDone l before.place c.in-Some.event old.run new.run) before.invariant.station step.done));
     }
