@@ -1,3 +1,6 @@
+mod Decimals
+mod Joined
+mod ReadsBack
 mod Acks
 mod Arrays
 mod Digits

@@ -4,3 +4,4 @@ pub mod Entry
 pub mod Seen
 pub mod Entries
 pub mod TxAck
+pub mod PullResp

@@ -5,9 +5,11 @@ use Rattle.forwarder_packets.specs.declared.packet.Packet.{Packet}
 use Rattle.forwarder_packets.specs.declared.packet.Entry.TheVariants.{Heard, Dropped}
 use Rattle.forwarder_packets.specs.declared.entry.Texts.{Texts}
 use Rattle.forwarder_packets.specs.declared.entry.Numbers.{Numbers as Fields}
+use Rattle.forwarder_packets.specs.declared.downlink.Transmission.{Transmission}
 use Rattle.forwarder_packets.specs.Entry.{Told, Numbers, Received}
+use Rattle.forwarder_packets.specs.PullResp.{Sent}
 
--- What the code keeps of an entry, as the definitions see it.
+-- What the code keeps of an entry, and is handed of a transmission, as the definitions see it.
 
 abbrev pub told : Texts → Told
 told t = record {
@@ -32,3 +34,7 @@ shown p = record { tmst = p.tmst; freq_hz = p.freq_hz; rate = p.rate; snr = p.sn
 abbrev pub received : {A : Type 0} → Entry A → Result Received EntryFault
 received (Heard p) = Ok (shown p)
 received (Dropped fault) = Err fault
+
+-- a transmission that is asked for
+abbrev pub sent : Transmission → Sent
+sent t = record { tmst = t.tmst; freq_hz = t.freq_hz; power_dbm = t.power_dbm; rate = t.rate; frame = t.frame.now }

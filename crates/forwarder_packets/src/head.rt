@@ -4,7 +4,7 @@ ghost use Rattle.forwarder_packets.specs.Head.{kind_of, head_of, acknowledgement
 use thiserror::Error;
 
 /// The version of the protocol: the first byte of each datagram.
-const VERSION: u8 = 2;
+pub(crate) const VERSION: u8 = 2;
 
 /// What a packet forwarder sends.
 #[derive(Clone, Copy, Debug, PartialEq, Eq)]

@@ -104,6 +104,7 @@ impl GatewayClock {
         requires { a ≤ 2 ^ 60 }
         ensures at { result.at ≡ (heard self.old tmst a).at }
         ensures session { result.is_new ≡ (heard self.old tmst a).is_new }
+        ensures small { result.at ≤ 2 ^ 63 }
         ensures clock { self.new ≡ (heard self.old tmst a).clock }
     {
         let now = a.max(self.since.max(self.from));

@@ -1,7 +1,7 @@
 use Rattle.std.proofs.Common.{◌≡◌, ◌∙◌, sym, ap, subst}
 use Rattle.std.specs.Prelude.{IfOk}
 use Rattle.json.specs.Json.{document}
-use Rattle.forwarder_packets.specs.TxAck.{failure, other, failure_of_document, failure_of_text}
+use Rattle.forwarder_packets.specs.TxAck.{failure, failure_of_document, failure_of_text}
 use Rattle.forwarder_packets.proofs.Acks.{failure-text, failure-other}
 use Rattle.forwarder_packets.proofs.tx_ack.read_bytes.Goals as goal
 
