@@ -4,7 +4,7 @@ use crate::finding::{Finding, Severity};
 use crate::names::nearest;
 use crate::place::{Place, START};
 use crate::problem::{Problem, shown_text, shown_value};
-use crate::setting_key::{KEYS, Rule, SettingKey};
+use crate::setting_key::{FORWARDER_KEYS, KEYS, Rule, SettingKey, is_for_forwarders};
 use crate::walk::{Owner, Spot, TableList, Walk};
 use radio_bands::Band;
 use server_desk::{DataRate, SettingsFault};
@@ -208,6 +208,7 @@ impl<'a> Search<'a> {
                 value,
                 place,
             }),
+            (None, _) if is_for_forwarders(list, name) => Ok(()),
             (None, _) => {
                 let problem = unknown_of(self.alloc, list, name)?;
                 self.tell_key(member, name, Severity::Warning, place, problem)
@@ -431,6 +432,9 @@ fn home_of(name: &str) -> Option<TableList> {
             return Some(key.list());
         }
     }
+    if is_for_forwarders(TableList::Gateways, name) {
+        return Some(TableList::Gateways);
+    }
     None
 }
 
@@ -444,6 +448,9 @@ fn unknown_of(alloc: Global, list: TableList, name: &str) -> Result<Problem, All
         if key.list() == list {
             names.push(key.name())?;
         }
+    }
+    if list == TableList::Gateways {
+        names.extend_from_slice(&FORWARDER_KEYS)?;
     }
     Ok(match nearest(alloc, name, names.as_slice())? {
         Some(near) => Problem::NearKey(near),

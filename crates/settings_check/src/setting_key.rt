@@ -57,6 +57,14 @@ pub(crate) const KEYS: [SettingKey; 12] = [
     SettingKey::Down,
 ];
 
+/// The keys of a gateway that a server reads which packet forwarders are pointed at, and no other: they are passed over.
+pub(crate) const FORWARDER_KEYS: [&str; 4] = ["eui", "from", "power", "lead"];
+
+/// Whether a table of the list may have a key of this name for such a server.
+pub(crate) fn is_for_forwarders(list: TableList, name: &str) -> bool {
+    list == TableList::Gateways && FORWARDER_KEYS.iter().any(|key| *key == name)
+}
+
 /// The greatest number of 32 bits.
 const U32_MOST: i64 = 4_294_967_295;
 

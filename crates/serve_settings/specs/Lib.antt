@@ -1,0 +1,3 @@
+pub mod ServeFaultName
+pub mod ForwarderKeys
+pub mod ServeSettings
