@@ -1,0 +1,5 @@
+mod SpacedLemmas
+mod WrittenWords
+mod HexWords
+mod ReadBack
+mod Worked

@@ -1,0 +1,2 @@
+pub mod EventText
+pub mod Laws
