@@ -8,10 +8,10 @@ _airbook() {
         return
     fi
     case ${COMP_WORDS[1]} in
-        book) options='--cap --gap --resume --save --help' ;;
-        plan) options='--cap --gap --help' ;;
-        run) options='--workers --help' ;;
-        listen) options='--port --turns --workers --help' ;;
+        book) options='--cap --gap --resume --save --notes --help' ;;
+        plan) options='--cap --gap --notes --help' ;;
+        run) options='--workers --notes --help' ;;
+        listen) options='--port --turns --workers --notes --help' ;;
         help) options='toa book plan check run listen help' ;;
     esac
     if [[ $word == -* || ${COMP_WORDS[1]} == help ]]; then

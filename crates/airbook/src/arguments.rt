@@ -14,31 +14,43 @@ const VERSION: &str = "0.2.0 (sources proved with rattle-kit-13f logic dac8208d6
 #[derive(Clone, Copy)]
 pub enum Task {
     /// The time on air of a PHYPayload of `len` bytes at data rate `rate`.
-    Toa {
-        rate: u8,
-        len: u8,
-    },
-    /// The book of a gateway: an empty one that keeps at most `cap` transmissions, at least `gap` microseconds apart, or with
-    /// `resume` a saved one. With `save` it is saved at the end.
-    Book {
-        cap: u32,
-        gap: u32,
-        resume: bool,
-        save: bool,
-    },
+    Toa { rate: u8, len: u8 },
+    /// The book of a gateway.
+    Book(Booking),
     /// The same, and what that book would answer to further bookings.
-    Plan {
-        cap: u32,
-        gap: u32,
-    },
+    Plan(Planning),
     /// Whether settings of a server are right, and what is wrong with them.
     Check,
-    /// Settings of a server, and what happens there, with so many workers; with none one thread does all.
-    Run {
-        workers: u8,
-    },
+    /// Settings of a server, and what happens there.
+    Run(Running),
     /// Settings of a server, and a socket that tells what happens there.
     Listen(Listening),
+}
+
+/// How a gateway's book is opened: an empty one that keeps at most `cap` transmissions, at least `gap` microseconds apart, or with
+/// `resume` a saved one. With `save` it is saved at the end, and with `notes` refusals are told in words too.
+#[derive(Clone, Copy)]
+pub struct Booking {
+    pub cap: u32,
+    pub gap: u32,
+    pub resume: bool,
+    pub save: bool,
+    pub notes: bool,
+}
+
+/// How the book of a plan is opened.
+#[derive(Clone, Copy)]
+pub struct Planning {
+    pub cap: u32,
+    pub gap: u32,
+    pub notes: bool,
+}
+
+/// How a run is answered: with so many workers; with none one thread does all.
+#[derive(Clone, Copy)]
+pub struct Running {
+    pub workers: u8,
+    pub notes: bool,
 }
 
 /// The command line that the program takes.
@@ -93,7 +105,8 @@ fn book<'a>(alloc: Global) -> Result<Command<'a>, AllocError> {
         .arg(cap(alloc))?
         .arg(gap(alloc))?
         .arg(resume(alloc))?
-        .arg(save(alloc))
+        .arg(save(alloc))?
+        .arg(notes(alloc))
 }
 
 /// The arguments of `plan`.
@@ -104,7 +117,8 @@ fn plan<'a>(alloc: Global) -> Result<Command<'a>, AllocError> {
         .after_help(help::MORE)
         .after_long_help(help::AFTER_PLAN)
         .arg(cap(alloc))?
-        .arg(gap(alloc))
+        .arg(gap(alloc))?
+        .arg(notes(alloc))
 }
 
 /// How many transmissions a book keeps at most; where it isn't said, as many as a gateway's in the settings.
@@ -143,6 +157,14 @@ fn save<'a>(alloc: Global) -> Arg<'a> {
         .action(ArgAction::SetTrue)
 }
 
+/// Whether notes are told.
+pub fn notes<'a>(alloc: Global) -> Arg<'a> {
+    Arg::new(alloc, "notes")
+        .help("Tells on standard error, in words, why a line was refused")
+        .long("notes")
+        .action(ArgAction::SetTrue)
+}
+
 /// The arguments of `check`: none.
 fn check<'a>(alloc: Global) -> Result<Command<'a>, AllocError> {
     Ok(
@@ -172,7 +194,8 @@ fn run<'a>(alloc: Global) -> Result<Command<'a>, AllocError> {
         .long_about(help::LONG_RUN)
         .after_help(help::MORE)
         .after_long_help(help::AFTER_RUN)
-        .arg(workers(alloc))
+        .arg(workers(alloc))?
+        .arg(notes(alloc))
 }
 
 /// The task that the arguments name.
@@ -182,24 +205,28 @@ pub fn task_of(matches: &ArgMatches<'_>) -> Option<Task> {
             rate: toa.get_one::<u8>("DR")?,
             len: toa.get_one::<u8>("LEN")?,
         }),
-        Some(("book", book)) => Some(Task::Book {
+        Some(("book", book)) => Some(Task::Book(Booking {
             cap: book.get_one::<u32>("cap")?,
             gap: book.get_one::<u32>("gap")?,
             resume: book.get_flag("resume"),
             save: book.get_flag("save"),
-        }),
-        Some(("plan", plan)) => Some(Task::Plan {
+            notes: book.get_flag("notes"),
+        })),
+        Some(("plan", plan)) => Some(Task::Plan(Planning {
             cap: plan.get_one::<u32>("cap")?,
             gap: plan.get_one::<u32>("gap")?,
-        }),
+            notes: plan.get_flag("notes"),
+        })),
         Some(("check", _)) => Some(Task::Check),
-        Some(("run", run)) => Some(Task::Run {
+        Some(("run", run)) => Some(Task::Run(Running {
             workers: run.get_one::<u8>("workers")?,
-        }),
+            notes: run.get_flag("notes"),
+        })),
         Some(("listen", listen)) => Some(Task::Listen(Listening {
             port: listen.get_one::<u16>("port")?,
             turns: listen.get_one::<u32>("turns")?,
             workers: listen.get_one::<u8>("workers")?,
+            notes: listen.get_flag("notes"),
         })),
         _ => None,
     }

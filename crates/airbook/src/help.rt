@@ -69,6 +69,8 @@ Examples:
   gateway 1 4096 0 0
   r 1 10000000 868100000 5 12
   end 1
+  $ echo book 1 0 868700000 5 12 | airbook book --notes > /dev/null
+  note: line 1: booking 1 lies in no sub-band: 868700000 Hz at DR5
   $ airbook book --resume < examples/saved-book.txt
   no 4 DutyFull K 0 2973696
   ok 5 3600000000 3600991232

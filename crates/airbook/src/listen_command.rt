@@ -1,4 +1,5 @@
 // The arguments of `listen`.
+use crate::arguments::notes;
 use crate::help;
 use airbook_text::{MAX_WORKERS, TURN_LIMIT};
 use clap::{Arg, Command, value_parser};
@@ -13,7 +14,8 @@ pub fn listen<'a>(alloc: Global) -> Result<Command<'a>, AllocError> {
         .after_long_help(help::AFTER_LISTEN)
         .arg(port(alloc))?
         .arg(turns(alloc))?
-        .arg(workers(alloc))
+        .arg(workers(alloc))?
+        .arg(notes(alloc))
 }
 
 /// Where datagrams come to.

@@ -5,6 +5,7 @@ mod arguments;
 mod help;
 mod listen_command;
 mod listening;
+mod noting;
 mod tasks;
 
 use std::process::ExitCode;

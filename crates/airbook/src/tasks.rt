@@ -1,8 +1,10 @@
 // The tasks of the program, over any runtime, and the status that each ends with.
-use crate::arguments::{Task, program, task_of};
+use crate::arguments::{Booking, Planning, Running, Task, program, task_of};
 use crate::listening::{Stopped, listen};
+use crate::noting::{ErrorStream, noted_run};
 use airbook_text::{TextFault, Verdict, book_text, check_text, plan_text, run_text, toa_text};
 use log::Log;
+use noted_texts::{noted_book, noted_plan};
 use std::env::Env;
 use std::hash::RandomState;
 use std::io;
@@ -11,7 +13,7 @@ use std::process::ExitCode;
 use std::random::RandomSource;
 use std::sync::Wait;
 use std::thread::Threads;
-use text_lines::{StdIn, StdOut};
+use text_lines::{ByteIn, ByteOut, StdIn, StdOut};
 
 /// The status where a line of the output begins with `no` or `bad`.
 const REFUSED: u8 = 1;
@@ -70,21 +72,13 @@ fn perform<
     let mut writer = StdOut::new(io::writer(rt));
     let answered = match task {
         Task::Toa { rate, len } => toa_text(rate, len, &mut writer),
-        Task::Book {
-            cap,
-            gap,
-            resume,
-            save,
-        } => book_text(rt.alloc(), cap, gap, resume, save, &mut reader, &mut writer),
-        Task::Plan { cap, gap } => plan_text(rt.alloc(), cap, gap, &mut reader, &mut writer),
+        Task::Book(booking) => book(rt, booking, &mut reader, &mut writer),
+        Task::Plan(planning) => plan(rt, planning, &mut reader, &mut writer),
         Task::Check => match check_text(rt.alloc(), &mut reader, &mut writer) {
             Ok(verdict) => return status_of(verdict),
             Err(stopped) => Err(stopped),
         },
-        Task::Run { workers } => match RandomState::new(rt) {
-            Ok(hasher) => run_text(rt, rt.alloc(), hasher, workers, &mut reader, &mut writer),
-            Err(_) => Err(TextFault::Read),
-        },
+        Task::Run(running) => answer_run(rt, running, &mut reader, &mut writer),
         Task::Listen(listening) => match listen(rt, listening, &mut reader, &mut writer) {
             Ok(refused) => Ok(refused),
             Err(Stopped::Text(stopped)) => Err(stopped),
@@ -96,6 +90,55 @@ fn perform<
         Ok(true) => ExitCode::from(REFUSED),
         Err(stopped) => fault(rt, stopped.name()),
     }
+}
+
+/// The text of `book`.
+fn book<R: AllocGlobal + Eprint, I: ByteIn, W: ByteOut>(
+    rt: &R,
+    booking: Booking,
+    reader: &mut I,
+    writer: &mut W,
+) -> Result<bool, TextFault> {
+    let Booking {
+        cap,
+        gap,
+        resume,
+        save,
+        notes,
+    } = booking;
+    if notes {
+        let sink = ErrorStream { rt };
+        return noted_book(rt.alloc(), cap, gap, resume, save, reader, writer, sink);
+    }
+    book_text(rt.alloc(), cap, gap, resume, save, reader, writer)
+}
+
+/// The text of `plan`.
+fn plan<R: AllocGlobal + Eprint, I: ByteIn, W: ByteOut>(
+    rt: &R,
+    planning: Planning,
+    reader: &mut I,
+    writer: &mut W,
+) -> Result<bool, TextFault> {
+    let Planning { cap, gap, notes } = planning;
+    if notes {
+        return noted_plan(rt.alloc(), cap, gap, reader, writer, ErrorStream { rt });
+    }
+    plan_text(rt.alloc(), cap, gap, reader, writer)
+}
+
+/// The text of `run`.
+fn answer_run<
+    R: AllocGlobal + Eprint + RandomSource + Threads + Wait + Sync,
+    I: ByteIn,
+    W: ByteOut,
+>(rt: &R, running: Running, reader: &mut I, writer: &mut W) -> Result<bool, TextFault> {
+    let hasher = RandomState::new(rt).map_err(|_| TextFault::Read)?;
+    let Running { workers, notes } = running;
+    if notes {
+        return noted_run(rt, hasher, workers, reader, writer, ErrorStream { rt });
+    }
+    run_text(rt, rt.alloc(), hasher, workers, reader, writer)
 }
 
 /// The status of a check that came to this.
