@@ -308,6 +308,46 @@ def port_taken(program):
     return None if answered[:2] == (["floor 1 5"] + NO_REPORT, 0) else f"the first program: {answered}"
 
 
+def told_in_notes(program):
+    """With notes: that it listens, why a datagram was refused, and what was never closed. Answers and status stay as they are."""
+    turns = [
+        (f"hear 1 5000000 868100000 5 55 -90 1000 {UPLINK}".encode(), ["opened 1"]),
+        (f"hear 9 5000000 868100000 5 55 -90 1000 {UPLINK}\r\n".encode(), ["no hear UnknownGateway"]),
+        (b"", []),
+        (b"tick 1\n", ["bad 4 Syntax"]),
+    ]
+    with Server(program, len(turns), ["--notes"]) as server:
+        for datagram, answer in turns:
+            server.send(datagram)
+            if server.lines(len(answer)) != answer:
+                return f"{datagram!r} is answered otherwise"
+        lines, status, errors = server.rest()
+    notes = [
+        f"listening on 127.0.0.1:{server.port}",
+        "note: line 2: gateway 9: device 26011bda: this gateway is not in the settings",
+        "note: line 4: tick is followed by GATEWAY NOW",
+        "note: uplinks that were never closed: 1; `pass` closes an uplink more than 200000 us after its first copy",
+    ]
+    if (lines, status, errors.splitlines()) != (NO_REPORT, 1, notes):
+        return f"{lines}, status {status}, {errors!r}"
+    return None
+
+
+def why_not_bound(program):
+    """With notes a port that another socket has is told with the system's reason, and settings at fault with their place."""
+    with Server(program, 1) as first:
+        words = [program, "listen", "--port", str(first.port), "--turns", "1", "--notes"]
+        second = subprocess.run(words, input=SETTINGS.encode(), capture_output=True, timeout=SECONDS)
+        third = subprocess.run(words, input=b"gateway = [", capture_output=True, timeout=SECONDS)
+    told = second.stderr.decode().splitlines()
+    reason = f"note: 127.0.0.1:{first.port} can't be bound: "
+    if (second.returncode, second.stdout) != (2, b"") or len(told) != 2 or not told[0].startswith(reason):
+        return f"the second program: {second}"
+    if told[1] != "airbook: Bind" or not third.stderr.startswith(b"note: settings, line 1, column "):
+        return f"{second}, {third}"
+    return None
+
+
 def tell(trials):
     """Makes these trials, and prints what failed, and how many did: the status."""
     failed = 0
@@ -346,6 +386,8 @@ def main():
         ("no random bytes", lambda: no_random_bytes(program)),
         (f"{datagrams} random datagrams", lambda: at_random(program, datagrams, seed)),
         ("a port that is taken", lambda: port_taken(program)),
+        ("notes", lambda: told_in_notes(program)),
+        ("notes of a port that is taken", lambda: why_not_bound(program)),
         ("settings that are not TOML", lambda: refused(program, "gateway = [", "NotToml")),
         ("settings with a line of dashes", lambda: refused(program, SETTINGS + "---\n", "NotToml")),
         ("no settings", lambda: refused(program, "", "Count")),

@@ -57,6 +57,7 @@ row("inline tables", 'gateway = [{id = 1, gap = 45000}, {id = 2, gap = 45000}]\n
 row("inline tables over lines", 'gateway = [\n  {id = 1, gap = 45000}, # one\n  {id = 2, gap = 50000},\n]\n' + DEVICE)
 row("quoted keys", '[["gateway"]]\n"id" = 1\n\'gap\' = 45000\n')
 row("every key", BOTH + "delay = 15\noffset = 5\nrx2_freq = 868525000\nrx2_dr = 3\nup = 7\ndown = 3\n")
+row("keys for packet forwarders", BOTH.replace("gap = 45000\n", 'gap = 45000\neui = "aa555a0000000001"\nfrom = 5\npower = 99\nlead = "long"\n', 1))
 row("digits of either case", GATEWAY + DEVICE.replace("26011bda", "26011BDA"))
 row("events behind the line", BOTH + "---\nhear 1\nthis is = no TOML = at all\n")
 row("the line with a carriage return", BOTH + "---\r\nhear 1\n")
@@ -87,6 +88,8 @@ for place, (wrong, near) in enumerate([("adr", "addr"), ("nwkkey", "nwkskey"), (
         f"warning {place}:1 {named} {wrong}: unknown key, did you mean {near}?", refused="Missing")
 device("a key like none", "colour = 5", f"warning | colour: {PASSED_OVER}")
 device("a key of a gateway", "gap = 45000", "warning | gap: unknown key here, it belongs below [[gateway]]")
+device("a key for packet forwarders", "eui = 5", "warning | eui: unknown key here, it belongs below [[gateway]]")
+row("key powr", GATEWAY + "powr = 7\n", "warning 4:1 gateway 1 (1) powr: unknown key, did you mean power?")
 device("a long key", "a" * 50 + " = 1", f"warning | {'a' * 40}..: {PASSED_OVER}")
 device("a key with a line feed in it", '"a\\nb" = 1', f"warning | a?b: {PASSED_OVER}")
 device("a key with parts", "delay.a = 1", "error Kind | delay: a table, allowed: a whole number 1 to 15",

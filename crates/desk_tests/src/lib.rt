@@ -13,6 +13,8 @@ mod hearing;
 #[cfg(test)]
 mod ledger;
 #[cfg(test)]
+mod lines_of_events;
+#[cfg(test)]
 mod runs;
 #[cfg(test)]
 mod settings;

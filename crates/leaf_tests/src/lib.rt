@@ -16,6 +16,8 @@ mod counters;
 #[cfg(test)]
 mod cuts;
 #[cfg(test)]
+mod downlinks;
+#[cfg(test)]
 mod forwarded;
 #[cfg(test)]
 mod frame_growth;
@@ -27,6 +29,10 @@ mod gathering;
 mod growth;
 #[cfg(test)]
 mod lines;
+#[cfg(test)]
+mod notes;
+#[cfg(test)]
+mod sessions;
 #[cfg(test)]
 mod std_calls;
 #[cfg(test)]

@@ -6,6 +6,8 @@ mod datagrams;
 #[cfg(test)]
 mod failing_calls;
 #[cfg(test)]
+mod forwarders;
+#[cfg(test)]
 mod loopback;
 #[cfg(test)]
 mod passes;

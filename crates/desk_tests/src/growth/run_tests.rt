@@ -4,7 +4,9 @@ use crate::runs::{IN_RX1, Row, Told, tells};
 use answer_ticket::Bytes;
 use refusing_alloc::{Call, Refused, Refuser, Refusing, growths_of, refuse, same, was_refused};
 use rx_windows::Candidate;
-use server_core::{DeskHeard, Event, Settings, replay};
+use server_core::{
+    DeskHeard, Entry, Event, NoMemory, Server, Settings, USUAL_LIMITS, empty_books, replay,
+};
 use std::alloc::{Allocator, Global};
 use std::test::Fail;
 use test_asserts::holds;
@@ -87,26 +89,65 @@ fn events<A: Allocator + Copy>(memory: Global, alloc: A) -> Result<Vec<Event<A>,
     Ok(events)
 }
 
+/// Who answers the events.
+#[derive(Clone, Copy)]
+enum By {
+    Replay,
+    Server,
+}
+
 /// A run of these events by these settings, with memory of which growths are refused.
 #[derive(Drop)]
 struct Run<'r, A: Allocator> {
     settings: &'r Settings<Global>,
     memory: Global,
     own: A,
+    by: By,
 }
 
 impl<'r, A: Allocator + Copy> Run<'r, A> {
-    /// Whether it finds memory where these growths are refused. It answers as ever then, with two books and 16 steps.
+    /// Whether it finds memory where these growths are refused. It answers as ever then.
     fn is_whole(&self, alloc: &Refuser, refused: Refused) -> Result<bool, Fail> {
         let events = events(self.memory, self.own)?;
         refuse(alloc, refused);
-        let Ok(replay) = replay(self.own, hasher(), self.settings, &events) else {
+        match self.by {
+            By::Replay => self.is_replayed(&events),
+            By::Server => self.is_served(&events),
+        }
+    }
+
+    /// Whether the events are replayed. There are two books and 16 steps then.
+    fn is_replayed(&self, events: &[Event<A>]) -> Result<bool, Fail> {
+        let Ok(replay) = replay(self.own, hasher(), self.settings, events) else {
             return Ok(false);
         };
         tells(&replay.outcomes, &LINES)?;
         same((replay.books.len(), replay.steps.len()), (2, 16))?;
         Ok(true)
     }
+
+    /// Whether a server on empty books answers the events, one after another.
+    fn is_served(&self, events: &[Event<A>]) -> Result<bool, Fail> {
+        let Ok(outcomes) = served(self.own, self.settings, events) else {
+            return Ok(false);
+        };
+        tells(&outcomes, &LINES)?;
+        Ok(true)
+    }
+}
+
+/// What a server on empty books tells of these events.
+fn served<A: Allocator + Copy>(
+    alloc: A,
+    settings: &Settings<Global>,
+    events: &[Event<A>],
+) -> Result<Vec<Entry<A>, A>, NoMemory> {
+    let books = empty_books(alloc, settings)?;
+    let mut server = Server::resumed(alloc, hasher(), settings, USUAL_LIMITS, books)?;
+    for (place, event) in events.iter().enumerate() {
+        server.event(place, event)?;
+    }
+    Ok(server.take_lines(alloc))
 }
 
 /// With the growth of this number refused, and all that follow it. With memory it then answers as ever; and so it does where that
@@ -134,6 +175,30 @@ fn a_run_is_replayed(rt: HostRuntime) -> Result<(), Fail> {
         settings: &settings,
         memory: rt.alloc(),
         own: alloc,
+        by: By::Replay,
     };
     same(growths_of(alloc, &mut run)?, 42)
+}
+
+// Refuses `server_core` `empty_books`: 1.
+// Refuses `server_core` `Server::resumed`: as `Desk::new`.
+// Refuses `server_core` `Server::event`: by size; 27 for nine events.
+// Refuses `server_core` `do_all_but_pass` (`Server::event` calls it): by size.
+// Refuses `server_core` `Engine::queue` (`Server::event` calls it): as `Desk::queue`, and by size for its line.
+// Refuses `server_core` `Engine::hear` (`Server::event` calls it): as `Desk::hear`, and by size for its line.
+// Refuses `server_core` `Engine::tick` (`Server::event` calls it): by size for its line.
+// Refuses `server_core` `Engine::cancel` (`Server::event` calls it): by size for its line.
+// Refuses `server_core` `Engine::tell_bad` (`Server::event` calls it): by size for its line.
+/// The same events take fewer at a server that is given one after another: it keeps no steps.
+#[test]
+fn a_server_is_resumed(rt: HostRuntime) -> Result<(), Fail> {
+    let settings = settings_of(rt.alloc(), &[device(ADDR)])?;
+    let alloc = &Refusing::new(rt.alloc());
+    let mut run = Run {
+        settings: &settings,
+        memory: rt.alloc(),
+        own: alloc,
+        by: By::Server,
+    };
+    same(growths_of(alloc, &mut run)?, 35)
 }
