@@ -23,6 +23,8 @@ import time
 RATES = {"SF12BW125": 0, "SF11BW125": 1, "SF10BW125": 2, "SF9BW125": 3, "SF8BW125": 4, "SF7BW125": 5, "SF7BW250": 6}
 PUSH_DATA, PUSH_ACK, PULL_DATA, PULL_RESP, PULL_ACK, TX_ACK = range(6)
 GATHERING, MARGIN, FRESH, RESTARTED, HOUR = 200_001, 400_000, 2_000_000, 20_000_000, 3_600_000_000
+# How far ahead an answer may begin that an earlier server has booked: RX2 with the greatest delay.
+AHEAD = 16_000_000
 BEGIN = time.monotonic_ns()
 
 
@@ -176,7 +178,7 @@ def main():
     converter = Converter(program, settings, address, gateways)
     signal.signal(signal.SIGTERM, lambda *_: sys.exit(1))
     try:
-        return converter.run(0 if "--fresh" in sys.argv else RESTARTED + HOUR)
+        return converter.run(0 if "--fresh" in sys.argv else RESTARTED + AHEAD + HOUR)
     finally:
         converter.child.kill()
 
