@@ -33,8 +33,8 @@ fn frame_name(fault: FrameFault) -> &'static [u8]
     }
 }
 
-/// Why a copy of an uplink was not taken in.
-pub(crate) fn hear_name(fault: DeskFault) -> &'static [u8]
+/// The name of why a copy of an uplink was not taken in; it has at most 16 bytes.
+pub fn hear_name(fault: DeskFault) -> &'static [u8]
     ensures name { result.now ≡ names.hear_name fault }
     ensures short { length result.now ≤ 16 }
 {

@@ -20,6 +20,7 @@ mod uplink_counts;
 pub use all_events::{events_from, first_quarter};
 pub use all_lines::write_lines_by_threads;
 pub use datagram::{DATAGRAM_ROOM, datagram_event};
+pub use entry_name::hear_name;
 pub use laws::law_lines_are_whole;
 pub use part_text::{write_entries, write_report};
 pub use replay_text::write_lines;

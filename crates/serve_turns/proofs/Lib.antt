@@ -1,0 +1,8 @@
+mod Oks
+mod Lives
+mod Packets
+mod Drops
+mod Entries
+mod Turns
+mod Effects
+mod Paired

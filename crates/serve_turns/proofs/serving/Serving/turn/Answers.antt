@@ -1,0 +1,58 @@
+use Rattle.std.proofs.Common.{[], ◌∷◌, ◌≡◌, IfErr, None, Some, arith, subst}
+use Rattle.std.specs.Prelude.{OnErr}
+use Rattle.serve_turns.specs.declared.turn.Stopped.TheVariants.{Write}
+use Rattle.serve_turns.specs.Effects.{Adds, Receives, Shows, given}
+use Rattle.serve_turns.specs.Turn.{IsCut}
+use Rattle.serve_turns.proofs.Effects.{adds_then}
+use Rattle.serve_turns.proofs.Oks.{if_ok}
+use Rattle.serve_turns.proofs.Turns.{turn_made, turn_cut}
+use Rattle.serve_turns.proofs.serving.Serving.turn.Goals as goal
+
+pub returns-in_default-clause-clock : goal.returns-in_default-clause-clock
+returns-in_default-clause-clock g c _ =
+    let came = given c.receive-came.result c.receive-came.new.into in
+    record {
+      came = came;
+      shown = None;
+      late = tt;
+      seen = adds_then _ _ _ (Receives came ∷ []) (Shows None ∷ []) c.receive-came.ensures.seen
+          (subst (λ n. Adds (g.H.Host.effects c.receive-came.new.self) (g.H.Host.effects c.now.new.self) (Shows n ∷ [])) c.in_default.is
+          c.now.ensures);
+    }
+
+pub returns-then-now-gt-LAST_MOMENT-clause-clock : goal.returns-then-now-gt-LAST_MOMENT-clause-clock
+returns-then-now-gt-LAST_MOMENT-clause-clock g c _ =
+    let came = given c.receive-came.result c.receive-came.new.into in
+    record {
+      came = came;
+      shown = Some c.in-Some.now;
+      late = omega (arith, c.if-now-gt-LAST_MOMENT.true);
+      seen = adds_then _ _ _ (Receives came ∷ []) (Shows (Some c.in-Some.now) ∷ []) c.receive-came.ensures.seen
+          (subst (λ n. Adds (g.H.Host.effects c.receive-came.new.self) (g.H.Host.effects c.now.new.self) (Shows n ∷ [])) c.in-Some.is
+          c.now.ensures);
+    }
+
+pub returns-in-Ok-clause-done : goal.returns-in-Ok-clause-done
+returns-in-Ok-clause-done g c =
+    if_ok c.tell.result _ _
+    (λ told. turn_made (given c.receive-came.result c.receive-came.new.into) c.in-Some.now c.args.self.now c.act.new.self c.tell.new.self
+    _ _ _ _ _ told c.receive-came.ensures.seen
+    (subst (λ n. Adds (g.H.Host.effects c.receive-came.new.self) (g.H.Host.effects c.now.new.self) (Shows n ∷ [])) c.in-Some.is
+    c.now.ensures)
+    c.in-Ok.ensures.acknowledged (omega (arith, c.if-now-gt-LAST_MOMENT.false)) c.in-Ok.ensures.known c.in-Ok.ensures.told
+    c.in-Ok.ensures.makes)
+    c.tell.ensures.told
+
+pub returns-in-Ok-clause-clock : goal.returns-in-Ok-clause-clock
+returns-in-Ok-clause-clock g c e = absurd (cc (subst (λ r. IfErr r (λ s. s ≡ Write)) e c.tell.ensures.write))
+
+pub returns-in-Ok-clause-write : goal.returns-in-Ok-clause-write
+returns-in-Ok-clause-write g c e =
+    turn_cut (given c.receive-came.result c.receive-came.new.into) c.in-Some.now c.args.self.now c.act.new.self
+    _ _ _ _ _
+    (subst (λ r. OnErr r (IsCut (g.H.Host.effects c.act.new.host) (g.H.Host.effects c.tell.new.host) c.act.new.self)) e
+    c.tell.ensures.cut)
+    c.receive-came.ensures.seen
+    (subst (λ n. Adds (g.H.Host.effects c.receive-came.new.self) (g.H.Host.effects c.now.new.self) (Shows n ∷ [])) c.in-Some.is
+    c.now.ensures)
+    c.in-Ok.ensures.acknowledged (omega (arith, c.if-now-gt-LAST_MOMENT.false)) c.in-Ok.ensures.makes

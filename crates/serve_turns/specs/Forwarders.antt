@@ -1,0 +1,27 @@
+use Rattle.std.specs.Prelude.{List, [], ◌∷◌, Option, Some, None}
+use Rattle.std.specs.List.Sorted.{IsPermutation, IsNonDecreasingBy}
+use Rattle.forwarder_sessions.specs.declared.session.Forwarder.{Forwarder}
+use Rattle.serve_settings.specs.declared.forwarder as settings
+use Rattle.server_desk.specs.declared.setting.GatewaySetting.{GatewaySetting}
+
+-- The packet forwarders of a server's gateways.
+
+-- a gateway's, as it is set
+abbrev pub forwarder_of : GatewaySetting → settings.Forwarder.Forwarder → Forwarder
+forwarder_of g f = record { gateway = g.id; eui = f.eui; from = f.from; lead = f.lead_us }
+
+-- one gateway's, if something is set for it
+abbrev pub one_of : GatewaySetting → Option settings.Forwarder.Forwarder → List Forwarder
+one_of g None = []
+one_of g (Some f) = forwarder_of g f ∷ []
+
+-- each gateway's with what is set at the same place
+abbrev pub forwarders_of : List GatewaySetting → List settings.Forwarder.Forwarder → List Forwarder
+forwarders_of [] set = []
+forwarders_of (g ∷ gs) [] = []
+forwarders_of (g ∷ gs) (f ∷ fs) = forwarder_of g f ∷ forwarders_of gs fs
+
+-- all of them, by rising gateway
+pub record AreByGateway (gateways : List GatewaySetting) (set : List settings.Forwarder.Forwarder) (sorted : List Forwarder) : Type 0 where
+  pub all : IsPermutation (forwarders_of gateways set) sorted
+  pub rising : IsNonDecreasingBy (λ f. f.gateway) sorted

@@ -1,0 +1,77 @@
+use Rattle.std.specs.Prelude.{ℕ, ◌≡◌, List, [], ◌∷◌, ◌++◌, map, Option, Some, None}
+use Rattle.text_lines.specs.Line.{text_of}
+use Rattle.server_core.specs.declared.event.Event.{Event}
+use Rattle.server_core.specs.declared.entry.Line.{Line}
+use Rattle.server_core.specs.declared.entry.Line.TheVariants.{NotHeard}
+use Rattle.server_core.specs.Schedule.{reached, event_steps}
+use Rattle.server_core.specs.Entries.{event_lines}
+use Rattle.server_core.specs.Server.{seen, IsAt, IsBetweenCalls}
+use Rattle.server_desk.specs.declared.faults.DeskFault.{DeskFault}
+use Rattle.server_desk.specs.World.{World}
+use Rattle.run_lines.specs.EntryLine.{line_text}
+use Rattle.run_lines.specs.EntryName.{hear_name}
+use Rattle.serve_turns.specs.declared.answerer.Answerer.{Answerer}
+use Rattle.serve_turns.specs.Tallies.{Count, dropped_by}
+use Rattle.serve_turns.specs.Lines.{asked_line, drop_line}
+
+-- What a server answers, tells and counts.
+
+-- the world, what was dropped and not told yet, and the lines of this turn so far
+pub record Life : Type 0 where
+  pub world : World
+  pub drops : List Count
+  pub text : List ℕ
+
+-- these lines are told
+abbrev pub telling : List (List ℕ) → Life → Life
+telling lines l = record l { text = l.text ++ text_of lines }
+
+-- one was dropped for the reason with this name
+abbrev pub dropping : List ℕ → Option (List ℕ) → Life → Life
+dropping name eui l = record l { drops = dropped_by name eui l.drops }
+
+-- what was dropped is told, and counted anew
+abbrev pub saying_drops : Life → Life
+saying_drops l = record l { text = l.text ++ text_of (map drop_line l.drops); drops = [] }
+
+-- what an event asks for is done
+abbrev pub doing : {A : Type 0} → Event A → Life → Life
+doing e l = record l { world = reached l.world (event_steps l.world e) }
+
+-- the line of an event, and those that answer it
+abbrev pub told_event : {A : Type 0} → World → Event A → List (List ℕ)
+told_event w e = asked_line e ∷ map line_text (event_lines w e)
+
+-- an event is answered, and told
+abbrev pub after_event : {A : Type 0} → Event A → Life → Life
+after_event e l = telling (told_event l.world e) (doing e l)
+
+-- why a copy was refused, by the lines that answer it
+abbrev pub refusal_of : {A : Type 0} → List (Line A) → Option DeskFault
+refusal_of [] = None
+refusal_of (NotHeard fault ∷ more) = Some fault
+refusal_of (line ∷ more) = None
+
+-- a copy of an uplink is told, unless it was refused: then it is counted alone, by the EUI of the gateway that heard it
+abbrev pub after_copy_as : {A : Type 0} → List ℕ → Event A → Life → Option DeskFault → Life
+after_copy_as eui e l None = after_event e l
+after_copy_as eui e l (Some fault) = dropping (hear_name fault) (Some eui) (doing e l)
+
+abbrev pub after_copy : {A : Type 0} → List ℕ → Event A → Life → Life
+after_copy eui e l = after_copy_as eui e l (refusal_of (event_lines l.world e))
+
+-- it lives this life
+pub record IsAlive {S A R : Type 0} {C : _} (l : Life) (a : Answerer S A R C) : Type 0 where
+  pub at : IsAt l.world (seen a.server)
+  pub drops : a.drops.items ≡ l.drops
+  pub text : a.text.writer.items ≡ l.text
+
+-- it is ready for an event, and all lines of earlier ones were taken out
+pub record IsReady {S A R : Type 0} {C : _} (a : Answerer S A R C) : Type 0 where
+  pub between : IsBetweenCalls (seen a.server)
+  pub taken : (seen a.server).outcomes ≡ []
+
+-- it was ready, is so again, and its life went on so, whatever it was
+pub record Makes {S A R : Type 0} {C : _} (on : Life → Life) (old new : Answerer S A R C) : Type 0 where
+  pub ready : IsReady new
+  pub goes : (l : Life) → IsAlive l old → IsAlive (on l) new
