@@ -17,6 +17,8 @@ mod lines_of_events;
 #[cfg(test)]
 mod runs;
 #[cfg(test)]
+mod serving;
+#[cfg(test)]
 mod settings;
 #[cfg(test)]
 mod settling;
