@@ -4,3 +4,4 @@ pub mod PlayedLemmas
 pub mod SourceLemmas
 pub mod SaidLemmas
 pub mod ListenLemmas
+pub mod ServeSettingsIn

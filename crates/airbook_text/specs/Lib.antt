@@ -16,3 +16,4 @@ pub use Rattle.settings_text.specs.SettingsFaultName
 pub use Rattle.settings_text.specs.SettingsOfTable
 pub use Rattle.run_lines.specs.RunInput
 pub use Rattle.run_lines.specs.Datagram
+pub mod WholeServeSettings

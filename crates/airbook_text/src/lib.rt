@@ -9,6 +9,7 @@ mod run_ahead;
 mod run_alone;
 mod source;
 mod unread;
+mod whole_serve_settings;
 mod whole_settings;
 
 pub use book_texts::{
@@ -18,10 +19,12 @@ pub use book_texts::{
 pub use check_texts::{Verdict, check_text};
 pub use listen::{TURN_LIMIT, listen_text};
 pub use run::run_text;
+pub use serve_settings::ServeSettings;
 pub use server_workers::MAX_WORKERS;
 pub use settings_text::{
     DataRate, DeviceSetting, GatewaySetting, ReadFault, Settings, SettingsFault, read_settings,
 };
 pub use source::Source;
 pub use text_words::TextFault;
+pub use whole_serve_settings::read_whole_serve_settings;
 pub use whole_settings::read_whole_settings;
