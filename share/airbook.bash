@@ -4,7 +4,7 @@ _airbook() {
     local word=${COMP_WORDS[COMP_CWORD]} options='--help'
     COMPREPLY=()
     if ((COMP_CWORD == 1)); then
-        mapfile -t COMPREPLY < <(compgen -W 'toa book plan check run listen help --help --version' -- "$word")
+        mapfile -t COMPREPLY < <(compgen -W 'toa book plan check run listen serve help --help --version' -- "$word")
         return
     fi
     case ${COMP_WORDS[1]} in
@@ -12,7 +12,8 @@ _airbook() {
         plan) options='--cap --gap --notes --help' ;;
         run) options='--workers --notes --help' ;;
         listen) options='--port --turns --workers --notes --help' ;;
-        help) options='toa book plan check run listen help' ;;
+        serve) options='--shadow --bind --help' ;;
+        help) options='toa book plan check run listen serve help' ;;
     esac
     if [[ $word == -* || ${COMP_WORDS[1]} == help ]]; then
         mapfile -t COMPREPLY < <(compgen -W "$options" -- "$word")

@@ -2,9 +2,11 @@
 use crate::help;
 use crate::listen_command::listen;
 use crate::listening::Listening;
+use crate::serve_command::{bound_to, serve};
 use airbook_text::MAX_WORKERS;
 use clap::{Arg, ArgAction, ArgMatches, Command, value_parser};
 use std::alloc::{AllocError, Global};
+use std::net::SocketAddrV4;
 
 /// The version, as CHANGELOG.md has it, and the toolchain that the sources are proved with, as README.md has it. Whether this
 /// very program was proved it can't know.
@@ -25,6 +27,8 @@ pub enum Task {
     Run(Running),
     /// Settings of a server, and a socket that tells what happens there.
     Listen(Listening),
+    /// Settings of a server, and packet forwarders of gateways that send to a socket at this address.
+    Serve(SocketAddrV4),
 }
 
 /// How a gateway's book is opened: an empty one that keeps at most `cap` transmissions, at least `gap` microseconds apart, or with
@@ -66,7 +70,8 @@ pub fn program<'a>(alloc: Global) -> Result<Command<'a>, AllocError> {
         .subcommand(plan(alloc)?)?
         .subcommand(check(alloc)?)?
         .subcommand(run(alloc)?)?
-        .subcommand(listen(alloc)?)
+        .subcommand(listen(alloc)?)?
+        .subcommand(serve(alloc)?)
 }
 
 /// The arguments of `toa`.
@@ -228,6 +233,7 @@ pub fn task_of(matches: &ArgMatches<'_>) -> Option<Task> {
             workers: listen.get_one::<u8>("workers")?,
             notes: listen.get_flag("notes"),
         })),
+        Some(("serve", serve)) => Some(Task::Serve(bound_to(serve)?)),
         _ => None,
     }
 }

@@ -25,7 +25,8 @@ Examples:
   airbook plan < examples/plan.txt
   airbook check < examples/misspelt.toml
   airbook run < examples/two-gateways.txt
-  airbook listen --port 1700 --turns 1 < examples/settings.toml";
+  airbook listen --port 1700 --turns 1 < examples/settings.toml
+  airbook serve --shadow < examples/serve.toml";
 
 pub const TOA: &str = "Tells the time on air of a frame, in microseconds";
 
@@ -205,3 +206,34 @@ Example:
 pub const TURNS: &str = "\
 After how many datagrams the report is written and the program ends, 1
 to 1000000; a receive that fails counts too";
+
+pub const SERVE: &str = "Answers uplinks of packet forwarders, by Semtech's UDP protocol";
+
+pub const LONG_SERVE: &str = "\
+Hears uplinks from the packet forwarders of gateways, by version 2 of Semtech's
+UDP protocol, and tells how each of them would be answered. Standard input: the
+settings in TOML. It ends by a fault or a kill alone";
+
+pub const AFTER_SERVE: &str = "\
+PUSH_DATA and PULL_DATA are acknowledged, and nothing else is sent. Each gateway
+of the settings needs an eui, and a gap of 45000 or more: examples/serve.toml
+has all its keys. Lines of standard output:
+  > LINE                   a line of run: hear, tick or pass; below it stand the
+                           lines that answer it
+  session GATEWAY AT       the gateway's clock begins anew, at AT
+  acked N GATEWAY          the gateway took downlink N
+  failed N GATEWAY ERROR   it did not
+  dropped NAME COUNT EUI   so many datagrams, packets or copies were passed over
+                           since this was last told, for the reason NAME; EUI is
+                           the gateway's of the last one, or -
+
+Statuses: see airbook --help.
+
+Example:
+  $ airbook serve --shadow --bind 127.0.0.1:1700 < examples/serve.toml &
+  $ printf '\\2\\0\\0\\1' > /dev/udp/127.0.0.1/1700
+  dropped Kind 1 -";
+
+/// What is told where the value of `--bind` is no address.
+pub const NO_ADDRESS: &str =
+    "invalid value for '--bind <ADDR:PORT>': it is an IPv4 address and a port above 0";

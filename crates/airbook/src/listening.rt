@@ -2,6 +2,7 @@
 ghost use Rattle.std.specs.Prelude.{None};
 
 use crate::noting::{ErrorStream, NotedSource, tell_end, tell_line};
+use crate::stopped::Stopped;
 use airbook_text::{Settings, Source, TextFault, listen_text, read_whole_settings};
 use answer_notes::{Head, NoteSink, Notes, Script, WatchedIn, WatchedOut, Watcher};
 use log::{Log, warn};
@@ -14,18 +15,6 @@ use std::random::RandomSource;
 use std::sync::Wait;
 use std::thread::Threads;
 use text_lines::{ByteIn, ByteOut};
-use thiserror::Error;
-
-/// Why a server did not listen to its end.
-#[derive(Clone, Copy, Debug, Error)]
-pub enum Stopped {
-    /// The socket could not be bound.
-    #[error("the socket could not be bound")]
-    Bind,
-    /// The text call stopped.
-    #[error(transparent)]
-    Text(#[from] TextFault),
-}
 
 /// How a server listens.
 #[derive(Clone, Copy)]

@@ -6,6 +6,9 @@ mod help;
 mod listen_command;
 mod listening;
 mod noting;
+mod serve_command;
+mod serving;
+mod stopped;
 mod tasks;
 
 use std::process::ExitCode;

@@ -1,10 +1,15 @@
 // The tasks of the program, over any runtime, and the status that each ends with.
 use crate::arguments::{Booking, Planning, Running, Task, program, task_of};
-use crate::listening::{Stopped, listen};
+use crate::help;
+use crate::listening::listen;
 use crate::noting::{ErrorStream, noted_run};
+use crate::serving::serve;
+use crate::stopped::Stopped;
 use airbook_text::{TextFault, Verdict, book_text, check_text, plan_text, run_text, toa_text};
+use clap::error::ErrorKind;
 use log::Log;
 use noted_texts::{noted_book, noted_plan};
+use std::alloc::AllocError;
 use std::env::Env;
 use std::hash::RandomState;
 use std::io;
@@ -13,6 +18,7 @@ use std::process::ExitCode;
 use std::random::RandomSource;
 use std::sync::Wait;
 use std::thread::Threads;
+use std::time::Clock;
 use text_lines::{ByteIn, ByteOut, StdIn, StdOut};
 
 /// The status where a line of the output begins with `no` or `bad`.
@@ -33,6 +39,7 @@ pub fn run<
         + Threads
         + Wait
         + Sync
+        + Clock
         + Net
         + Log,
 >(rt: &R) -> ExitCode {
@@ -43,18 +50,29 @@ pub fn run<
         }
         Err(_) => return fault(rt, "Arguments"),
     };
-    let Ok(command) = program(rt.alloc()) else {
+    let Ok(mut command) = program(rt.alloc()) else {
         return fault(rt, TextFault::NoMemory.name());
     };
-    match command.try_get_matches_from(words.as_slice()) {
+    match command.try_get_matches_from_mut(words.as_slice()) {
         Ok(matches) => match task_of(&matches) {
             Some(task) => perform(rt, task),
-            None => fault(rt, "Arguments"),
+            None => tell(
+                rt,
+                command.error(ErrorKind::ValueValidation, help::NO_ADDRESS),
+            ),
         },
-        Err(error) => match error.print(rt) {
-            Ok(()) => ExitCode::from(error.exit_code() as u8),
-            Err(_) => fault(rt, TextFault::Write.name()),
-        },
+        Err(error) => tell(rt, Ok(error)),
+    }
+}
+
+/// Tells what became of a command line that names no task; an Err where there was no memory for that.
+fn tell<R: Print + Eprint>(rt: &R, told: Result<clap::Error, AllocError>) -> ExitCode {
+    let Ok(error) = told else {
+        return fault(rt, TextFault::NoMemory.name());
+    };
+    match error.print(rt) {
+        Ok(()) => ExitCode::from(error.exit_code() as u8),
+        Err(_) => fault(rt, TextFault::Write.name()),
     }
 }
 
@@ -66,7 +84,17 @@ fn words_of<R: AllocGlobal + Env>(rt: &R) -> io::Result<Vec<String>> {
 
 /// Does a task on standard input and output.
 fn perform<
-    R: AllocGlobal + Input + Print + Eprint + RandomSource + Threads + Wait + Sync + Net + Log,
+    R: AllocGlobal
+        + Input
+        + Print
+        + Eprint
+        + RandomSource
+        + Threads
+        + Wait
+        + Sync
+        + Clock
+        + Net
+        + Log,
 >(rt: &R, task: Task) -> ExitCode {
     let mut reader = StdIn::new(rt.reader());
     let mut writer = StdOut::new(io::writer(rt));
@@ -82,8 +110,11 @@ fn perform<
         Task::Listen(listening) => match listen(rt, listening, &mut reader, &mut writer) {
             Ok(refused) => Ok(refused),
             Err(Stopped::Text(stopped)) => Err(stopped),
-            Err(Stopped::Bind) => return fault(rt, "Bind"),
+            Err(stopped) => return fault(rt, stopped.name()),
         },
+        Task::Serve(address) => {
+            return fault(rt, serve(rt, address, &mut reader, &mut writer).name());
+        }
     };
     match answered {
         Ok(false) => ExitCode::SUCCESS,
