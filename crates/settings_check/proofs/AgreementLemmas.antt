@@ -1,6 +1,8 @@
 -- Lemmas on findings beside what a server answers.
-use Rattle.std.proofs.Common.{◌≡◌, ◌∷◌, [], ◌||◌, ◌↔◌, ℕ, Bool, true, false, if◌then◌else◌, List, Result, Ok, Err, IfOk, IsErr}
+use Rattle.std.proofs.Common.{◌≡◌, ◌∷◌, [], ◌||◌, ◌↔◌, ℕ, Bool, true, false, not, if◌then◌else◌, List, Result, Ok, Err, IfOk, IsErr}
 use Rattle.std.proofs.Common.{refl, sym, ap, ◌∙◌, true≢false}
+use Rattle.std.proofs.lemmas.Map.Views.{any-filter_same}
+use Rattle.std.specs.List.{filter}
 use Rattle.server_desk.specs.Settings.{SettingLists}
 use Rattle.settings_text.specs.declared.settings_fault.ReadFault.{ReadFault}
 use Rattle.settings_text.specs.SettingsFaultName.{name_of}
@@ -30,6 +32,11 @@ tells-has_error fault (f ∷ more) h =
     one true b c d h first rest = ap (λ t. t || d) (first refl)
     one false b true d h first rest = refl
     one false b false d h first rest = rest h
+
+-- where the errors of some findings are left out, none is left
+pub kept-no_error : (findings : List Finding) → has_error (filter (λ f. not (is_error f.severity)) findings) ≡ false
+kept-no_error findings =
+    any-filter_same (λ f. is_error f.severity) (λ f. not (is_error f.severity)) false (λ f e. ap not e) findings
 
 abbrev is_refused : Verdict → Bool
 is_refused Refused = true

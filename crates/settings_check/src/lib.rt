@@ -9,6 +9,7 @@ mod report;
 mod search;
 mod setting_key;
 mod summary;
+mod telling;
 mod verdict;
 mod walk;
 

@@ -101,7 +101,7 @@ fn report_of_document(alloc: Global, text: &str, document: &Table) -> Result<Rep
 {
     let found = findings_of(alloc, text, document)?;
     let findings = match document_settings(alloc, document) {
-        Ok(_settings) => warnings_of(alloc, found)?,
+        Ok(_settings) => warnings_of(found),
         Err(ReadFault::NoMemory) => return Err(AllocError),
         Err(fault) => with_fault(alloc, found, fault, place_after(text.as_bytes()))?,
     };
@@ -125,14 +125,13 @@ fn tells_fault(findings: &[Finding], fault: ReadFault) -> bool
     findings.iter().any(|finding| finding.severity.tells(name))
 }
 
-/// The findings of settings that a server takes, which are none of them errors.
-fn warnings_of(alloc: Global, found: Vec<Finding>) -> Result<Vec<Finding>, AllocError>
-    ensures { IfOk result (λ findings. has_error findings.items ≡ false) }
+/// The findings of settings that a server takes: all but the errors, of which a search may have told one too many.
+fn warnings_of(found: Vec<Finding>) -> Vec<Finding>
+    ensures { has_error result.items ≡ false }
 {
-    if !has_error(&found) {
-        return Ok(found);
-    }
-    Ok(Vec::new(alloc))
+    let mut findings = found;
+    findings.retain(|finding| !finding.severity.is_error());
+    findings
 }
 
 /// The findings of settings that a server refuses for this fault: those that were found, and one more where none of them tells it.

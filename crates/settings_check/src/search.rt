@@ -5,6 +5,7 @@ use crate::names::nearest;
 use crate::place::{Place, START};
 use crate::problem::{Problem, shown_text, shown_value};
 use crate::setting_key::{FORWARDER_KEYS, KEYS, Rule, SettingKey, is_for_forwarders};
+use crate::telling::{Entry, Member, number_of, numbered};
 use crate::walk::{Owner, Spot, TableList, Walk};
 use radio_bands::Band;
 use server_desk::{DataRate, SettingsFault};
@@ -30,29 +31,12 @@ struct Earlier {
 
 /// A search through the settings that a document says.
 #[derive(Drop)]
-struct Search<'a> {
-    alloc: Global,
+pub(crate) struct Search<'a> {
+    pub(crate) alloc: Global,
     document: &'a Table,
-    found: Vec<Finding>,
+    pub(crate) found: Vec<Finding>,
     ids: BTreeMap<i64, Earlier>,
     addrs: BTreeMap<String, Earlier>,
-}
-
-/// One table of a list.
-#[derive(Clone, Copy)]
-struct Member<'a> {
-    list: TableList,
-    index: usize,
-    table: &'a Table,
-}
-
-/// A key of such a table, at its place.
-#[derive(Clone, Copy)]
-struct Entry<'a> {
-    member: Member<'a>,
-    key: SettingKey,
-    value: &'a Value,
-    place: Place,
 }
 
 /// All findings of a document, of which this is the text, by their places.
@@ -302,97 +286,6 @@ impl<'a> Search<'a> {
             Problem::NoBand(freq_hz, number),
         )
     }
-
-    /// Tells of a list as a whole.
-    fn tell_list(
-        &mut self,
-        list: TableList,
-        fault: ReadFault,
-        place: Place,
-        problem: Problem,
-    ) -> Result<(), AllocError> {
-        let subject = String::from_str(self.alloc, list.name())?;
-        self.tell(subject, Severity::Error(fault), place, problem)
-    }
-
-    /// Tells of the value of a key.
-    fn tell_entry(
-        &mut self,
-        entry: Entry<'a>,
-        severity: Severity,
-        problem: Problem,
-    ) -> Result<(), AllocError> {
-        self.tell_key(
-            entry.member,
-            entry.key.name(),
-            severity,
-            entry.place,
-            problem,
-        )
-    }
-
-    /// Tells of a key of a table.
-    fn tell_key(
-        &mut self,
-        member: Member<'a>,
-        key: &str,
-        severity: Severity,
-        place: Place,
-        problem: Problem,
-    ) -> Result<(), AllocError> {
-        let table = named(self.alloc, member)?;
-        let table = table.as_str();
-        let key = shown_text(self.alloc, key)?;
-        let key = key.as_str();
-        let subject = format!(in self.alloc; "{table} {key}")?;
-        self.tell(subject, severity, place, problem)
-    }
-
-    /// One more finding.
-    fn tell(
-        &mut self,
-        subject: String,
-        severity: Severity,
-        place: Place,
-        problem: Problem,
-    ) -> Result<(), AllocError> {
-        let subject = subject.as_str();
-        let words = format!(in self.alloc; "{subject}: {problem}")?;
-        self.found.push(Finding {
-            place,
-            severity,
-            words,
-        })?;
-        Ok(())
-    }
-}
-
-/// A table by its list and its number, from 1.
-fn numbered(alloc: Global, list: TableList, index: usize) -> Result<String, AllocError> {
-    let list = list.name();
-    let number = number_of(index);
-    format!(in alloc; "{list} {number}")
-}
-
-/// The same with its id or its address, where that can be read.
-fn named(alloc: Global, member: Member<'_>) -> Result<String, AllocError> {
-    let table = numbered(alloc, member.list, member.index)?;
-    let table_name = table.as_str();
-    match (
-        member.list,
-        member.table.get("id"),
-        member.table.get("addr"),
-    ) {
-        (TableList::Gateways, Some(Value::Integer(id)), _) => {
-            format!(in alloc; "{table_name} ({id})")
-        }
-        (TableList::Devices, _, Some(Value::String(addr))) => {
-            let addr = shown_text(alloc, addr.as_str())?;
-            let addr = addr.as_str();
-            format!(in alloc; "{table_name} ({addr})")
-        }
-        _ => Ok(table),
-    }
 }
 
 /// Where the id or the address of an entry was met.
@@ -401,11 +294,6 @@ fn met(entry: Entry<'_>) -> Earlier {
         number: number_of(entry.member.index),
         line: entry.place.line,
     }
-}
-
-/// The number from 1 of what is counted from 0.
-fn number_of(index: usize) -> u64 {
-    (index as u64).saturating_add(1)
 }
 
 /// How many members a list may have.
