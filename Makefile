@@ -26,8 +26,8 @@ demo:
 # after the script that tries them was tried itself; the installation of a program that is none; what must not compile; and then,
 # on the program that the gate has proved and built, the cases, settings with every kind of slip, random runs and saved books
 # beside plain models, allocations that are refused, workers beside one thread, inputs of as many bytes and uplinks as there may
-# be, the commands of the pages, talks line by line, the example of a converter, a server that listens, and what is installed.
-# Where one fails, what comes after it is not run.
+# be, the commands of the pages, talks line by line, the example of a converter, a server that listens, one that packet forwarders
+# are pointed at, and what is installed. Where one fails, what comes after it is not run.
 test: documents
 	python3 tests/gate.py
 	python3 tests/edit_trials.py
@@ -46,6 +46,7 @@ test: documents
 	python3 tests/dialogue.py $(PROGRAM)
 	python3 tests/forwarder.py $(PROGRAM)
 	python3 tests/listen.py $(PROGRAM)
+	python3 tests/serve.py $(PROGRAM)
 	python3 tests/installed.py
 
 # Whether links lead somewhere, sentences are short, the lists of definitions, of calls that take memory and of changes of

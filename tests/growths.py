@@ -8,9 +8,9 @@ Such a call is a `pub fn`, or a function of a public trait, that a library passe
 NoMemory or AllocError, or a type of the repository that does: an enum with that variant, a struct with such a field, and a
 fault or a cause that holds one of these; and the calls of UNNAMED, which name none. Crates of tests are left out. What is told
 of a call stands above the test that refuses its allocations, as `Refuses `gateway_book` `GatewayBook::load` (over a tree): ..`,
-in a crate of tests or in a script of tests/; of a call that takes nothing it stands in NOTHING, of one that no command calls yet
-in UNCALLED. Each call has to be told of once, and nothing else. The last line is 'N passed, M failed', over the calls and the
-table; status 0 where none failed, 1 where one did, 2 where the page can't be read or written.
+in a crate of tests or in a script of tests/; of a call that takes nothing it stands in NOTHING. Each call has to be told of once,
+and nothing else. The last line is 'N passed, M failed', over the calls and the table; status 0 where none failed, 1 where one did,
+2 where the page can't be read or written.
 """
 import pathlib
 import re
@@ -37,10 +37,6 @@ NOTHING = {
     ("noted_texts", "noted_book"): "0 beside `book_text`: a note that finds none is left out",
     ("noted_texts", "noted_plan"): "0 beside `plan_text`: a note that finds none is left out",
 }
-# They take the global allocator, and no command calls them yet: nothing refuses theirs.
-UNCALLED = {
-    ("serve_settings", "read_serve_settings"): "by size; no command calls it yet, so nothing refuses them",
-}
 
 
 def braced(text, at):
@@ -64,10 +60,10 @@ def sources():
 
 
 def naming_types(texts):
-    """The types that name out of memory."""
+    """The public types that name out of memory."""
     bodies = {}
     for text in texts:
-        for made in re.finditer(r"(?m)^(?:pub(?:\(crate\))? )?(?:enum|struct) (\w+)[^;{]*\{", text):
+        for made in re.finditer(r"(?m)^pub (?:enum|struct) (\w+)[^;{]*\{", text):
             bodies[made[1]] = braced(text, made.start())
     named = {name for name, body in bodies.items() if re.search(WANT, body)}
     faults = {name for name in bodies if name.endswith(("Fault", "Cause"))} - named
@@ -147,7 +143,7 @@ def told_in(path):
 
 def all_told():
     """What is told of each call, and what is told of twice."""
-    found, twice = {call: (told, "") for call, told in (NOTHING | UNCALLED).items()}, []
+    found, twice = {call: (told, "") for call, told in NOTHING.items()}, []
     for path in [*sorted(TOP.glob("crates/*_tests/src/**/*.rt")), *sorted(TOP.glob("tests/*.py"))]:
         if path.name != pathlib.Path(__file__).name:
             for call, allocations, by in told_in(path):

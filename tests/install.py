@@ -22,6 +22,7 @@ CRATE = "airbook"
 PAGES = {
     "share/doc/airbook/FORMATS.md": "docs/FORMATS.md",
     "share/doc/airbook/RUNNING.md": "docs/RUNNING.md",
+    "share/doc/airbook/SERVE.md": "docs/SERVE.md",
     "share/doc/airbook/examples": "examples",
     "share/bash-completion/completions/airbook": "share/airbook.bash",
 }

@@ -56,6 +56,10 @@ from starved_server import is_followed
 # Refuses `airbook_text` `run_text`: by size.
 # Refuses `airbook_text` `read_whole_settings` (`listen`): by size.
 # Refuses `airbook_text` `listen_text` (`listen`): by size.
+# Refuses `serve_settings` `read_serve_settings` (`serve`): by size.
+# Refuses `airbook_text` `read_whole_serve_settings` (`serve`): by size.
+# Refuses `serve_turns` `forwarders_of` (`serve`): 1.
+# Refuses `serve_turns` `Serving::new` (`serve`): by size.
 
 CASES = [
     ("run_two_gateways", ""), ("run_two_gateways", "--workers 1"), ("run_two_gateways", "--workers 2"),
@@ -64,7 +68,7 @@ CASES = [
     ("run_lines_passed_over_and_malformed", ""), ("run_settings_alone", ""), ("run_settings_not_toml", ""),
     ("check_misspelt", ""), ("check_faults_of_each_kind", ""),
     ("book_two_bookings_example", ""), ("book_resume_example", ""), ("plan_earliest_example", ""), ("toa_dr5_12_bytes", ""),
-    ("listen", "--workers 1"), ("run_in_two_parts", "--workers 2"),
+    ("listen", "--workers 1"), ("run_in_two_parts", "--workers 2"), ("serve_bind_to_another_machine", ""),
 ]
 # Where the lists that workers begin with, five for each, find no memory, the thread that runs answers all: so many growths at
 # least may be refused, each alone, and nothing of it is seen.
