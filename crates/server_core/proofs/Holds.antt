@@ -70,24 +70,40 @@ pub record Stands (settings : SettingLists) (T : Job → Type 0) (l : List Gathe
   pub own : IsJobAt settings T l r.number job
   pub kept : IsKept answers r.number sent
 
--- the gateway's list is one that it may hold, and what was booked less what was cancelled is its airtime
-pub record IsInOrder (g : Gateway) : Type 0 where
+-- What the gateways of before the first step, its past, have to do with a gateway and its members.
+
+-- the gateway's list is one that it may hold, and its airtime grew by what was booked less what was cancelled since then
+pub record IsInOrder (past : List Gateway) (g : Gateway) : Type 0 where
   pub orderly : IsOrderly g.rules.gap g.state.list
-  pub balanced : g.state.booked ≡ g.state.cancelled + net g.state.list
+  pub balanced : (i : ℕ) (p : Gateway) → slice_get past i ≡ Some p → p.id ≡ g.id
+      → g.state.booked + (p.state.cancelled + net p.state.list) ≡ p.state.booked + (g.state.cancelled + net g.state.list)
 
--- each reservation of the gateway stands for its uplink's answer
-abbrev pub AllStand : SettingLists → (Job → Type 0) → List Gathering → List Answer → Gateway → Type 0
-AllStand settings T l answers g = All (Stands settings T l answers g.id) g.state.list
+-- the gateway with this id held the reservation before the first step
+pub record WasThere (past : List Gateway) (id : ℕ) (r : Reservation) : Type 0 where
+  pub place : ℕ
+  pub gateway : Gateway
+  pub there : slice_get past place ≡ Some gateway
+  pub same : gateway.id ≡ id
+  pub member : Contains gateway.state.list r
 
-pub record Holds (settings : SettingLists) (T : Job → Type 0) (w : World) : Type 0 where
+-- it did, or the reservation stands for its own uplink's answer
+abbrev pub Belongs : SettingLists → List Gateway → (Job → Type 0) → List Gathering → List Answer → ℕ → Reservation → Type 0
+Belongs settings past T l answers id r = WasThere past id r ⊎ Stands settings T l answers id r
+
+-- that is so of each reservation of the gateway
+abbrev pub AllBelong : SettingLists → List Gateway → (Job → Type 0) → List Gathering → List Answer → Gateway → Type 0
+AllBelong settings past T l answers g = All (Belongs settings past T l answers g.id) g.state.list
+
+pub record Holds (settings : SettingLists) (past : List Gateway) (T : Job → Type 0) (w : World) : Type 0 where
   pub gateways : map setting_of w.gateways ≡ settings.gateways
   pub devices : map (λ d. d.setting) w.reg.devices ≡ settings.devices
-  pub in_order : (i : ℕ) (g : Gateway) → slice_get w.gateways i ≡ Some g → IsInOrder g
+  pub in_order : (i : ℕ) (g : Gateway) → slice_get w.gateways i ≡ Some g → IsInOrder past g
   pub together : length w.reg.asked ≡ length w.reg.gathered.list
   pub answered : length w.answers ≡ length w.reg.gathered.list
   pub asked : (n : ℕ) (a : Asked) → numbered n w.reg.asked ≡ Some a → IsAskedAt settings w.reg.gathered.list n a.device
   pub jobs : (n k : ℕ) (job : Job) → numbered n w.answers ≡ Some (Open k job) → IsJobAt settings T w.reg.gathered.list n job
-  pub stands : (i : ℕ) (g : Gateway) → slice_get w.gateways i ≡ Some g → AllStand settings T w.reg.gathered.list w.answers g
+  pub belong : (i : ℕ) (g : Gateway) → slice_get w.gateways i ≡ Some g
+      → AllBelong settings past T w.reg.gathered.list w.answers g
 
 -- What a step never takes back.
 
@@ -107,8 +123,8 @@ pub record Follows (w v : World) : Type 0 where
   pub devices : (p : ℕ) (d : Device) → slice_get w.reg.devices p ≡ Some d → IsLater v.reg.devices p d
 
 -- a change of the system that keeps what holds, and takes nothing back
-pub record IsGood (settings : SettingLists) (T : Job → Type 0) (w v : World) : Type 0 where
-  pub holds : Holds settings T v
+pub record IsGood (settings : SettingLists) (past : List Gateway) (T : Job → Type 0) (w v : World) : Type 0 where
+  pub holds : Holds settings past T v
   pub follows : Follows w v
 
 -- What a ticket that is given uses up.
@@ -137,8 +153,9 @@ abbrev pub given_after : Reply → (Job → Type 0) → Job → Type 0
 given_after (Given (Ok job)) T = λ j. T j ⊎ (j ≡ job)
 given_after reply T = T
 
-pub record IsGoodStep (settings : SettingLists) (T : Job → Type 0) (w : World) (after : World × Reply) : Type 0 where
-  pub good : IsGood settings (given_after after.1 T) w after.0
+pub record IsGoodStep (settings : SettingLists) (past : List Gateway) (T : Job → Type 0) (w : World)
+    (after : World × Reply) : Type 0 where
+  pub good : IsGood settings past (given_after after.1 T) w after.0
   pub used : UsesUp w after.0 after.1
 
 -- a change after another
@@ -156,12 +173,13 @@ pub Follows-refl : (w : World) → Follows w w
 Follows-refl w =
     record { given = λ n h. h; devices = λ p d e. record { device = d; there = e; addr = refl; counter = omega arith } }
 
-pub both_good : {settings : SettingLists} {T : Job → Type 0} {u v w : World} → IsGood settings T u v → IsGood settings T v w
-    → IsGood settings T u w
-both_good {settings} {T} {u} {v} {w} a b = record { holds = b.holds; follows = Follows-trans u v w a.follows b.follows }
+pub both_good : {settings : SettingLists} {past : List Gateway} {T : Job → Type 0} {u v w : World}
+    → IsGood settings past T u v → IsGood settings past T v w → IsGood settings past T u w
+both_good {settings} {past} {T} {u} {v} {w} a b = record { holds = b.holds; follows = Follows-trans u v w a.follows b.follows }
 
-pub unchanged : {settings : SettingLists} {T : Job → Type 0} {w : World} → Holds settings T w → IsGood settings T w w
-unchanged {settings} {T} {w} h = record { holds = h; follows = Follows-refl w }
+pub unchanged : {settings : SettingLists} {past : List Gateway} {T : Job → Type 0} {w : World} → Holds settings past T w
+    → IsGood settings past T w w
+unchanged {settings} {past} {T} {w} h = record { holds = h; follows = Follows-refl w }
 
 -- what holds also holds where tickets were given for more jobs, and where gatherings have grown
 
@@ -182,23 +200,30 @@ module _ (settings : SettingLists) (T U : Job → Type 0) (more : (job : Job) �
       let own = job_on r.number s.job s.own in
       record { sent = s.sent; job = s.job; booking = s.booking; own = own; kept = f r.number s.sent s.kept }
 
-  pub stands_on : (answers others : List Answer) → ((n : ℕ) (sent : Sent) → IsKept answers n sent → IsKept others n sent)
-      → (gs : List Gateway) → ((i : ℕ) (g : Gateway) → slice_get gs i ≡ Some g → AllStand settings T l answers g)
-      → (i : ℕ) (g : Gateway) → slice_get gs i ≡ Some g → AllStand settings U m others g
-  stands_on answers others f gs h i g e = All-weaker (Stands settings T l answers g.id) (Stands settings U m others g.id)
-      (stand_on answers others f g.id) g.state.list (h i g e)
+  belongs_on : (past : List Gateway) (answers others : List Answer)
+      → ((n : ℕ) (sent : Sent) → IsKept answers n sent → IsKept others n sent) → (id : ℕ) (r : Reservation)
+      → Belongs settings past T l answers id r → Belongs settings past U m others id r
+  belongs_on past answers others f id r (inl was) = inl was
+  belongs_on past answers others f id r (inr s) = inr (stand_on answers others f id r s)
+
+  pub belong_on : (past : List Gateway) (answers others : List Answer)
+      → ((n : ℕ) (sent : Sent) → IsKept answers n sent → IsKept others n sent) → (gs : List Gateway)
+      → ((i : ℕ) (g : Gateway) → slice_get gs i ≡ Some g → AllBelong settings past T l answers g) → (i : ℕ) (g : Gateway)
+      → slice_get gs i ≡ Some g → AllBelong settings past U m others g
+  belong_on past answers others f gs h i g e = All-weaker (Belongs settings past T l answers g.id)
+      (Belongs settings past U m others g.id) (belongs_on past answers others f g.id) g.state.list (h i g e)
 
   pub jobs_on : (answers : List Answer) → ((n k : ℕ) (job : Job) → numbered n answers ≡ Some (Open k job)
       → IsJobAt settings T l n job) → (n k : ℕ) (job : Job) → numbered n answers ≡ Some (Open k job) → IsJobAt settings U m n job
   jobs_on answers h n k job e = job_on n job (h n k job e)
 
-pub Holds-weaker : (settings : SettingLists) (T U : Job → Type 0) → ((job : Job) → T job → U job) → (w : World)
-    → Holds settings T w → Holds settings U w
-Holds-weaker settings T U more w h =
+pub Holds-weaker : (settings : SettingLists) (past : List Gateway) (T U : Job → Type 0) → ((job : Job) → T job → U job)
+    → (w : World) → Holds settings past T w → Holds settings past U w
+Holds-weaker settings past T U more w h =
     let l = w.reg.gathered.list in
     assumption (
       jobs_on settings T U more l l (λ m g x. x) w.answers h.jobs,
-      stands_on settings T U more l l (λ m x y. y) w.answers w.answers (λ m x y. y) w.gateways h.stands,
+      belong_on settings T U more l l (λ m x y. y) past w.answers w.answers (λ m x y. y) w.gateways h.belong,
     )
 
 -- What has a number has it still in a list that goes on, or in which a member was written anew.
@@ -214,12 +239,17 @@ module _ {X : Type 0} (P : X → Type 0) (xs : List X) where
     | inr e ↦ record { member = x.member; there = e; is = x.is }
   ]
 
-module _ {settings : SettingLists} {T : Job → Type 0} {w : World} (h : Holds settings T w) where
+module _ {settings : SettingLists} {past : List Gateway} {T : Job → Type 0} {w : World} (h : Holds settings past T w) where
   pub device_setting : (p : ℕ) (d : Device) → slice_get w.reg.devices p ≡ Some d → slice_get settings.devices p ≡ Some d.setting
   device_setting p d e = subst (λ l. slice_get l p ≡ Some d.setting) h.devices (map_there (λ x. x.setting) w.reg.devices p d e)
 
-  -- each member of a gateway stands
-  pub member_stands : (i k : ℕ) (g : Gateway) (r : Reservation) → IsMember w i k g r
+  -- each member of a gateway was there, or stands
+  pub member_belongs : (i k : ℕ) (g : Gateway) (r : Reservation) → IsMember w i k g r
+      → Belongs settings past T w.reg.gathered.list w.answers g.id r
+  member_belongs i k g r m = all_get (Belongs settings past T w.reg.gathered.list w.answers g.id) g.state.list k r
+      (h.belong i g m.gateway) m.member
+
+  -- and stands, if it wasn't there
+  pub member_stands : (i k : ℕ) (g : Gateway) (r : Reservation) → IsMember w i k g r → (WasThere past g.id r → ⊥)
       → Stands settings T w.reg.gathered.list w.answers g.id r
-  member_stands i k g r m = all_get (Stands settings T w.reg.gathered.list w.answers g.id) g.state.list k r
-      (h.stands i g m.gateway) m.member
+  member_stands i k g r m new = elim (member_belongs i k g r m) [ inl was ↦ absurd (new was) | inr s ↦ s ]

@@ -7,6 +7,7 @@ pub mod GatewaySteps
 pub mod TakeStep
 pub mod Runs
 pub mod Headlines
+pub mod ResumedRuns
 pub mod DeskSteps
 pub mod Ready
 pub mod Calls

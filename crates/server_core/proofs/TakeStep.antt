@@ -3,8 +3,8 @@ use Rattle.server_core.proofs.Words
 use Words.{arith, inl, inr, subst, sym, true≢false, ◌∙◌, Err, List, Ok, Result, Some, map, refl, slice_get, true, ℕ, ◌≡◌, ◌⊎◌}
 use Words.{copies_of, numbered, IsWindowOf, IsWindowOf-ranked, on_gateways_that_heard, candidates_of, Candidate, Job}
 use Words.{candidate_at, Answer, Open, Waiting, is_not_given, known_of, numbered-here, all_get, get_set_same, same_Some, Device}
-use Words.{Register, job_of, with_counter_given, World, known, AreSettings, SettingLists, Asked, Known, TakeFault, take, take_by}
-use Words.{take_answer, numbered-map}
+use Words.{Register, job_of, with_counter_given, Gateway, World, known, AreSettings, SettingLists, Asked, Known, TakeFault}
+use Words.{take, take_by, take_answer, numbered-map}
 use Rattle.server_core.proofs.Holds.{IsJobAt, Holds, IsGood, IsGoodStep, IsNew, IsUsed, Holds-weaker, has_now}
 use Rattle.server_core.proofs.Holds.{unchanged, both_good, device_setting}
 use Rattle.server_core.proofs.Members.{apart_once}
@@ -41,8 +41,8 @@ job_window reg n asked device k c e =
     (all_get (IsWindowOf job.plan job.copies) (candidates_of job.copies job.plan) k c
     (on_gateways_that_heard job.plan job.copies) e)
 
-module _ {settings : SettingLists} (are : AreSettings settings.gateways settings.devices) {T : Job → Type 0} {w : World}
-    (h : Holds settings T w) (n : ℕ) where
+module _ {settings : SettingLists} (are : AreSettings settings.gateways settings.devices) {past : List Gateway}
+    {T : Job → Type 0} {w : World} (h : Holds settings past T w) (n : ℕ) where
   module _ (asked : Asked) (there : numbered n w.reg.asked ≡ Some asked) (waits : numbered n w.answers ≡ Some Waiting)
       (device : Device) (served : slice_get w.reg.devices asked.device ≡ Some device)
       (told : T (job_of w.reg n asked device)) where
@@ -75,13 +75,13 @@ module _ {settings : SettingLists} (are : AreSettings settings.gateways settings
     abbrev counted : World
     counted = with_device h asked.device (with_counter_given device)
 
-    first : IsGood settings T w counted
+    first : IsGood settings past T w counted
     first = device_written h asked.device device (with_counter_given device) served refl (omega arith)
 
     abbrev given : World
     given = with_answer first.holds n (Open 0 job)
 
-    given_good : IsGood settings T w given
+    given_good : IsGood settings past T w given
     given_good = both_good first (answer_written first.holds n Waiting (Open 0 job) waits (λ s q. absurd (cc (q))) refl
         (λ k j q. let same : job ≡ j = cc (q) in subst (IsJobAt settings T w.reg.gathered.list n) same job_at))
 
@@ -106,28 +106,28 @@ module _ {settings : SettingLists} (are : AreSettings settings.gateways settings
           counter = omega arith;
         }
 
-    taken_good : IsGood settings T w (take_by w n (Ok job)).0 × (IsNew w job × IsUsed (take_by w n (Ok job)).0 job)
+    taken_good : IsGood settings past T w (take_by w n (Ok job)).0 × (IsNew w job × IsUsed (take_by w n (Ok job)).0 job)
     taken_good = rw (there, served) (given_good, (new, used))
 
-module _ {settings : SettingLists} (are : AreSettings settings.gateways settings.devices) {T : Job → Type 0} {w : World}
-    (h : Holds settings T w) (n : ℕ) where
+module _ {settings : SettingLists} (are : AreSettings settings.gateways settings.devices) {past : List Gateway}
+    {T : Job → Type 0} {w : World} (h : Holds settings past T w) (n : ℕ) where
   -- a ticket was given for one job more
   given_step : (asked : Asked) (device : Device) → numbered n w.reg.asked ≡ Some asked → numbered n w.answers ≡ Some Waiting
-      → slice_get w.reg.devices asked.device ≡ Some device → IsGoodStep settings T w
+      → slice_get w.reg.devices asked.device ≡ Some device → IsGoodStep settings past T w
       (take_by w n (Ok (job_of w.reg n asked device)))
   given_step asked device there waits served =
       let job = job_of w.reg n asked device in
       let U : Job → Type 0 = λ j. T j ⊎ (j ≡ job) in
-      let all = taken_good are (Holds-weaker settings T U (λ j t. inl t) w h) n asked there waits device served
+      let all = taken_good are (Holds-weaker settings past T U (λ j t. inl t) w h) n asked there waits device served
       (inr refl) in
       record { good = all.0; used = all.1 }
 
-  taken_by : (r : Result Job TakeFault) → take_answer w.reg (known w) n ≡ r → IsGoodStep settings T w (take_by w n r)
+  taken_by : (r : Result Job TakeFault) → take_answer w.reg (known w) n ≡ r → IsGoodStep settings past T w (take_by w n r)
   taken_by (Err fault) e = record { good = unchanged h; used = tt }
   taken_by (Ok made) e =
       let t = ticket w.reg (known w) n made e in
-      subst (λ j. IsGoodStep settings T w (take_by w n (Ok j))) t.made
+      subst (λ j. IsGoodStep settings past T w (take_by w n (Ok j))) t.made
       (given_step t.asked t.device t.there (still_waits w.answers n t.state t.stated t.waits) t.served)
 
-  pub take_good : IsGoodStep settings T w (take w n)
+  pub take_good : IsGoodStep settings past T w (take w n)
   take_good = taken_by (take_answer w.reg (known w) n) refl

@@ -4,18 +4,18 @@ use Words.{ap, arith, inl, inr, length-append, subst, sym, ◌∙◌, List, Some
 use Words.{◌++◌, ◌+◌, ◌∷◌, ◌≡◌, ◌≤◌, Gathering, numbered, rewritten, Job, Answer, Open, Waiting, is_not_given, known_of}
 use Words.{length-rewritten, numbered-append_cases, numbered_cases, numbered_next, get_set_after, get_set_cases, map_set}
 use Words.{same_Some, Device, Gateway, World, SettingLists, Asked, Sent, setting_of, sent_for}
-use Rattle.server_core.proofs.Holds.{IsGrown, IsOfDevice, IsAskedAt, IsJobAt, AllStand, Holds, Grow, IsGivenAt, IsGood}
-use Rattle.server_core.proofs.Holds.{Follows-refl, job_on, jobs_on, stands_on, Has-append, Has-rewritten, has_now, Has, IsInOrder}
+use Rattle.server_core.proofs.Holds.{IsGrown, IsOfDevice, IsAskedAt, IsJobAt, AllBelong, Holds, Grow, IsGivenAt, IsGood}
+use Rattle.server_core.proofs.Holds.{Follows-refl, job_on, jobs_on, belong_on, Has-append, Has-rewritten, has_now, Has, IsInOrder}
 use Rattle.server_core.proofs.Holds.{IsLater}
 
-module _ {settings : SettingLists} {T : Job → Type 0} {w : World} (h : Holds settings T w) where
+module _ {settings : SettingLists} {past : List Gateway} {T : Job → Type 0} {w : World} (h : Holds settings past T w) where
   -- a device, which keeps its setting and its counters that were given
 
   abbrev pub with_device : ℕ → Device → World
   with_device p e = record w { reg = record (w.reg) { devices = slice_set w.reg.devices p e } }
 
   pub device_written : (p : ℕ) (d e : Device) → slice_get w.reg.devices p ≡ Some d → e.setting ≡ d.setting → d.down ≤ e.down
-      → IsGood settings T w (with_device p e)
+      → IsGood settings past T w (with_device p e)
   device_written p d e g s c =
       let later : (q : ℕ) (f : Device) → slice_get w.reg.devices q ≡ Some f → IsLater (slice_set w.reg.devices p e) q f =
       λ q f i. elim (get_set_after w.reg.devices p q e f i) [
@@ -37,20 +37,20 @@ module _ {settings : SettingLists} {T : Job → Type 0} {w : World} (h : Holds s
 
     pub answer_written : ((s : Sent) → sent_for old ≡ Some s → sent_for new ≡ Some s) → is_not_given (known_of new) ≡ false
         → ((k : ℕ) (job : Job) → new ≡ Open k job → IsJobAt settings T w.reg.gathered.list n job)
-        → IsGood settings T w (with_answer n new)
+        → IsGood settings past T w (with_answer n new)
     answer_written s i o =
         let answers = rewritten (λ a. new) n w.answers in
         let l = w.reg.gathered.list in
         let jobs : (m k : ℕ) (job : Job) → numbered m answers ≡ Some (Open k job) → IsJobAt settings T l m job =
         λ m k job e. elim (numbered_cases (λ a. new) n m w.answers (Open k job) e)
         [ inl g ↦ rw (← g.1) (o k job (sym g.3)) | inr g ↦ h.jobs m k job g ] in
-        let stands = stands_on settings T T (λ x t. t) l l (λ m x y. y) w.answers answers
-        (λ m x. has_still (λ a. sent_for a ≡ Some x) (s x) m) w.gateways h.stands in
+        let belong = belong_on settings T T (λ x t. t) l l (λ m x y. y) past w.answers answers
+        (λ m x. has_still (λ a. sent_for a ≡ Some x) (s x) m) w.gateways h.belong in
         let given : (m : ℕ) → IsGivenAt w.answers m → IsGivenAt answers m =
         has_still (λ a. is_not_given (known_of a) ≡ false) (λ e. i) in
-        assumption (length-rewritten (λ a. new) n w.answers ∙ h.answered, jobs, stands, given, (Follows-refl w).devices)
+        assumption (length-rewritten (λ a. new) n w.answers ∙ h.answered, jobs, belong, given, (Follows-refl w).devices)
 
-  -- a gateway, which keeps its setting, and whose members stand for their answers
+  -- a gateway, which keeps its setting, and whose members were there or stand for their answers
 
   abbrev pub with_gateway : ℕ → Gateway → World
   with_gateway i g = record w { gateways = slice_set w.gateways i g }
@@ -61,12 +61,13 @@ module _ {settings : SettingLists} {T : Job → Type 0} {w : World} (h : Holds s
         (g : Gateway) → slice_get (slice_set w.gateways i new) j ≡ Some g → P g
     set_all P p h j g e = elim (get_set_cases w.gateways i j new g e) [ inl o ↦ subst P (sym o.1) p | inr o ↦ h j g o.1 ]
 
-    pub gateway_written : setting_of new ≡ setting_of old → IsInOrder new → AllStand settings T w.reg.gathered.list w.answers new
-        → IsGood settings T w (with_gateway i new)
+    pub gateway_written : setting_of new ≡ setting_of old → IsInOrder past new
+        → AllBelong settings past T w.reg.gathered.list w.answers new
+        → IsGood settings past T w (with_gateway i new)
     gateway_written s o a =
-        let in_order = set_all IsInOrder o h.in_order in
-        let stands = set_all (AllStand settings T w.reg.gathered.list w.answers) a h.stands in
-        assumption (map_set setting_of w.gateways i old new there s ∙ h.gateways, in_order, stands, (Follows-refl w).devices)
+        let in_order = set_all (IsInOrder past) o h.in_order in
+        let belong = set_all (AllBelong settings past T w.reg.gathered.list w.answers) a h.belong in
+        assumption (map_set setting_of w.gateways i old new there s ∙ h.gateways, in_order, belong, (Follows-refl w).devices)
 
 -- a gathering is written anew, and keeps its bytes and its copies
 pub Grow-rewritten : (f : Gathering → Gathering) → ((g : Gathering) → IsGrown g (f g)) → (n : ℕ) (l : List Gathering)
@@ -74,7 +75,7 @@ pub Grow-rewritten : (f : Gathering → Gathering) → ((g : Gathering) → IsGr
 Grow-rewritten f grown n l m before x = Has-rewritten (IsGrown before) l f n m
     (λ g e k. record { bytes = (grown g).bytes ∙ k.bytes; copies = λ c q. (grown g).copies c (k.copies c q) }) x
 
-module _ {settings : SettingLists} {T : Job → Type 0} {w : World} (h : Holds settings T w) where
+module _ {settings : SettingLists} {past : List Gateway} {T : Job → Type 0} {w : World} (h : Holds settings past T w) where
   asked_on : (l : List Gathering) → Grow w.reg.gathered.list l → (n : ℕ) (a : Asked) → numbered n w.reg.asked ≡ Some a
       → IsAskedAt settings l n a.device
   asked_on l grow n a e = let u = h.asked n a e in record { gathering = u.gathering; own = u.own; now = grow n u.gathering u.now }
@@ -83,12 +84,12 @@ module _ {settings : SettingLists} {T : Job → Type 0} {w : World} (h : Holds s
   with_gathered l = record w { reg = record (w.reg) { gathered = record (w.reg.gathered) { list = l } } }
 
   pub gathered_grown : (l : List Gathering) → length w.reg.gathered.list ≡ length l → Grow w.reg.gathered.list l
-      → IsGood settings T w (with_gathered l)
+      → IsGood settings past T w (with_gathered l)
   gathered_grown l n grow =
       let was = w.reg.gathered.list in
       let jobs = jobs_on settings T T (λ j t. t) was l grow w.answers h.jobs in
-      let stands = stands_on settings T T (λ j t. t) was l grow w.answers w.answers (λ m s q. q) w.gateways h.stands in
-      assumption (h.together ∙ n, h.answered ∙ n, asked_on l grow, jobs, stands, (Follows-refl w).devices)
+      let belong = belong_on settings T T (λ j t. t) was l grow past w.answers w.answers (λ m s q. q) w.gateways h.belong in
+      assumption (h.together ∙ n, h.answered ∙ n, asked_on l grow, jobs, belong, (Follows-refl w).devices)
 
   -- one more uplink is gathered, and its answer waits
   module _ (g : Gathering) (a : Asked) (own : IsOfDevice settings a.device g) where
@@ -105,7 +106,7 @@ module _ {settings : SettingLists} {T : Job → Type 0} {w : World} (h : Holds s
     grow : Grow w.reg.gathered.list more
     grow n x k = Has-append (IsGrown x) w.reg.gathered.list (g ∷ []) n k
 
-    pub uplink_gathered : IsGood settings T w with_uplink
+    pub uplink_gathered : IsGood settings past T w with_uplink
     uplink_gathered =
         let l = w.reg.gathered.list in
         let together : length (w.reg.asked ++ a ∷ []) ≡ length more =
@@ -122,8 +123,8 @@ module _ {settings : SettingLists} {T : Job → Type 0} {w : World} (h : Holds s
         → IsJobAt settings T more n job =
         λ n k job e. elim (numbered-append_cases n w.answers Waiting (Open k job) e)
         [ inl o ↦ job_on settings T T (λ j t. t) l more grow n job (h.jobs n k job o) | inr o ↦ absurd (cc (o.1)) ] in
-        let stands = stands_on settings T T (λ j t. t) l more grow w.answers (w.answers ++ Waiting ∷ [])
-        (λ n s q. Has-append (λ b. sent_for b ≡ Some s) w.answers (Waiting ∷ []) n q) w.gateways h.stands in
+        let belong = belong_on settings T T (λ j t. t) l more grow past w.answers (w.answers ++ Waiting ∷ [])
+        (λ n s q. Has-append (λ b. sent_for b ≡ Some s) w.answers (Waiting ∷ []) n q) w.gateways h.belong in
         let given : (n : ℕ) → IsGivenAt w.answers n → IsGivenAt (w.answers ++ Waiting ∷ []) n =
         λ n k. Has-append (λ b. is_not_given (known_of b) ≡ false) w.answers (Waiting ∷ []) n k in
-        assumption (together, answered, asked, jobs, stands, given, (Follows-refl w).devices)
+        assumption (together, answered, asked, jobs, belong, given, (Follows-refl w).devices)

@@ -8,6 +8,7 @@ pub mod Schedule
 pub mod Entries
 pub mod Server
 pub mod Opened
+pub mod Resumed
 pub mod Engine
 pub mod Tries
 pub use Rattle.radio_airtime.specs.DataRate

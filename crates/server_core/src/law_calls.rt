@@ -3,11 +3,12 @@ ghost use Rattle.server_core.specs.BookCalls.{BookCallsAreSteps};
 ghost use Rattle.server_core.specs.DeskCalls.{DeskCallsAreSteps};
 ghost use Rattle.server_core.specs.Headline.{EveryRunKeepsHeadline};
 ghost use Rattle.server_core.specs.Promise.{EveryInterleavingIsSafe};
+ghost use Rattle.server_core.specs.Resumed.{EveryResumedRunKeepsHeadline};
 ghost use Rattle.server_core.specs.Staying.{OthersLeaveAlone};
 
 use crate::laws::{
     law_book_calls_are_steps, law_desk_calls_are_steps, law_every_interleaving,
-    law_every_run_keeps_headline, law_others_leave_alone,
+    law_every_resumed_run_keeps_headline, law_every_run_keeps_headline, law_others_leave_alone,
 };
 use std::alloc::Allocator;
 
@@ -15,12 +16,14 @@ use std::alloc::Allocator;
 fn each_law<A: Allocator>()
     ensures every_interleaving { EveryInterleavingIsSafe }
     ensures every_run_keeps_headline { EveryRunKeepsHeadline }
+    ensures every_resumed_run_keeps_headline { EveryResumedRunKeepsHeadline }
     ensures desk_calls_are_steps { DeskCallsAreSteps }
     ensures book_calls_are_steps { BookCallsAreSteps A }
     ensures others_leave_alone { OthersLeaveAlone }
 {
     law_every_interleaving();
     law_every_run_keeps_headline();
+    law_every_resumed_run_keeps_headline();
     law_desk_calls_are_steps();
     law_book_calls_are_steps::<A>();
     law_others_leave_alone();

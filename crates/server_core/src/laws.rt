@@ -4,6 +4,7 @@ ghost use Rattle.server_core.specs.BookCalls.{BookCallsAreSteps};
 ghost use Rattle.server_core.specs.DeskCalls.{DeskCallsAreSteps};
 ghost use Rattle.server_core.specs.Headline.{EveryRunKeepsHeadline};
 ghost use Rattle.server_core.specs.Promise.{EveryInterleavingIsSafe};
+ghost use Rattle.server_core.specs.Resumed.{EveryResumedRunKeepsHeadline};
 ghost use Rattle.server_core.specs.Staying.{OthersLeaveAlone};
 
 use std::alloc::Allocator;
@@ -67,6 +68,24 @@ pub fn law_book_calls_are_steps<A: Allocator>()
 /// on the gateway that heard this copy. The statement stands on one page, over plain lists.
 pub fn law_every_run_keeps_headline()
     ensures { EveryRunKeepsHeadline }
+{}
+
+/// The same of a server that is opened on books which hold reservations already, as after a restart. For all settings that are
+/// accepted, all limits of gathering, all books of their gateways whose reservations have the number 0, and every list of steps,
+/// after the last step:
+///
+/// - of each gateway's reservations, old and new ones together, what the headline says: they are pairwise disjoint, each as long
+///   as the formula says, and in each sub-band the airtime that begins within any hour keeps the limit, as does the airtime
+///   that is on air within any hour;
+/// - a reservation with the number 0 is an old one of its own gateway, and any other number stands at most once over all gateways,
+///   for a reservation in RX1 or RX2 of a copy of the gathered uplink with this number, on the gateway that heard this copy;
+/// - a ticket was given once at most for an uplink, and no downlink counter to two jobs with one address; and none is below the
+///   counter that the settings have for the device with this address.
+///
+/// No uplink has the number 0: they are counted from 1, from the opening on. What was given before the opening is not known here:
+/// no counter is given again only where the settings have the counters that were reached.
+pub fn law_every_resumed_run_keeps_headline()
+    ensures { EveryResumedRunKeepsHeadline }
 {}
 
 /// What is out stays that of the system through the steps of others, so that calls in any order are the steps of one run: before

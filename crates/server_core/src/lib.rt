@@ -24,7 +24,7 @@ pub use entry::{Entry, Line};
 pub use event::{Event, Step};
 pub use laws::{
     law_book_calls_are_steps, law_desk_calls_are_steps, law_every_interleaving,
-    law_every_run_keeps_headline, law_others_leave_alone,
+    law_every_resumed_run_keeps_headline, law_every_run_keeps_headline, law_others_leave_alone,
 };
 pub use lines::{cancelled_line, heard_line, queued_line, refused_line};
 pub use replayed::{Answers, Replay};
