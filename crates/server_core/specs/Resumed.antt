@@ -53,7 +53,8 @@ pub record KeepsResumed (settings : SettingLists) (books : List Book) (r : Run) 
   pub next : (job : Job) (device : DeviceSetting) → Contains (jobs_given r.replies) job → Contains settings.devices device
       → device.addr ≡ job.addr → device.down ≤ job.counter
 
--- for all settings that are accepted, all limits, all books of their gateways with old reservations, and every list of steps
+-- for all settings that are accepted, all limits, all books of their gateways whose reservations have the number 0, and every
+-- list of steps
 abbrev pub EveryResumedRunKeepsHeadline : Type 0
 EveryResumedRunKeepsHeadline = (settings : SettingLists) → AreSettings settings.gateways settings.devices → (limits : Limits)
     → (books : List Book) → AreBooksFor settings.gateways books → All IsWhole books → All HasNoNumbers books
