@@ -74,16 +74,16 @@ pub fn law_every_run_keeps_headline()
 /// accepted, all limits of gathering, all books of their gateways whose reservations have the number 0, and every list of steps,
 /// after the last step:
 ///
-/// - of each gateway's reservations, old and new ones together, what the headline says: they are pairwise disjoint, each as long
-///   as the formula says, and in each sub-band the airtime that begins within any hour keeps the limit, as does the airtime
-///   that is on air within any hour;
-/// - a reservation with the number 0 is an old one of its own gateway, and any other number stands at most once over all gateways,
-///   for a reservation in RX1 or RX2 of a copy of the gathered uplink with this number, on the gateway that heard this copy;
-/// - a ticket was given once at most for an uplink, and no downlink counter to two jobs with one address; and none is below the
-///   counter that the settings have for the device with this address.
+/// - the reservations of a gateway, old ones and new ones, are pairwise disjoint, each as long as the formula says;
+/// - in each sub-band the airtime that begins within any hour keeps the limit, and so does what is on air within any hour;
+/// - a reservation with the number 0 is an old one: its gateway's book held it at the opening;
+/// - any other number stands at most once over all gateways, and the reservation takes RX1 or RX2 of a copy of the gathered
+///   uplink with this number, on the gateway that heard this copy;
+/// - a ticket was given once at most for an uplink, and no downlink counter to two jobs with one address;
+/// - no counter was given that is below the one that the settings have for the device with this address.
 ///
-/// No uplink has the number 0: they are counted from 1, from the opening on. What was given before the opening is not known here:
-/// no counter is given again only where the settings have the counters that were reached.
+/// No uplink has the number 0: they are counted from 1, from the opening on. What was given before the opening is not known here.
+/// So the settings have to have the counters that were reached, as no counter of before is to be given again.
 pub fn law_every_resumed_run_keeps_headline()
     ensures { EveryResumedRunKeepsHeadline }
 {}

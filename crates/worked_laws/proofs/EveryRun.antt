@@ -1,6 +1,6 @@
 -- The headline and the promise once more, clause by clause, of every run: who loosens a clause has to loosen it here too.
 use Rattle.std.proofs.Common.{ℕ, List, ◌≡◌, ◌≢◌, ◌+◌, ◌-◌, ◌*◌, ◌≤◌, length, map, slice_get, Contains, Some, refl, subst, sym}
-use Rattle.std.specs.Prelude.{AllPairs, ◌⊎◌, ◌^◌}
+use Rattle.std.specs.Prelude.{All, AllPairs, ◌⊎◌, ◌^◌}
 use Rattle.radio_airtime.specs.DataRate.{number_of, rate_numbered}
 use Rattle.radio_airtime.specs.TimeOnAir.{airtime_of}
 use Rattle.radio_airtime.specs.declared.data_rate.DataRate.TheVariants.{Dr0}
@@ -10,6 +10,7 @@ use Rattle.resv_list.specs.declared.reservation.Reservation.{Reservation}
 use Rattle.resv_list.specs.OnAir.{on_air}
 use Rattle.resv_list.specs.Reservations.{begun, net}
 use Rattle.gateway_book.specs.Answer.{IsAsked}
+use Rattle.gateway_book.specs.Book.{Book}
 use Rattle.gateway_book.specs.Lawful.{IsLawful}
 use Rattle.lora_frame.specs.Reading.{addr_of}
 use Rattle.uplink_gather.specs.declared.heard.HeardCopy.{HeardCopy}
@@ -18,15 +19,17 @@ use Rattle.uplink_gather.specs.Gatherings.{Gathering, numbered}
 use Rattle.rx_windows.specs.Laws.{IsWindowOf}
 use Rattle.rx_windows.specs.declared.plan.Plan.{Plan}
 use Rattle.answer_ticket.specs.Ended.{longest_us}
-use Rattle.answer_ticket.specs.Job.{ask_for, candidates}
+use Rattle.answer_ticket.specs.Job.{Job, ask_for, candidates}
 use Rattle.server_desk.specs.Airtime.{settled_limit}
 use Rattle.server_desk.specs.declared.setting.DeviceSetting.{DeviceSetting}
 use Rattle.server_desk.specs.Settings.{AreSettings, SettingLists}
 use Rattle.server_desk.specs.Taking.{plan_for}
 use Rattle.server_desk.specs.World.{Gateway}
-use Rattle.server_core.specs.Headline.{EveryRunKeepsHeadline, TakesRx1, TakesRx2}
+use Rattle.server_core.specs.Headline.{EveryRunKeepsHeadline, IsOfItsUplink, TakesRx1, TakesRx2}
 use Rattle.server_core.specs.Promise.{EveryInterleavingIsSafe, IsOwnWindow, jobs_given, setting_of}
-use Rattle.server_core.specs.Steps.{Run, Step, run}
+use Rattle.server_core.specs.Opened.{AreBooksFor, IsWhole, resuming}
+use Rattle.server_core.specs.Resumed.{EveryResumedRunKeepsHeadline, HasNoNumbers, KeepsResumed}
+use Rattle.server_core.specs.Steps.{Run, Step, run, run_from}
 
 -- A window: RX1 begins RECEIVE_DELAY1 after the uplink's end, on its channel, at its rate less RX1DROffset; RX2 a second later.
 
@@ -112,6 +115,50 @@ module _ (settings : SettingLists) (accepted : AreSettings settings.gateways set
 
     counters_differ : AllPairs (λ a b. a.addr ≡ b.addr → a.counter ≢ b.counter) (jobs_given r.replies)
     counters_differ = (law settings accepted limits steps).counters
+
+  -- the same of a server that is opened on books of before
+  module _ (law : EveryResumedRunKeepsHeadline) (books : List Book) (for : AreBooksFor settings.gateways books)
+      (whole : All IsWhole books) (unnumbered : All HasNoNumbers books) where
+    abbrev q : Run
+    q = run_from (resuming settings limits books) steps
+
+    abbrev keeps : KeepsResumed settings books q
+    keeps = law settings accepted limits books for whole unnumbered steps
+
+    abbrev holds : ℕ → ℕ → Gateway → Reservation → Type 0
+    holds i k g a = (slice_get q.world.gateways i ≡ Some g) × (slice_get g.state.list k ≡ Some a)
+
+    resumed_disjoint : (i k l : ℕ) (g : Gateway) (a b : Reservation) → holds i k g a → slice_get g.state.list l ≡ Some b → k ≢ l
+        → (a.start + airtime_of a.rate a.len ≤ b.start) ⊎ (b.start + airtime_of b.rate b.len ≤ a.start)
+    resumed_disjoint i k l g a b h e = keeps.disjoint i k l g a b h.0 h.1 e
+
+    resumed_hour : (i : ℕ) (g : Gateway) → slice_get q.world.gateways i ≡ Some g → (band : Band) (t : ℕ)
+        → begun band t (t + 3600000000) g.state.list ≤ limit_of band
+    resumed_hour = keeps.hour
+
+    resumed_on_air : (i : ℕ) (g : Gateway) → slice_get q.world.gateways i ≡ Some g → (band : Band) (t : ℕ)
+        → on_air band t (t + 3600000000) g.state.list ≤ limit_of band
+    resumed_on_air = keeps.on_air
+
+    resumed_old : (i k : ℕ) (g : Gateway) (a : Reservation) (book : Book) → holds i k g a → slice_get books i ≡ Some book
+        → a.number ≡ 0 → Contains book.list a
+    resumed_old i k g a book h = keeps.old i k g a book h.0 h.1
+
+    resumed_once : (i j k l : ℕ) (g h : Gateway) (a b : Reservation) → holds i k g a → holds j l h b → a.number ≢ 0
+        → a.number ≡ b.number → (i ≡ j) × (k ≡ l)
+    resumed_once i j k l g h a b x y = keeps.once i j k l g h a b x.0 x.1 y.0 y.1
+
+    resumed_own : (i k : ℕ) (g : Gateway) (a : Reservation) → holds i k g a → a.number ≢ 0
+        → IsOfItsUplink settings q.world.reg.gathered.list g a
+    resumed_own i k g a h = keeps.own i k g a h.0 h.1
+
+    resumed_tickets : AllPairs (λ a b. a.number ≢ b.number) (jobs_given q.replies)
+        × AllPairs (λ a b. a.addr ≡ b.addr → a.counter ≢ b.counter) (jobs_given q.replies)
+    resumed_tickets = (keeps.tickets, keeps.counters)
+
+    resumed_counters : (job : Job) (device : DeviceSetting) → Contains (jobs_given q.replies) job
+        → Contains settings.devices device → device.addr ≡ job.addr → device.down ≤ job.counter
+    resumed_counters = keeps.next
 
   -- what stands in its own window is a candidate of a job for which a ticket was given
   module _ (g : Gateway) (a : Reservation) (own_window : IsOwnWindow r g a) where

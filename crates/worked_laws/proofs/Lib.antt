@@ -5,4 +5,5 @@ pub mod Headline
 pub mod DeskCalls
 pub mod BookCalls
 pub mod EveryRun
+pub mod Resumed
 pub mod Stations

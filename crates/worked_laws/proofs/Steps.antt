@@ -148,7 +148,7 @@ pub record Row : Type 0 where
   pub makes : World
   pub says : Reply
 
-abbrev row : Step → World → Reply → Row
+abbrev pub row : Step → World → Reply → Row
 row does makes says = record { does = does; makes = makes; says = says }
 
 abbrev rows : List Row
@@ -174,12 +174,12 @@ rows =
     ∷ []
 
 -- the rows are steps one after another, from this world
-abbrev Go : World → List Row → Type 0
+abbrev pub Go : World → List Row → Type 0
 Go w [] = ⊤
 Go w (r ∷ rs) = (step w r.does ≡ (r.makes, r.says)) × Go r.makes rs
 
 -- one step, and the others
-also : {P Q : Type 0} → P → Q → P × Q
+pub also : {P Q : Type 0} → P → Q → P × Q
 also p q = (p, q)
 
 each_step : Go (opening settings limits) rows
@@ -207,11 +207,11 @@ made n = made_at (n - 1) (opening settings limits) rows each_step
 
 -- The run as a whole.
 
-abbrev last : World → List Row → World
+abbrev pub last : World → List Row → World
 last w [] = w
 last w (r ∷ rs) = last r.makes rs
 
-ran : (w : World) (rs : List Row) → Go w rs
+pub ran : (w : World) (rs : List Row) → Go w rs
     → run_from w (map (λ r. r.does) rs) ≡ record { world = last w rs; replies = map (λ r. r.says) rs }
 unfolding run_from
 ran w [] g = refl

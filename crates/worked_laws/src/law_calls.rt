@@ -11,6 +11,7 @@ ghost use Rattle.server_core.specs.BookCalls.{BookCallsAreSteps};
 ghost use Rattle.server_core.specs.DeskCalls.{DeskCallsAreSteps};
 ghost use Rattle.server_core.specs.Headline.{EveryRunKeepsHeadline};
 ghost use Rattle.server_core.specs.Promise.{EveryInterleavingIsSafe};
+ghost use Rattle.server_core.specs.Resumed.{EveryResumedRunKeepsHeadline};
 ghost use Rattle.server_core.specs.Staying.{OthersLeaveAlone};
 
 use lora_frame::{law_device_decrypts, law_infer_is_least, law_uplink_reads_back};
@@ -20,7 +21,7 @@ use run_lines::law_lines_are_whole;
 use rx_windows::{law_candidates_on_gateways_that_heard, law_one_ranking};
 use server_core::{
     law_book_calls_are_steps, law_desk_calls_are_steps, law_every_interleaving,
-    law_every_run_keeps_headline, law_others_leave_alone,
+    law_every_resumed_run_keeps_headline, law_every_run_keeps_headline, law_others_leave_alone,
 };
 use std::alloc::Allocator;
 use text_lines::law_numbers_read_back;
@@ -39,6 +40,7 @@ fn each_law<A: Allocator>()
     ensures lines_are_whole { LinesAreWhole }
     ensures every_interleaving { EveryInterleavingIsSafe }
     ensures every_run_keeps_headline { EveryRunKeepsHeadline }
+    ensures every_resumed_run_keeps_headline { EveryResumedRunKeepsHeadline }
     ensures desk_calls_are_steps { DeskCallsAreSteps }
     ensures book_calls_are_steps { BookCallsAreSteps A }
     ensures others_leave_alone { OthersLeaveAlone }
@@ -55,6 +57,7 @@ fn each_law<A: Allocator>()
     law_lines_are_whole();
     law_every_interleaving();
     law_every_run_keeps_headline();
+    law_every_resumed_run_keeps_headline();
     law_desk_calls_are_steps();
     law_book_calls_are_steps::<A>();
     law_others_leave_alone();
