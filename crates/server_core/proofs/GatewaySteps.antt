@@ -1,9 +1,9 @@
 -- Time passes for a gateway, a transmission is cancelled, a candidate is tried: what holds of the world holds then.
 use Rattle.server_core.proofs.Words
 use Words.{arith, inr, subst, sym, ◌∙◌, All-filter, Err, List, None, Ok, Option, Result, Some, find, nat_le, not, refl, slice_get}
-use Words.{ℕ, ◌+◌, ◌≡◌, airtime_us, place, start_of, Reservation, may_join, orderly_filter, orderly_placed, after_cancel, book_step}
-use Words.{cancel_answer, is_fit-IsFit, is_named, tick_step, IsAsked, refusal_of, accepted, book_step-accepted, net_named}
-use Words.{net-place, Ask, CancelFault, Refusal, numbered, Candidate, Job, ask_for, candidate_at, Answer, Booked, Open, Out}
+use Words.{ℕ, ◌+◌, ◌≡◌, airtime_us, place, start_of, Reservation, may_join, orderly_filter, orderly_placed, after_cancel}
+use Words.{book_step, cancel_answer, is_fit-IsFit, is_named, tick_step, IsAsked, refusal_of, accepted, book_step-accepted}
+use Words.{net_named, net-place, Ask, CancelFault, Refusal, numbered, Candidate, Job, ask_for, candidate_at, Answer, Booked, Open, Out}
 use Words.{numbered-here, Gateway, World, SettingLists, cancel, refused, sent_by, terms, tick, tried_by, try}
 use Rattle.server_core.proofs.DeskSteps.{tick_walk, cancel_walk, try_walk}
 use Rattle.server_core.proofs.Holds.{IsInOrder, Holds, IsGoodStep, unchanged, AllBelong, Belongs, IsGood, IsJobAt, Stands}

@@ -1,7 +1,7 @@
 -- What holds of every run of a server that is opened on books.
 use Rattle.server_core.proofs.Words
 use Words.{ap, inl, inr, sym, ◌∙◌, All, Contains, List, Some, [], ◌∷◌, map, refl, slice_get, subst, ℕ, ◌≡◌}
-use Words.{◌≢◌, ◌≤◌, map_there, from_map, all_get, same_Some, Reservation, Book, IsOrderly, IsLawful, Limits, Job}
+use Words.{◌≢◌, ◌≤◌, map-id, map_there, from_map, all_get, Reservation, Book, IsOrderly, IsLawful, Limits, Job}
 use Words.{Gateway, gateway_of, SettingLists, AreSettings, GatewaySetting, DeviceSetting, IsMember, setting_of}
 use Words.{jobs_given, Run, run_from, AreBooksFor, IsWhole, resuming, opened_device}
 use Rattle.std.proofs.lemmas.List.Elements.{All-contains}
@@ -10,7 +10,7 @@ use Rattle.server_core.proofs.Holds.{Holds, IsNew, WasThere, member_belongs}
 use Rattle.server_core.proofs.Runs.{AreTickets, held_by, once_by, opened, own_at, run_good}
 use Rattle.server_core.proofs.{Headlines.disjoint_by, Headlines.on_air_by, Headlines.own_uplink, Members.apart_once}
 use Rattle.server_core.specs.Headline.{IsOfItsUplink}
-use Rattle.server_core.specs.Resumed.{HasNoNumbers, KeepsResumed, EveryResumedRunKeepsHeadline}
+use Rattle.server_core.specs.Resumed.{HasNoNumbers, WasHeld, KeepsResumed, EveryResumedRunKeepsHeadline}
 
 -- the books' gateways are those of the settings
 gateways_set : (gs : List GatewaySetting) (books : List Book) → AreBooksFor gs books → map setting_of (map gateway_of books) ≡ gs
@@ -62,23 +62,24 @@ module _ (settings : SettingLists) (are : AreSettings settings.gateways settings
   is_new id a numbered was = numbered (was_old books unnumbered id a was)
 
   -- what was there at a gateway was in its book
-  was_booked : (i : ℕ) (g : Gateway) (a : Reservation) (book : Book) → slice_get r.world.gateways i ≡ Some g
-      → slice_get books i ≡ Some book → WasThere past g.id a → Contains book.list a
-  was_booked i g a book e f was =
-      let there = map_there gateway_of books i book f in
-      let of_book = subst (λ l. slice_get l i ≡ Some (setting_of (gateway_of book))) past_set
-      (map_there setting_of past i (gateway_of book) there) in
-      let of_gateway = subst (λ l. slice_get l i ≡ Some (setting_of g)) h.gateways (map_there setting_of r.world.gateways i g e) in
-      let id = ap (λ (x : GatewaySetting). x.id) (same_Some _ _ (sym of_gateway ∙ of_book)) in
-      let place = apart_once setting_of (λ x. x.id) past settings.gateways past_set are.ids_differ was.place i was.gateway
-      (gateway_of book) was.there there (was.same ∙ id) in
-      let same : was.gateway ≡ gateway_of book = same_Some _ _ (sym (rw place at was.there) ∙ there) in
-      subst (λ (x : Gateway). Contains x.state.list a) same was.member
+  was_held : (i : ℕ) (g : Gateway) (a : Reservation) → slice_get r.world.gateways i ≡ Some g → WasThere past g.id a
+      → WasHeld books i a
+  was_held i g a e was =
+      let now = subst (λ l. slice_get l i ≡ Some (setting_of g)) h.gateways (map_there setting_of r.world.gateways i g e) in
+      let then = subst (λ l. slice_get l was.place ≡ Some (setting_of was.gateway)) past_set
+      (map_there setting_of past was.place was.gateway was.there) in
+      let place = apart_once (λ s. s) (λ s. s.id) settings.gateways settings.gateways (map-id settings.gateways)
+      are.ids_differ was.place i (setting_of was.gateway) (setting_of g) then now was.same in
+      let b = from_map gateway_of books was.place was.gateway was.there in
+      record {
+        book = b.0;
+        there = subst (λ j. slice_get books j ≡ Some b.0) place b.1;
+        member = subst (λ (x : Gateway). Contains x.state.list a) (sym b.2) was.member;
+      }
 
-  old_at : (i k : ℕ) (g : Gateway) (a : Reservation) (book : Book) → slice_get r.world.gateways i ≡ Some g
-      → slice_get g.state.list k ≡ Some a → slice_get books i ≡ Some book → a.number ≡ 0 → Contains book.list a
-  old_at i k g a book e x f zero = elim (member_belongs h i k g a (record { gateway = e; member = x })) [
-    | inl was ↦ was_booked i g a book e f was
+  old_at : (i k : ℕ) (g : Gateway) (a : Reservation) → IsMember r.world i k g a → a.number ≡ 0 → WasHeld books i a
+  old_at i k g a m zero = elim (member_belongs h i k g a m) [
+    | inl was ↦ was_held i g a m.gateway was
     | inr s ↦ let there = rw zero at s.own.now.there in absurd (cc (there))
   ]
 
@@ -99,7 +100,7 @@ module _ (settings : SettingLists) (are : AreSettings settings.gateways settings
         disjoint = disjoint_by r lawful;
         hour = λ i g e band s. (lawful i g e).duty band s;
         on_air = on_air_by r lawful;
-        old = old_at;
+        old = λ i k g a e x. old_at i k g a (record { gateway = e; member = x });
         once = λ i j k l g f a b e x o y. once_at i j k l g f a b (record { gateway = e; member = x })
             (record { gateway = o; member = y });
         own = λ i k g a e x. own_uplink_at i k g a (record { gateway = e; member = x });

@@ -23,6 +23,12 @@ use Rattle.server_core.specs.Opened.{AreBooksFor, IsWhole, resuming}
 abbrev pub HasNoNumbers : Book → Type 0
 HasNoNumbers b = All (λ r. r.number ≡ 0) b.list
 
+-- the book at place i held this reservation
+pub record WasHeld (books : List Book) (i : ℕ) (a : Reservation) : Type 0 where
+  pub book : Book
+  pub there : slice_get books i ≡ Some book
+  pub member : Contains book.list a
+
 -- g, h are the gateways at places i, j, and a, b reservations at places k, l of their lists
 pub record KeepsResumed (settings : SettingLists) (books : List Book) (r : Run) : Type 0 where
   -- of one gateway's reservations, old ones and new ones, each ends, its airtime after its start, before another starts, or
@@ -37,8 +43,8 @@ pub record KeepsResumed (settings : SettingLists) (books : List Book) (r : Run) 
   pub on_air : (i : ℕ) (g : Gateway) → slice_get r.world.gateways i ≡ Some g → (band : Band) (t : ℕ)
       → on_air band t (t + 3600000000) g.state.list ≤ limit_of band
   -- a reservation with the number 0 is an old one: its gateway's book held it at the opening
-  pub old : (i k : ℕ) (g : Gateway) (a : Reservation) (book : Book) → slice_get r.world.gateways i ≡ Some g
-      → slice_get g.state.list k ≡ Some a → slice_get books i ≡ Some book → a.number ≡ 0 → Contains book.list a
+  pub old : (i k : ℕ) (g : Gateway) (a : Reservation) → slice_get r.world.gateways i ≡ Some g
+      → slice_get g.state.list k ≡ Some a → a.number ≡ 0 → WasHeld books i a
   -- over all gateways any other number stands once at most
   pub once : (i j k l : ℕ) (g h : Gateway) (a b : Reservation) → slice_get r.world.gateways i ≡ Some g
       → slice_get g.state.list k ≡ Some a → slice_get r.world.gateways j ≡ Some h → slice_get h.state.list l ≡ Some b

@@ -140,9 +140,11 @@ module _ (settings : SettingLists) (accepted : AreSettings settings.gateways set
         → on_air band t (t + 3600000000) g.state.list ≤ limit_of band
     resumed_on_air = keeps.on_air
 
-    resumed_old : (i k : ℕ) (g : Gateway) (a : Reservation) (book : Book) → holds i k g a → slice_get books i ≡ Some book
-        → a.number ≡ 0 → Contains book.list a
-    resumed_old i k g a book h = keeps.old i k g a book h.0 h.1
+    resumed_old : (i k : ℕ) (g : Gateway) (a : Reservation) → holds i k g a → a.number ≡ 0
+        → (book : Book) × (slice_get books i ≡ Some book) × Contains book.list a
+    resumed_old i k g a h zero =
+        let was = keeps.old i k g a h.0 h.1 zero in
+        (was.book, was.there, was.member)
 
     resumed_once : (i j k l : ℕ) (g h : Gateway) (a b : Reservation) → holds i k g a → holds j l h b → a.number ≢ 0
         → a.number ≡ b.number → (i ≡ j) × (k ≡ l)

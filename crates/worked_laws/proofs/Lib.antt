@@ -6,4 +6,5 @@ pub mod DeskCalls
 pub mod BookCalls
 pub mod EveryRun
 pub mod Resumed
+pub mod EmptyBooks
 pub mod Stations

@@ -1,7 +1,7 @@
 -- A worked run after a restart. Each gateway's book holds a reservation from before, with the number 0. Then two uplinks of one
--- device are heard, the first by both gateways, the second by the first gateway alone. On this gateway RX1 is refused to both, as
--- a reservation from before begins then. So the first is answered on the second gateway, and the second in RX2. Each clause of the
--- law tells a fact.
+-- device are heard, the first by both gateways, the second by the first gateway alone. On this gateway RX1 is refused to both,
+-- as a reservation from before begins then. So the first is answered on the second gateway, and the second in RX2. Each clause
+-- of the law tells a fact.
 use Rattle.server_core.proofs.Words
 use Words.{All-cons, All-head, All-nil, AllPairs-head, ap, arith, inl, inr, subst, sym, ◌∙◌, Contains, List, None, Ok, Some, []}
 use Words.{Bool, length, map, refl, true, false, ℕ, ◌∷◌, ◌≡◌, ◌≢◌, ◌≤◌, ◌+◌, Reservation, Book, IsOrderly, orderly_nil}
@@ -32,7 +32,7 @@ use Rattle.rx_windows.specs.declared.candidate.Window.TheVariants.{Rx1, Rx2}
 use Rattle.rx_windows.specs.{Rank.ranked, Windows.candidates_of}
 use Rattle.server_desk.specs.declared.heard.DeskHeard.TheVariants.{Opened, Joined}
 use Rattle.server_core.specs.Headline.{IsOfItsUplink}
-use Rattle.server_core.specs.Resumed.{HasNoNumbers, KeepsResumed}
+use Rattle.server_core.specs.Resumed.{HasNoNumbers, KeepsResumed, WasHeld}
 use Rattle.server_core.specs.Steps as replies
 
 -- What there was before.
@@ -219,8 +219,11 @@ module _ (law : KeepsResumed later_settings books after) where
   on_air_kept : on_air M 8000001 3608000001 new_2.state.list ≤ 36000000
   on_air_kept = law.on_air 1 new_2 refl M 8000001
 
-  was_there : Contains old_1.state.list old_at_1.member
-  was_there = law.old 0 0 new_1 old_at_1.member (book_of old_1) refl old_at_1.there refl old_at_1.asked.number
+  was_held : WasHeld books 0 old_at_1.member
+  was_held = law.old 0 0 new_1 old_at_1.member refl old_at_1.there old_at_1.asked.number
+
+  held_by_the_first : Contains old_1.state.list old_at_1.member
+  held_by_the_first = subst (λ (b : Book). Contains b.list old_at_1.member) (same_Some _ _ (sym was_held.there)) was_held.member
 
   numbers_differ : new_at_1.member.number ≡ new_at_2.member.number → ⊥
   numbers_differ e =
