@@ -83,7 +83,8 @@ pub fn law_every_run_keeps_headline()
 /// - no counter was given that is below the one that the settings have for the device with this address.
 ///
 /// No uplink has the number 0: they are counted from 1, from the opening on. What was given before the opening is not known here.
-/// So the settings have to have the counters that were reached, as no counter of before is to be given again.
+/// So the settings have to have the counters that were reached, as no counter of before is to be given again. What a book had
+/// retired by then is not in its list, and is not counted.
 pub fn law_every_resumed_run_keeps_headline()
     ensures { EveryResumedRunKeepsHeadline }
 {}
