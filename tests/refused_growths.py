@@ -59,6 +59,7 @@ from starved_server import is_followed
 # Refuses `serve_settings` `read_serve_settings` (`serve`): by size.
 # Refuses `airbook_text` `read_whole_serve_settings` (`serve`): by size.
 # Refuses `serve_turns` `forwarders_of` (`serve`): 1.
+# Refuses `serve_turns` `Serving::open` (`serve`): by size.
 # Refuses `serve_turns` `Serving::new` (`serve`): by size.
 
 CASES = [

@@ -221,8 +221,9 @@ has all its keys. Lines of standard output:
   > LINE                   a line of run: hear, tick or pass; below it stand the
                            lines that answer it
   session GATEWAY AT       the gateway's clock begins anew, at AT
-  acked N GATEWAY          the gateway took downlink N
-  failed N GATEWAY ERROR   it did not
+  acked TOKEN GATEWAY      the gateway took a downlink of another server
+  failed TOKEN GATEWAY ERROR
+                           it did not
   dropped NAME COUNT EUI   so many datagrams, packets or copies were passed over
                            since this was last told, for the reason NAME; EUI is
                            the gateway's of the last one, or -

@@ -5,7 +5,7 @@ ghost use Rattle.serve_turns.specs.Turn.{IsBetweenTurns};
 use crate::stopped::Stopped;
 use airbook_text::{TextFault, read_whole_serve_settings};
 use log::{Log, warn};
-use serve_turns::{Came, Endpoint, Host, Serving, forwarders_of};
+use serve_turns::{Came, Endpoint, Host, Serving};
 use std::alloc::Global;
 use std::hash::RandomState;
 use std::io;
@@ -17,8 +17,11 @@ use std::thread::sleep;
 use std::time::{Clock, Duration, Instant};
 use text_lines::{ByteIn, ByteOut, CallFailed, write_all};
 
-/// How long is waited for a datagram, in milliseconds.
+/// How long is waited for a datagram, and until one is sent, in milliseconds.
 const WAIT_MS: u64 = 5;
+
+/// How long is waited behind a receive that fails, in milliseconds: it may fail at once, and again and again.
+const REST_MS: u64 = 1_000;
 
 /// Room for the longest datagram.
 const ROOM: usize = 65_536;
@@ -40,11 +43,11 @@ impl<R: Clock + Log, W: ByteOut> Host for Surroundings<'_, R, W> {
                 len,
             }),
             Ok((_, SocketAddr::V6(_))) => None,
-            Err(error) if error.kind() == ErrorKind::WouldBlock => None,
             Err(error) => {
-                warn!(self.rt; "nothing was received: {error}");
-                // A receive that fails at once waits for nothing.
-                sleep(self.rt, Duration::from_millis(WAIT_MS));
+                if !is_idle(&error) {
+                    warn!(self.rt; "nothing was received: {error}");
+                    sleep(self.rt, Duration::from_millis(REST_MS));
+                }
                 None
             }
         }
@@ -63,6 +66,12 @@ impl<R: Clock + Log, W: ByteOut> Host for Surroundings<'_, R, W> {
     fn tell(&mut self, lines: &[u8]) -> Result<(), CallFailed> {
         write_all(self.writer, lines)
     }
+}
+
+/// Whether a receive gave nothing since none came, or since it was interrupted, as when the process is stopped and goes on.
+fn is_idle(error: &io::Error) -> bool {
+    let kind = error.kind();
+    kind == ErrorKind::WouldBlock || kind == ErrorKind::Interrupted
 }
 
 /// Where a datagram came from.
@@ -109,16 +118,14 @@ fn opened<R: AllocGlobal + RandomSource, I: ByteIn>(
     let alloc = rt.alloc();
     let read = read_whole_serve_settings(alloc, reader)?;
     let hasher = RandomState::new(rt).map_err(|_| TextFault::Read)?;
-    let forwarders = forwarders_of(alloc, read.settings.gateways(), &read.forwarders).map_err(
-        |_| TextFault::NoMemory,
-    )?;
-    Serving::new(alloc, hasher, &read.settings, &forwarders).map_err(|_| TextFault::NoMemory)
+    Serving::open(alloc, hasher, &read).map_err(|_| TextFault::NoMemory)
 }
 
-/// A socket at this address, of which a receive waits a short time.
+/// A socket at this address, of which a receive waits a short time, and so does what is sent.
 fn bound<R: Net>(rt: &R, address: SocketAddrV4) -> io::Result<UdpSocket> {
     let socket = UdpSocket::bind(rt, address)?;
     socket.set_read_timeout(Some(Duration::from_millis(WAIT_MS)))?;
+    socket.set_write_timeout(Some(Duration::from_millis(WAIT_MS)))?;
     Ok(socket)
 }
 

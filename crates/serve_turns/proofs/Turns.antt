@@ -1,10 +1,10 @@
 -- A turn.
-use Rattle.std.proofs.Common.{◌≡◌, ◌≤◌, ◌++◌, ◌∙◌, ◌^◌, List, [], ◌∷◌, ℕ, Option, Some, ap, subst, sym}
+use Rattle.std.proofs.Common.{◌≡◌, ◌≤◌, ◌++◌, ◌∙◌, ◌^◌, List, [], ◌∷◌, ℕ, Option, Some, ap, subst, sym, refl, inl, inr}
 use Rattle.server_core.specs.Server.{seen, IsAt, IsBetweenCalls}
 use Rattle.serve_turns.specs.declared.serving.Serving.{Serving}
-use Rattle.serve_turns.specs.Effects.{Effect, Packet, Receives, Shows, Cuts, Adds}
+use Rattle.serve_turns.specs.Effects.{Effect, Packet, Receives, Shows, Cuts, Adds, AddsOrNot}
 use Rattle.serve_turns.specs.Life.{Life, Makes, IsAlive, IsReady}
-use Rattle.serve_turns.specs.Turn.{IsCut, IsTold, IsTurn, IsUntold, cut_effects, acknowledged, after_turn, known_after_came, told_at_after, told_text, turn_effects}
+use Rattle.serve_turns.specs.Turn.{IsBroken, IsCut, IsTold, IsTurn, IsUntold, cut_effects, acknowledged, after_turn, known_after_came, told_at_after, told_text, turn_effects}
 use Rattle.serve_turns.proofs.Effects.{adds_then}
 
 module _ {S A R : Type 0} {C : _} (came : Option Packet) (now : ℕ) (old middle new : Serving S A R C)
@@ -76,3 +76,24 @@ turn_cut {A = A} came now old middle h0 h1 h2 h3 h4 cut seen_first shown acked e
             effects = subst (λ t. Adds h0 h4 (cut_effects now came known t)) lives.text done;
           };
     }
+
+-- a turn that broke for want of memory
+pub turn_broken : {S A R : Type 0} {C : _} (came : Option Packet) (now : ℕ) (old : Serving S A R C)
+    (h0 h1 h2 h3 : Option (List Effect)) → Adds h0 h1 (Receives came ∷ []) → Adds h1 h2 (Shows (Some now) ∷ [])
+    → AddsOrNot h2 h3 (acknowledged now came old.forwarders.sessions.items) → now ≤ 2 ^ 60 → IsBroken h0 h3 old
+turn_broken came now old h0 h1 h2 h3 seen_first shown acked early =
+    let with_sent : (sent : List Effect) → Adds h2 h3 sent → Adds h0 h3 (Receives came ∷ Shows (Some now) ∷ sent) = λ sent a.
+    adds_then h0 h1 h3 (Receives came ∷ []) (Shows (Some now) ∷ sent) seen_first
+    (adds_then h1 h2 h3 (Shows (Some now) ∷ []) sent shown a) in
+    elim acked [
+      | inl a ↦ record { came = came; now = now; early = early; sent = []; at_most = inl refl; effects = with_sent [] a }
+      | inr a ↦
+          record {
+            came = came;
+            now = now;
+            early = early;
+            sent = acknowledged now came old.forwarders.sessions.items;
+            at_most = inr refl;
+            effects = with_sent (acknowledged now came old.forwarders.sessions.items) a;
+          }
+    ]

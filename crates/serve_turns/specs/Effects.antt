@@ -1,4 +1,4 @@
-use Rattle.std.specs.Prelude.{ℕ, ◌≡◌, ⊤, List, ◌++◌, take, Option, Some, None}
+use Rattle.std.specs.Prelude.{ℕ, ◌≡◌, ◌⊎◌, ⊤, List, [], ◌++◌, take, Option, Some, None}
 use Rattle.std.specs.Option.{option_map}
 use Rattle.forwarder_sessions.specs.declared.session.Endpoint.{Endpoint}
 use Rattle.serve_turns.specs.declared.host.Came.{Came}
@@ -10,7 +10,7 @@ pub record Packet : Type 0 where
   pub source : Endpoint
   pub bytes : List ℕ
 
--- a datagram came, or none did; its clock showed a moment, or none; it sent a datagram; it told lines, or was to tell them and
+-- a datagram came, or none did; its clock showed a moment, or none; it was to send a datagram; it told lines, or was to tell them and
 -- could not tell them whole
 pub data Effect : Type 0 where
   Receives : Option Packet → Effect
@@ -31,3 +31,7 @@ abbrev pub Adds : Option (List Effect) → Option (List Effect) → List Effect 
 Adds None after more = ⊤
 Adds (Some before) None more = ⊥
 Adds (Some before) (Some after) more = after ≡ before ++ more
+
+-- these happened more, or nothing did
+abbrev pub AddsOrNot : Option (List Effect) → Option (List Effect) → List Effect → Type 0
+AddsOrNot before after more = Adds before after [] ⊎ Adds before after more

@@ -8,6 +8,8 @@ use Rattle.forwarder_sessions.specs.declared.received.PushDropped.{PushDropped}
 use Rattle.forwarder_sessions.specs.declared.session.Forwarder.{Forwarder}
 use Rattle.forwarder_sessions.specs.Sessions.{Known, opened_session, heard_by}
 use Rattle.forwarder_sessions.specs.Received.{Tells, Dropped, Pulled_from, Pushed, Answered}
+use Rattle.serve_settings.specs.declared.forwarder as set
+use Rattle.server_core.specs.Server.{seen}
 use Rattle.server_core.specs.declared.event.Event.{Event}
 use Rattle.server_core.specs.declared.event.Event.TheVariants.{Hear}
 use Rattle.server_desk.specs.declared.heard.Heard1.{Heard1}
@@ -15,6 +17,7 @@ use Rattle.server_desk.specs.Settings.{SettingLists}
 use Rattle.server_desk.specs.UsualLimits.{usual_limits}
 use Rattle.server_desk.specs.World.{opening}
 use Rattle.serve_turns.specs.declared.serving.Serving.{Serving}
+use Rattle.serve_turns.specs.Forwarders.{AreByGateway}
 use Rattle.serve_turns.specs.Names.{datagram_name, push_name, entry_name}
 use Rattle.serve_turns.specs.Lines.{session_line, ack_line}
 use Rattle.serve_turns.specs.Life.{Life, telling, dropping, after_copy, IsAlive, IsReady}
@@ -118,3 +121,11 @@ pub record IsOpened {S A R : Type 0} {C : _} (settings : SettingLists) (forwarde
   pub ready : IsReady s.answerer
   pub known : s.forwarders.sessions.items ≡ map opened_session forwarders
   pub told_at : s.told_at ≡ 0
+  pub steps : (seen s.answerer.server).steps ≡ None
+
+-- the same by settings that were read, with the packet forwarders by their gateways' numbers
+pub record IsOpenedBy {S A R : Type 0} {C : _} (settings : SettingLists) (are_set : List set.Forwarder.Forwarder)
+    (s : Serving S A R C) : Type 0 where
+  pub forwarders : List Forwarder
+  pub by_gateway : AreByGateway settings.gateways are_set forwarders
+  pub opened : IsOpened settings forwarders s

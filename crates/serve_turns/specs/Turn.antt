@@ -1,4 +1,4 @@
-use Rattle.std.specs.Prelude.{ℕ, ◌≡◌, ◌≢◌, ◌≤◌, ◌<◌, ◌-◌, ◌^◌, nat_lt, IfSome, is_some, if◌then◌else◌, List, [], ◌∷◌, ◌++◌, Option, Some, None}
+use Rattle.std.specs.Prelude.{ℕ, ◌≡◌, ◌≢◌, ◌⊎◌, ◌≤◌, ◌<◌, ◌-◌, ◌^◌, nat_lt, IfSome, is_some, if◌then◌else◌, List, [], ◌∷◌, ◌++◌, Option, Some, None}
 use Rattle.forwarder_sessions.specs.declared.forwarders.Datagram.{Datagram}
 use Rattle.forwarder_sessions.specs.declared.session.Endpoint.{Endpoint}
 use Rattle.forwarder_sessions.specs.Sessions.{Known, tick_of}
@@ -153,3 +153,12 @@ pub record IsUntold {S A R : Type 0} {C : _} (before after : Option (List Effect
   pub goes : (l : Life) → IsAlive l old.answerer
       → IsLeftUntold before after (cut_effects now came old.forwarders.sessions.items)
       (after_turn A now came old.forwarders.sessions.items old.told_at l).text
+
+-- a turn was cut short for want of memory: a datagram may have come, and may be acknowledged; nothing else was done
+pub record IsBroken {S A R : Type 0} {C : _} (before after : Option (List Effect)) (old : Serving S A R C) : Type 0 where
+  pub came : Option Packet
+  pub now : ℕ
+  pub early : now ≤ 2 ^ 60
+  pub sent : List Effect
+  pub at_most : (sent ≡ []) ⊎ (sent ≡ acknowledged now came old.forwarders.sessions.items)
+  pub effects : Adds before after (Receives came ∷ Shows (Some now) ∷ sent)

@@ -5,10 +5,11 @@ ghost use Rattle.forwarder_packets.specs.Seen.{received, shown as shown_packet};
 ghost use Rattle.forwarder_packets.specs.TxAck.{failure};
 ghost use Rattle.forwarder_sessions.specs.Received.{shown_news, shown_packets};
 ghost use Rattle.serve_turns.specs.Life.{Makes, IsReady};
-ghost use Rattle.serve_turns.specs.Taking.{IsOpened, known_after_entry, known_after_entries, known_after_packet, known_after_packets, known_after_news, eui_at, hear_event};
+ghost use Rattle.serve_turns.specs.Taking.{IsOpened, IsOpenedBy, known_after_entry, known_after_entries, known_after_packet, known_after_packets, known_after_news, eui_at, hear_event};
 ghost use Rattle.serve_turns.specs.Taking.{after_entry, after_entries, after_packet, after_packets, after_ack, after_news};
 
 use crate::answerer::Answerer;
+use crate::by_gateway::forwarders_of;
 use crate::names::{datagram_name, entry_name, push_name};
 use crate::telling::put_ack;
 use answer_ticket::Bytes;
@@ -16,6 +17,7 @@ use forwarder_sessions::{
     Entry, Forwarder, Forwarders, News, NoMemory, Packet, PushDropped, TxAck,
 };
 use json::Scratch;
+use serve_settings::ServeSettings;
 use server_core::{Event, Heard1, Server, Settings, USUAL_LIMITS, empty_books};
 use std::alloc::Allocator;
 use std::hash::BuildHasher;
@@ -34,6 +36,15 @@ pub struct Serving<S: BuildHasher, A: Allocator + Copy> {
 }
 
 impl<S: BuildHasher + Clone, A: Allocator + Copy> Serving<S, A> {
+    /// A server with settings that were read, which has heard nothing, on empty books. It ticks its gateways by their numbers.
+    /// Devices and uplinks are looked up through this hasher and a clone of it. Err(NoMemory) where a growth was refused.
+    pub fn open(alloc: A, hasher: S, read: &ServeSettings) -> Result<Self, NoMemory>
+        ensures { IfOk result (IsOpenedBy read.now.settings read.now.forwarders.items) }
+    {
+        let forwarders = forwarders_of(alloc, read.settings.gateways(), &read.forwarders)?;
+        Serving::new(alloc, hasher, &read.settings, &forwarders)
+    }
+
     /// A server with these settings and these packet forwarders that has heard nothing, on empty books. Its gateways are ticked in
     /// the order of the packet forwarders. Devices and uplinks are looked up through this hasher and a clone of it. Err(NoMemory)
     /// where a growth was refused.

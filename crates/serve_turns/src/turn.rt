@@ -1,8 +1,8 @@
 // One turn of a server.
 ghost use Rattle.std.specs.Prelude.{◌≡◌, ◌≤◌, ◌^◌, length, Err, IfErr, IfSome, OnErr, OnOk};
-ghost use Rattle.serve_turns.specs.Effects.{Adds, given};
+ghost use Rattle.serve_turns.specs.Effects.{Adds, AddsOrNot, given};
 ghost use Rattle.serve_turns.specs.Life.{Makes, IsReady};
-ghost use Rattle.serve_turns.specs.Turn.{IsBetweenTurns, IsTurn, IsTold, IsCut, IsUntold, HasNoMoment, told_at_after, after_report, after_pass};
+ghost use Rattle.serve_turns.specs.Turn.{IsBetweenTurns, IsTurn, IsTold, IsCut, IsUntold, IsBroken, HasNoMoment, told_at_after, after_report, after_pass};
 ghost use Rattle.serve_turns.specs.Turn.{packet_of, after_datagram, known_after_datagram, answers_to};
 ghost use Rattle.serve_turns.specs.Turn.{after_came, known_after_came, acknowledged, after_turn};
 
@@ -44,6 +44,7 @@ impl<S: BuildHasher, A: Allocator + Copy> Serving<S, A> {
         ensures done { OnOk result (IsTurn (H.effects host.old) (H.effects host.new) self.old self.new) }
         ensures clock { result ≡ Err Stopped.Clock → HasNoMoment (H.effects host.old) (H.effects host.new) }
         ensures write { result ≡ Err Stopped.Write → IsUntold (H.effects host.old) (H.effects host.new) self.old }
+        ensures memory { result ≡ Err Stopped.NoMemory → IsBroken (H.effects host.old) (H.effects host.new) self.old }
     {
         let came = host.receive(room);
         let Some(now) = host.now() else {
@@ -77,6 +78,8 @@ impl<S: BuildHasher, A: Allocator + Copy> Serving<S, A> {
             self.old.answerer self.new.answerer) }
         ensures acknowledged { OnOk result (Adds (H.effects host.old) (H.effects host.new)
             (acknowledged now (given came room.now) self.old.forwarders.sessions.items)) }
+        ensures refused { OnErr result (AddsOrNot (H.effects host.old) (H.effects host.new)
+            (acknowledged now (given came room.now) self.old.forwarders.sessions.items)) }
     {
         self.take(host, now, came, room)?;
         self.pass(now)?;
@@ -100,6 +103,8 @@ impl<S: BuildHasher, A: Allocator + Copy> Serving<S, A> {
         ensures makes { OnOk result (Makes (after_came A now (given came room.now) self.old.forwarders.sessions.items)
             self.old.answerer self.new.answerer) }
         ensures acknowledged { OnOk result (Adds (H.effects host.old) (H.effects host.new)
+            (acknowledged now (given came room.now) self.old.forwarders.sessions.items)) }
+        ensures refused { OnErr result (AddsOrNot (H.effects host.old) (H.effects host.new)
             (acknowledged now (given came room.now) self.old.forwarders.sessions.items)) }
     {
         match came {
@@ -130,6 +135,8 @@ impl<S: BuildHasher, A: Allocator + Copy> Serving<S, A> {
             (after_datagram A datagram.now.at (packet_of datagram.now) self.old.forwarders.sessions.items)
             self.old.answerer self.new.answerer) }
         ensures acknowledged { OnOk result (Adds (H.effects host.old) (H.effects host.new)
+            (answers_to datagram.now.at (packet_of datagram.now) self.old.forwarders.sessions.items)) }
+        ensures refused { OnErr result (AddsOrNot (H.effects host.old) (H.effects host.new)
             (answers_to datagram.now.at (packet_of datagram.now) self.old.forwarders.sessions.items)) }
     {
         let alloc = self.answerer.alloc;

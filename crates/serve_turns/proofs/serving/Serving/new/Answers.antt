@@ -18,4 +18,5 @@ returns g c =
       ready = record { between = opens.ready; taken = opens.outcomes };
       known = c.in_ok-new.ensures;
       told_at = refl;
+      steps = opens.steps;
     }

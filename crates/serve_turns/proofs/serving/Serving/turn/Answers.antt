@@ -5,7 +5,7 @@ use Rattle.serve_turns.specs.Effects.{Adds, Receives, Shows, given}
 use Rattle.serve_turns.specs.Turn.{IsCut}
 use Rattle.serve_turns.proofs.Effects.{adds_then}
 use Rattle.serve_turns.proofs.Oks.{if_ok}
-use Rattle.serve_turns.proofs.Turns.{turn_made, turn_cut}
+use Rattle.serve_turns.proofs.Turns.{turn_made, turn_cut, turn_broken}
 use Rattle.serve_turns.proofs.serving.Serving.turn.Goals as goal
 
 pub returns-in_default-clause-clock : goal.returns-in_default-clause-clock
@@ -56,3 +56,14 @@ returns-in-Ok-clause-write g c e =
     (subst (λ n. Adds (g.H.Host.effects c.receive-came.new.self) (g.H.Host.effects c.now.new.self) (Shows n ∷ [])) c.in-Some.is
     c.now.ensures)
     c.in-Ok.ensures.acknowledged (omega (arith, c.if-now-gt-LAST_MOMENT.false)) c.in-Ok.ensures.makes
+
+pub returns-in-Ok-clause-memory : goal.returns-in-Ok-clause-memory
+returns-in-Ok-clause-memory g c e = absurd (cc (subst (λ r. IfErr r (λ s. s ≡ Write)) e c.tell.ensures.write))
+
+pub returns-in-Err-clause-memory : goal.returns-in-Err-clause-memory
+returns-in-Err-clause-memory g c _ =
+    turn_broken (given c.receive-came.result c.receive-came.new.into) c.in-Some.now c.args.self.now _ _ _ _
+    c.receive-came.ensures.seen
+    (subst (λ n. Adds (g.H.Host.effects c.receive-came.new.self) (g.H.Host.effects c.now.new.self) (Shows n ∷ [])) c.in-Some.is
+    c.now.ensures)
+    c.in-Err.ensures.refused (omega (arith, c.if-now-gt-LAST_MOMENT.false))
