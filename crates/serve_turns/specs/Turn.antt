@@ -154,7 +154,8 @@ pub record IsUntold {S A R : Type 0} {C : _} (before after : Option (List Effect
       → IsLeftUntold before after (cut_effects now came old.forwarders.sessions.items)
       (after_turn A now came old.forwarders.sessions.items old.told_at l).text
 
--- a turn was cut short for want of memory: a datagram may have come, and may be acknowledged; nothing else was done
+-- a turn was cut short for want of memory: a datagram may have come, and may be acknowledged; nothing else was done to the world
+-- around the server
 pub record IsBroken {S A R : Type 0} {C : _} (before after : Option (List Effect)) (old : Serving S A R C) : Type 0 where
   pub came : Option Packet
   pub now : ℕ
