@@ -8,6 +8,7 @@ pub mod KeptLaws
 pub mod LeastLaws
 pub mod OrderlyLaws
 pub mod RememberedLaws
+mod RulesLaws
 pub mod SpacedLaws
 pub mod OverlapLaws
 pub mod DutyRow

@@ -45,6 +45,10 @@ at_floor b floor =
 abbrev pub ticked : Book → ℕ → Book
 ticked b now = at_floor b (max b.floor now)
 
+-- the book under other rules
+abbrev pub with_rules : Book → Rules → Book
+with_rules b rules = record b { rules = rules }
+
 -- what a caller of `cancel` is told: the airtime of what was taken out, or why nothing was
 abbrev pub airtime_answer : Result Reservation CancelFault → Result ℕ CancelFault
 airtime_answer (Ok r) = Ok (airtime_us r)

@@ -15,6 +15,7 @@ mod loading;
 mod opening;
 mod overlap;
 mod refusal;
+mod rules;
 mod saved_line;
 mod saved_reader;
 mod saved_steps;

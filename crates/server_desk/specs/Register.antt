@@ -3,6 +3,7 @@ use Rattle.std.specs.List.{list_any}
 use Rattle.std.specs.Option.{option_map}
 use Rattle.uplink_gather.specs.Gatherings.{Gatherings}
 use Rattle.answer_ticket.specs.Job.{Payload}
+use Rattle.server_desk.specs.declared.device.Counters.{Counters}
 use Rattle.server_desk.specs.declared.setting.DeviceSetting.{DeviceSetting}
 pub use Rattle.server_desk.specs.declared.answers.Asked.{Asked}
 
@@ -37,6 +38,15 @@ first_at test (x ∷ xs) = if test x then Some (0, x) else option_map next_place
 -- the device with this address, with its place
 abbrev pub device_with : ℕ → List Device → Option (ℕ × Device)
 device_with addr devices = first_at (λ d. d.setting.addr == addr) devices
+
+-- its counters
+abbrev pub counters_of : Device → Counters
+counters_of d = record { up = d.up; down = d.down }
+
+-- what waits for a device, if there is one
+abbrev pub waiting_for : Option (ℕ × Device) → List Payload
+waiting_for None = []
+waiting_for (Some found) = found.1.queue
 
 -- a device of which nothing was heard yet
 abbrev pub opened_device : DeviceSetting → Device

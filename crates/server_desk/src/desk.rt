@@ -3,7 +3,7 @@ ghost use Rattle.std.specs.Option.{option_map};
 ghost use Rattle.lora_frame.specs.Reading.{uplink_of};
 ghost use Rattle.uplink_gather.specs.Hearing.{is_crowded};
 ghost use Rattle.server_desk.specs.World.{opening};
-ghost use Rattle.server_desk.specs.Register.{device_with};
+ghost use Rattle.server_desk.specs.Register.{device_with, counters_of, waiting_for};
 ghost use Rattle.server_desk.specs.Queueing.{queue_answer};
 ghost use Rattle.server_desk.specs.Passing.{pass_answer};
 ghost use Rattle.server_desk.specs.Hearing.{decide, decide_device, answer_to};
@@ -11,12 +11,12 @@ ghost use Rattle.server_desk.specs.Invariant.{verdict_of};
 ghost use Rattle.server_desk.specs.Desk.{desk_of, desk_queue, desk_hear, desk_pass};
 
 use crate::answers::{Asked, Known};
-use crate::device::KnownDevice;
+use crate::device::{Counters, KnownDevice};
 use crate::hearing::{copy_fault, copy_of, desk_answer, is_last, named_fault};
 use crate::opening::{addrs_of, airtimes_of, devices_of, ids_of};
 use crate::verdict::{NewUplink, Verdict};
 use crate::{DeskFault, DeskHeard, Heard1, QueueFault, Settings};
-use answer_ticket::NoMemory;
+use answer_ticket::{Bytes, NoMemory};
 use indexmap::IndexSet;
 use lora_frame::{Uplink, check_mic, infer, read_uplink};
 use std::alloc::{Allocator, Global};
@@ -209,6 +209,27 @@ impl<S: BuildHasher, A: Allocator> Desk<S, A> {
         ensures { result ≡ is_some (pass_answer self.now.reg now) }
     {
         self.gather.due(now).is_some()
+    }
+
+    /// The counters of the device with this address; `None` for an address that no device has. Takes no memory.
+    #[tactic(auto, using(crate::proofs::DeskLemmas::by_address))]
+    pub fn device(&self, addr: u32) -> Option<Counters>
+        ensures { result ≡ option_map (λ found. counters_of found.1) (device_with addr self.now.reg.devices) }
+    {
+        let place = self.place_of(addr)?;
+        Some(self.devices[place].counters())
+    }
+
+    /// The payloads that wait for the device with this address, FPort and FRMPayload of each, in the order in which they came;
+    /// none for an address that no device has. Takes no memory.
+    #[tactic(auto, using(crate::proofs::DeskLemmas::by_address))]
+    pub fn waiting(&self, addr: u32) -> &[(u8, Bytes<A>)]
+        ensures { result.now ≡ waiting_for (device_with addr self.now.reg.devices) }
+    {
+        match self.place_of(addr) {
+            Some(place) => self.devices[place].queue.as_slice(),
+            None => &[],
+        }
     }
 
     /// What is to be done with a copy of an uplink.

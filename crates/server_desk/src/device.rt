@@ -7,6 +7,15 @@ use answer_ticket::Bytes;
 use lora_frame::Keys;
 use std::alloc::Allocator;
 
+/// The counters of a device (LoRaWAN L2 1.0.4, section 4.3.1.5).
+#[derive(Clone, Copy, Debug, PartialEq, Eq)]
+pub struct Counters {
+    /// The last uplink counter, FCntUp, where there is one.
+    pub up: Option<u32>,
+    /// The next downlink counter, FCntDown, 2^32 where all were given.
+    pub down: u64,
+}
+
 /// A device as the desk keeps it.
 #[derive(Drop)]
 pub(crate) struct KnownDevice<A: Allocator> {

@@ -4,10 +4,10 @@ ghost use Rattle.server_desk.specs.Queueing.{queue_fault, queued_or, with_payloa
 ghost use Rattle.server_desk.specs.Taking.{head, plan_for, job_for, fault_of, with_counter_given};
 ghost use Rattle.server_desk.specs.Settling.{without_head};
 ghost use Rattle.server_desk.specs.Invariant.{shown, IsServable};
-ghost use Rattle.server_desk.specs.Register.{opened_device};
+ghost use Rattle.server_desk.specs.Register.{opened_device, counters_of};
 
 use crate::answers::Asked;
-use crate::device::KnownDevice;
+use crate::device::{Counters, KnownDevice};
 use crate::{DeviceSetting, QueueFault, TakeFault, keys_of};
 use answer_ticket::{Bytes, Copies, Job};
 use lora_frame::{Key, MAX_PAYLOAD, is_application_port};
@@ -110,6 +110,15 @@ impl<A: Allocator + Copy> KnownDevice<A> {
 }
 
 impl<A: Allocator> KnownDevice<A> {
+    pub(crate) fn counters(&self) -> Counters
+        ensures { result ≡ counters_of (shown self.now) }
+    {
+        Counters {
+            up: self.up,
+            down: self.down,
+        }
+    }
+
     /// The key of the MIC of its uplinks.
     pub(crate) fn nwk(&self) -> &Key
         ensures { result.now ≡ self.now.setting.nwk }

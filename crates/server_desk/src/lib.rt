@@ -25,6 +25,7 @@ pub use answers::{Asked, Known, Sent};
 pub use book::{Book, empty_book};
 pub use desk::Desk;
 pub use desk_limits::USUAL_LIMITS;
+pub use device::Counters;
 pub use faults::{DeskFault, QueueFault, TakeFault};
 pub use heard::{DeskHeard, Heard1};
 pub use radio_airtime::DataRate;
