@@ -285,6 +285,13 @@ impl<R: Roster> GatewayBook<R> {
         self.roster.members(alloc)
     }
 
+    /// The roster of what the book keeps, by which a caller goes over it without a list of its own.
+    pub fn roster(&self) -> &R
+        ensures { R.list result.now ≡ self.now.list }
+    {
+        &self.roster
+    }
+
     /// What every book keeps, as a law of this one: its list is one that a book with its rules, its floor and its booked
     /// airtime may keep. A call does nothing.
     pub fn law_whole(&self)

@@ -31,7 +31,7 @@ pub use replayed::{Answers, Replay};
 pub use replaying::{answer_events, replay};
 pub use server::Server;
 pub use server_desk::{
-    Book, DataRate, Desk, DeskFault, DeskHeard, DeviceSetting, GatewaySetting, Heard1, Limits,
-    MAX_DEVICES, MAX_GATEWAYS, NoMemory, QueueFault, Settings, SettingsFault, TakeFault,
+    Book, Counters, DataRate, Desk, DeskFault, DeskHeard, DeviceSetting, GatewaySetting, Heard1,
+    Limits, MAX_DEVICES, MAX_GATEWAYS, NoMemory, QueueFault, Settings, SettingsFault, TakeFault,
     USUAL_LIMITS, keys_of,
 };

@@ -7,11 +7,14 @@ ghost use Rattle.server_core.specs.Steps.{Queue, Hear};
 ghost use Rattle.server_core.specs.Server.{seen, with_step, with_lines, without_lines};
 ghost use Rattle.server_core.specs.Opened.{AreBooksFor, IsOpened, resuming};
 ghost use Rattle.server_desk.specs.Passing.{pass_answer};
+ghost use Rattle.server_desk.specs.Register.{counters_of, device_with, waiting_for};
 ghost use Rattle.server_desk.specs.UsualLimits.{usual_limits};
 ghost use Rattle.server_desk.specs.World.{opening};
 
 use crate::books::{empty_books, law_each_whole};
-use crate::{Book, Desk, Entry, Heard1, Limits, Line, NoMemory, Settings, Step, USUAL_LIMITS};
+use crate::{
+    Book, Counters, Desk, Entry, Heard1, Limits, Line, NoMemory, Settings, Step, USUAL_LIMITS,
+};
 use answer_ticket::Bytes;
 use std::alloc::Allocator;
 use std::hash::BuildHasher;
@@ -101,6 +104,28 @@ impl<S: BuildHasher, A: Allocator + Copy> Server<S, A> {
         ensures { result ≡ is_some (pass_answer (seen self.now).desk.reg now) }
     {
         self.desk.is_due(now)
+    }
+
+    /// The counters of the device with this address; `None` for an address that no device has. Takes no memory.
+    pub fn device(&self, addr: u32) -> Option<Counters>
+        ensures { result ≡ option_map (λ found. counters_of found.1) (device_with addr (seen self.now).desk.reg.devices) }
+    {
+        self.desk.device(addr)
+    }
+
+    /// The payloads that wait for the device with this address, FPort and FRMPayload of each, in the order in which they came;
+    /// none for an address that no device has. Takes no memory.
+    pub fn waiting(&self, addr: u32) -> &[(u8, Bytes<A>)]
+        ensures { result.now ≡ waiting_for (device_with addr (seen self.now).desk.reg.devices) }
+    {
+        self.desk.waiting(addr)
+    }
+
+    /// The gateways' books, in the order of the settings; all else is let go. Takes no memory.
+    pub fn into_books(self) -> Vec<Book<A>, A>
+        ensures { result.items ≡ (seen self).books }
+    {
+        self.books
     }
 
     /// Takes the lines out that were told and not taken out, in the order in which they were told. All else stays as it is.
