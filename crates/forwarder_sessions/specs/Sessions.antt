@@ -1,4 +1,4 @@
-use Rattle.std.specs.Prelude.{ℕ, ◌+◌, ◌-◌, ◌^◌, ◌≤◌, ◌<◌, Bool, true, false, not, List, nat_lt, if◌then◌else◌, position, Option, Some, None, option_and_then, IfSome}
+use Rattle.std.specs.Prelude.{ℕ, ◌+◌, ◌-◌, ◌^◌, ◌≤◌, ◌<◌, Bool, true, false, not, List, nat_lt, if◌then◌else◌, max, position, Option, Some, None, option_and_then, IfSome}
 use Rattle.std.specs.Str.{bytes_eq}
 use Rattle.gateway_clock.specs.Clock.{Clock, opened, heard}
 use Rattle.forwarder_sessions.specs.declared.session.Endpoint.{Endpoint}
@@ -9,16 +9,24 @@ use Rattle.forwarder_sessions.specs.declared.session.Newest.{Newest}
 -- What a server knows of a gateway's packet forwarder (Semtech's UDP protocol for packet forwarders, version 2). All moments are in
 -- microseconds.
 
--- the packet forwarder as the settings have it, the gateway's own clock, the last PULL_DATA, and the packet that was heard last
+-- the packet forwarder as the settings have it, the gateway's own clock, the last PULL_DATA, and the packet that was heard last; the
+-- greatest number of an uplink of which the gateway told a copy, and the same before this session of its counter, 0 for none
 pub record Known : Type 0 where
   pub forwarder : Forwarder
   pub clock : Clock
   pub pulled : Option Pulled
   pub newest : Option Newest
+  pub joined : ℕ
+  pub barred : ℕ
 
--- nothing was heard of it: its clock shows 2 s at least, so that the first packet is placed at 0 or later
+-- nothing was heard of it since the server began; its clock shows so much at least
+abbrev pub resumed_session : Forwarder × ℕ → Known
+resumed_session (f, high) =
+    record { forwarder = f; clock = opened high; pulled = None; newest = None; joined = 0; barred = 0 }
+
+-- nothing was ever heard of it: its clock shows 2 s at least, so that the first packet is placed at 0 or later
 abbrev pub opened_session : Forwarder → Known
-opened_session f = record { forwarder = f; clock = opened 2000000; pulled = None; newest = None }
+opened_session f = resumed_session (f, 2000000)
 
 abbrev pub has_eui : List ℕ → Known → Bool
 has_eui eui s = bytes_eq s.forwarder.eui eui
@@ -49,13 +57,24 @@ abbrev pub is_recent : ℕ → Option Pulled → Bool
 is_recent now None = false
 is_recent now (Some pulled) = not (nat_lt (pulled.at + pull_holds) now)
 
--- after a packet with this counter, which comes at a moment of the server's clock
+-- after a packet with this counter, which comes at a moment of the server's clock: where a session begins with it, what was told
+-- before is of an earlier one
 abbrev pub heard_by : ℕ → ℕ → Known → Known
 heard_by tmst now s =
     record s {
       clock = (heard s.clock tmst now).clock;
       newest = Some (record { at = (heard s.clock tmst now).at; arrived = now });
+      barred = if (heard s.clock tmst now).is_new then s.joined else s.barred;
     }
+
+-- after a copy of the uplink with this number
+abbrev pub joined_by : ℕ → Known → Known
+joined_by number s = record s { joined = max s.joined number }
+
+-- whether the gateway may answer the uplink with this number: no copy of that or of a later one is of an earlier session, in which
+-- its counter stood for other moments
+abbrev pub may_answer : ℕ → Known → Bool
+may_answer number s = nat_lt s.barred number
 
 -- how old the newest packet may be for the gateway's clock to be reckoned from it
 abbrev pub oldest : ℕ

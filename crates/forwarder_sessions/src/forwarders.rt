@@ -1,12 +1,12 @@
 // The packet forwarders of all gateways.
-ghost use Rattle.std.specs.Prelude.{◌≡◌, ◌≤◌, ◌<◌, ◌^◌, map, drop, length, slice_get, slice_set, Some, IfOk, IfSome, OnOk, OnErr};
+ghost use Rattle.std.specs.Prelude.{◌≡◌, ◌≤◌, ◌<◌, ◌^◌, map, drop, length, slice_get, slice_set, Some, IfOk, IfSome, OnOk, OnErr, All};
 ghost use Rattle.gateway_clock.specs.Clock.{heard};
-ghost use Rattle.forwarder_sessions.specs.Sessions.{opened_session, place_of, heard_by};
+ghost use Rattle.forwarder_sessions.specs.Sessions.{opened_session, resumed_session, place_of, heard_by, joined_by};
 ghost use Rattle.forwarder_sessions.specs.Received.{shown, shown_news, shown_packets, received_of, known_after, head_bytes, dropped};
 ghost use Rattle.forwarder_sessions.specs.Received.{packets_for, tells, after_news};
 
 use crate::received::{DatagramFault, News, PushDropped, Received, named};
-use crate::session::{Endpoint, Forwarder, Session};
+use crate::session::{Endpoint, FIRST_HIGH, Forwarder, Session};
 use forwarder_packets::{
     Entry, Head, Kind, NoMemory, PushFault, acknowledgement, read_head, read_packets, read_tx_ack,
 };
@@ -39,7 +39,20 @@ impl<A: Allocator + Copy> Forwarders<A> {
     {
         let mut sessions = Vec::with_capacity(alloc, forwarders.len())?;
         for forwarder in forwarders {
-            sessions.push(Session::new(*forwarder))?;
+            sessions.push(Session::new(*forwarder, FIRST_HIGH))?;
+        }
+        Ok(Forwarders { sessions })
+    }
+
+    /// These packet forwarders, of which nothing was heard since the server began, each with what its gateway's clock shows at least,
+    /// in microseconds and at most 2^60: `FIRST_HIGH` where it was never heard. Err(NoMemory) where an allocation was refused.
+    pub fn resumed(alloc: A, forwarders: &[(Forwarder, u64)]) -> Result<Self, NoMemory>
+        requires { All (λ f. f.1 ≤ 2 ^ 60) forwarders.now }
+        ensures { IfOk result (λ made. made.sessions.items ≡ map resumed_session forwarders.now) }
+    {
+        let mut sessions = Vec::with_capacity(alloc, forwarders.len())?;
+        for (forwarder, high) in forwarders {
+            sessions.push(Session::new(*forwarder, *high))?;
         }
         Ok(Forwarders { sessions })
     }
@@ -96,6 +109,15 @@ impl<A: Allocator + Copy> Forwarders<A> {
             (λ s. self.new.sessions.items ≡ slice_set self.old.sessions.items place (heard_by tmst now s)) }
     {
         self.sessions[place].hear(tmst, now)
+    }
+
+    /// Notes that a copy which the gateway at this place told belongs to the uplink with this number.
+    pub fn join(&mut self, place: usize, number: u64)
+        requires { place < length self.old.sessions.items }
+        ensures { IfSome (slice_get self.old.sessions.items place)
+            (λ s. self.new.sessions.items ≡ slice_set self.old.sessions.items place (joined_by number s)) }
+    {
+        self.sessions[place].join(number);
     }
 
     /// The place of the gateway with this EUI.

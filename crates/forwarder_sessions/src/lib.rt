@@ -10,4 +10,4 @@ pub use forwarder_packets::{Entry, EntryFault, NoMemory, Packet, TxAck};
 pub use forwarders::{Datagram, Forwarders};
 pub use gateway_clock::Placed;
 pub use received::{DatagramFault, News, PushDropped, Received};
-pub use session::{Endpoint, Forwarder, Newest, Pulled, Session};
+pub use session::{Endpoint, FIRST_HIGH, Forwarder, Newest, Pulled, Session};

@@ -1,14 +1,14 @@
 // One gateway's packet forwarder, and what is known of it.
 ghost use Rattle.std.specs.Prelude.{◌≡◌, ◌≤◌, ◌^◌};
-ghost use Rattle.gateway_clock.specs.Clock.{heard, tmst_of};
-ghost use Rattle.forwarder_sessions.specs.Sessions.{opened_session, has_eui, may_come, is_recent, heard_by, pulled_by, tick_of};
+ghost use Rattle.gateway_clock.specs.Clock.{heard, line, tmst_of};
+ghost use Rattle.forwarder_sessions.specs.Sessions.{resumed_session, has_eui, may_come, is_recent, heard_by, joined_by, may_answer, pulled_by, tick_of};
 
 use gateway_clock::{GatewayClock, Placed};
 use std::marker::Model;
 
 /// What a gateway's clock shows at least when a server opens that has never heard it, in microseconds: so far below it the first
 /// packet may be placed.
-const FIRST_HIGH: u64 = 2_000_000;
+pub const FIRST_HIGH: u64 = 2_000_000;
 
 /// How long after a PULL_DATA its gateway's packets are heard, in microseconds.
 const PULL_HOLDS: u64 = 60_000_000;
@@ -60,6 +60,10 @@ pub struct Session {
     clock: GatewayClock,
     pulled: Option<Pulled>,
     newest: Option<Newest>,
+    /// The greatest number of an uplink of which the gateway told a copy, 0 for none.
+    joined: u64,
+    /// The same before this session of its counter.
+    barred: u64,
 }
 
 impl Model for Session {
@@ -67,21 +71,39 @@ impl Model for Session {
 
     ghost Value = { Known };
 
-    ghost view = { λ s. record { forwarder = s.forwarder; clock = s.clock; pulled = s.pulled; newest = s.newest } };
+    ghost view = { λ s. record {
+      forwarder = s.forwarder;
+      clock = s.clock;
+      pulled = s.pulled;
+      newest = s.newest;
+      joined = s.joined;
+      barred = s.barred;
+    } };
 
-    ghost invariant = { λ s. IsKnown (record { forwarder = s.forwarder; clock = s.clock; pulled = s.pulled; newest = s.newest }) };
+    ghost invariant = { λ s. IsKnown (record {
+      forwarder = s.forwarder;
+      clock = s.clock;
+      pulled = s.pulled;
+      newest = s.newest;
+      joined = s.joined;
+      barred = s.barred;
+    }) };
 }
 
 impl Session {
-    /// A packet forwarder of which nothing was heard.
-    pub(crate) fn new(forwarder: Forwarder) -> Self
-        ensures { result ≡ opened_session forwarder }
+    /// A packet forwarder of which nothing was heard since the server began. Its gateway's clock shows nothing before `high`, in
+    /// microseconds and at most 2^60.
+    pub(crate) fn new(forwarder: Forwarder, high: u64) -> Self
+        requires { high ≤ 2 ^ 60 }
+        ensures { result ≡ resumed_session (forwarder, high) }
     {
         Session {
             forwarder,
-            clock: GatewayClock::new(FIRST_HIGH),
+            clock: GatewayClock::new(high),
             pulled: None,
             newest: None,
+            joined: 0,
+            barred: 0,
         }
     }
 
@@ -156,7 +178,33 @@ impl Session {
             at: placed.at,
             arrived: now,
         });
+        if placed.is_new {
+            self.barred = self.joined;
+        }
         placed
+    }
+
+    /// Notes that a copy which the gateway told belongs to the uplink with this number.
+    pub(crate) fn join(&mut self, number: u64)
+        ensures { self.new ≡ joined_by number self.old }
+    {
+        self.joined = self.joined.max(number);
+    }
+
+    /// Whether the gateway may answer the uplink with this number: no copy of that one or of a later one is of an earlier session, in
+    /// which its counter stood for other moments.
+    pub fn may_answer(&self, number: u64) -> bool
+        ensures { result ≡ may_answer number self.now }
+    {
+        self.barred < number
+    }
+
+    /// What the gateway's clock shows at least when the server's shows `now`, both in microseconds; `now` is at most 2^60.
+    pub fn line(&self, now: u64) -> u64
+        requires { now ≤ 2 ^ 60 }
+        ensures { result ≡ line self.now.clock now }
+    {
+        self.clock.line(now)
     }
 
     /// The moment before which this gateway can't be told of a transmission in time, when the server's clock shows `now`: what its

@@ -123,6 +123,8 @@ impl<S: BuildHasher, A: Allocator + Copy> Server<S, A> {
 
     /// The gateways' books, in the order of the settings; all else is let go. Takes no memory.
     pub fn into_books(self) -> Vec<Book<A>, A>
+    where
+        S: Drop,
         ensures { result.items ≡ (seen self).books }
     {
         self.books
