@@ -29,6 +29,8 @@ mod radio;
 #[cfg(test)]
 mod roster;
 #[cfg(test)]
+mod rules;
+#[cfg(test)]
 mod saved;
 #[cfg(test)]
 mod saved_faults;

@@ -7,6 +7,8 @@ mod audits;
 #[cfg(test)]
 mod calls;
 #[cfg(test)]
+mod devices;
+#[cfg(test)]
 mod growth;
 #[cfg(test)]
 mod hearing;

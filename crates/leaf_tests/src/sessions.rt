@@ -220,6 +220,21 @@ fn packets_are_placed_on_each_gateways_clock(rt: HostRuntime) -> Result<(), Fail
     equal(&sessions[1].tmst_of(1_001_100), &Some(32_704))
 }
 
+#[test]
+fn an_uplink_of_an_earlier_session_is_not_answered(rt: HostRuntime) -> Result<(), Fail> {
+    let mut forwarders = Forwarders::resumed(rt.alloc(), &[(FORWARDERS[0], 5_000_000)])?;
+    equal(&forwarders.sessions()[0].line(1_000_000), &5_999_900)?;
+    equal(&forwarders.hear(0, 7_000_000, 1_000).at, &3_001_000)?;
+    forwarders.join(0, 4);
+    forwarders.join(0, 3);
+    equal(&forwarders.sessions()[0].may_answer(1), &true)?;
+    // The gateway restarts: its counter begins anew.
+    equal(&forwarders.hear(0, 1_000, 900_000).is_new, &true)?;
+    forwarders.join(0, 5);
+    equal(&forwarders.sessions()[0].may_answer(4), &false)?;
+    equal(&forwarders.sessions()[0].may_answer(5), &true)
+}
+
 /// A PUSH_DATA that is heard.
 static HEARD_ROW: Row = (
     2_000,
@@ -263,4 +278,16 @@ fn growths_of_forwarders(rt: HostRuntime) -> Result<(), Fail> {
     alloc.grant();
     equal(&refused, &true)?;
     equal(&Forwarders::new(alloc, &FORWARDERS)?.sessions().len(), &2)
+}
+
+// Refuses `forwarder_sessions` `Forwarders::resumed`: 1 for its list.
+#[test]
+fn growths_of_resumed_forwarders(rt: HostRuntime) -> Result<(), Fail> {
+    let resumed = [(FORWARDERS[0], 0), (FORWARDERS[1], 0)];
+    let alloc = &Refusing::new(rt.alloc());
+    alloc.refuse(1);
+    let refused = Forwarders::resumed(alloc, &resumed).is_err();
+    alloc.grant();
+    equal(&refused, &true)?;
+    equal(&Forwarders::resumed(alloc, &resumed)?.sessions().len(), &2)
 }
