@@ -1,0 +1,4 @@
+pub mod Parts
+pub mod HourLemmas
+pub mod ShowsHour
+pub mod Worked

@@ -1,0 +1,16 @@
+pub mod Scale
+pub mod Hour
+pub mod Fixed
+pub mod Lines
+pub mod Laws
+pub use Rattle.radio_airtime.specs.DataRate
+pub use Rattle.radio_airtime.specs.TimeOnAir
+pub use Rattle.radio_airtime.specs.Bounds
+pub use Rattle.radio_bands.specs.Band
+pub use Rattle.resv_list.specs.Fit
+pub use Rattle.resv_list.specs.Sorted
+pub use Rattle.resv_list.specs.Begun
+pub use Rattle.resv_list.specs.Hours
+pub use Rattle.resv_list.specs.OnAir
+pub use Rattle.resv_list.specs.SameFields
+pub use Rattle.resv_list.specs.Reservations
