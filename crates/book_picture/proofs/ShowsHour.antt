@@ -81,6 +81,10 @@ passes_too : {X : Type 0} (test : X → Bool) (y : X) (xs : List X) → test y �
 passes_too test y [] p h = absurd (omega (arith, h.1))
 passes_too test y (x ∷ xs) p h = found_too test x y xs (test x) refl p h (passes_too test y xs p)
 
+still_there : {X : Type 0} (test : X → Bool) (y : X) (xs : List X) → Contains (filter test xs) y → Contains xs y
+still_there test y xs has =
+    All-contains (Contains xs) (filter test xs) y (All-filter test (Contains xs) xs (All-contains_itself xs)) has
+
 pub shows_hour : PictureShowsHour
 shows_hour b t =
     let test : Reservation → Bool = λ r. is_within_hour r.start t in
@@ -88,7 +92,5 @@ shows_hour b t =
       marks = marks_alone b t;
       begin = λ k r h. begins t (get_or (members_of_hour b.list t) k r) (filter_passes test b.list k r h);
       each = λ r has in_hour. passes_too test r b.list (within t r in_hour) has;
-      kept = λ r has.
-          All-contains (Contains b.list) (members_of_hour b.list t) r
-          (All-filter test (Contains b.list) b.list (All-contains_itself b.list)) has;
+      kept = λ r has. still_there test r b.list has;
     }

@@ -86,6 +86,10 @@ unfolding first second third
 ends_of_the_hour = refl
 
 module _ (law : PictureShowsHour) where
+  pub each_mark_is_a_member_s : (b : Book) (t : ℕ)
+      → filter is_mark (picture_lines b t) ≡ map (mark_line t) (members_of_hour b.list t)
+  each_mark_is_a_member_s b t = (law b t).marks
+
   pub marks_of_two : filter is_mark (picture_lines (keeping (first ∷ second ∷ third ∷ [])) 10000000)
       ≡ mark_line 10000000 first ∷ mark_line 10000000 second ∷ []
   unfolding first second third

@@ -12,7 +12,7 @@ hour, at its start, as long as it is on air but never too thin to be seen, with 
 number. Upright lines: every five minutes. Dashed line: the floor, before which nothing more is booked.</desc>
 <style>
 svg { background: #fff }
-text { fill: #111; font: 12px sans-serif }
+text { fill: #111; stroke: #fff; stroke-width: 3px; paint-order: stroke; font: 12px sans-serif }
 .letter { font-size: 20px; font-weight: bold }
 .minute { font-size: 9px; text-anchor: middle }
 .right { text-anchor: end }
@@ -37,7 +37,7 @@ pattern path { stroke-width: 4000 }
 .d6, .s6 { fill: url(#r6) }
 @media screen and (prefers-color-scheme: dark) {
 svg { background: #14181c }
-text { fill: #eee }
+text { fill: #eee; stroke: #14181c }
 .grid { stroke: #3a4046 }
 .limit { stroke: #aaa }
 .bar { fill: #aaa }

@@ -9,3 +9,4 @@ pub mod WorkedLines
 pub mod TurnLemmas
 pub mod TryingLemmas
 pub mod OpeningLemmas
+pub mod PictureLemmas

@@ -6,6 +6,7 @@ pub mod Output
 pub mod Opening
 pub mod Toa
 pub mod Planning
+pub mod Picturing
 pub mod Progress
 pub mod Trying
 pub mod Promise

@@ -47,7 +47,7 @@ pub(crate) fn resumed_text<A: Allocator + Clone, R: ByteIn, W: ByteOut>(
 }
 
 /// What is told of a saved text that was not read.
-fn stopped_by(fault: LoadFault) -> TextFault
+pub(crate) fn stopped_by(fault: LoadFault) -> TextFault
     ensures { IsFaultOf fault result }
 {
     match fault {
@@ -63,7 +63,10 @@ fn stopped_by(fault: LoadFault) -> TextFault
 type LoadedAhead<A> = (Result<GatewayBook<TreeRoster<A>>, LoadFault>, ReadAhead);
 
 /// Opens the book whose saved text the input begins with. What follows it is left, in part read ahead.
-fn load_ahead<A: Allocator + Clone, R: ByteIn>(reader: &mut R, alloc: A) -> LoadedAhead<A>
+pub(crate) fn load_ahead<A: Allocator + Clone, R: ByteIn>(
+    reader: &mut R,
+    alloc: A,
+) -> LoadedAhead<A>
     ensures loads { Loads (R.left reader.old) (unread result.1 (R.left reader.new)) result.0 }
     ensures opened { IfOk result.0 (λ b. b ≡ opened_again (saved_of b)) }
     ensures rest { ForSome (R.left reader.old) (λ bytes. IsRest bytes (unread result.1 (R.left reader.new)) result.1.taken) }
