@@ -1,14 +1,14 @@
-use Rattle.std.specs.Prelude.{ℕ, ◌≡◌, ◌+◌, ◌-◌, ◌<◌, ◌≤◌, max, nat_lt, nat_le, Bool, true, false, ◌&&◌, List, [], ◌∷◌, Option, Some, None}
-use Rattle.std.specs.Prelude.{find, filter, map, cond, All, Contains}
+use Rattle.std.specs.Prelude.{ℕ, ◌≡◌, ◌+◌, ◌<◌, ◌≤◌, max, nat_lt, nat_le, Bool, true, false, ◌&&◌, List, [], ◌∷◌, Option, Some, None}
+use Rattle.std.specs.Prelude.{filter, map, cond}
 use Rattle.std.specs.Bool.{then_some}
 use Rattle.std.proofs.Common.{refl, sym, ap, ◌∙◌, arith, subst}
-use Rattle.std.proofs.lemmas.Bool.{leb-true, leb-false, ltb-true, ltb-false, le-leb, lt-leb, lt-ltb, le-ltb}
+use Rattle.std.proofs.lemmas.Bool.{leb-true, leb-false, ltb-true, ltb-false, lt-ltb, le-ltb}
 use Rattle.radio_bands.specs.declared.band.Band.{Band}
 use Rattle.radio_bands.specs.Band.{hour}
 use Rattle.resv_list.specs.Begun.{begun-cons, begun-nil}
 use Rattle.resv_list.specs.Fit.{last_end}
 use Rattle.resv_list.specs.Hours.{greatest}
-use Rattle.resv_list.specs.Sorted.{RisesFrom, first_from, last, below, last_below}
+use Rattle.resv_list.specs.Sorted.{RisesFrom, first_from, last, below}
 use Rattle.resv_list.specs.Reservations.{start_of, end_of, begun, IsByStart, member_before, member_from}
 use Rattle.resv_list.specs.Nearest.{IsFirstFrom}
 use Rattle.resv_list.proofs.NearestLemmas.{nearest_are_found}

@@ -1,11 +1,10 @@
-use Rattle.std.specs.Prelude.{ℕ, ◌≡◌, ◌+◌, ◌<◌, ◌≤◌, nat_lt, nat_le, Bool, true, false, ◌&&◌, List, [], ◌∷◌, ◌++◌, map, filter, cond}
-use Rattle.std.specs.Prelude.{All, Contains}
-use Rattle.std.proofs.Common.{refl, sym, ap, ◌∙◌, arith, append-nil, zero, suc, get_or}
+use Rattle.std.specs.Prelude.{ℕ, ◌≡◌, ◌+◌, Bool, true, false, List, [], ◌∷◌, ◌++◌, map, filter, cond}
+use Rattle.std.specs.Prelude.{Contains}
+use Rattle.std.proofs.Common.{refl, ap, ◌∙◌, arith, append-nil, zero, suc, get_or}
 use Rattle.std.proofs.lemmas.Bool.{le-leb, lt-ltb}
 use Rattle.std.proofs.lemmas.List.Elements.{filter-append, filter_passes, All-filter, All-contains, All-contains_itself}
 use Rattle.radio_bands.specs.Band.{hour}
 use Rattle.radio_bands.specs.declared.band.Band.{Band}
-use Rattle.radio_bands.specs.declared.band.Band.TheVariants.{K, L, M, N, P, Q}
 use Rattle.resv_list.specs.declared.reservation.Reservation.{Reservation}
 use Rattle.gateway_book.specs.Book.{Book}
 use Rattle.gateway_book.specs.Duty.{is_within_hour}

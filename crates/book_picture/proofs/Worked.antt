@@ -1,7 +1,7 @@
 -- What the law says of a worked hour, and the figures of its picture: two transmissions of 41,216 us in sub-band M, one after the
 -- other, the first at 10 s. A third begins an hour after the first: in the hour from 10 s the first is there, and the third is not.
-use Rattle.std.proofs.Common.{ℕ, ◌≡◌, ◌+◌, ◌<◌, ◌≤◌, List, [], ◌∷◌, Some, None, map, filter, All, Contains, refl, arith, zero, ap}
-use Rattle.std.specs.Prelude.{codes, length}
+use Rattle.std.proofs.Common.{ℕ, ◌≡◌, List, [], ◌∷◌, Some, None, map, filter, All, Contains, refl, arith, zero}
+use Rattle.std.specs.Prelude.{codes}
 use Rattle.std.specs.Fmt.{digits}
 use Rattle.radio_airtime.specs.TimeOnAir.{airtime_of}
 use Rattle.radio_airtime.specs.declared.data_rate.DataRate.TheVariants.{Dr5}

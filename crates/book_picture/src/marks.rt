@@ -6,7 +6,7 @@ ghost use Rattle.text_lines.specs.Writing.{WritesAllBut, WritesFront};
 ghost use Rattle.book_picture.specs.Lines.{mark_line, mark_lines};
 
 use crate::hour::first_of_hour;
-use crate::scale::{ROW, across, row_of, width_of};
+use crate::scale::{MARK_DOWN, ROW, across, row_of, width_of};
 use resv_list::{Reservation, Roster};
 use text_lines::{ByteOut, CallFailed, TextLine, WriteBehind};
 
@@ -47,7 +47,7 @@ fn write_mark(member: &Reservation, from: u64, text: &mut TextLine)
     text.text(b"\" x=\"");
     text.number(across(from, member.start));
     text.text(b"\" y=\"");
-    text.number(row_of(member.band()) * ROW + 60_000);
+    text.number(row_of(member.band()) * ROW + MARK_DOWN);
     text.text(b"\" width=\"");
     text.number(width_of(member));
     text.text(b"\" height=\"30000\"/>\n");

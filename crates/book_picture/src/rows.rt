@@ -7,7 +7,7 @@ ghost use Rattle.gateway_book.specs.Busiest.{busiest_of};
 ghost use Rattle.book_picture.specs.Lines.{letter_of, busiest_words, bar_line, label_words, row_lines, lower_rows, upper_rows};
 
 use crate::hour::spent_of;
-use crate::scale::{ROW, bar_of, row_of};
+use crate::scale::{BAR_DOWN, ROW, bar_of, row_of};
 use gateway_book::GatewayBook;
 use radio_bands::{Band, limit_us};
 use resv_list::Roster;
@@ -53,7 +53,7 @@ fn add_bar(text: &mut TextLine, band: Band, spent: u64)
     ensures len { length text.new ≤ length text.old + 110 }
 {
     text.text(b"<rect class=\"bar\" x=\"0\" y=\"");
-    text.number(row_of(band) * ROW + 34_000);
+    text.number(row_of(band) * ROW + BAR_DOWN);
     text.text(b"\" width=\"");
     text.number(bar_of(band, spent));
     text.text(b"\" height=\"16000\"/>\n");

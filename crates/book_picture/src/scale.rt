@@ -15,6 +15,12 @@ pub(crate) const WIDTH: u64 = 1_000_000;
 /// How many units a row is down.
 pub(crate) const ROW: u64 = 100_000;
 
+/// How far below the top of its row a bar stands.
+pub(crate) const BAR_DOWN: u64 = 34_000;
+
+/// How far below it the marks stand.
+pub(crate) const MARK_DOWN: u64 = 60_000;
+
 /// The least width of a mark, in units: it can still be seen.
 pub(crate) const LEAST_MARK: u64 = 1_000;
 

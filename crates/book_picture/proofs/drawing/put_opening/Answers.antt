@@ -1,7 +1,5 @@
-use Rattle.std.proofs.Common.{◌≡◌, ℕ, List, [], ◌∷◌, ◌++◌, Option, sym, ap, ◌∙◌, refl, subst}
+use Rattle.std.proofs.Common.{◌++◌, ◌∙◌, refl}
 use Rattle.std.proofs.lemmas.Result.{on_ok_weaker, on_err_weaker}
-use Rattle.text_lines.specs.Line.{text_of}
-use Rattle.text_lines.specs.Writing.{WritesAllBut, WritesFront}
 use Rattle.book_picture.specs.Fixed.{style_lines, frame_lines}
 use Rattle.book_picture.specs.Lines.{opening_lines}
 use Rattle.book_picture.proofs.Parts.{put_first, front_first, put_second, front_second}

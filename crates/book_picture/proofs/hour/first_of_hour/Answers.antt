@@ -1,8 +1,6 @@
-use Rattle.std.proofs.Common.{◌≡◌, ℕ, max, Option, Some, None, sym, ap, ◌∙◌}
+use Rattle.std.proofs.Common.{◌≡◌, ℕ, max, Some, None, sym, ap, ◌∙◌}
 use Rattle.std.specs.Bool.{then_some}
-use Rattle.resv_list.specs.declared.reservation.Reservation.{Reservation}
 use Rattle.resv_list.specs.Reservations.{start_of, member_from}
-use Rattle.book_picture.specs.Hour.{members_of_hour}
 use Rattle.book_picture.proofs.HourLemmas.{found_in_hour, keep_in}
 use Rattle.book_picture.proofs.hour.first_of_hour.Goals as goal
 

@@ -1,9 +1,7 @@
-use Rattle.std.proofs.Common.{◌≡◌, ◌-◌, ℕ, List, Option, Some, None, map, sym, ap, ◌∙◌, arith}
-use Rattle.radio_bands.specs.Band.{hour}
+use Rattle.std.proofs.Common.{◌≡◌, List, Some, None, map, sym, ap, ◌∙◌, arith}
 use Rattle.resv_list.specs.declared.reservation.Reservation.{Reservation}
 use Rattle.resv_list.specs.Hours.{greatest}
 use Rattle.resv_list.specs.Reservations.{end_of, member_before}
-use Rattle.book_picture.specs.Hour.{latest_hour}
 use Rattle.book_picture.proofs.HourLemmas.{greatest_end, end_in}
 use Rattle.book_picture.proofs.hour.latest_hour.Goals as goal
 

@@ -1,19 +1,17 @@
-use Rattle.std.proofs.Common.{◌≡◌, ◌+◌, ◌≤◌, ℕ, List, ◌∷◌, ◌++◌, length, Some, sym, ap, ◌∙◌, arith, rules, refl, append-nil, map}
-use Rattle.std.proofs.lemmas.Bool.{leb-true}
+use Rattle.std.proofs.Common.{◌≡◌, ◌+◌, ℕ, List, ◌∷◌, ◌++◌, length, sym, ap, ◌∙◌, arith, rules, refl, append-nil, map}
 use Rattle.resv_list.specs.declared.reservation.Reservation.{Reservation}
 use Rattle.resv_list.specs.Reservations.{start_of, IsByStart}
 use Rattle.resv_list.specs.Sorted.{rest_from}
 use Rattle.resv_list.proofs.SortedLaws.{RisesFrom-filter}
-use Rattle.resv_list.proofs.Walk.{rest_from-rises, rest_from-None, IsNext, is_next}
+use Rattle.resv_list.proofs.Walk.{rest_from-rises, rest_from-None, is_next}
 use Rattle.text_lines.specs.Line.{text_of}
 use Rattle.text_lines.specs.Writing.{WritesAllBut-refl}
 use Rattle.gateway_book.specs.Duty.{is_within_hour}
 use Rattle.book_picture.specs.Hour.{members_of_hour}
-use Rattle.book_picture.specs.Lines.{mark_line, mark_lines}
+use Rattle.book_picture.specs.Lines.{mark_line}
 use Rattle.book_picture.proofs.HourLemmas.{found_begins}
 use Rattle.book_picture.proofs.Parts.{line_put, line_front}
 use Rattle.book_picture.proofs.marks.put_marks.Goals as goal
-use Rattle.book_picture.proofs.marks.put_marks.Given.{Over}
 
 -- the members of the hour are by start
 by_start : (l : List Reservation) (t : ℕ) → IsByStart l → IsByStart (members_of_hour l t)
