@@ -21,6 +21,8 @@ pub enum Task {
     Book(Booking),
     /// The same, and what that book would answer to further bookings.
     Plan(Planning),
+    /// A picture of a saved book's hour: of the one that opens at `from`, or of the latest.
+    Picture { from: Option<u64> },
     /// Whether settings of a server are right, and what is wrong with them.
     Check,
     /// Settings of a server, and what happens there.
@@ -68,6 +70,7 @@ pub fn program<'a>(alloc: Global) -> Result<Command<'a>, AllocError> {
         .subcommand(toa(alloc)?)?
         .subcommand(book(alloc)?)?
         .subcommand(plan(alloc)?)?
+        .subcommand(picture(alloc)?)?
         .subcommand(check(alloc)?)?
         .subcommand(run(alloc)?)?
         .subcommand(listen(alloc)?)?
@@ -170,6 +173,26 @@ pub fn notes<'a>(alloc: Global) -> Arg<'a> {
         .action(ArgAction::SetTrue)
 }
 
+/// The arguments of `picture`.
+fn picture<'a>(alloc: Global) -> Result<Command<'a>, AllocError> {
+    Command::new(alloc, "picture")
+        .about(help::PICTURE)
+        .long_about(help::LONG_PICTURE)
+        .after_help(help::MORE)
+        .after_long_help(help::AFTER_PICTURE)
+        .arg(from(alloc))
+}
+
+/// Where the hour of a picture opens.
+fn from<'a>(alloc: Global) -> Arg<'a> {
+    Arg::new(alloc, "from")
+        .help("The hour opens at T, in microseconds; without it, the latest")
+        .long_help(help::FROM)
+        .long("from")
+        .value_name("T")
+        .value_parser(value_parser!(u64))
+}
+
 /// The arguments of `check`: none.
 fn check<'a>(alloc: Global) -> Result<Command<'a>, AllocError> {
     Ok(
@@ -222,6 +245,9 @@ pub fn task_of(matches: &ArgMatches<'_>) -> Option<Task> {
             gap: plan.get_one::<u32>("gap")?,
             notes: plan.get_flag("notes"),
         })),
+        Some(("picture", picture)) => Some(Task::Picture {
+            from: picture.get_one::<u64>("from"),
+        }),
         Some(("check", _)) => Some(Task::Check),
         Some(("run", run)) => Some(Task::Run(Running {
             workers: run.get_one::<u8>("workers")?,

@@ -23,6 +23,7 @@ Examples:
   airbook toa 5 12
   airbook book < examples/two-bookings.txt
   airbook plan < examples/plan.txt
+  airbook picture < examples/busy-hour.txt > hour.svg
   airbook check < examples/misspelt.toml
   airbook run < examples/two-gateways.txt
   airbook listen --port 1700 --turns 1 < examples/settings.toml
@@ -105,6 +106,26 @@ Example:
   kept 1 41216
   floor 0
   busiest M 10000000 41216";
+
+pub const PICTURE: &str = "Draws an hour of a saved book: each sub-band's transmissions";
+
+pub const LONG_PICTURE: &str = "\
+Draws an hour of a saved book, as an SVG for a browser or a printer. Standard
+input: what book --save writes. Each sub-band has a row: how much airtime begins
+in the hour, of how much, and its busiest hour; a bar, for which the whole row
+is the limit; and a mark for each transmission that begins in the hour, with as
+many cuts as its data rate has in its number. A dashed line is the floor";
+
+pub const FROM: &str = "\
+The hour opens at T, in microseconds of the gateway's clock; without
+it the hour ends with the last transmission, or opens at 0";
+
+pub const AFTER_PICTURE: &str = "\
+What stands behind the saved book is not looked at. Where the book is at fault,
+nothing is written. Statuses: see airbook --help.
+
+Example:
+  $ airbook picture < examples/busy-hour.txt > hour.svg";
 
 pub const CHECK: &str = "Tells what is wrong or doubtful in the settings of a server";
 

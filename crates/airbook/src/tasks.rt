@@ -5,7 +5,9 @@ use crate::listening::listen;
 use crate::noting::{ErrorStream, noted_run};
 use crate::serving::serve;
 use crate::stopped::Stopped;
-use airbook_text::{TextFault, Verdict, book_text, check_text, plan_text, run_text, toa_text};
+use airbook_text::{
+    TextFault, Verdict, book_text, check_text, picture_text, plan_text, run_text, toa_text,
+};
 use clap::error::ErrorKind;
 use log::Log;
 use noted_texts::{noted_book, noted_plan};
@@ -102,6 +104,7 @@ fn perform<
         Task::Toa { rate, len } => toa_text(rate, len, &mut writer),
         Task::Book(booking) => book(rt, booking, &mut reader, &mut writer),
         Task::Plan(planning) => plan(rt, planning, &mut reader, &mut writer),
+        Task::Picture { from } => picture_text(rt.alloc(), from, &mut reader, &mut writer),
         Task::Check => match check_text(rt.alloc(), &mut reader, &mut writer) {
             Ok(verdict) => return status_of(verdict),
             Err(stopped) => Err(stopped),

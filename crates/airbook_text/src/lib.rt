@@ -14,7 +14,8 @@ mod whole_settings;
 
 pub use book_texts::{
     book_text, law_answers_come_first, law_ok_where_accepted, law_one_answer_a_line,
-    law_plan_is_book, law_plan_tells_answers, law_plan_tells_starts, plan_text, toa_text,
+    law_plan_is_book, law_plan_tells_answers, law_plan_tells_starts, picture_text, plan_text,
+    toa_text,
 };
 pub use check_texts::{Verdict, check_text};
 pub use listen::{TURN_LIMIT, listen_text};
