@@ -19,12 +19,13 @@ import sys
 import tempfile
 
 sys.dont_write_bytecode = True
-from cases import TOP
+from cases import CASES, TOP
 from preloaded import library_of
 from refused_growths import ALL, MOST, REFUSING, run_on
 
 # Refuses `airtime_planner` `answer_to` (`plan_text` calls it): as `GatewayBook::book`.
 # Refuses `book_texts` `book_text`: 1 for each booking that is accepted, and for each member of a saved book.
+# Refuses `book_texts` `picture_text`: 1 for each member of the saved book.
 # Refuses `book_texts` `plan_text`: as `book_text`; 1 for the list of the book, and chunks of an arena by size.
 
 BOOKINGS = b"book 1 10000000 868100000 5 12\nbook 2 10041216 868100000 5 12\n"
@@ -71,6 +72,7 @@ ROWS = [
     ], 2),
     (["book", "--resume"], SAVED, [NO_2 + report(1, 10000000), OK_2 + report(2, 10000000)], 1),
     (["book", "--resume", "--save"], SAVED, [NO_2 + HEAD + R_1 + b"end 1\n", OK_2 + HEAD + R_1 + R_2 + b"end 2\n"], 1),
+    (["picture"], SAVED, [(CASES / "picture_of_one_booking" / "stdout").read_bytes()], 0),
     (["plan"], PLAN, [
         planned_on_nothing(0), planned_on_nothing(4), planned(0, is_copied=False), *(planned(count) for count in range(5)),
     ], None),
