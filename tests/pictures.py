@@ -29,8 +29,8 @@ ROWS = "KLMNPQ"
 RIGHT = ' class="right"'
 EMPTY = CASES / "picture_of_an_empty_book" / "stdout"
 SVG = "{http://www.w3.org/2000/svg}"
-COMMON = """no marks;marks;floor in the hour;floor elsewhere;nothing is kept;a full bar;an empty bar;a wide mark;a narrow mark;the
-hour asked for;the latest hour;Syntax;Version;Unlawful""".replace("\n", " ")
+COMMON = """no marks;marks;floor in the hour;floor elsewhere;nothing is kept;a full bar;an empty bar;the hour
+asked for;the latest hour;Syntax;Version;Unlawful""".replace("\n", " ")
 
 
 def always():
@@ -88,10 +88,9 @@ def picture(book, asked):
         drawn += ["nothing is kept"] * (busiest == "nothing is kept") + ["a full bar"] * (bar > 800_000) + ["an empty bar"] * (bar == 0)
     for start, end, band, rate in members:
         if opening <= start < opening + HOUR:
-            wide, top = (end - start) // 3600, 100_000 * ROWS.index(band) + 60_000
-            place = f'x="{(start - opening) // 3600}" y="{top}" width="{max(1000, wide)}"'
-            lines += [f'<rect class="d{rate}" {place} height="30000"/>']
-            drawn += ["marks", "a wide mark" if wide > 1000 else "a narrow mark"]
+            x, y, wide = (start - opening) // 3600, 100_000 * ROWS.index(band) + 60_000, max(1000, (end - start) // 3600)
+            lines += [f'<rect class="d{rate}" x="{x}" y="{y}" width="{wide}" height="30000"/>']
+            drawn += ["marks"]
     return lines + ["</svg>"], drawn + ["no marks"] * ("marks" not in drawn)
 
 
