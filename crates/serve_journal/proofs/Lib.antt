@@ -1,0 +1,5 @@
+pub mod HexDigits
+pub mod Parts
+pub mod Shapes
+pub mod Spelling
+pub mod ReadBack
