@@ -70,28 +70,43 @@ abbrev pub booked : Ask → Book → Option Book
 booked ask b =
     if is_some (refusal_of (terms_of b) b.list ask) then None else Some (with_step b (book_step b.rules (state_of b) ask))
 
--- a gateway joins: neither its number nor its EUI is there, its cap and gap are in range, and there is room
+-- a gateway of which nothing else is known, where its cap and gap are in range
+abbrev pub new_mast : ℕ → List ℕ → Rules → Option Mast
+new_mast id eui rules =
+    if is_some (open_fault rules) then None
+    else Some (record { id = id; eui = eui; high = first_high; book = empty_book id rules })
+
+-- a gateway joins: neither its number nor its EUI is there, and there is room
 abbrev pub with_gateway : ℕ → List ℕ → Rules → Journal → Option Journal
 with_gateway id eui rules j =
-    if list_any (λ m. (m.id == id) || bytes_eq m.eui eui) j.gateways || nat_le most_gateways (length j.gateways)
-    || is_some (open_fault rules)
-    then None
-    else Some
-    (record j {
-      gateways = j.gateways ++ (record { id = id; eui = eui; high = first_high; book = empty_book id rules }) ∷ [];
-    })
+    if list_any (λ m. (m.id == id) || bytes_eq m.eui eui) j.gateways || nat_le most_gateways (length j.gateways) then None
+    else option_map (λ m. record j { gateways = j.gateways ++ m ∷ [] }) (new_mast id eui rules)
 
--- a device's counters are told: it joins where it isn't there and there is room
-abbrev pub with_device : ℕ → List ℕ → Option ℕ → ℕ → Journal → Option Journal
-with_device addr session up down j =
-    if list_any (λ n. n.addr == addr) j.devices
-    then option_map (λ l. record j { devices = l })
-    (changed (λ n. n.addr == addr) (λ n. Some (record n { session = session; up = up; down = down })) j.devices)
-    else if nat_le most_devices (length j.devices) then None
+-- a device that isn't there joins, where there is room
+abbrev pub with_new_device : ℕ → List ℕ → Option ℕ → ℕ → Journal → Option Journal
+with_new_device addr session up down j =
+    if nat_le most_devices (length j.devices) then None
     else Some
     (record j {
       devices = j.devices ++ (record { addr = addr; session = session; up = up; down = down; queue = [] }) ∷ [];
     })
+
+-- a device's session and counters are told
+abbrev pub told : List ℕ → Option ℕ → ℕ → Node → Node
+told session up down n = record n { session = session; up = up; down = down }
+
+-- the journal with a gateway changed, or a device
+abbrev pub at_gateway : ℕ → (Mast → Option Mast) → Journal → Option Journal
+at_gateway id change j = option_map (λ l. record j { gateways = l }) (changed (λ m. m.id == id) change j.gateways)
+
+abbrev pub at_device : ℕ → (Node → Option Node) → Journal → Option Journal
+at_device addr change j = option_map (λ l. record j { devices = l }) (changed (λ n. n.addr == addr) change j.devices)
+
+-- a device's counters are told: it joins where it isn't there
+abbrev pub with_device : ℕ → List ℕ → Option ℕ → ℕ → Journal → Option Journal
+with_device addr session up down j =
+    if list_any (λ n. n.addr == addr) j.devices then at_device addr (λ n. Some (told session up down n)) j
+    else with_new_device addr session up down j
 
 -- a payload waits behind the others, if there is room
 abbrev pub queued : Waiting → Node → Option Node
@@ -106,12 +121,9 @@ without_head (payload ∷ more) n = Some (record n { queue = more })
 abbrev pub clocked : ℕ → ℕ → Mast → Mast
 clocked high floor m = record m { high = high; book = ticked m.book floor }
 
--- the journal with a gateway changed, or a device
-abbrev pub at_gateway : ℕ → (Mast → Option Mast) → Journal → Option Journal
-at_gateway id change j = option_map (λ l. record j { gateways = l }) (changed (λ m. m.id == id) change j.gateways)
-
-abbrev pub at_device : ℕ → (Node → Option Node) → Journal → Option Journal
-at_device addr change j = option_map (λ l. record j { devices = l }) (changed (λ n. n.addr == addr) change j.devices)
+-- a gateway's book books what was sent
+abbrev pub sent : Ask → Mast → Option Mast
+sent ask m = option_map (λ b. record m { book = b }) (booked ask m.book)
 
 -- what a line makes of what those before it said; None where it is at fault
 abbrev pub after_entry : Journal → Entry → Option Journal
@@ -121,7 +133,4 @@ after_entry j (Queue addr payload) = at_device addr (queued payload) j
 after_entry j (Taken addr) = at_device addr (λ n. without_head n.queue n) j
 after_entry j (Clock id high floor) = at_gateway id (λ m. Some (clocked high floor m)) j
 after_entry j (Sent id start freq_hz rate len) =
-    at_gateway id
-    (λ m. option_map (λ b. record m { book = b })
-    (booked (record { number = 0; start = start; freq_hz = freq_hz; rate = rate; len = len }) m.book))
-    j
+    at_gateway id (sent (record { number = 0; start = start; freq_hz = freq_hz; rate = rate; len = len })) j

@@ -5,3 +5,7 @@ pub mod LineLaws
 pub mod Journal
 pub mod Lines
 pub mod Reading
+pub mod Steps
+pub mod TakingLines
+pub mod Recovering
+pub mod Session

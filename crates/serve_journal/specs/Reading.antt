@@ -60,13 +60,13 @@ read_batches number j (batch ∷ more) =
     else and_then (read_lines number j batch) (λ k. read_batches (number + length batch + 1) k more)
 
 -- the first batch begins with the line of the version
+abbrev pub read_headed : Option JournalFault → List (List ℕ) → Said
+read_headed (Some fault) lines = Err fault
+read_headed None lines = read_lines 2 state.nothing lines
+
 abbrev pub first_lines : List (List ℕ) → Said
 first_lines [] = Err NoHead
 first_lines (head ∷ lines) = read_headed (head_fault head) lines
-  where
-    read_headed : Option JournalFault → List (List ℕ) → Said
-    read_headed (Some fault) lines = Err fault
-    read_headed None lines = read_lines 2 state.nothing lines
 
 -- what all batches say, of a file with so many lines
 abbrev pub read_all : ℕ → List (List (List ℕ)) → Said

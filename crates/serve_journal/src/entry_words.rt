@@ -168,7 +168,7 @@ fn sent_with(
 }
 
 /// The number of a word, if no zero leads it.
-fn plain<T: Copy>(word: &[u8], number: Option<T>) -> Option<T>
+pub(crate) fn plain<T: Copy>(word: &[u8], number: Option<T>) -> Option<T>
     ensures { result ≡ (if leads_zero word.now then None else number) }
 {
     match word {

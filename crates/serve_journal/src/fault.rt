@@ -26,3 +26,12 @@ pub enum JournalFault {
     #[error("there is no memory for what the journal says")]
     NoMemory,
 }
+
+/// Why an entry was not taken.
+#[derive(Clone, Copy, Debug, PartialEq, Eq)]
+pub(crate) enum EntryFault {
+    /// It says what can't be beside what those before it say.
+    Refused,
+    /// There was no memory for what it says.
+    NoMemory,
+}

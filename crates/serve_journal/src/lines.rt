@@ -1,5 +1,5 @@
 // The lines of a journal, and its batches.
-ghost use Rattle.std.specs.Prelude.{◌≡◌, ◌<◌, ◌+◌, [], ◌∷◌, ◌++◌, length, MatchOption, IfSome};
+ghost use Rattle.std.specs.Prelude.{◌≡◌, ◌<◌, ◌≤◌, ◌+◌, [], ◌∷◌, ◌++◌, length, MatchOption, IfSome};
 ghost use Rattle.text_lines.specs.Line.{HasNoLineFeed};
 ghost use Rattle.serve_journal.specs.Lines.{lines_of, batches_of, is_end};
 
@@ -35,4 +35,13 @@ pub(crate) fn next_batch(bytes: &[u8]) -> Option<(&[u8], &[u8])>
         rest = after;
     }
     None
+}
+
+/// How many lines there are.
+#[tactic(auto, using(crate::proofs::ReadingLemmas::lines_counted))]
+pub(crate) fn line_count(bytes: &[u8]) -> u64
+    ensures count { result ≡ length (lines_of bytes.now) }
+    ensures few { result ≤ length bytes.now }
+{
+    bytes.iter().filter(|byte| **byte == b'\n').count() as u64
 }
