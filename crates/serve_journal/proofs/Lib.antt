@@ -6,3 +6,10 @@ pub mod Shapes
 pub mod Spelling
 pub mod ReadBack
 pub mod ReadingLemmas
+pub mod PartLaws
+pub mod LivesLaws
+pub mod CounterLaws
+pub mod TornLaws
+pub mod TornReading
+pub mod WorkedLives
+pub mod WorkedTorn

@@ -9,3 +9,6 @@ pub mod Steps
 pub mod TakingLines
 pub mod Recovering
 pub mod Session
+pub mod Counters
+pub mod Lives
+pub mod Torn
