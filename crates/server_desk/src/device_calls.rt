@@ -110,6 +110,7 @@ impl<A: Allocator + Copy> KnownDevice<A> {
 }
 
 impl<A: Allocator> KnownDevice<A> {
+    /// Its last uplink counter and its next downlink counter.
     pub(crate) fn counters(&self) -> Counters
         ensures { result ≡ counters_of (shown self.now) }
     {
