@@ -29,8 +29,6 @@ mod radio;
 #[cfg(test)]
 mod roster;
 #[cfg(test)]
-mod rules;
-#[cfg(test)]
 mod saved;
 #[cfg(test)]
 mod saved_faults;
