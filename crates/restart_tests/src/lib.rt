@@ -1,0 +1,14 @@
+//! Tests of what a server needs that goes on after a restart: books under other rules, and journals. A crate with tests is proved
+//! twice, so they stand in one of their own.
+#![tactic(auto)]
+
+#[cfg(test)]
+mod faults;
+#[cfg(test)]
+mod growths;
+#[cfg(test)]
+mod journals;
+#[cfg(test)]
+mod lines;
+#[cfg(test)]
+mod rules;
