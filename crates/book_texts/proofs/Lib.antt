@@ -10,3 +10,4 @@ pub mod TurnLemmas
 pub mod TryingLemmas
 pub mod OpeningLemmas
 pub mod PictureLemmas
+pub mod WorkedPicture
