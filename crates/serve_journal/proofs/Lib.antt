@@ -13,3 +13,5 @@ pub mod TornLaws
 pub mod TornReading
 pub mod WorkedLives
 pub mod WorkedTorn
+pub mod PuttingLemmas
+pub mod WorkedLines

@@ -12,3 +12,5 @@ pub mod Session
 pub mod Counters
 pub mod Lives
 pub mod Torn
+pub mod Renewal
+pub mod Putting

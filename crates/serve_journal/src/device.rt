@@ -1,10 +1,11 @@
 // A device as a journal tells it.
 ghost use Rattle.std.specs.Prelude.{◌≡◌, ◌==◌, []};
 ghost use Rattle.serve_journal.specs.Journal.{queued, told, without_head};
+ghost use Rattle.serve_journal.specs.Renewal.{device_entry};
 ghost use Rattle.serve_journal.specs.Steps.{Steps};
 
-use crate::Payload;
 use crate::fault::EntryFault;
+use crate::{Entry, Payload};
 use std::alloc::Allocator;
 use std::marker::Model;
 
@@ -92,5 +93,17 @@ impl<A: Allocator> JournalDevice<A> {
         }
         self.queue.remove(0);
         Ok(())
+    }
+
+    /// The line by which it joins a journal.
+    pub(crate) fn entry(&self) -> Entry
+        ensures { result ≡ device_entry self.now }
+    {
+        Entry::Device {
+            addr: self.addr,
+            session: self.session,
+            up: self.up,
+            down: self.down,
+        }
     }
 }

@@ -83,6 +83,15 @@ fn add_queue(text: &mut TextLine, addr: u32, payload: &Payload)
     add_bytes(text, payload.as_slice());
 }
 
+/// Makes `text` the line of a payload that waits for a device, with its end.
+pub(crate) fn write_queue(text: &mut TextLine, addr: u32, payload: &Payload)
+    ensures { text.new ≡ entry_text (Entry.Queue addr payload.now) ++ 10 ∷ [] }
+{
+    text.clear();
+    add_queue(text, addr, payload);
+    text.text(b"\n");
+}
+
 /// Adds `clock ID HIGH FLOOR`.
 fn add_clock(text: &mut TextLine, id: u16, high: u64, floor: u64)
     requires { text.old ≡ [] }

@@ -2,8 +2,10 @@
 ghost use Rattle.std.specs.Prelude.{◌≡◌, ◌==◌, ◌||◌};
 ghost use Rattle.std.specs.Str.{bytes_eq};
 ghost use Rattle.serve_journal.specs.Journal.{clocked, new_mast, sent};
+ghost use Rattle.serve_journal.specs.Renewal.{gateway_entry, clock_entry};
 ghost use Rattle.serve_journal.specs.Steps.{Steps};
 
+use crate::Entry;
 use crate::fault::EntryFault;
 use gateway_book::{Ask, GatewayBook, Refusal};
 use resv_tree::TreeRoster;
@@ -80,6 +82,29 @@ impl<A: Allocator + Clone> JournalGateway<A> {
             Ok(_) => Ok(()),
             Err(Refusal::NoMemory) => Err(EntryFault::NoMemory),
             Err(_) => Err(EntryFault::Refused),
+        }
+    }
+
+    /// The line by which it joins a journal.
+    pub(crate) fn entry(&self) -> Entry
+        ensures { result ≡ gateway_entry self.now }
+    {
+        Entry::Gateway {
+            id: self.id,
+            eui: self.eui,
+            cap: self.book.cap(),
+            gap: self.book.gap(),
+        }
+    }
+
+    /// The line of its clock and its floor.
+    pub(crate) fn clock_entry(&self) -> Entry
+        ensures { result ≡ clock_entry self.now }
+    {
+        Entry::Clock {
+            id: self.id,
+            high: self.high,
+            floor: self.book.totals().floor,
         }
     }
 }
