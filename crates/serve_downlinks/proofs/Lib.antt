@@ -1,0 +1,3 @@
+mod Texts
+mod Found
+mod BatchLaw

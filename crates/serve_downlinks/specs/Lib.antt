@@ -1,0 +1,5 @@
+pub mod Downlinks
+pub mod Fates
+pub mod Batch
+pub mod Datagram
+pub mod BatchLaw
