@@ -1,3 +1,5 @@
 mod Texts
 mod Found
 mod BatchLaw
+mod WorkedInputs
+mod Worked
