@@ -1,7 +1,9 @@
-//! Tests of what a server needs that goes on after a restart: books under other rules, and journals. A crate with tests is proved
-//! twice, so they stand in one of their own.
+//! Tests of what a server needs that goes on after a restart: books under other rules, journals, and what is written before a
+//! downlink is sent. A crate with tests is proved twice, so they stand in one of their own.
 #![tactic(auto)]
 
+#[cfg(test)]
+mod downlinks;
 #[cfg(test)]
 mod faults;
 #[cfg(test)]
