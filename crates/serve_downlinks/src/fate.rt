@@ -1,5 +1,5 @@
 // Which downlinks may be sent.
-ghost use Rattle.std.specs.Prelude.{◌≡◌, ◌==◌, find};
+ghost use Rattle.std.specs.Prelude.{◌≡◌};
 ghost use Rattle.std.specs.Option.{option_map};
 ghost use Rattle.serve_downlinks.specs.Downlinks.{to_send};
 ghost use Rattle.serve_downlinks.specs.Fates.{fate_of, fate_by, fate_with, forwarder_of};
