@@ -92,7 +92,8 @@ def functions_in(text):
             head = re.sub(r"^<.*?> (?=\w)", "", re.sub(r"\s+", " ", found[2]).strip())
             owner = "" if " for " in head else re.match(r"\w+", head)[0]
         elif found[4] or (is_trait and found[3] and owner):
-            signature = re.split(r"\b(?:where|requires|ensures)\b|[{;]", text[found.end():], maxsplit=1)[0]
+            # A semicolon within brackets stands before the length of an array.
+            signature = re.split(r"\b(?:where|requires|ensures)\b|\{|;(?! \w+\])", text[found.end():], maxsplit=1)[0]
             name = f"{owner}::{found[5]}" if found[3] else found[5]
             yield name, result_of(re.sub(r"\s+", " ", signature))
 
