@@ -1,12 +1,12 @@
-use Rattle.std.proofs.Common.{◌≡◌, ◌≢◌, ℕ, suc, ◌+◌, ◌-◌, ◌<◌, ◌≤◌, Bool, true, false, ◌||◌, eqb, List, [], ◌∷◌, ◌++◌, length}
-use Rattle.std.proofs.Common.{take, drop, get_or, All, refl, sym, ap, ◌∙◌, arith, cond, append_assoc, append-nil, length-append, eq-eqb, true≢false}
-use Rattle.std.specs.Prelude.{⊤, if◌then◌else◌}
-use Rattle.std.specs.List.{list_any, list_all}
-use Rattle.std.proofs.lemmas.Bool.{ne_eqb, cases_Bool}
+use Rattle.std.proofs.Common.{◌≡◌, ℕ, suc, ◌+◌, ◌-◌, ◌<◌, Bool, true, false, ◌||◌, eqb, List, [], ◌∷◌, ◌++◌, length}
+use Rattle.std.proofs.Common.{take, drop, get_or, refl, sym, ap, ◌∙◌, arith, append_assoc, append-nil, length-append, eq-eqb, true≢false}
+use Rattle.std.specs.Prelude.{⊤}
+use Rattle.std.specs.List.{list_any}
+use Rattle.std.proofs.lemmas.Bool.{ne_eqb}
 use Rattle.std.proofs.Math.Seq.{take-append_seam}
 use Rattle.std.proofs.lemmas.List.{take-append-drop, drop_more, length-take-le, get_or_default, get_or-take}
 use Rattle.text_lines.specs.Line.{HasNoLineFeed, text_of, text_of-append}
-use Rattle.serve_journal.specs.Lines.{ended, behind, lines_of, batches_of, is_end}
+use Rattle.serve_journal.specs.Lines.{ended, lines_of, batches_of, is_end}
 
 -- Lists that elements of a kind part: lines and batches.
 

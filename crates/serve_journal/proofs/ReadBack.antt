@@ -1,27 +1,27 @@
-use Rattle.std.proofs.Common.{◌≡◌, ℕ, zero, suc, ◌+◌, ◌*◌, ◌/◌, ◌^◌, ◌<◌, ◌≤◌, ◌&&◌, Bool, true, false, List, [], ◌∷◌, length, ◌⊎◌}
-use Rattle.std.proofs.Common.{Option, Some, None, refl, sym, ap, ◌∙◌, ⊎_elim, arith, codes, decimal, cond}
+use Rattle.std.proofs.Common.{◌≡◌, ℕ, zero, suc, ◌+◌, ◌*◌, ◌/◌, ◌^◌, ◌<◌, ◌≤◌, Bool, true, false, List, [], ◌∷◌, length}
+use Rattle.std.proofs.Common.{Option, Some, None, refl, sym, ap, ◌∙◌, arith, codes, decimal}
 use Rattle.std.specs.Prelude.{⊤, if◌then◌else◌, option_and_then, nat_lt, nat_le}
 use Rattle.std.specs.List.{list_all}
 use Rattle.std.specs.Option.{option_map}
-use Rattle.std.specs.Int.{w32, from_be_bytes, to_be_bytes, is_in_range}
+use Rattle.std.specs.Int.{w32, from_be_bytes, to_be_bytes}
 use Rattle.std.specs.Cmp.Lexicographic.{bytes_decides}
-use Rattle.std.proofs.lemmas.Bool.{and_parts, and_from, lt-ltb, le-leb, leb-true, cases_Bool}
+use Rattle.std.proofs.lemmas.Bool.{and_parts, and_from, lt-ltb, le-leb, leb-true}
 use Rattle.std.proofs.lemmas.Nat.{from_be_bytes-to_be_bytes_4}
-use Rattle.hex.specs.Hex.{IsBytes, encode_lower, encode_with, lower_digits}
+use Rattle.hex.specs.Hex.{IsBytes, encode_lower, lower_digits}
 use Rattle.hex.proofs.HexLemmas.{length-encode_with}
 use Rattle.radio_airtime.specs.DataRate.{number_of, known_rate}
 use Rattle.radio_airtime.specs.declared.data_rate.DataRate.{DataRate}
 use Rattle.radio_airtime.specs.declared.data_rate.DataRate.TheVariants.{Dr0, Dr1, Dr2, Dr3, Dr4, Dr5, Dr6}
 use Rattle.lora_frame.specs.Ports.{is_application_port}
 use Rattle.text_lines.specs.Words.{is_named, spaced}
-use Rattle.gateway_book.specs.Loading.{plain_number, words_between}
+use Rattle.gateway_book.specs.Loading.{plain_number}
 use Rattle.gateway_book.proofs.SavedNumbers.{plain-decimal, is_ink, is_ink-decimal, words_between-spaced}
 use Rattle.serve_journal.specs.declared.entry.Entry.{Entry}
 use Rattle.serve_journal.specs.declared.entry.Entry.TheVariants.{Gateway, Device, Queue, Taken, Clock, Sent}
-use Rattle.serve_journal.specs.EntryText.{addr_digits, up_word, bytes_word, entry_words, entry_text}
-use Rattle.serve_journal.specs.EntryWords.{hex_sized, addr_in, up_in, down_in, digits_in, bytes_in, payload_in, entry_in, entry_of}
+use Rattle.serve_journal.specs.EntryText.{addr_digits, up_word, bytes_word, entry_words}
+use Rattle.serve_journal.specs.EntryWords.{hex_sized, addr_in, up_in, digits_in, bytes_in, payload_in, entry_in, entry_of}
 use Rattle.serve_journal.specs.LineLaws.{IsPayload, IsUp, IsEntry, EntriesReadBack}
-use Rattle.serve_journal.specs.Payload.{Waiting, payload_of}
+use Rattle.serve_journal.specs.Payload.{Waiting}
 use Rattle.serve_journal.proofs.HexDigits.{hex_back, is_ink-hex}
 
 -- The line of an entry is read as that entry.

@@ -1,16 +1,15 @@
 use Rattle.std.proofs.Common.{◌≡◌, ℕ, suc, ◌+◌, ◌<◌, ◌≤◌, Bool, true, false, cond, eqb, List, [], ◌∷◌, ◌++◌, length, refl, sym, ap}
 use Rattle.std.proofs.Common.{subst, ◌∙◌, arith, Option, Some, None, length-append}
-use Rattle.std.specs.Prelude.{Result, Ok, Err, if◌then◌else◌, option_and_then, ⊤, count_by}
+use Rattle.std.specs.Prelude.{Result, Ok, Err, if◌then◌else◌, option_and_then, count_by}
 use Rattle.std.proofs.lemmas.List.Recursion.{is_count_by}
 use Rattle.std.proofs.lemmas.List.Sums.{count_by-le-length}
-use Rattle.std.specs.List.{list_all}
 use Rattle.serve_journal.specs.declared.fault.JournalFault.{JournalFault}
 use Rattle.serve_journal.specs.declared.fault.JournalFault.TheVariants.{NoHead, Version, NoBatch, Journal, NoMemory}
 use Rattle.serve_journal.specs.EntryWords.{entry_of}
 use Rattle.serve_journal.specs.Journal as state
 use Rattle.serve_journal.specs.Lines.{ended, behind, lines_of, batches_of}
 use Rattle.serve_journal.specs.Reading.{Said, read_on, read_lines, read_batches, read_all, and_then, first_lines, is_torn, journal_of}
-use Rattle.serve_journal.specs.Reading.{IsFault, is_entry}
+use Rattle.serve_journal.specs.Reading.{IsFault}
 use Rattle.serve_journal.specs.TakingLines.{TakesLine, TakesLines}
 
 -- How a journal is read, line by line and batch by batch.

@@ -1,12 +1,12 @@
-use Rattle.std.proofs.Common.{◌≡◌, ℕ, suc, ◌+◌, ◌*◌, ◌/◌, ◌^◌, ◌<◌, ◌≤◌, ◌&&◌, Bool, true, false, List, [], ◌∷◌, length, get_or}
-use Rattle.std.proofs.Common.{Option, Some, None, refl, sym, ap, subst, ◌∙◌, arith, codes, decimal, cond}
-use Rattle.std.specs.Prelude.{if◌then◌else◌, option_and_then, nat_lt, nat_le, find, ◌==◌}
+use Rattle.std.proofs.Common.{◌≡◌, ℕ, ◌+◌, ◌/◌, ◌^◌, ◌<◌, ◌≤◌, ◌&&◌, Bool, true, false, List, [], ◌∷◌, length}
+use Rattle.std.proofs.Common.{Option, Some, None, refl, sym, ap, subst, ◌∙◌, arith, codes, decimal}
+use Rattle.std.specs.Prelude.{if◌then◌else◌, option_and_then, nat_lt, nat_le, ◌==◌}
 use Rattle.std.specs.Option.{option_map}
-use Rattle.std.specs.Int.{w32, from_be_bytes, to_be_bytes}
+use Rattle.std.specs.Int.{w32, from_be_bytes}
 use Rattle.std.specs.Cmp.Lexicographic.{bytes_decides}
 use Rattle.std.proofs.lemmas.Bool.{and_parts, ltb-true, leb-true, eqb-true}
 use Rattle.std.proofs.lemmas.Nat.{be_bytes_4}
-use Rattle.std.proofs.lemmas.Option.{same_Some, option_and_then_some}
+use Rattle.std.proofs.lemmas.Option.{same_Some}
 use Rattle.std.proofs.lemmas.List.Splits.{join_with_byte-slice_split}
 use Rattle.hex.specs.Hex.{IsBytes, encode_lower, encode_with}
 use Rattle.radio_airtime.specs.DataRate.{number_of, rates, known_rate}
@@ -18,11 +18,11 @@ use Rattle.gateway_book.specs.Loading.{words_between, plain_number}
 use Rattle.gateway_book.proofs.SavedSpelling.{plain_is_spelled}
 use Rattle.serve_journal.specs.declared.entry.Entry.{Entry}
 use Rattle.serve_journal.specs.declared.entry.Entry.TheVariants.{Gateway, Device, Queue, Taken, Clock, Sent}
-use Rattle.serve_journal.specs.EntryText.{addr_digits, up_word, bytes_word, entry_words, entry_text}
+use Rattle.serve_journal.specs.EntryText.{addr_digits, up_word, bytes_word, entry_words}
 use Rattle.serve_journal.specs.EntryWords.{hex_sized, addr_in, up_in, down_in, digits_in, bytes_in, payload_in, gateway_with, device_with}
 use Rattle.serve_journal.specs.EntryWords.{queue_with, taken_with, clock_with, sent_with, gateway_in, device_in, queue_in, taken_in, clock_in}
-use Rattle.serve_journal.specs.EntryWords.{sent_in, entry_in, entry_of}
-use Rattle.serve_journal.specs.LineLaws.{AreBytes, IsPayload, IsUp, IsEntry, LinesHaveOneSpelling}
+use Rattle.serve_journal.specs.EntryWords.{sent_in, entry_in}
+use Rattle.serve_journal.specs.LineLaws.{IsPayload, IsUp, IsEntry, LinesHaveOneSpelling}
 use Rattle.serve_journal.specs.Payload.{Waiting, payload_of}
 use Rattle.serve_journal.proofs.HexDigits.{hex_is}
 

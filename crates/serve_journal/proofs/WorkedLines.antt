@@ -1,10 +1,10 @@
 -- Worked lines of a journal, by computation, and what the laws speak of.
-use Rattle.std.proofs.Common.{◌≡◌, ℕ, ◌<◌, ◌≤◌, List, [], ◌∷◌, Some, None, codes, refl}
+use Rattle.std.proofs.Common.{◌≡◌, ℕ, List, [], ◌∷◌, Some, None, codes, refl}
 use Rattle.std.specs.Fmt.{digits}
 use Rattle.hex.specs.Hex.{encode_with}
 use Rattle.radio_airtime.specs.declared.data_rate.DataRate.TheVariants.{Dr5}
 use Rattle.serve_journal.specs.declared.entry.Entry.{Entry}
-use Rattle.serve_journal.specs.declared.entry.Entry.TheVariants.{Gateway, Device, Queue, Taken, Clock, Sent}
+use Rattle.serve_journal.specs.declared.entry.Entry.TheVariants.{Device, Queue, Clock, Sent}
 use Rattle.serve_journal.specs.EntryText.{entry_text}
 use Rattle.serve_journal.specs.EntryWords.{entry_of, is_lower_digit}
 use Rattle.serve_journal.specs.LineLaws.{IsEntry, EntriesReadBack, LinesHaveOneSpelling}

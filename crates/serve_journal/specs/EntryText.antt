@@ -5,7 +5,6 @@ use Rattle.radio_airtime.specs.DataRate.{number_of}
 use Rattle.text_lines.specs.Words.{spaced}
 use Rattle.serve_journal.specs.declared.entry.Entry.{Entry}
 use Rattle.serve_journal.specs.declared.entry.Entry.TheVariants.{Gateway, Device, Queue, Taken, Clock, Sent}
-use Rattle.serve_journal.specs.Payload.{Waiting}
 
 -- The lines of a journal, spelled as those of a saved book: words with a single space between two, numbers without leading zeros.
 

@@ -1,6 +1,5 @@
 use Rattle.std.specs.Prelude.{◌≡◌, ℕ, Bool, true, false, ◌==◌, find, List, Option, Some, None, Result, Ok, Err, ⊤}
 use Rattle.gateway_book.specs.Saved.{saved_text}
-use Rattle.serve_journal.specs.declared.fault.JournalFault.{JournalFault}
 use Rattle.serve_journal.specs.declared.fault.JournalFault.TheVariants.{NoMemory}
 use Rattle.serve_journal.specs.declared.recovering.RecoverFault.{RecoverFault}
 use Rattle.serve_journal.specs.declared.recovering.RecoverFault.TheVariants.{Unread, NoGateway, Write}

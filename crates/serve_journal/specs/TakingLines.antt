@@ -1,6 +1,6 @@
-use Rattle.std.specs.Prelude.{◌≡◌, ◌+◌, ℕ, List, length, Option, Some, None, Result, Ok, Err, ⊤}
+use Rattle.std.specs.Prelude.{◌≡◌, ℕ, Option, Some, None, Result, Ok, Err, ⊤}
 use Rattle.serve_journal.specs.declared.fault.JournalFault.{JournalFault}
-use Rattle.serve_journal.specs.declared.fault.JournalFault.TheVariants.{NoHead, Version, NoBatch, Journal, NoMemory}
+use Rattle.serve_journal.specs.declared.fault.JournalFault.TheVariants.{Journal, NoMemory}
 use Rattle.serve_journal.specs.Journal as state
 use Rattle.serve_journal.specs.Reading.{Said, IsFault}
 

@@ -1,4 +1,4 @@
-use Rattle.std.proofs.Common.{◌≤◌, length}
+use Rattle.std.proofs.Common.{length}
 use Rattle.serve_journal.proofs.Parts.{IsOpen}
 use Rattle.serve_journal.proofs.lines.next_batch.Given as goal
 

@@ -1,4 +1,4 @@
-use Rattle.std.proofs.Common.{◌≡◌, ◌+◌, ◌∷◌, ◌++◌, length, map, sym, ap, ◌∙◌, arith, rules, refl, append-nil, subst, List, ℕ, drop}
+use Rattle.std.proofs.Common.{◌≡◌, ◌+◌, ◌∷◌, ◌++◌, length, map, sym, ap, ◌∙◌, arith, refl, append-nil, subst}
 use Rattle.resv_list.proofs.Walk.{rest_from-rises, rest_from-None, rest_from-Some}
 use Rattle.resv_list.specs.Sorted.{rest_from}
 use Rattle.resv_list.specs.Reservations.{start_of}

@@ -1,13 +1,11 @@
-use Rattle.std.proofs.Common.{◌≡◌, ◌++◌, ◌∙◌, List, ℕ, map, ap, arith, subst}
+use Rattle.std.proofs.Common.{◌++◌, ◌∙◌, List, map, ap, arith, subst}
 use Rattle.std.specs.List.{flat_map}
 use Rattle.text_lines.specs.Calls.{next_count}
 use Rattle.text_lines.specs.Writing.{WritesAllBut, WritesFront}
-use Rattle.serve_journal.specs.declared.entry.Entry.{Entry}
-use Rattle.serve_journal.specs.declared.entry.Entry.TheVariants.{Queue}
 use Rattle.resv_list.specs.declared.reservation.Reservation.{Reservation}
 use Rattle.serve_journal.specs.Journal.{Mast}
 use Rattle.serve_journal.specs.Renewal.{entries_text, sent_entry, sent_entries}
-use Rattle.serve_journal.proofs.PuttingLemmas.{line_text, each_line, each_part, one_put, front_put}
+use Rattle.serve_journal.proofs.PuttingLemmas.{each_part, one_put, front_put}
 use Rattle.serve_journal.proofs.renewal.put_books.Goals as goal
 
 pub loop-gateway-preserved : goal.loop-gateway-preserved

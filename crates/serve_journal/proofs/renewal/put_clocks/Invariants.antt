@@ -1,7 +1,5 @@
 use Rattle.std.proofs.Common.{◌≡◌, ◌++◌, map, drop}
-use Rattle.std.specs.List.{flat_map}
 use Rattle.text_lines.specs.Writing.{WritesAllBut}
-use Rattle.serve_journal.specs.declared.entry.Entry.TheVariants.{Queue}
 use Rattle.serve_journal.specs.Renewal.{entries_text, clock_entry}
 use Rattle.serve_journal.proofs.renewal.put_clocks.Given as goal
 

@@ -1,11 +1,9 @@
-use Rattle.std.proofs.Common.{◌≡◌, ◌++◌, ◌∙◌, List, ℕ, map, ap, arith, subst}
-use Rattle.std.specs.List.{flat_map}
+use Rattle.std.proofs.Common.{◌++◌, ◌∙◌, map, ap, arith, subst}
 use Rattle.text_lines.specs.Calls.{next_count}
 use Rattle.text_lines.specs.Writing.{WritesAllBut, WritesFront}
 use Rattle.serve_journal.specs.declared.entry.Entry.{Entry}
-use Rattle.serve_journal.specs.declared.entry.Entry.TheVariants.{Queue}
 use Rattle.serve_journal.specs.Renewal.{entries_text, gateway_entry}
-use Rattle.serve_journal.proofs.PuttingLemmas.{line_text, each_line, each_part, one_put, front_put}
+use Rattle.serve_journal.proofs.PuttingLemmas.{line_text, each_line, one_put, front_put}
 use Rattle.serve_journal.proofs.renewal.put_gateways.Goals as goal
 
 pub loop-gateway-preserved : goal.loop-gateway-preserved

@@ -1,5 +1,4 @@
 use Rattle.std.proofs.Common.{◌≡◌, ◌++◌, map, drop}
-use Rattle.std.specs.List.{flat_map}
 use Rattle.text_lines.specs.Writing.{WritesAllBut}
 use Rattle.serve_journal.specs.declared.entry.Entry.TheVariants.{Queue}
 use Rattle.serve_journal.specs.Renewal.{entries_text}

@@ -1,13 +1,12 @@
-use Rattle.std.proofs.Common.{◌≡◌, ◌++◌, ◌∙◌, List, ℕ, map, ap, arith, subst}
+use Rattle.std.proofs.Common.{◌++◌, ◌∙◌, List, map, ap, arith, subst}
 use Rattle.std.specs.List.{flat_map}
 use Rattle.text_lines.specs.Calls.{next_count}
 use Rattle.text_lines.specs.Writing.{WritesAllBut, WritesFront}
-use Rattle.serve_journal.specs.declared.entry.Entry.{Entry}
 use Rattle.serve_journal.specs.declared.entry.Entry.TheVariants.{Queue}
 use Rattle.serve_journal.specs.Payload.{Waiting}
 use Rattle.serve_journal.specs.Journal.{Node}
 use Rattle.serve_journal.specs.Renewal.{entries_text, queue_entries}
-use Rattle.serve_journal.proofs.PuttingLemmas.{line_text, each_line, each_part, one_put, front_put}
+use Rattle.serve_journal.proofs.PuttingLemmas.{each_part, one_put, front_put}
 use Rattle.serve_journal.proofs.renewal.put_queues.Goals as goal
 
 pub loop-device-preserved : goal.loop-device-preserved

@@ -1,7 +1,6 @@
 use Rattle.std.proofs.Common.{◌≡◌, ◌∙◌, ap, subst, List, ℕ}
-use Rattle.text_lines.specs.Calls.{next_count}
 use Rattle.text_lines.specs.Writing.{WritesAllBut, WritesFront}
-use Rattle.serve_journal.specs.Journal.{Journal, Mast, Node}
+use Rattle.serve_journal.specs.Journal.{Journal}
 use Rattle.serve_journal.specs.Renewal.{renewal_text, parts_behind}
 use Rattle.serve_journal.proofs.PuttingLemmas.{IsFlushed, flushed, state_whole}
 use Rattle.serve_journal.proofs.renewal.write_state.Goals as goal

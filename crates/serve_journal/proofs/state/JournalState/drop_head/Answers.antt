@@ -1,7 +1,5 @@
-use Rattle.std.proofs.Common.{◌≡◌, ◌==◌, ◌<◌, length, arith, rules, Bool, List, Option, Some, sym, refl, Result}
-use Rattle.std.specs.Prelude.{Err}
+use Rattle.std.proofs.Common.{◌==◌, ◌<◌, length, arith, rules, Bool, List, Option, sym, refl}
 use Rattle.std.proofs.lemmas.Grind.{common_steps}
-use Rattle.serve_journal.specs.declared.fault.EntryFault.TheVariants.{Refused}
 use Rattle.serve_journal.specs.Journal.{Journal, Node, without_head}
 use Rattle.serve_journal.proofs.ChangedLemmas.{at_place, stepped, not_stepped}
 use Rattle.serve_journal.proofs.state.JournalState.drop_head.Goals as goal
