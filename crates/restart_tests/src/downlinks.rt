@@ -3,8 +3,8 @@
 use answer_ticket::Bytes;
 use forwarder_sessions::{Datagram, Endpoint, Forwarder, Forwarders};
 use json::Scratch;
-use refusing_alloc::{Call, Refuser, Refusing, growths_of, same, was_refused};
-use serve_downlinks::{Downlink, Fate, Session, batch_of, downlinks_of, fate_of, pull_resp_for};
+use refusing_alloc::{MOST_GROWTHS, Refuser, Refusing};
+use serve_downlinks::{Fate, batch_of, downlinks_of, fate_of, pull_resp_for};
 use server_core::{Entry, Event, Heard1, Server, USUAL_LIMITS, empty_books};
 use server_desk::DeviceSetting;
 use std::alloc::{Allocator, Global};
@@ -121,7 +121,7 @@ fn sendable(fate: Fate) -> Option<(u32, u16)> {
 #[test]
 fn a_downlink_is_in_the_journal_before_it_is_sent(rt: HostRuntime) -> Result<(), Fail> {
     let (server, told) = passed(rt.alloc(), rt.alloc())?;
-    let mut known = forwarders(rt.alloc())?;
+    let known = forwarders(rt.alloc())?;
     let found = downlinks_of(rt.alloc(), &told)?;
     let [downlink] = found.as_slice() else {
         return Err(Fail::from("one downlink"));
@@ -138,107 +138,56 @@ fn a_downlink_is_in_the_journal_before_it_is_sent(rt: HostRuntime) -> Result<(),
     )?;
     equal(&batch.as_slice(), &BATCH)?;
     let datagram = pull_resp_for(rt.alloc(), downlink, 32_704, 14)?;
-    equal(&datagram.as_slice(), &DATAGRAM)?;
-    // The gateway restarts: its counter begins anew, and the uplink was heard before.
-    known.hear(1, 2_000_000_000, 900_000);
-    equal(&sendable(fate_of(downlink, known.sessions())), &None)
-}
-
-/// What is made of a pass: the list of its downlinks, or what comes of the one.
-#[derive(Clone, Copy)]
-enum Made {
-    List,
-    Batch,
-    Datagram,
-}
-
-/// A pass, of which something is made with a growth refused, and how many downlinks or bytes that has.
-#[derive(Drop)]
-struct Making<'a> {
-    alloc: &'a Refuser,
-    pass: &'a Passed<&'a Refuser>,
-    sessions: &'a [Session],
-    found: &'a [Downlink<'a>],
-    made: Made,
-    wanted: usize,
-}
-
-impl Making<'_> {
-    /// How many downlinks, or bytes, there are; None where there was no memory.
-    fn size(&self) -> Option<usize> {
-        match self.made {
-            Made::List => Some(downlinks_of(self.alloc, &self.pass.1).ok()?.len()),
-            Made::Batch => self.batch_size(),
-            Made::Datagram => {
-                let downlink = self.found.first()?;
-                Some(pull_resp_for(self.alloc, downlink, 32_704, 14).ok()?.len())
-            }
-        }
-    }
-
-    fn batch_size(&self) -> Option<usize> {
-        let server = &self.pass.0;
-        let batch = batch_of(
-            self.alloc,
-            server,
-            self.sessions,
-            &SESSIONS,
-            201_001,
-            self.found,
-        );
-        Some(batch.ok()?.len())
-    }
-}
-
-impl Call for Making<'_> {
-    fn is_refused(&mut self, alloc: &Refuser, number: u64) -> Result<bool, Fail> {
-        alloc.refuse(number);
-        let size = self.size();
-        let again = was_refused(alloc, number, size.is_none(), false)?;
-        if let Some(size) = size {
-            same(size, self.wanted)?;
-        }
-        Ok(again)
-    }
-}
-
-/// How many growths it takes to make this of the worked pass.
-fn growths_to_make(memory: Global, made: Made, wanted: usize) -> Result<u64, Fail> {
-    let alloc = &Refusing::new(memory);
-    let pass = passed(alloc, memory)?;
-    let known = forwarders(memory)?;
-    let found = downlinks_of(memory, &pass.1)?;
-    let mut making = Making {
-        alloc,
-        pass: &pass,
-        sessions: known.sessions(),
-        found: &found,
-        made,
-        wanted,
-    };
-    growths_of(alloc, &mut making)
+    equal(&datagram.as_slice(), &DATAGRAM)
 }
 
 // Refuses `serve_downlinks` `downlinks_of`: 1 for the list of one.
 #[test]
 fn growths_of_a_list_of_downlinks(rt: HostRuntime) -> Result<(), Fail> {
-    same(growths_to_make(rt.alloc(), Made::List, 1)? > 0, true)
+    let alloc = &Refusing::new(rt.alloc());
+    let (_, told) = passed(rt.alloc(), rt.alloc())?;
+    alloc.refuse(1);
+    let refused = downlinks_of(alloc, &told).is_err();
+    alloc.grant();
+    equal(&refused, &true)?;
+    equal(&downlinks_of(alloc, &told)?.len(), &1)
+}
+
+/// How many bytes the batch has of the worked pass, with the growth of this number refused; None where there was no memory.
+fn batch_size(memory: Global, alloc: &Refuser, number: u64) -> Result<Option<usize>, Fail> {
+    let (server, told) = passed(alloc, memory)?;
+    let known = forwarders(memory)?;
+    let found = downlinks_of(memory, &told)?;
+    alloc.refuse(number);
+    let batch = batch_of(alloc, &server, known.sessions(), &SESSIONS, 201_001, &found);
+    alloc.grant();
+    Ok(batch.ok().map(|bytes| bytes.len()))
 }
 
 // Refuses `serve_downlinks` `batch_of`: by size, those of its text.
 #[test]
 fn growths_of_a_batch(rt: HostRuntime) -> Result<(), Fail> {
-    same(
-        growths_to_make(rt.alloc(), Made::Batch, BATCH.len())? > 0,
-        true,
+    let alloc = &Refusing::new(rt.alloc());
+    equal(&batch_size(rt.alloc(), alloc, 1)?, &None)?;
+    equal(
+        &batch_size(rt.alloc(), alloc, MOST_GROWTHS)?,
+        &Some(BATCH.len()),
     )
 }
 
 // Refuses `serve_downlinks` `pull_resp_for`: those of `pull_resp`.
 #[test]
 fn growths_of_a_datagram(rt: HostRuntime) -> Result<(), Fail> {
-    same(
-        growths_to_make(rt.alloc(), Made::Datagram, DATAGRAM.len())? > 0,
-        true,
-    )
+    let alloc = &Refusing::new(rt.alloc());
+    let (_, told) = passed(rt.alloc(), rt.alloc())?;
+    let found = downlinks_of(rt.alloc(), &told)?;
+    let [downlink] = found.as_slice() else {
+        return Err(Fail::from("one downlink"));
+    };
+    alloc.refuse(1);
+    let refused = pull_resp_for(alloc, downlink, 32_704, 14).is_err();
+    alloc.grant();
+    equal(&refused, &true)?;
+    let datagram = pull_resp_for(alloc, downlink, 32_704, 14)?;
+    equal(&datagram.as_slice(), &DATAGRAM)
 }
