@@ -11,7 +11,12 @@ pub mod LivesLaws
 pub mod CounterLaws
 pub mod TornLaws
 pub mod TornReading
+pub mod KeyedLemmas
+pub mod EntrySteps
+pub mod Rebooking
+pub mod RenewalReading
 pub mod WorkedLives
 pub mod WorkedTorn
+pub mod WorkedRenewal
 pub mod PuttingLemmas
 pub mod WorkedLines

@@ -1,4 +1,4 @@
-use Rattle.std.specs.Prelude.{ℕ, ◌≡◌, ◌⊎◌, ◌+◌, Bool, true, false, ⊤, List, [], ◌∷◌, ◌++◌, length, map, codes}
+use Rattle.std.specs.Prelude.{ℕ, ◌≡◌, ◌⊎◌, ◌+◌, Bool, true, false, ⊤, List, [], ◌∷◌, ◌++◌, length, map}
 use Rattle.std.specs.Prelude.{Ok}
 use Rattle.std.specs.List.{list_all, All}
 use Rattle.std.proofs.Common.{refl, sym, ap, ◌∙◌, append_assoc, append-nil, inl, inr}
@@ -11,6 +11,7 @@ use Rattle.serve_journal.specs.LineLaws.{IsEntry}
 use Rattle.serve_journal.specs.Journal.{Journal}
 use Rattle.serve_journal.specs.Lines.{behind, lines_of, end_line, batches_of}
 use Rattle.serve_journal.specs.Reading.{is_entry, and_then, first_lines, read_lines, read_batches, read_all, journal_of}
+use Rattle.serve_journal.specs.Renewal.{head_line}
 use Rattle.serve_journal.specs.Torn.{batch_lines, batches_lines, batch_text, journal_text, TornIsDropped}
 use Rattle.serve_journal.proofs.ReadBack.{read_back}
 use Rattle.serve_journal.proofs.TornLaws.{NoFeed, Fate, Open, Spoilt, Whole, fate, first_line, line_of_entry, no_end_begun, begins_entry}
@@ -89,51 +90,48 @@ dropped number j (batch ∷ more) b are e =
     (λ k. dropped (number + length (map entry_text batch) + 1) k more b (All-tail (All IsEntry) batch more are) e i))
     ∙ sym (whole_by number j batch (map (map entry_text) more) is)
 
-head_line : List ℕ
-head_line = codes "airbook journal 1"
-
 -- what is read of the journal, and of what stands behind it
 module _ (first : List Entry) (more : List (List Entry)) (are : All (All IsEntry) (first ∷ more)) where
   first_batch : List (List ℕ)
-  first_batch = codes "airbook journal 1" ∷ map entry_text first
+  first_batch = head_line ∷ map entry_text first
 
-  head_unbroken : NoFeed (codes "airbook journal 1")
+  head_unbroken : NoFeed head_line
   head_unbroken = (refl, (refl, (refl, (refl, (refl, (refl, (refl, (refl, (refl, (refl, (refl, (refl, (refl, (refl, (refl, (refl, (refl, tt)))))))))))))))))
 
   whole_lines : (rest : List ℕ) → lines_of (journal_text (first ∷ more) ++ rest)
-      ≡ (codes "airbook journal 1" ∷ batches_lines (first ∷ more)) ++ lines_of rest
+      ≡ (head_line ∷ batches_lines (first ∷ more)) ++ lines_of rest
   whole_lines rest =
-      lines_behind (codes "airbook journal 1" ∷ batches_lines (first ∷ more)) rest (head_unbroken, batches_unbroken (first ∷ more) are)
+      lines_behind (head_line ∷ batches_lines (first ∷ more)) rest (head_unbroken, batches_unbroken (first ∷ more) are)
 
-  whole_batches : (rest : List (List ℕ)) → batches_of ((codes "airbook journal 1" ∷ batches_lines (first ∷ more)) ++ rest)
-      ≡ (codes "airbook journal 1" ∷ map entry_text first) ∷ (map (map entry_text) more ++ batches_of rest)
+  whole_batches : (rest : List (List ℕ)) → batches_of ((head_line ∷ batches_lines (first ∷ more)) ++ rest)
+      ≡ (head_line ∷ map entry_text first) ∷ (map (map entry_text) more ++ batches_of rest)
   whole_batches rest =
-      ap (behind (codes "airbook journal 1")) (batches_before (first ∷ more) rest)
+      ap (behind head_line) (batches_before (first ∷ more) rest)
 
   read_whole : (rest : List ℕ) → journal_of (journal_text (first ∷ more) ++ rest)
-      ≡ and_then (first_lines (codes "airbook journal 1" ∷ map entry_text first))
-      (λ j. read_batches (length (codes "airbook journal 1" ∷ map entry_text first) + 2) j
+      ≡ and_then (first_lines (head_line ∷ map entry_text first))
+      (λ j. read_batches (length (head_line ∷ map entry_text first) + 2) j
       (map (map entry_text) more ++ batches_of (lines_of rest)))
   read_whole rest =
       ap (λ (l : List (List ℕ)). read_all (length l) (batches_of l)) (whole_lines rest)
-      ∙ ap (read_all (length ((codes "airbook journal 1" ∷ batches_lines (first ∷ more)) ++ lines_of rest)))
+      ∙ ap (read_all (length ((head_line ∷ batches_lines (first ∷ more)) ++ lines_of rest)))
       (whole_batches (lines_of rest))
 
-  read_alone : journal_of (journal_text (first ∷ more))
-      ≡ and_then (first_lines (codes "airbook journal 1" ∷ map entry_text first))
-      (λ j. read_batches (length (codes "airbook journal 1" ∷ map entry_text first) + 2) j (map (map entry_text) more))
+  pub read_alone : journal_of (journal_text (first ∷ more))
+      ≡ and_then (first_lines (head_line ∷ map entry_text first))
+      (λ j. read_batches (length (head_line ∷ map entry_text first) + 2) j (map (map entry_text) more))
   read_alone =
       ap journal_of (sym (append-nil (journal_text (first ∷ more))))
       ∙ read_whole []
-      ∙ ap (λ (l : List (List (List ℕ))). and_then (first_lines (codes "airbook journal 1" ∷ map entry_text first))
-      (λ j. read_batches (length (codes "airbook journal 1" ∷ map entry_text first) + 2) j l))
+      ∙ ap (λ (l : List (List (List ℕ))). and_then (first_lines (head_line ∷ map entry_text first))
+      (λ j. read_batches (length (head_line ∷ map entry_text first) + 2) j l))
       (append-nil (map (map entry_text) more))
 
   module _ (batch : List Entry) (front : List ℕ) where
     with_batch : journal_text (first ∷ more) ++ batch_text batch ≡ journal_text (first ∷ more ++ batch ∷ [])
     with_batch =
-        sym (text_of-append (codes "airbook journal 1" ∷ batches_lines (first ∷ more)) (batch_lines batch))
-        ∙ ap (λ (l : List (List ℕ)). text_of (codes "airbook journal 1" ∷ l))
+        sym (text_of-append (head_line ∷ batches_lines (first ∷ more)) (batch_lines batch))
+        ∙ ap (λ (l : List (List ℕ)). text_of (head_line ∷ l))
         (append_assoc (batch_lines first) (batches_lines more) (batch_lines batch)
         ∙ ap (λ (l : List (List ℕ)). batch_lines first ++ l) (one_more more))
       where
@@ -145,8 +143,8 @@ module _ (first : List Entry) (more : List (List Entry)) (are : All (All IsEntry
     nothing_more : batches_of (lines_of front) ≡ [] → journal_of (journal_text (first ∷ more) ++ front) ≡ journal_of (journal_text (first ∷ more))
     nothing_more e =
         read_whole front
-        ∙ ap (λ (l : List (List (List ℕ))). and_then (first_lines (codes "airbook journal 1" ∷ map entry_text first))
-        (λ j. read_batches (length (codes "airbook journal 1" ∷ map entry_text first) + 2) j l))
+        ∙ ap (λ (l : List (List (List ℕ))). and_then (first_lines (head_line ∷ map entry_text first))
+        (λ j. read_batches (length (head_line ∷ map entry_text first) + 2) j l))
         (ap (λ (l : List (List (List ℕ))). map (map entry_text) more ++ l) e ∙ append-nil (map (map entry_text) more))
         ∙ sym read_alone
 
@@ -154,10 +152,10 @@ module _ (first : List Entry) (more : List (List Entry)) (are : All (All IsEntry
         → journal_of (journal_text (first ∷ more) ++ front) ≡ journal_of (journal_text (first ∷ more))
     spoilt_more b e k =
         read_whole front
-        ∙ ap (λ (l : List (List (List ℕ))). and_then (first_lines (codes "airbook journal 1" ∷ map entry_text first))
-        (λ j. read_batches (length (codes "airbook journal 1" ∷ map entry_text first) + 2) j (map (map entry_text) more ++ l))) e
-        ∙ (λ i. and_then (first_lines (codes "airbook journal 1" ∷ map entry_text first))
-        (λ j. dropped (length (codes "airbook journal 1" ∷ map entry_text first) + 2) j more b (All-tail (All IsEntry) first more are) k i))
+        ∙ ap (λ (l : List (List (List ℕ))). and_then (first_lines (head_line ∷ map entry_text first))
+        (λ j. read_batches (length (head_line ∷ map entry_text first) + 2) j (map (map entry_text) more ++ l))) e
+        ∙ (λ i. and_then (first_lines (head_line ∷ map entry_text first))
+        (λ j. dropped (length (head_line ∷ map entry_text first) + 2) j more b (All-tail (All IsEntry) first more are) k i))
         ∙ sym read_alone
 
     by_fate : Fate (map entry_text batch) [] front

@@ -13,4 +13,5 @@ pub mod Counters
 pub mod Lives
 pub mod Torn
 pub mod Renewal
+pub mod RenewalLaw
 pub mod Putting

@@ -1,4 +1,4 @@
-use Rattle.std.specs.Prelude.{ℕ, ◌≡◌, ◌⊎◌, ⊤, List, [], ◌∷◌, ◌++◌, map, codes}
+use Rattle.std.specs.Prelude.{ℕ, ◌≡◌, ◌⊎◌, ⊤, List, [], ◌∷◌, ◌++◌, map}
 use Rattle.std.specs.List.{All}
 use Rattle.text_lines.specs.Line.{text_of}
 use Rattle.serve_journal.specs.declared.entry.Entry.{Entry}
@@ -6,6 +6,7 @@ use Rattle.serve_journal.specs.EntryText.{entry_text}
 use Rattle.serve_journal.specs.LineLaws.{IsEntry}
 use Rattle.serve_journal.specs.Lines.{end_line}
 use Rattle.serve_journal.specs.Reading.{journal_of}
+use Rattle.serve_journal.specs.Renewal.{head_line}
 
 -- What a journal says whose last batch was being written when the power went.
 
@@ -21,7 +22,7 @@ abbrev pub batch_text : List Entry → List ℕ
 batch_text entries = text_of (batch_lines entries)
 
 abbrev pub journal_text : List (List Entry) → List ℕ
-journal_text batches = text_of (codes "airbook journal 1" ∷ batches_lines batches)
+journal_text batches = text_of (head_line ∷ batches_lines batches)
 
 -- what a disk may have of bytes that were to be written behind others: a front of them, any of which are 0
 abbrev pub IsTornOf : List ℕ → List ℕ → Type 0
