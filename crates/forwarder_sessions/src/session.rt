@@ -34,6 +34,8 @@ pub struct Forwarder {
     pub from: Option<[u8; 4]>,
     /// How long before a transmission starts the gateway has to be told, in microseconds.
     pub lead: u32,
+    /// The power of the gateway's transmissions, in dBm.
+    pub power_dbm: u8,
 }
 
 /// A PULL_DATA: the gateway's downlinks go to where it came from.

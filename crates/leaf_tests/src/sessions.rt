@@ -38,12 +38,14 @@ static FORWARDERS: [Forwarder; 2] = [
         eui: [0xaa, 0x55, 0x5a, 0, 0, 0, 0, 1],
         from: None,
         lead: 400_000,
+        power_dbm: 14,
     },
     Forwarder {
         gateway: 2,
         eui: [0xaa, 0x55, 0x5a, 0, 0, 0, 0, 2],
         from: Some([127, 0, 0, 2]),
         lead: 400_000,
+        power_dbm: 14,
     },
 ];
 

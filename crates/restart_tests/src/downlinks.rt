@@ -25,6 +25,7 @@ fn forwarder(gateway: u8) -> Forwarder {
         eui: [0xaa, 0x55, 0x5a, 0, 0, 0, 0, gateway],
         from: None,
         lead: 400_000,
+        power_dbm: 14,
     }
 }
 
@@ -113,7 +114,7 @@ const DATAGRAM: &[u8] =
 /// The counter and the port of a downlink that may be sent.
 fn sendable(fate: Fate) -> Option<(u32, u16)> {
     match fate {
-        Fate::Sendable { peer, tmst } => Some((tmst, peer.port)),
+        Fate::Sendable { peer, tmst, .. } => Some((tmst, peer.port)),
         Fate::Barred | Fate::Unreachable => None,
     }
 }

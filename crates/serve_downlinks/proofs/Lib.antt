@@ -1,4 +1,4 @@
-mod Texts
+pub mod Texts
 mod Found
 mod BatchLaw
 mod WorkedInputs

@@ -28,7 +28,7 @@ both_found = refl
 pub none_found : downlinks {A = ℕ} (Send 1 first_candidate ∷ Floor 1 5 ∷ Frame 1 first.frame ∷ []) ≡ []
 none_found = refl
 
-pub sendable : fate_of first (first_gateway ∷ second_gateway ∷ []) ≡ Sendable (peer 2) 32704
+pub sendable : fate_of first (first_gateway ∷ second_gateway ∷ []) ≡ Sendable (peer 2) 32704 14
 sendable = refl
 
 -- a session begins behind the copy of uplink 1: that one is barred, and the next is not
@@ -36,7 +36,7 @@ pub barred : fate_of first (heard_by 5000 7201000000 second_gateway ∷ []) ≡ 
 barred = refl
 
 pub not_barred : fate_of (record first { number = 2 }) (heard_by 5000 7201000000 second_gateway ∷ [])
-    ≡ Sendable (peer 2) 1390660792
+    ≡ Sendable (peer 2) 1390660792 14
 not_barred = refl
 
 -- another gateway's session doesn't serve, nor one without a PULL_DATA, nor one of which no packet was heard

@@ -21,6 +21,7 @@ forwarder gateway =
       eui = 0xaa ∷ 0x55 ∷ 0x5a ∷ 0 ∷ 0 ∷ 0 ∷ 0 ∷ gateway ∷ [];
       from = None;
       lead = 400000;
+      power_dbm = 14;
     }
 
 -- a gateway that has sent a PULL_DATA, and then told a copy of uplink 1, with this counter at this moment

@@ -13,12 +13,12 @@ abbrev pub forwarder_of : ℕ → List Known → Option Known
 forwarder_of gateway known = find (λ k. k.forwarder.gateway == gateway) known
 
 -- the gateway's datagrams go to where its last PULL_DATA came from
-abbrev pub fate_with : Option Pulled → Option ℕ → Fate
-fate_with (Some pulled) (Some tmst) = Sendable pulled.peer tmst
-fate_with pulled tmst = Unreachable
+abbrev pub fate_with : ℕ → Option Pulled → Option ℕ → Fate
+fate_with power_dbm (Some pulled) (Some tmst) = Sendable pulled.peer tmst power_dbm
+fate_with power_dbm pulled tmst = Unreachable
 
 abbrev pub fate_by : ToSend → Known → Fate
-fate_by d k = if may_answer d.number k then fate_with k.pulled (tmst_of k.clock d.candidate.start) else Barred
+fate_by d k = if may_answer d.number k then fate_with k.forwarder.power_dbm k.pulled (tmst_of k.clock d.candidate.start) else Barred
 
 abbrev pub fate_if_known : ToSend → Option Known → Fate
 fate_if_known d None = Unreachable

@@ -8,7 +8,7 @@ ghost use Rattle.serve_downlinks.specs.Batch.{knows, floor_of, book_of, clock_if
 ghost use Rattle.serve_downlinks.specs.Batch.{addr_in, batch_entries, entries_text, batch_text};
 
 use crate::Downlink;
-use crate::batch_line::{add, add_device, add_sent, add_taken, addr_in};
+use crate::batch_line::{add_device, add_entry, add_sent, add_taken, addr_in};
 use forwarder_sessions::{NoMemory, Session};
 use serve_journal::Entry;
 use server_core::{Book, Server};
@@ -77,7 +77,7 @@ fn add_clock<A: Allocator + Copy>(
             high: session.line(now),
             floor: floor_of(books, gateway),
         };
-        return add(batch, &entry);
+        return add_entry(batch, &entry);
     }
     Ok(())
 }
@@ -101,8 +101,8 @@ fn floor_of<A: Allocator + Copy>(books: &[Book<A>], gateway: u16) -> u64
     }
 }
 
-/// The book of the gateway with this number: the first, if several have it.
-fn book_of<A: Allocator + Copy>(books: &[Book<A>], gateway: u16) -> Option<&Book<A>>
+/// The book of the gateway with this number: the first, if several have it. Takes no memory.
+pub fn book_of<A: Allocator + Copy>(books: &[Book<A>], gateway: u16) -> Option<&Book<A>>
     ensures { option_map (λ book. book.now) result ≡ book_of gateway books.now }
 {
     books.iter().find(|book| book.id() == gateway)

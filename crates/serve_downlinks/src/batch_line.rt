@@ -12,8 +12,8 @@ use text_lines::TextLine;
 /// The length in bytes of a frame that carries no payload: MHDR, FHDR without options, and the MIC.
 const EMPTY_FRAME: usize = 12;
 
-/// Adds the line of an entry.
-pub(crate) fn add<A: Allocator>(batch: &mut Vec<u8, A>, entry: &Entry) -> Result<(), NoMemory>
+/// Adds the line of an entry, with its end. Err(NoMemory) where an allocation was refused.
+pub fn add_entry<A: Allocator>(batch: &mut Vec<u8, A>, entry: &Entry) -> Result<(), NoMemory>
     ensures { OnOk result (batch.new.items ≡ batch.old.items ++ entries_text (entry.now ∷ [])) }
 {
     let mut line = TextLine::new();
@@ -31,7 +31,7 @@ pub(crate) fn add_device<A: Allocator>(
     ensures { OnOk result (batch.new.items ≡ batch.old.items ++ entries_text (device_entries addr counters session)) }
 {
     match (counters, session) {
-        (Some(counters), Some(session)) => add(
+        (Some(counters), Some(session)) => add_entry(
             batch,
             &Entry::Device {
                 addr,
@@ -55,7 +55,7 @@ pub(crate) fn add_taken<A: Allocator>(
     if frame.len() <= EMPTY_FRAME {
         return Ok(());
     }
-    add(batch, &Entry::Taken { addr })
+    add_entry(batch, &Entry::Taken { addr })
 }
 
 /// Adds what was booked.
@@ -72,7 +72,7 @@ pub(crate) fn add_sent<A: Allocator>(
         rate: candidate.rate,
         len: candidate.len,
     };
-    add(batch, &entry)
+    add_entry(batch, &entry)
 }
 
 /// DevAddr of a PHYPayload (LoRaWAN L2 1.0.4, section 4). None: it has fewer than 5 bytes.

@@ -20,6 +20,8 @@ pub enum Fate {
         peer: Endpoint,
         /// The gateway's counter at which the transmission begins, in microseconds modulo 2^32.
         tmst: u32,
+        /// The power of the transmission, in dBm.
+        power_dbm: u8,
     },
 }
 
@@ -40,17 +42,22 @@ fn fate_by(downlink: &Downlink<'_>, session: &Session) -> Fate
     if !session.may_answer(downlink.number) {
         return Fate::Barred;
     }
-    fate_with(session.pulled(), session.tmst_of(downlink.candidate.start))
+    fate_with(
+        session.forwarder().power_dbm,
+        session.pulled(),
+        session.tmst_of(downlink.candidate.start),
+    )
 }
 
-/// The same of one that isn't barred, by the gateway's last PULL_DATA and the counter at which it begins.
-fn fate_with(pulled: Option<Pulled>, tmst: Option<u32>) -> Fate
-    ensures { result ≡ fate_with pulled tmst }
+/// The same of one that isn't barred, by the gateway's power in dBm, its last PULL_DATA, and the counter at which it begins.
+fn fate_with(power_dbm: u8, pulled: Option<Pulled>, tmst: Option<u32>) -> Fate
+    ensures { result ≡ fate_with power_dbm pulled tmst }
 {
     match (pulled, tmst) {
         (Some(pulled), Some(tmst)) => Fate::Sendable {
             peer: pulled.peer,
             tmst,
+            power_dbm,
         },
         _ => Fate::Unreachable,
     }

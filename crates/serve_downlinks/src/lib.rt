@@ -10,7 +10,8 @@ mod fate;
 mod law_calls;
 mod laws;
 
-pub use batch::batch_of;
+pub use batch::{batch_of, book_of};
+pub use batch_line::add_entry;
 pub use datagram::pull_resp_for;
 pub use downlink::{Downlink, downlinks_of};
 pub use fate::{Fate, fate_of};

@@ -8,7 +8,7 @@ use Rattle.server_desk.specs.declared.setting.GatewaySetting.{GatewaySetting}
 
 -- a gateway's, as it is set
 abbrev pub forwarder_of : GatewaySetting → settings.Forwarder.Forwarder → Forwarder
-forwarder_of g f = record { gateway = g.id; eui = f.eui; from = f.from; lead = f.lead_us }
+forwarder_of g f = record { gateway = g.id; eui = f.eui; from = f.from; lead = f.lead_us; power_dbm = f.power_dbm }
 
 -- one gateway's, if something is set for it
 abbrev pub one_of : GatewaySetting → Option settings.Forwarder.Forwarder → List Forwarder

@@ -60,5 +60,6 @@ fn forwarder_of(gateway: &GatewaySetting, set: &serve_settings::Forwarder) -> Fo
         eui: set.eui,
         from: set.from,
         lead: set.lead_us,
+        power_dbm: set.power_dbm,
     }
 }

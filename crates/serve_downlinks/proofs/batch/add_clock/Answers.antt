@@ -6,7 +6,7 @@ use Rattle.serve_downlinks.proofs.batch.add_clock.Goals as goal
 
 pub returns-then-sends : goal.returns-then-sends
 returns-then-sends g c =
-    a_clock c.add.result c.args.batch.now.items c.add.new.batch.items c.args.now c.args.books.now c.args.downlinks.now
+    a_clock c.add_entry.result c.args.batch.now.items c.add_entry.new.batch.items c.args.now c.args.books.now c.args.downlinks.now
     c.args.session.now
     (Clock c.forwarder-gateway.result.gateway c.line.result c.floor_of.result)
     (sym (ap (λ w. list_any (λ d. d.candidate.gateway == w.gateway) c.args.downlinks.now) c.forwarder-gateway.ensures)
@@ -14,7 +14,7 @@ returns-then-sends g c =
     ∙ c.if-sends.true)
     (clock_same c.args.now c.args.books.now c.args.session.now c.forwarder-gateway.result c.line.result c.floor_of.result
     c.forwarder-gateway.ensures c.line.ensures c.floor_of.ensures)
-    c.add.ensures
+    c.add_entry.ensures
 
 pub returns : goal.returns
 returns g c =

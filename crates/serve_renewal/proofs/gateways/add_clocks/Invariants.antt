@@ -1,0 +1,9 @@
+use Rattle.std.proofs.Common.{◌≡◌, ◌++◌, take}
+use Rattle.std.specs.List.{flat_map}
+use Rattle.serve_downlinks.specs.Batch.{entries_text}
+use Rattle.serve_renewal.specs.State.{clock_entries}
+use Rattle.serve_renewal.proofs.gateways.add_clocks.Given as goal
+
+abbrev pub invariant-loop-session : goal.invariant-loop-session
+invariant-loop-session g l =
+    l.text.items ≡ l.initial.text.items ++ entries_text (flat_map (clock_entries l.now l.books) (take l.session-index l.sessions))
