@@ -1,0 +1,13 @@
+use Rattle.std.proofs.Common.{◌≡◌, ◌++◌, drop}
+use Rattle.text_lines.specs.Line.{text_of}
+use Rattle.text_lines.specs.Writing.{WritesAllBut}
+use Rattle.journal_sql.specs.Sql.{queued_rows}
+use Rattle.journal_sql.proofs.writing.put_queues.Given as goal
+
+abbrev pub invariant-loop-device : goal.invariant-loop-device
+invariant-loop-device g l = record {
+  written : WritesAllBut (g.W.ByteOut.taken l.fn.writer) (g.W.ByteOut.taken l.writer)
+      (l.fn.output ++ text_of (queued_rows 1 l.devices))
+      (l.output ++ text_of (queued_rows l.number (drop l.device-index l.devices)));
+  quiet : g.W.ByteOut.failed_calls l.writer ≡ g.W.ByteOut.failed_calls l.fn.writer;
+}

@@ -1,0 +1,4 @@
+pub mod Rows
+pub mod Sql
+pub mod Parts
+pub mod Recovering
