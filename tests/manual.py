@@ -8,7 +8,7 @@ The status is 0, or 2 where the program can't be run or has no such help.
 import subprocess
 import sys
 
-COMMANDS = ("toa", "book", "plan", "picture", "check", "run", "listen", "serve")
+COMMANDS = ("toa", "book", "plan", "picture", "recover", "check", "run", "listen", "serve")
 SECONDS = 60
 FILES = """\
 share/doc/airbook/FORMATS.md

@@ -2,6 +2,7 @@
 use crate::help;
 use crate::listen_command::listen;
 use crate::listening::Listening;
+use crate::recover_command::{Recovering, recover, recovering_of};
 use crate::serve_command::{bound_to, serve};
 use airbook_text::MAX_WORKERS;
 use clap::{Arg, ArgAction, ArgMatches, Command, value_parser};
@@ -23,6 +24,8 @@ pub enum Task {
     Plan(Planning),
     /// A picture of a saved book's hour: of the one that opens at `from`, or of the latest.
     Picture { from: Option<u64> },
+    /// What a server's journal says.
+    Recover(Recovering),
     /// Whether settings of a server are right, and what is wrong with them.
     Check,
     /// Settings of a server, and what happens there.
@@ -71,6 +74,7 @@ pub fn program<'a>(alloc: Global) -> Result<Command<'a>, AllocError> {
         .subcommand(book(alloc)?)?
         .subcommand(plan(alloc)?)?
         .subcommand(picture(alloc)?)?
+        .subcommand(recover(alloc)?)?
         .subcommand(check(alloc)?)?
         .subcommand(run(alloc)?)?
         .subcommand(listen(alloc)?)?
@@ -248,6 +252,7 @@ pub fn task_of(matches: &ArgMatches<'_>) -> Option<Task> {
         Some(("picture", picture)) => Some(Task::Picture {
             from: picture.get_one::<u64>("from"),
         }),
+        Some(("recover", recover)) => Some(Task::Recover(recovering_of(recover)?)),
         Some(("check", _)) => Some(Task::Check),
         Some(("run", run)) => Some(Task::Run(Running {
             workers: run.get_one::<u8>("workers")?,

@@ -24,6 +24,7 @@ Examples:
   airbook book < examples/two-bookings.txt
   airbook plan < examples/plan.txt
   airbook picture < examples/busy-hour.txt > hour.svg
+  airbook recover --gateway 2 < examples/journal.txt
   airbook check < examples/misspelt.toml
   airbook run < examples/two-gateways.txt
   airbook listen --port 1700 --turns 1 < examples/settings.toml
@@ -126,6 +127,27 @@ nothing is written. Statuses: see airbook --help.
 
 Example:
   $ airbook picture < examples/busy-hour.txt > hour.svg";
+
+pub const RECOVER: &str = "Writes what a server's journal says: a gateway's book, or all as SQL";
+
+pub const LONG_RECOVER: &str = "\
+Writes what the journal of a server says. Standard input: that journal. With
+--gateway the book of a gateway is written as book --resume reads it, and with
+--sql all gateways and devices, with what waits and what was sent, as sqlite3
+reads them";
+
+pub const AFTER_RECOVER: &str = "\
+A batch that was cut off when the server was killed is dropped. Where the
+journal is at fault, its line is told on standard error, and nothing is
+written. Statuses: see airbook --help.
+
+Examples:
+  $ airbook recover --gateway 2 < examples/journal.txt
+  airbook 2
+  gateway 2 4096 601001 45000
+  r 0 1001100 868100000 5 12
+  end 1
+  $ airbook recover --sql < examples/journal.txt | sqlite3 server.db";
 
 pub const CHECK: &str = "Tells what is wrong or doubtful in the settings of a server";
 

@@ -6,6 +6,8 @@ mod help;
 mod listen_command;
 mod listening;
 mod noting;
+mod recover_command;
+mod recovering;
 mod serve_command;
 mod serving;
 mod stopped;

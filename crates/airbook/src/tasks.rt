@@ -3,6 +3,7 @@ use crate::arguments::{Booking, Planning, Running, Task, program, task_of};
 use crate::help;
 use crate::listening::listen;
 use crate::noting::{ErrorStream, noted_run};
+use crate::recovering::recover_text;
 use crate::serving::serve;
 use crate::stopped::Stopped;
 use airbook_text::{
@@ -105,6 +106,7 @@ fn perform<
         Task::Book(booking) => book(rt, booking, &mut reader, &mut writer),
         Task::Plan(planning) => plan(rt, planning, &mut reader, &mut writer),
         Task::Picture { from } => picture_text(rt.alloc(), from, &mut reader, &mut writer),
+        Task::Recover(recovering) => recover_text(rt, recovering, &mut reader, &mut writer),
         Task::Check => match check_text(rt.alloc(), &mut reader, &mut writer) {
             Ok(verdict) => return status_of(verdict),
             Err(stopped) => Err(stopped),
