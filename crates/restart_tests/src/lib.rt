@@ -14,3 +14,5 @@ mod journals;
 mod lines;
 #[cfg(test)]
 mod rules;
+#[cfg(test)]
+mod sql;

@@ -1,0 +1,421 @@
+#!/usr/bin/env python3
+"""Compares `airbook recover` with a plain reader of journals on random ones, whole and damaged, and gives the SQL to SQLite.
+
+Usage: tests/recover.py [PROGRAM [JOURNALS [SEED]]]     (the program that the gate leaves, 300, 1)
+
+The reader is written from docs/FORMATS.md alone: line by line, and each transmission is asked of the plain list of
+random_books.py, which holds those before it. Each journal has a few gateways and devices and some batches. Of two in three the
+end is cut off, bytes of the last batch are 0, or a line is spelled otherwise, says something else, is left out or doubled. Half
+of them are recovered as the book of a gateway, which may not be there, and half as SQL. Output, standard error and status are
+compared. Python's SQLite makes a database of the SQL, and its rows have to be those of the reader.
+
+What differs has a line. Then comes how many of each kind were drawn; where 300 journals or more were asked for, a common kind that
+never came is one failure. The last line is 'N passed, M failed', of the journals. The status is 0 where none failed, 1 where one
+did, 2 where there is no program.
+"""
+import random
+import sqlite3
+import sys
+
+sys.dont_write_bytecode = True
+from plain_book import PlainBook
+from plain_server import Malformed
+from random_books import HOUR
+from random_runs import compared
+from random_saved import frame_of, plain, saved
+
+JOURNALS = 300
+LOWER = b"0123456789abcdef"
+COMMON = """a book;SQL;rows in SQLite;a number above what SQLite has room for;NoGateway;whole;cut off;a torn batch
+a line without an end;no batch;no head;another version;a malformed line;a line that can't be there"""
+TABLES = """\
+CREATE TABLE gateway (id INTEGER PRIMARY KEY, eui TEXT NOT NULL, cap INTEGER NOT NULL, gap INTEGER NOT NULL, high INTEGER NOT NULL, \
+floor INTEGER NOT NULL) STRICT;
+CREATE TABLE device (addr INTEGER PRIMARY KEY, session INTEGER NOT NULL, up INTEGER, down INTEGER NOT NULL) STRICT;
+CREATE TABLE queued (id INTEGER PRIMARY KEY, addr INTEGER NOT NULL, port INTEGER NOT NULL, payload BLOB NOT NULL) STRICT;
+CREATE TABLE sent (id INTEGER PRIMARY KEY, gateway INTEGER NOT NULL, start INTEGER NOT NULL, freq INTEGER NOT NULL, \
+dr INTEGER NOT NULL, len INTEGER NOT NULL) STRICT;"""
+MALFORMED = "is malformed, or says what can't be beside the lines before it"
+
+
+class Fault(Exception):
+    """Why nothing is recovered: the line, and what is told of it."""
+
+
+class State:
+    """What a journal says: of each gateway its EUI, what its clock shows and its book; of each device its session, its counters and
+    what waits for it."""
+
+    def __init__(self):
+        self.gateways, self.devices = {}, {}
+
+    def gateway(self, number, eui, cap, gap):
+        taken = number in self.gateways or any(eui == other[0] for other in self.gateways.values())
+        if taken or len(self.gateways) == 64 or not 1 <= cap <= 65_536 or gap > 100_000:
+            raise Malformed
+        self.gateways[number] = [eui, 2_000_000, PlainBook(cap, gap, number)]
+
+    def device(self, addr, session, up, down):
+        if addr not in self.devices and len(self.devices) == 1_024:
+            raise Malformed
+        waiting = self.devices[addr][3] if addr in self.devices else []
+        self.devices[addr] = [session, up, down, waiting]
+
+    def queue(self, addr, port, payload):
+        if addr not in self.devices or len(self.devices[addr][3]) == 16:
+            raise Malformed
+        self.devices[addr][3].append((port, payload))
+
+    def taken(self, addr):
+        if addr not in self.devices or not self.devices[addr][3]:
+            raise Malformed
+        del self.devices[addr][3][0]
+
+    def clock(self, number, high, floor):
+        if number not in self.gateways:
+            raise Malformed
+        self.gateways[number][1] = high
+        self.gateways[number][2].tick(floor)
+
+    def sent(self, number, start, frequency, rate, length):
+        if number not in self.gateways or not self.gateways[number][2].ask(0, start, frequency, rate, length).startswith("ok"):
+            raise Malformed
+
+    def rows(self):
+        """Of each table its rows."""
+        waits = [(addr, *one) for addr, (*_, waiting) in self.devices.items() for one in waiting]
+        air = [(number, start, *book.asks[start]) for number, (_, _, book) in self.gateways.items() for start, *_ in book.members]
+        return {
+            "gateway": [(number, eui.hex(), book.cap, book.gap, high, book.floor) for number, (eui, high, book) in self.gateways.items()],
+            "device": [(addr, int.from_bytes(session, "big"), up, down) for addr, (session, up, down, _) in self.devices.items()],
+            "queued": [(place, *row) for place, row in enumerate(waits, 1)],
+            "sent": [(place, *row) for place, row in enumerate(air, 1)],
+        }
+
+
+def digits(word, count):
+    """So many bytes, two digits in lower case for each."""
+    if len(word) != 2 * count or word.strip(LOWER):
+        raise Malformed
+    return bytes.fromhex(word.decode())
+
+
+def address(word):
+    return int.from_bytes(digits(word, 4), "big")
+
+
+def up_of(word):
+    return None if word == b"-" else plain(word, 32)
+
+
+def down_of(word):
+    down = plain(word, 33)
+    if down > 1 << 32:
+        raise Malformed
+    return down
+
+
+def port_of(word):
+    port = plain(word, 8)
+    if not 1 <= port <= 223:
+        raise Malformed
+    return port
+
+
+def payload_of(word):
+    if not 1 <= len(word) <= 484:
+        raise Malformed
+    return b"" if word == b"-" else digits(word, len(word) // 2)
+
+
+def rate_of(word):
+    rate = plain(word, 8)
+    if rate > 6:
+        raise Malformed
+    return rate
+
+
+def bits(count):
+    return lambda word: plain(word, count)
+
+
+FIELDS = {
+    b"gateway": (State.gateway, [bits(16), lambda word: digits(word, 8), bits(32), bits(32)]),
+    b"device": (State.device, [address, lambda word: digits(word, 4), up_of, down_of]),
+    b"queue": (State.queue, [address, port_of, payload_of]),
+    b"taken": (State.taken, [address]),
+    b"clock": (State.clock, [bits(16), bits(64), bits(64)]),
+    b"sent": (State.sent, [bits(16), bits(64), bits(32), rate_of, bits(8)]),
+}
+
+
+def entry(line):
+    """What a line says: the step, and its fields."""
+    name, *words = line.split(b" ")
+    if name not in FIELDS or len(words) != len(FIELDS[name][1]):
+        raise Malformed
+    step, fields = FIELDS[name]
+    return step, [field(word) for field, word in zip(fields, words)]
+
+
+def is_entry(line):
+    try:
+        entry(line)
+    except Malformed:
+        return False
+    return True
+
+
+def batches_of(text):
+    """The lines of each batch, and how many lines there are. What has no line `.` behind it is in none."""
+    lines = text.split(b"\n")[:-1]
+    batches, batch = [], []
+    for line in lines:
+        if line == b".":
+            batches.append(batch)
+            batch = []
+        else:
+            batch.append(line)
+    return batches, len(lines)
+
+
+def head_of(line):
+    """Looks at the first line."""
+    words = line.split(b" ")
+    try:
+        if len(words) != 3 or words[:2] != [b"airbook", b"journal"]:
+            raise Malformed
+        version = plain(words[2], 32)
+    except Malformed:
+        raise Fault("line 1 of the journal is not the line of its version", "no head") from None
+    if version != 1:
+        raise Fault("line 1 of the journal has another version than 1", "another version")
+
+
+def reader(text):
+    """What a journal says, and whether its last batch is torn."""
+    batches, count = batches_of(text)
+    if not batches:
+        told = f"line {count + 1} of the journal is missing: no line `.` ends a batch of entries"
+        raise Fault(told, "no batch")
+    head_of(batches[0][0] if batches[0] else b".")
+    state, place = State(), 0
+    for number, batch in enumerate(batches):
+        if 0 < number == len(batches) - 1 and not all(map(is_entry, batch)):
+            return state, True
+        for line in batch:
+            place += 1
+            if place > 1:
+                take(state, place, line)
+        place += 1
+    return state, False
+
+
+def take(state, place, line):
+    """Takes one line in."""
+    try:
+        step, fields = entry(line)
+    except Malformed:
+        raise Fault(f"line {place} of the journal {MALFORMED}", "a malformed line") from None
+    try:
+        step(state, *fields)
+    except Malformed:
+        raise Fault(f"line {place} of the journal {MALFORMED}", "a line that can't be there") from None
+
+
+# What is wanted.
+
+
+def value(one):
+    """A value, as SQL has it."""
+    if one is None:
+        return "NULL"
+    if isinstance(one, bytes):
+        return f"X'{one.hex()}'"
+    return f"'{one}'" if isinstance(one, str) else str(one)
+
+
+def sql(state):
+    """All of it."""
+    rows = [(table, row) for table, rows in state.rows().items() for row in rows]
+    inserted = [f"INSERT INTO {table} VALUES({','.join(map(value, row))});" for table, row in rows]
+    return [*TABLES.splitlines(), "BEGIN;", *inserted, "COMMIT;"]
+
+
+def in_database(lines):
+    """The rows that SQLite has of it."""
+    database = sqlite3.connect(":memory:")
+    try:
+        database.executescript("\n".join(lines))
+        tables = [name for name, in database.execute("SELECT name FROM sqlite_master ORDER BY rowid")]
+        return {table: list(database.execute(f"SELECT * FROM {table} ORDER BY rowid")) for table in tables}
+    finally:
+        database.close()
+
+
+def by_key(rows):
+    """The rows as SQLite orders them: those of a table by their first number."""
+    return {table: sorted(own, key=lambda row: row[0]) for table, own in rows.items()}
+
+
+def kept_by_sqlite(state):
+    """What kind of SQL it is, and what SQLite has against it."""
+    rows = state.rows()
+    if any(isinstance(one, int) and one >> 63 for own in rows.values() for row in own for one in row):
+        return "a number above what SQLite has room for", None
+    found = in_database(sql(state))
+    return "rows in SQLite", None if found == by_key(rows) else f"SQLite has {found}"
+
+
+# What is drawn: the batches of a journal, and what is damaged of its text.
+
+
+def first_batch(chance, gateways, devices):
+    """The gateways and the devices."""
+    for number in gateways:
+        eui = chance.randbytes(8).hex()
+        yield f"gateway {number} {eui} {chance.choice([1, 5, 4_096, 65_536])} {chance.choice([0, 45_000, 100_000])}"
+    for addr in devices:
+        yield counters(chance, addr)
+
+
+def counters(chance, addr):
+    up, down = chance.choice(["-", 0, chance.randrange(1 << 32), (1 << 32) - 1]), chance.choice([0, chance.randrange(1 << 32), 1 << 32])
+    return f"device {addr:08x} {chance.choice([bytes(4), chance.randbytes(4)]).hex()} {up} {down}"
+
+
+def waiting(chance, addr):
+    payload = chance.randbytes(chance.choice([0, 1, 12, 51, 242])).hex() or "-"
+    return f"queue {addr:08x} {chance.choice([1, 10, 223])} {payload}"
+
+
+def drawn_line(chance, state, gateways, devices):
+    """A line that may come next."""
+    number, addr = chance.choice(gateways), chance.choice(devices)
+    _, _, book = state.gateways[number]
+    kind = chance.random()
+    if kind < 0.5:
+        start = (book.members[-1][1] + book.gap if book.members else book.floor) + chance.choice([0, 0, 1, 7_000_000, HOUR // 2])
+        frequency, rate, length = frame_of(chance, range(7))
+        return f"sent {number} {start} {frequency} {rate} {length}"
+    if kind < 0.65:
+        floor = book.floor + chance.choice([0, 0, 1_000_000, HOUR // 3, HOUR])
+        high = chance.choice([floor, floor + 2_000_000] * 4 + [(1 << 63) - 1, (1 << 64) - 1])
+        return f"clock {number} {high} {floor}"
+    if kind < 0.75:
+        return counters(chance, addr)
+    return f"taken {addr:08x}" if kind > 0.9 else waiting(chance, addr)
+
+
+def journal_of(chance):
+    """The batches of a journal: lines, most of which can be there."""
+    gateways, devices = chance.sample([0, 1, 2, 7, 65_535], chance.randrange(1, 4)), [chance.randrange(1 << 32) for _ in range(3)]
+    state, batches = State(), []
+    lines = list(first_batch(chance, gateways, devices))
+    for _ in range(chance.randrange(1, 6)):
+        for line in lines:
+            step, fields = entry(line.encode())
+            step(state, *fields)
+        batches.append(lines)
+        lines = list(more_lines(chance, state, gateways, devices))
+    return batches
+
+
+def more_lines(chance, state, gateways, devices):
+    """Some lines that can be there."""
+    trial = State()
+    trial.gateways = {number: [eui, high, copied(book)] for number, (eui, high, book) in state.gateways.items()}
+    trial.devices = {addr: [session, up, down, list(waits)] for addr, (session, up, down, waits) in state.devices.items()}
+    for _ in range(chance.randrange(0, 12)):
+        line = drawn_line(chance, trial, gateways, devices)
+        try:
+            step, fields = entry(line.encode())
+            step(trial, *fields)
+        except Malformed:
+            continue
+        yield line
+
+
+def copied(book):
+    other = PlainBook(book.cap, book.gap, book.gateway)
+    other.floor, other.members, other.asks = book.floor, list(book.members), dict(book.asks)
+    return other
+
+
+def text_of(batches):
+    lines = ["airbook journal 1"] + [line for batch in batches for line in [*batch, "."]]
+    return "".join(line + "\n" for line in lines).encode()
+
+
+def spoiled(chance, line):
+    """A line that is spelled otherwise, or says something else."""
+    words = line.split(b" ")
+    place = chance.randrange(len(words))
+    others = [b"", b"0", b"-", b"01", b"x", b"99999999999999999999", words[place] + b" ", words[place].upper(), b"223", b"1"]
+    words[place] = chance.choice(others)
+    return b" ".join(words)
+
+
+def damaged(chance, batches):
+    """The text of a journal that was damaged."""
+    text = text_of(batches)
+    kind = chance.random()
+    if kind < 0.35:
+        return text[:chance.randrange(len(text)) if chance.random() < 0.5 else len(text) - chance.randrange(1, 60)]
+    if kind < 0.65:
+        first = len(text_of(batches[:-1]))
+        own = bytearray(text)
+        for at in chance.choices(range(first, len(text)), k=chance.choice([1, 1, 3])):
+            own[at] = 0
+        return bytes(own)
+    lines = text.split(b"\n")
+    at = chance.choice([0] + list(range(len(lines) - 1)) * 3) if chance.random() < 0.8 else 0
+    if kind < 0.7:
+        lines[0] = b"airbook journal " + chance.choice([b"0", b"2", b"4294967295", b"4294967296", b"01", b"-1", b""])
+    elif kind < 0.85:
+        lines[at] = spoiled(chance, lines[at])
+    else:
+        lines[at:at + 1] = [lines[at]] * chance.choice([0, 2])
+    return b"\n".join(lines)
+
+
+def kinds_of(given, is_torn):
+    """What kind of journal it is."""
+    if is_torn:
+        return ["a torn batch"]
+    lines = given.split(b"\n")
+    if lines[-1]:
+        return ["a line without an end", "cut off"]
+    return ["whole"] if lines[-2] == b"." else ["cut off"]
+
+
+def tried(seed, _is_last):
+    """The arguments and the input of a run, what is wanted of it, its kinds, and what SQLite says of it."""
+    chance = random.Random(seed)
+    batches = journal_of(chance)
+    given = damaged(chance, batches) if chance.random() < 0.66 else text_of(batches)
+    number = chance.choice([int(line.split(" ")[1]) for line in batches[0] if line.startswith("gateway")] * 3 + [3])
+    words = ["recover", *(["--sql"] if chance.random() < 0.5 else ["--gateway", str(number)])]
+    try:
+        state, is_torn = reader(given)
+    except Fault as fault:
+        told, kind = fault.args
+        return words, given, (b"", f"{told}\nairbook: Journal\n".encode(), 2), [kind], " ".join(words)
+    if words[1] == "--gateway":
+        if number not in state.gateways:
+            return words, given, (b"", b"airbook: NoGateway\n", 2), ["NoGateway"], " ".join(words)
+        lines, kinds, fault = saved(state.gateways[number][2]), ["a book"], None
+    else:
+        kind, fault = kept_by_sqlite(state)
+        lines, kinds = sql(state), ["SQL", kind]
+    # SQL of which SQLite makes something else is wanted of no program.
+    told = fault or "".join(line + "\n" for line in lines)
+    return words, given, (told.encode(), b"", 0), kinds + kinds_of(given, is_torn), " ".join(words)
+
+
+def main(words):
+    return compared(words, JOURNALS, COMMON, tried)
+
+
+if __name__ == "__main__":
+    sys.exit(main(sys.argv[1:]))
