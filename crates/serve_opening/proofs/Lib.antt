@@ -1,0 +1,6 @@
+pub mod Firsts
+pub mod Matching
+pub mod Accepted
+pub mod Faultless
+pub mod OwnLaws
+pub mod Worked

@@ -1,0 +1,6 @@
+pub mod Faults
+pub mod Gateways
+pub mod Devices
+pub mod Notes
+pub mod Opening
+pub mod OwnLaw
