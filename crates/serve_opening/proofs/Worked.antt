@@ -8,7 +8,7 @@ use Rattle.serve_settings.specs.declared.forwarder.Forwarder.{Forwarder}
 use Rattle.serve_opening.specs.declared.note.Note.TheVariants.{RulesStay, GatewayForgotten}
 use Rattle.serve_opening.specs.Gateways.{has_eui, matched, unmatched, highs, renumbered}
 use Rattle.serve_opening.specs.Notes.{notes_of}
-use Rattle.serve_opening.proofs.OwnLaws.{each_takes_its_own}
+use Rattle.serve_opening.specs.OwnLaw.{EachTakesItsOwn}
 
 -- Three gateways of the settings and three of a journal, which has them in another order: the first one's EUI under another
 -- number, the second one's EUI, and an EUI that isn't in the settings. The third gateway is new.
@@ -60,7 +60,7 @@ pub two_are_told : notes_of gateways (gateway 1 ∷ record (gateway 2) { cap = 8
     ≡ RulesStay 2 8 45000 ∷ GatewayForgotten 7 (eui 9) ∷ []
 two_are_told = refl
 
--- the law tells the same
+-- from the law alone
 
 differ : (m n : ℕ) → m ≢ n → (forwarder m).eui ≢ (forwarder n).eui
 differ m n h e = h (ap (λ l. get_or l 7 0) e)
@@ -78,6 +78,6 @@ apart =
     (AllPairs-cons Differ (forwarder 3) [] (All-nil (Differ (forwarder 3))) (λ i j d l h. absurd (omega arith))))
 
 -- of every journal
-pub each_has_its_own : (ms : List Mast) → matched gateways forwarders ms
+pub each_has_its_own : EachTakesItsOwn → (ms : List Mast) → matched gateways forwarders ms
     ≡ (gateway 1, find (has_eui (eui 1)) ms) ∷ (gateway 2, find (has_eui (eui 2)) ms) ∷ (gateway 3, find (has_eui (eui 3)) ms) ∷ []
-each_has_its_own ms = each_takes_its_own gateways forwarders ms apart
+each_has_its_own law ms = law gateways forwarders ms apart
