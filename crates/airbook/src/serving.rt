@@ -58,9 +58,29 @@ impl<R: Clock + Log, W: ByteOut> Host for Surroundings<'_, R, W> {
         u64::try_from(elapsed.as_micros()).ok()
     }
 
-    fn send(&mut self, to: Endpoint, bytes: &[u8]) -> bool {
+    fn acknowledge(&mut self, to: Endpoint, bytes: &[u8]) {
         let address = SocketAddrV4::new(Ipv4Addr::from_octets(to.ip), to.port);
-        self.socket.send_to(bytes, address).is_ok()
+        let _ = self.socket.send_to(bytes, address);
+    }
+
+    /// No journal is kept.
+    fn append(&mut self, _bytes: &[u8]) -> bool {
+        false
+    }
+
+    /// No journal is kept.
+    fn sync(&mut self) -> bool {
+        false
+    }
+
+    /// No journal is kept.
+    fn replace(&mut self, _journal: &[u8]) -> bool {
+        false
+    }
+
+    /// Nothing is sent but acknowledgements.
+    fn send(&mut self, _to: Endpoint, _bytes: &[u8]) -> bool {
+        false
     }
 
     fn tell(&mut self, lines: &[u8]) -> Result<(), CallFailed> {

@@ -104,8 +104,10 @@ static TURNS: [Turn; 15] = [
 #[derive(Drop)]
 struct Played {
     turn: Turn,
-    sent: Vec<u8>,
+    acknowledged: Vec<u8>,
     told: Vec<u8>,
+    /// Whether a journal or a PULL_RESP was asked for, neither of which a server that keeps no journal does.
+    is_kept: bool,
 }
 
 impl Played {
@@ -113,8 +115,9 @@ impl Played {
     fn new(alloc: Global, turn: Turn) -> Self {
         Played {
             turn,
-            sent: Vec::new(alloc),
+            acknowledged: Vec::new(alloc),
             told: Vec::new(alloc),
+            is_kept: false,
         }
     }
 }
@@ -135,8 +138,28 @@ impl Host for Played {
         Some(self.turn.0)
     }
 
-    fn send(&mut self, _to: Endpoint, bytes: &[u8]) -> bool {
-        self.sent.extend_from_slice(bytes).is_ok()
+    fn acknowledge(&mut self, _to: Endpoint, bytes: &[u8]) {
+        let _ = self.acknowledged.extend_from_slice(bytes);
+    }
+
+    fn append(&mut self, _bytes: &[u8]) -> bool {
+        self.is_kept = true;
+        true
+    }
+
+    fn sync(&mut self) -> bool {
+        self.is_kept = true;
+        true
+    }
+
+    fn replace(&mut self, _journal: &[u8]) -> bool {
+        self.is_kept = true;
+        true
+    }
+
+    fn send(&mut self, _to: Endpoint, _bytes: &[u8]) -> bool {
+        self.is_kept = true;
+        true
     }
 
     fn tell(&mut self, lines: &[u8]) -> Result<(), CallFailed> {
@@ -159,7 +182,7 @@ fn forwarders(alloc: Global, settings: &Settings<Global>) -> Result<Vec<Forwarde
     Ok(forwarders_of(alloc, settings.gateways(), &SET)?)
 }
 
-/// Whether a server makes all turns. Each sends back and tells what it has to.
+/// Whether a server that keeps no journal makes all turns. Each acknowledges and tells what it has to; none writes or sends anything.
 fn is_served<A: Allocator + Copy>(
     memory: Global,
     alloc: A,
@@ -174,8 +197,9 @@ fn is_served<A: Allocator + Copy>(
         let mut host = Played::new(memory, *turn);
         match serving.turn(&mut host, &mut room) {
             Ok(()) => {
-                equal_at(&turn.0, &host.sent.as_slice(), &turn.2)?;
+                equal_at(&turn.0, &host.acknowledged.as_slice(), &turn.2)?;
                 equal_at(&turn.0, &host.told.as_slice(), &turn.3.as_bytes())?;
+                equal_at(&turn.0, &host.is_kept, &false)?;
             }
             Err(stopped) => {
                 equal_at(&turn.0, &stopped, &Stopped::NoMemory)?;
@@ -237,6 +261,20 @@ impl Host for Failing {
 
     fn now(&mut self) -> Option<u64> {
         self.now
+    }
+
+    fn acknowledge(&mut self, _to: Endpoint, _bytes: &[u8]) {}
+
+    fn append(&mut self, _bytes: &[u8]) -> bool {
+        false
+    }
+
+    fn sync(&mut self) -> bool {
+        false
+    }
+
+    fn replace(&mut self, _journal: &[u8]) -> bool {
+        false
     }
 
     fn send(&mut self, _to: Endpoint, _bytes: &[u8]) -> bool {

@@ -1,5 +1,5 @@
 pub mod Texts
 mod Found
-mod BatchLaw
+pub mod BatchLaw
 mod WorkedInputs
 mod Worked

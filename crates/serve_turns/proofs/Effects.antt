@@ -1,5 +1,5 @@
 -- What happened, one thing after another.
-use Rattle.std.proofs.Common.{◌++◌, ◌∙◌, List, Some, None, Option, ap, append_assoc}
+use Rattle.std.proofs.Common.{◌++◌, ◌∙◌, List, [], Some, None, Option, ap, append_assoc, append-nil, sym}
 use Rattle.serve_turns.specs.Effects.{Effect, Adds}
 
 -- first these, then those
@@ -10,3 +10,8 @@ adds_then (Some before) None after first more a b = absurd a
 adds_then (Some before) (Some middle) None first more a b = absurd b
 adds_then (Some before) (Some middle) (Some after) first more a b =
     b ∙ ap (λ l. l ++ more) a ∙ append_assoc before first more
+
+-- nothing happened
+pub adds_none : (h : Option (List Effect)) → Adds h h []
+adds_none None = tt
+adds_none (Some before) = sym (append-nil before)

@@ -1,8 +1,16 @@
 mod Oks
+mod Lists
+mod Effects
 mod Lives
 mod Packets
 mod Drops
 mod Entries
+mod Known
+mod Parts
 mod Turns
-mod Effects
+mod Renewals
+mod Sendings
+mod Passes
+mod Acts
+mod SendLaws
 mod Paired

@@ -1,5 +1,5 @@
 -- How a server's life goes on.
-use Rattle.std.proofs.Common.{◌≡◌, ◌++◌, ◌∙◌, List, [], ◌∷◌, map, None, ℕ, refl, ap, subst, sym}
+use Rattle.std.proofs.Common.{◌≡◌, ◌++◌, ◌∙◌, List, [], ◌∷◌, map, Option, None, ℕ, refl, ap, subst, sym}
 use Rattle.std.proofs.lemmas.{List.map-id, Simd.map-map}
 use Rattle.text_lines.specs.Line.{text_of}
 use Rattle.server_core.specs.declared.entry.Entry.{Entry}
@@ -12,7 +12,7 @@ use Rattle.run_lines.specs.EntryLine.{line_text}
 use Rattle.run_lines.specs.ReplayText.{entry_lines}
 use Rattle.serve_turns.specs.declared.answerer.Answerer.{Answerer}
 use Rattle.serve_turns.specs.Lines.{asked_line}
-use Rattle.serve_turns.specs.Life.{Life, Makes, IsReady, IsAlive, after_event, after_copy, refusal_of}
+use Rattle.serve_turns.specs.Life.{Life, AreAnswers, Makes, IsReady, IsAlive, after_event, after_copy, doing, joining, number_in, refusal_of, telling}
 
 -- nothing happened
 pub stays : {S A R : Type 0} {C : _} (a : Answerer S A R C) → IsReady a → Makes (λ l. l) a a
@@ -24,6 +24,12 @@ pub makes_then : {S A R : Type 0} {C : _} (f g : Life → Life) (a b c : Answere
 makes_then f g a b c first next =
     record { ready = next.ready; goes = λ l alive. next.goes (f l) (first.goes l alive) }
 
+-- the same, said otherwise
+pub makes_same : {S A R : Type 0} {C : _} (f g : Life → Life) (a b : Answerer S A R C) → ((l : Life) → f l ≡ g l) → Makes f a b
+    → Makes g a b
+makes_same f g a b same made =
+    record { ready = made.ready; goes = λ l alive. subst (λ x. IsAlive x b) (same l) (made.goes l alive) }
+
 -- the lines that were taken out
 
 texts_told : {A : Type 0} (told : List (Entry A)) (lines : List (Line A)) → told ≡ map (entry_at 0) lines
@@ -34,59 +40,107 @@ lines_told : {A : Type 0} (told : List (Entry A)) (lines : List (Line A)) → to
     → map (λ e. e.line) told ≡ lines
 lines_told told lines is = ap (map (λ e. e.line)) is ∙ map-map (λ e. e.line) (entry_at 0) lines ∙ map-id lines
 
+-- all but the server and the text is the same
+pub record IsSameBeside {S A R : Type 0} {C : _} (old new : Answerer S A R C) : Type 0 where
+  pub known : new.forwarders.sessions.items ≡ old.forwarders.sessions.items
+  pub kept : new.keeping ≡ old.keeping
+  pub drops : new.drops.items ≡ old.drops.items
+  pub told_at : new.told_at ≡ old.told_at
+
 -- an event was done by the core, and its lines were taken out
-pub record IsDone {S A R : Type 0} {C : _} (e : Event A) (told : List (Entry A)) (middle : Seen A) (old new : Answerer S A R C)
+pub record IsDone {S A R : Type 0} {C : _} (e : Event A) (told : List (Entry A)) (middle : Seen A) (old : Answerer S A R C)
     : Type 0 where
   pub ready : IsReady old
   pub between : IsBetweenCalls middle
   pub does : Does 0 e (seen old.server) middle
   pub taken : told ≡ middle.outcomes
-  pub rest : seen new.server ≡ without_lines middle
 
-module _ {S A R : Type 0} {C : _} (e : Event A) (told : List (Entry A)) (middle : Seen A) (old new : Answerer S A R C)
-    (done : IsDone e told middle old new) where
-  ready_again : IsReady new
-  ready_again =
-      record {
-        between = subst (λ s. IsBetweenCalls s) (sym done.rest) done.between;
-        taken = subst (λ (s : Seen A). s.outcomes ≡ []) (sym done.rest) refl;
-      }
-
-  world_after : (l : Life) → IsAlive l old → IsAt (reached l.world (event_steps l.world e)) (seen new.server)
-  world_after l alive =
-      subst (λ s. IsAt (reached l.world (event_steps l.world e)) s) (sym done.rest) (done.does l.world alive.at).at
-
+module _ {S A R : Type 0} {C : _} (e : Event A) (told : List (Entry A)) (middle : Seen A) (old : Answerer S A R C)
+    (done : IsDone e told middle old) where
   lines_of : (l : Life) → IsAlive l old → told ≡ map (entry_at 0) (event_lines l.world e)
   lines_of l alive =
       done.taken ∙ (done.does l.world alive.at).outcomes
       ∙ ap (λ o. o ++ map (entry_at 0) (event_lines l.world e)) done.ready.taken
 
-  pub event_told : new.text.writer.items ≡ old.text.writer.items ++ text_of (asked_line e ∷ entry_lines told)
-      → new.drops.items ≡ old.drops.items → Makes (after_event e) old new
-  event_told text drops =
-      record {
-        ready = ready_again;
-        goes = λ l alive.
-            record {
-              at = world_after l alive;
-              drops = drops ∙ alive.drops;
-              text = rw (text, alive.text, texts_told told (event_lines l.world e) (lines_of l alive)) refl;
-            };
-      }
+  pub are_answers : AreAnswers e told old
+  are_answers l alive = lines_told told (event_lines l.world e) (lines_of l alive)
 
-  pub copy_told : (eui : List ℕ) → refusal_of (map (λ x. x.line) told) ≡ None
-      → new.text.writer.items ≡ old.text.writer.items ++ text_of (asked_line e ∷ entry_lines told)
-      → new.drops.items ≡ old.drops.items → Makes (after_copy eui e) old new
-  copy_told eui none text drops =
-      let told_so = event_told text drops in
-      record {
-        ready = ready_again;
-        goes = λ l alive.
-            rw (ap refusal_of (sym (lines_told told (event_lines l.world e) (lines_of l alive))) ∙ none) (told_so.goes l alive);
-      }
+  module _ (new : Answerer S A R C) (rest : seen new.server ≡ without_lines middle) (same : IsSameBeside old new) where
+    ready_again : IsReady new
+    ready_again =
+        record {
+          between = subst (λ s. IsBetweenCalls s) (sym rest) done.between;
+          taken = subst (λ (s : Seen A). s.outcomes ≡ []) (sym rest) refl;
+        }
 
--- the same, said otherwise
-pub makes_same : {S A R : Type 0} {C : _} (f g : Life → Life) (a b : Answerer S A R C) → ((l : Life) → f l ≡ g l) → Makes f a b
-    → Makes g a b
-makes_same f g a b same made =
-    record { ready = made.ready; goes = λ l alive. subst (λ x. IsAlive x b) (same l) (made.goes l alive) }
+    world_after : (l : Life) → IsAlive l old → IsAt (reached l.world (event_steps l.world e)) (seen new.server)
+    world_after l alive =
+        subst (λ s. IsAt (reached l.world (event_steps l.world e)) s) (sym rest) (done.does l.world alive.at).at
+
+    pub event_told : new.text.writer.items ≡ old.text.writer.items ++ text_of (asked_line e ∷ entry_lines told)
+        → Makes (after_event e) old new
+    event_told text =
+        record {
+          ready = ready_again;
+          goes = λ l alive.
+              record {
+                at = world_after l alive;
+                known = same.known ∙ alive.known;
+                kept = same.kept ∙ alive.kept;
+                drops = same.drops ∙ alive.drops;
+                told_at = same.told_at ∙ alive.told_at;
+                text = rw (text, alive.text, texts_told told (event_lines l.world e) (lines_of l alive)) refl;
+              };
+        }
+
+    -- nothing of it is told
+    pub event_done : new.text.writer.items ≡ old.text.writer.items → Makes (doing e) old new
+    event_done text =
+        record {
+          ready = ready_again;
+          goes = λ l alive.
+              record {
+                at = world_after l alive;
+                known = same.known ∙ alive.known;
+                kept = same.kept ∙ alive.kept;
+                drops = same.drops ∙ alive.drops;
+                told_at = same.told_at ∙ alive.told_at;
+                text = text ∙ alive.text;
+              };
+        }
+
+-- lines more are told, and nothing else changed
+pub told_more : {S A R : Type 0} {C : _} (lines : List (List ℕ)) (old new : Answerer S A R C) → IsReady old
+    → new.server ≡ old.server → IsSameBeside old new → new.text.writer.items ≡ old.text.writer.items ++ text_of lines
+    → Makes (telling lines) old new
+told_more lines old new ready server same text =
+    record {
+      ready = record {
+        between = subst (λ s. IsBetweenCalls (seen s)) (sym server) ready.between;
+        taken = subst (λ s. (seen s).outcomes ≡ []) (sym server) ready.taken;
+      };
+      goes = λ l alive.
+          record {
+            at = subst (λ s. IsAt l.world (seen s)) (sym server) alive.at;
+            known = same.known ∙ alive.known;
+            kept = same.kept ∙ alive.kept;
+            drops = same.drops ∙ alive.drops;
+            told_at = same.told_at ∙ alive.told_at;
+            text = text ∙ ap (λ t. t ++ text_of lines) alive.text;
+          };
+    }
+
+-- a copy that was taken in
+pub copy_joined : {S A R : Type 0} {C : _} (e : Event A) (told : List (Entry A)) (eui : List ℕ) (place : ℕ) (n : Option ℕ)
+    (old middle new : Answerer S A R C) → AreAnswers e told old → refusal_of (map (λ x. x.line) told) ≡ None
+    → n ≡ number_in (map (λ x. x.line) told) → Makes (after_event e) old middle → Makes (joining place n) middle new
+    → Makes (after_copy eui place e) old new
+copy_joined e told eui place n old middle new answers none number first next =
+    record {
+      ready = next.ready;
+      goes = λ l alive.
+          let lines = answers l alive in
+          rw (ap refusal_of (sym lines) ∙ none)
+          (subst (λ x. IsAlive (joining place x (after_event e l)) new) (number ∙ ap number_in lines)
+          (next.goes (after_event e l) (first.goes l alive)));
+    }

@@ -1,21 +1,29 @@
-use Rattle.std.specs.Prelude.{ℕ, ◌≡◌, ◌⊎◌, ⊤, List, [], ◌++◌, take, Option, Some, None}
+use Rattle.std.specs.Prelude.{ℕ, ◌≡◌, Bool, ⊤, List, ◌++◌, take, Option, Some, None}
 use Rattle.std.specs.Option.{option_map}
 use Rattle.forwarder_sessions.specs.declared.session.Endpoint.{Endpoint}
 use Rattle.serve_turns.specs.declared.host.Came.{Came}
 
--- What a server does to the world around it, and what it sees of it.
+-- What a server does to the world around it, and what it sees of it, in one order.
 
 -- a datagram: where it comes from, and its bytes
 pub record Packet : Type 0 where
   pub source : Endpoint
   pub bytes : List ℕ
 
--- a datagram came, or none did; its clock showed a moment, or none; it was to send a datagram; it told lines, or was to tell them and
--- could not tell them whole
 pub data Effect : Type 0 where
+  -- a datagram came, or none did; the clock showed a moment, or none
   Receives : Option Packet → Effect
   Shows : Option ℕ → Effect
-  Sends : Endpoint → List ℕ → Effect
+  -- it was to send an acknowledgement
+  Acknowledges : Endpoint → List ℕ → Effect
+  -- it was to add bytes to the journal's file, to have the disk keep that file, and to put a whole journal in its place; and each
+  -- time whether that was done
+  Appends : List ℕ → Bool → Effect
+  Syncs : Bool → Effect
+  Replaces : List ℕ → Bool → Effect
+  -- it was to send a PULL_RESP, and whether that went out
+  Sends : Endpoint → List ℕ → Bool → Effect
+  -- it told lines, or was to tell them and could not tell them whole
   Tells : List ℕ → Effect
   Cuts : List ℕ → Effect
 
@@ -32,6 +40,9 @@ Adds None after more = ⊤
 Adds (Some before) None more = ⊥
 Adds (Some before) (Some after) more = after ≡ before ++ more
 
--- these happened more, or nothing did
-abbrev pub AddsOrNot : Option (List Effect) → Option (List Effect) → List Effect → Type 0
-AddsOrNot before after more = Adds before after [] ⊎ Adds before after more
+-- a front of these happened more
+pub record AddsFront (before after : Option (List Effect)) (whole : List Effect) : Type 0 where
+  pub front : List Effect
+  pub rest : List Effect
+  pub is : whole ≡ front ++ rest
+  pub adds : Adds before after front

@@ -1,4 +1,4 @@
-use Rattle.std.specs.Prelude.{List, [], ◌∷◌, Option, Some, None}
+use Rattle.std.specs.Prelude.{ℕ, zip, List, [], ◌∷◌, Option, Some, None}
 use Rattle.std.specs.List.Sorted.{IsPermutation, IsNonDecreasingBy}
 use Rattle.forwarder_sessions.specs.declared.session.Forwarder.{Forwarder}
 use Rattle.serve_settings.specs.declared.forwarder as settings
@@ -25,3 +25,14 @@ forwarders_of (g ∷ gs) (f ∷ fs) = forwarder_of g f ∷ forwarders_of gs fs
 pub record AreByGateway (gateways : List GatewaySetting) (set : List settings.Forwarder.Forwarder) (sorted : List Forwarder) : Type 0 where
   pub all : IsPermutation (forwarders_of gateways set) sorted
   pub rising : IsNonDecreasingBy (λ f. f.gateway) sorted
+
+-- one with a number, if there is one
+abbrev pub with_high : Forwarder → Option ℕ → List (Forwarder × ℕ)
+with_high f None = []
+with_high f (Some high) = (f, high) ∷ []
+
+-- each with the number at its gateway's place, by rising gateway
+pub record AreResumed (gateways : List GatewaySetting) (set : List settings.Forwarder.Forwarder) (highs : List ℕ)
+    (sorted : List (Forwarder × ℕ)) : Type 0 where
+  pub all : IsPermutation (zip (forwarders_of gateways set) highs) sorted
+  pub rising : IsNonDecreasingBy (λ f. f.0.gateway) sorted

@@ -2,7 +2,12 @@ pub mod Effects
 pub mod Names
 pub mod Tallies
 pub mod Lines
+pub mod Kept
 pub mod Life
 pub mod Taking
+pub mod Sending
+pub mod Renewing
 pub mod Turn
+pub mod SendLaw
 pub mod Forwarders
+pub mod Opening

@@ -1,6 +1,6 @@
 // The packet forwarders of a server's gateways, by the gateways' numbers.
-ghost use Rattle.std.specs.Prelude.{◌≡◌, ◌++◌, slice_get, IfOk, OnOk};
-ghost use Rattle.serve_turns.specs.Forwarders.{AreByGateway, forwarder_of, forwarders_of, one_of};
+ghost use Rattle.std.specs.Prelude.{◌≡◌, ◌≤◌, ◌^◌, ◌++◌, slice_get, zip, All, IfOk, OnOk};
+ghost use Rattle.serve_turns.specs.Forwarders.{AreByGateway, AreResumed, forwarder_of, forwarders_of, one_of, with_high};
 
 use forwarder_sessions::{Forwarder, NoMemory};
 use server_core::GatewaySetting;
@@ -18,6 +18,54 @@ pub fn forwarders_of<A: Allocator + Copy>(
     let mut forwarders = forwarders_in_order(alloc, gateways, set)?;
     forwarders.sort_unstable_by_key(|forwarder| forwarder.gateway);
     Ok(forwarders)
+}
+
+/// The same, each with what its gateway's clock shows at least, which stands at its gateway's place in `highs`, in microseconds and at
+/// most 2^60.
+pub fn resumed_forwarders<A: Allocator + Copy>(
+    alloc: A,
+    gateways: &[GatewaySetting],
+    set: &[serve_settings::Forwarder],
+    highs: &[u64],
+) -> Result<Vec<(Forwarder, u64), A>, NoMemory>
+    requires { All (λ high. high ≤ 2 ^ 60) highs.now }
+    ensures all { IfOk result (λ forwarders. AreResumed gateways.now set.now highs.now forwarders.items) }
+    ensures early { IfOk result (λ forwarders. All (λ f. f.1 ≤ 2 ^ 60) forwarders.items) }
+{
+    let forwarders = forwarders_in_order(alloc, gateways, set)?;
+    let mut resumed = with_highs(alloc, &forwarders, highs)?;
+    resumed.sort_unstable_by_key(|resumed| resumed.0.gateway);
+    Ok(resumed)
+}
+
+/// Each packet forwarder with the number at its place, if there is one.
+fn with_highs<A: Allocator>(
+    alloc: A,
+    forwarders: &[Forwarder],
+    highs: &[u64],
+) -> Result<Vec<(Forwarder, u64), A>, NoMemory>
+    ensures { IfOk result (λ resumed. resumed.items ≡ zip forwarders.now highs.now) }
+{
+    let mut resumed = Vec::with_capacity(alloc, forwarders.len())?;
+    for (place, forwarder) in forwarders.iter().enumerate() {
+        add_high(&mut resumed, forwarder, highs, place)?;
+    }
+    Ok(resumed)
+}
+
+/// Adds a packet forwarder with the number at this place, if there is one.
+fn add_high<A: Allocator>(
+    resumed: &mut Vec<(Forwarder, u64), A>,
+    forwarder: &Forwarder,
+    highs: &[u64],
+    place: usize,
+) -> Result<(), NoMemory>
+    ensures { OnOk result (resumed.new.items ≡ resumed.old.items ++ with_high forwarder.now (slice_get highs.now place)) }
+{
+    match highs.get(place) {
+        Some(high) => Ok(resumed.push((*forwarder, *high))?),
+        None => Ok(()),
+    }
 }
 
 /// The same in the gateways' order.

@@ -1,18 +1,26 @@
 //! A server that packet forwarders are pointed at, turn by turn: a datagram is taken in, what is due is answered, and what happened
-//! is told in lines. The socket, the clock and the output are whoever implements `Host`.
+//! is told in lines. A server that keeps a journal sends what answers uplinks, once the disk has it. The socket, the clock, the
+//! journal's file and the output are whoever implements `Host`.
 #![tactic(auto)]
 
 mod answerer;
+mod asking;
 mod by_gateway;
 mod host;
+mod keeping;
 mod names;
+mod renewing;
+mod send_law;
+mod sending;
 mod serving;
+mod taking;
 mod tally;
 mod telling;
 mod turn;
 
-pub use by_gateway::forwarders_of;
+pub use by_gateway::{forwarders_of, resumed_forwarders};
 pub use forwarder_sessions::{Endpoint, Forwarder};
 pub use host::{Came, Host};
-pub use serving::Serving;
+pub use send_law::law_every_send_is_kept;
+pub use serving::{Resumed, Serving};
 pub use turn::Stopped;

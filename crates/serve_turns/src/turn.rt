@@ -1,14 +1,15 @@
 // One turn of a server.
 ghost use Rattle.std.specs.Prelude.{◌≡◌, ◌≤◌, ◌^◌, length, Err, IfErr, IfSome, OnErr, OnOk};
-ghost use Rattle.serve_turns.specs.Effects.{Adds, AddsOrNot, given};
+ghost use Rattle.serve_turns.specs.Effects.{Adds, given};
 ghost use Rattle.serve_turns.specs.Life.{Makes, IsReady};
-ghost use Rattle.serve_turns.specs.Turn.{IsBetweenTurns, IsTurn, IsTold, IsCut, IsUntold, IsBroken, HasNoMoment, told_at_after, after_report, after_pass};
-ghost use Rattle.serve_turns.specs.Turn.{packet_of, after_datagram, known_after_datagram, answers_to};
-ghost use Rattle.serve_turns.specs.Turn.{after_came, known_after_came, acknowledged, after_turn};
+ghost use Rattle.serve_turns.specs.Renewing.{renewing, renewing_effects};
+ghost use Rattle.serve_turns.specs.Turn.{Did, Broke, HasActed, HasBroken, IsBetweenTurns, IsTurn, IsTold, IsCut, IsUntold, IsBroken, HasNoMoment};
+ghost use Rattle.serve_turns.specs.Turn.{after_report, after_pass, pass_effects, packet_of, sent_back, took, took_effects, came_in, came_in_effects};
 
+use crate::answerer::Answerer;
 use crate::host::{Came, Host};
 use crate::serving::Serving;
-use forwarder_sessions::{Datagram, NoMemory};
+use forwarder_sessions::{Datagram, Endpoint, NoMemory};
 use server_core::Event;
 use std::alloc::Allocator;
 use std::hash::BuildHasher;
@@ -36,9 +37,10 @@ pub enum Stopped {
 
 impl<S: BuildHasher, A: Allocator + Copy> Serving<S, A> {
     /// Waits a short time for a datagram, for which there should be room for 65,536 bytes, and takes it in. Then, where an uplink is
-    /// due to be answered, ticks each gateway of which a packet was heard in the last 2 s, and answers all that are due. Where a
-    /// second has passed since that was last told, tells what was dropped. All lines of the turn are told at its end. After an Err
-    /// no further turn may be made.
+    /// due to be answered, ticks each gateway of which a packet was heard in the last 2 s, and answers all that are due; a server that
+    /// keeps a journal has the disk keep what it books, and sends it. Where a second has passed since that was last told, tells
+    /// what was dropped. The journal is written anew where that is due. All lines of the turn are told at its end. After an Err no
+    /// further turn may be made.
     pub fn turn<H: Host>(&mut self, host: &mut H, room: &mut [u8]) -> Result<(), Stopped>
         requires { IsBetweenTurns self.old }
         ensures done { OnOk result (IsTurn (H.effects host.old) (H.effects host.new) self.old self.new) }
@@ -54,12 +56,25 @@ impl<S: BuildHasher, A: Allocator + Copy> Serving<S, A> {
             return Err(Stopped::Clock);
         }
         match self.act(host, now, came, room) {
-            Ok(()) => self.tell(host),
+            Ok(()) => self.answerer.tell(host),
             Err(_) => Err(Stopped::NoMemory),
         }
     }
 
-    /// Takes in the datagram that came, if one did, answers what is due, and says what was dropped.
+    /// Writes the journal anew, if one is kept, when the server's clock shows `now`, in microseconds and at most 2^60, and answers
+    /// whether it was put in place: a server that was resumed sends nothing before. Err(NoMemory) where a growth was refused.
+    pub fn renew<H: Host>(&mut self, host: &mut H, now: u64) -> Result<bool, NoMemory>
+        requires early { now ≤ 2 ^ 60 }
+        requires between { IsBetweenTurns self.old }
+        ensures between { OnOk result (IsBetweenTurns self.new) }
+        ensures done { OnOk result (Did (H.effects host.old) (H.effects host.new) (renewing now) (renewing_effects now)
+            self.old.answerer self.new.answerer) }
+    {
+        self.answerer.renew(host, now)
+    }
+
+    /// Takes in the datagram that came, if one did, answers and sends what is due, says what was dropped, and writes the journal anew
+    /// where that is due.
     fn act<H: Host>(
         &mut self,
         host: &mut H,
@@ -70,20 +85,15 @@ impl<S: BuildHasher, A: Allocator + Copy> Serving<S, A> {
         requires early { now ≤ 2 ^ 60 }
         requires within { IfSome came (λ c. c.len ≤ length room.now) }
         requires ready { IsReady self.old.answerer }
-        ensures known { OnOk result (self.new.forwarders.sessions.items
-            ≡ known_after_came now (given came room.now) self.old.forwarders.sessions.items) }
-        ensures told { OnOk result (self.new.told_at ≡ told_at_after now self.old.told_at) }
-        ensures makes { OnOk result (Makes
-            (after_turn A now (given came room.now) self.old.forwarders.sessions.items self.old.told_at)
+        ensures done { OnOk result (HasActed now (given came room.now) (H.effects host.old) (H.effects host.new)
             self.old.answerer self.new.answerer) }
-        ensures acknowledged { OnOk result (Adds (H.effects host.old) (H.effects host.new)
-            (acknowledged now (given came room.now) self.old.forwarders.sessions.items)) }
-        ensures refused { OnErr result (AddsOrNot (H.effects host.old) (H.effects host.new)
-            (acknowledged now (given came room.now) self.old.forwarders.sessions.items)) }
+        ensures broken { OnErr result (HasBroken now (given came room.now) (H.effects host.old) (H.effects host.new)
+            self.old.answerer) }
     {
         self.take(host, now, came, room)?;
-        self.pass(now)?;
-        self.say_drops(now)
+        self.answerer.pass(host, now)?;
+        self.answerer.report(now)?;
+        self.answerer.renew_if_due(host, now)
     }
 
     /// Takes in the datagram that came, if one did.
@@ -97,15 +107,10 @@ impl<S: BuildHasher, A: Allocator + Copy> Serving<S, A> {
         requires early { now ≤ 2 ^ 60 }
         requires within { IfSome came (λ c. c.len ≤ length room.now) }
         requires ready { IsReady self.old.answerer }
-        ensures known { OnOk result (self.new.forwarders.sessions.items
-            ≡ known_after_came now (given came room.now) self.old.forwarders.sessions.items) }
-        ensures told { OnOk result (self.new.told_at ≡ self.old.told_at) }
-        ensures makes { OnOk result (Makes (after_came A now (given came room.now) self.old.forwarders.sessions.items)
-            self.old.answerer self.new.answerer) }
-        ensures acknowledged { OnOk result (Adds (H.effects host.old) (H.effects host.new)
-            (acknowledged now (given came room.now) self.old.forwarders.sessions.items)) }
-        ensures refused { OnErr result (AddsOrNot (H.effects host.old) (H.effects host.new)
-            (acknowledged now (given came room.now) self.old.forwarders.sessions.items)) }
+        ensures done { OnOk result (Did (H.effects host.old) (H.effects host.new) (came_in A now (given came room.now))
+            (came_in_effects now (given came room.now)) self.old.answerer self.new.answerer) }
+        ensures broken { OnErr result (Broke (H.effects host.old) (H.effects host.new)
+            (came_in_effects now (given came room.now)) self.old.answerer) }
     {
         match came {
             None => Ok(()),
@@ -128,54 +133,49 @@ impl<S: BuildHasher, A: Allocator + Copy> Serving<S, A> {
     ) -> Result<(), NoMemory>
         requires early { datagram.now.at ≤ 2 ^ 60 }
         requires ready { IsReady self.old.answerer }
-        ensures known { OnOk result (self.new.forwarders.sessions.items
-            ≡ known_after_datagram datagram.now.at (packet_of datagram.now) self.old.forwarders.sessions.items) }
-        ensures told { OnOk result (self.new.told_at ≡ self.old.told_at) }
-        ensures makes { OnOk result (Makes
-            (after_datagram A datagram.now.at (packet_of datagram.now) self.old.forwarders.sessions.items)
+        ensures done { OnOk result (Did (H.effects host.old) (H.effects host.new)
+            (took A datagram.now.at (packet_of datagram.now)) (took_effects datagram.now.at (packet_of datagram.now))
             self.old.answerer self.new.answerer) }
-        ensures acknowledged { OnOk result (Adds (H.effects host.old) (H.effects host.new)
-            (answers_to datagram.now.at (packet_of datagram.now) self.old.forwarders.sessions.items)) }
-        ensures refused { OnErr result (AddsOrNot (H.effects host.old) (H.effects host.new)
-            (answers_to datagram.now.at (packet_of datagram.now) self.old.forwarders.sessions.items)) }
+        ensures broken { OnErr result (Broke (H.effects host.old) (H.effects host.new)
+            (took_effects datagram.now.at (packet_of datagram.now)) self.old.answerer) }
     {
         let alloc = self.answerer.alloc;
-        let received = self.forwarders.receive(alloc, &mut self.scratch, datagram)?;
-        if let Some(bytes) = received.acknowledgement {
-            // A packet forwarder that gets none sends its datagram once more, or counts it as lost.
-            let _ = host.send(datagram.source, &bytes);
-        }
-        self.take_news(datagram.at, received.news)
+        let received = self
+            .answerer
+            .forwarders
+            .receive(alloc, &mut self.scratch, datagram)?;
+        send_back(host, datagram.source, received.acknowledgement);
+        self.answerer.take_news(datagram.at, received.news)
     }
+}
 
-    /// Where an uplink is due to be answered at `now`, ticks the gateways, and answers all that are due.
-    fn pass(&mut self, now: u64) -> Result<(), NoMemory>
+impl<S: BuildHasher, A: Allocator + Copy> Answerer<S, A> {
+    /// Where an uplink is due to be answered at `now`, ticks the gateways, answers all that are due, and sends what answers them.
+    fn pass<H: Host>(&mut self, host: &mut H, now: u64) -> Result<(), NoMemory>
         requires early { now ≤ 2 ^ 60 }
-        requires ready { IsReady self.old.answerer }
-        ensures known { OnOk result (self.new.forwarders.sessions.items ≡ self.old.forwarders.sessions.items) }
-        ensures told { OnOk result (self.new.told_at ≡ self.old.told_at) }
-        ensures makes { OnOk result (Makes (after_pass A now self.old.forwarders.sessions.items)
-            self.old.answerer self.new.answerer) }
+        requires ready { IsReady self.old }
+        ensures done { OnOk result (Did (H.effects host.old) (H.effects host.new) (after_pass A now) (pass_effects A now)
+            self.old self.new) }
+        ensures broken { OnErr result (Broke (H.effects host.old) (H.effects host.new) (pass_effects A now) self.old) }
     {
-        if !self.answerer.server.is_due(now) {
+        if !self.server.is_due(now) {
             return Ok(());
         }
-        self.answerer.tick_all(self.forwarders.sessions(), now)?;
-        self.answerer.event(&Event::Pass { now })
+        self.tick_all(now)?;
+        let entries = self.event(&Event::Pass { now })?;
+        self.send_downlinks(host, now, &entries)
     }
 
     /// Where a second has passed since that was told, tells what was dropped.
-    fn say_drops(&mut self, now: u64) -> Result<(), NoMemory>
-        requires { IsReady self.old.answerer }
-        ensures known { OnOk result (self.new.forwarders.sessions.items ≡ self.old.forwarders.sessions.items) }
-        ensures told { OnOk result (self.new.told_at ≡ told_at_after now self.old.told_at) }
-        ensures makes { OnOk result (Makes (after_report now self.old.told_at) self.old.answerer self.new.answerer) }
+    fn report(&mut self, now: u64) -> Result<(), NoMemory>
+        requires { IsReady self.old }
+        ensures { OnOk result (Makes (after_report now) self.old self.new) }
     {
         if now.saturating_sub(self.told_at) < TOLD_EVERY {
             return Ok(());
         }
         self.told_at = now;
-        self.answerer.say_drops()
+        self.say_drops()
     }
 
     /// Tells the lines of the turn, if there are any.
@@ -184,7 +184,7 @@ impl<S: BuildHasher, A: Allocator + Copy> Serving<S, A> {
         ensures cut { OnErr result (IsCut (H.effects host.old) (H.effects host.new) self.old) }
         ensures write { IfErr result (λ stopped. stopped ≡ Stopped.Write) }
     {
-        let text = &mut self.answerer.text.writer;
+        let text = &mut self.text.writer;
         if text.is_empty() {
             return Ok(());
         }
@@ -195,5 +195,14 @@ impl<S: BuildHasher, A: Allocator + Copy> Serving<S, A> {
             }
             Err(_) => Err(Stopped::Write),
         }
+    }
+}
+
+/// Sends an acknowledgement, if there is one.
+fn send_back<H: Host>(host: &mut H, to: Endpoint, acknowledgement: Option<[u8; 4]>)
+    ensures { Adds (H.effects host.old) (H.effects host.new) (sent_back to acknowledgement) }
+{
+    if let Some(bytes) = acknowledgement {
+        host.acknowledge(to, &bytes);
     }
 }

@@ -2,26 +2,27 @@ use Rattle.std.proofs.Common.{◌∙◌, ◌++◌, ◌∷◌, ap, map, refl, sym
 use Rattle.text_lines.specs.Line.{text_of}
 use Rattle.run_lines.specs.ReplayText.{entry_lines}
 use Rattle.server_core.specs.Server.{seen}
-use Rattle.serve_turns.specs.Life.{refusal_of}
+use Rattle.serve_turns.specs.Life.{number_in, refusal_of}
 use Rattle.serve_turns.specs.Lines.{asked_line}
-use Rattle.serve_turns.proofs.Oks.{if_ok}
-use Rattle.serve_turns.proofs.Lives.{copy_told}
+use Rattle.serve_turns.proofs.Lives.{IsDone, are_answers, copy_joined, event_told}
 use Rattle.serve_turns.proofs.answerer.Answerer.copy.Goals as goal
 
 pub returns : goal.returns
 returns g c =
     let before = c.args.self.now.text.writer.items in
     let e = c.args.event.now in
-    if_ok c.put_event.result _ _
-    (λ text. copy_told e c.take_lines-entries.result.items (seen c.event.new.self) c.args.self.now _
-    (record {
-      ready = c.requires;
+    let told = c.take_lines-entries.result.items in
+    let done : IsDone e told (seen c.event.new.self) c.args.self.now = record {
+      ready = c.requires.ready;
       between = c.in_ok-event.ensures.ready;
       does = c.in_ok-event.ensures.done;
       taken = c.take_lines-entries.ensures.taken;
-      rest = c.take_lines-entries.ensures.rest;
-    })
-    c.args.eui
+    } in
+    copy_joined e told c.args.eui c.args.place c.number_in.result c.args.self.now _ _
+    (are_answers e told (seen c.event.new.self) c.args.self.now done)
     (ap (λ t. refusal_of (map (λ x. x.line) t)) (sym c.deref.ensures.value) ∙ sym c.refusal_of.ensures ∙ c.in-None.is)
-    (text ∙ ap (λ t. before ++ text_of (asked_line e ∷ entry_lines t)) c.deref-in-None.ensures.value) refl)
-    c.put_event.ensures
+    (c.number_in.ensures ∙ ap (λ t. number_in (map (λ x. x.line) t)) c.deref-in-None-2.ensures.value)
+    (event_told e told (seen c.event.new.self) c.args.self.now done _ c.take_lines-entries.ensures.rest
+    (record { known = refl; kept = refl; drops = refl; told_at = refl })
+    (c.in_ok-put_event-in-None.ensures ∙ ap (λ t. before ++ text_of (asked_line e ∷ entry_lines t)) c.deref-in-None.ensures.value))
+    c.join.ensures

@@ -3,22 +3,29 @@ use Rattle.text_lines.specs.Line.{text_of}
 use Rattle.run_lines.specs.ReplayText.{entry_lines}
 use Rattle.server_core.specs.Server.{seen}
 use Rattle.serve_turns.specs.Lines.{asked_line}
-use Rattle.serve_turns.proofs.Oks.{if_ok}
-use Rattle.serve_turns.proofs.Lives.{event_told}
+use Rattle.serve_turns.proofs.Lives.{are_answers, event_told}
 use Rattle.serve_turns.proofs.answerer.Answerer.event.Goals as goal
 
-pub returns : goal.returns
-returns g c =
+pub returns-clause-makes : goal.returns-clause-makes
+returns-clause-makes g c =
     let before = c.args.self.now.text.writer.items in
     let e = c.args.event.now in
-    if_ok c.put_event.result _ _
-    (λ text. event_told e c.take_lines-entries.result.items (seen c.event.new.self) c.args.self.now _
+    event_told e c.take_lines-entries.result.items (seen c.event.new.self) c.args.self.now
     (record {
       ready = c.requires;
       between = c.in_ok-event.ensures.ready;
       does = c.in_ok-event.ensures.done;
       taken = c.take_lines-entries.ensures.taken;
-      rest = c.take_lines-entries.ensures.rest;
     })
-    (text ∙ ap (λ t. before ++ text_of (asked_line e ∷ entry_lines t)) c.deref.ensures.value) refl)
-    c.put_event.ensures
+    _ c.take_lines-entries.ensures.rest (record { known = refl; kept = refl; drops = refl; told_at = refl })
+    (c.in_ok-put_event.ensures ∙ ap (λ t. before ++ text_of (asked_line e ∷ entry_lines t)) c.deref.ensures.value)
+
+pub returns-clause-answers : goal.returns-clause-answers
+returns-clause-answers g c =
+    are_answers c.args.event.now c.take_lines-entries.result.items (seen c.event.new.self) c.args.self.now
+    (record {
+      ready = c.requires;
+      between = c.in_ok-event.ensures.ready;
+      does = c.in_ok-event.ensures.done;
+      taken = c.take_lines-entries.ensures.taken;
+    })

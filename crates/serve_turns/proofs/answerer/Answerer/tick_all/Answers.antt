@@ -1,14 +1,17 @@
-use Rattle.serve_turns.proofs.Lives.{stays}
-use Rattle.serve_turns.proofs.Entries.{ticks_next}
+use Rattle.std.proofs.Common.{◌<◌, ◌∙◌, IfSome, ap, length, slice_get, subst}
+use Rattle.serve_turns.specs.Life.{Makes}
+use Rattle.serve_turns.specs.Turn.{after_tick}
+use Rattle.serve_turns.proofs.Entries.{ticks_at}
 use Rattle.serve_turns.proofs.answerer.Answerer.tick_all.Goals as goal
 
-pub loop-session-init : goal.loop-session-init
-loop-session-init g c = stays c.args.self.now c.requires.ready
-
-pub tick-requires-clause-ready : goal.tick-requires-clause-ready
-tick-requires-clause-ready g c = c.loop-session.invariant.ready
-
-pub loop-session-preserved : goal.loop-session-preserved
-loop-session-preserved g c =
-    ticks_next c.args.now c.args.sessions.now c.loop-session.session-index c.session-item.result _ _ _ c.loop-session-test.true
-    c.session-item.is c.loop-session.invariant c.in_ok-tick.ensures
+pub loop-place-preserved : goal.loop-place-preserved
+loop-place-preserved g c =
+    let ks = c.args.self.now.forwarders.sessions.items in
+    let before = c.loop-place in
+    record {
+      same = c.in_ok-tick.ensures.known ∙ before.invariant.same;
+      makes = ticks_at c.args.now ks before.place c.args.self.now before.self c.tick.new.self
+          (subst (λ l. before.place < length l) c.sessions-place-end.ensures c.loop-place-test.true) before.invariant.makes
+          (subst (λ l. IfSome (slice_get l before.place) (λ k. Makes (after_tick g.row.A.Denot c.args.now k) before.self c.tick.new.self))
+          (ap (λ f. f.sessions.items) before.invariant.same) c.in_ok-tick.ensures.makes);
+    }

@@ -1,6 +1,5 @@
-use Rattle.std.proofs.Common.{[], ◌∷◌, ◌≡◌, IfErr, None, Some, arith, subst}
+use Rattle.std.proofs.Common.{[], ◌∷◌, None, Some, arith, subst}
 use Rattle.std.specs.Prelude.{OnErr}
-use Rattle.serve_turns.specs.declared.turn.Stopped.TheVariants.{Write}
 use Rattle.serve_turns.specs.Effects.{Adds, Receives, Shows, given}
 use Rattle.serve_turns.specs.Turn.{IsCut}
 use Rattle.serve_turns.proofs.Effects.{adds_then}
@@ -35,30 +34,23 @@ returns-then-now-gt-LAST_MOMENT-clause-clock g c _ =
 pub returns-in-Ok-clause-done : goal.returns-in-Ok-clause-done
 returns-in-Ok-clause-done g c =
     if_ok c.tell.result _ _
-    (λ told. turn_made (given c.receive-came.result c.receive-came.new.into) c.in-Some.now c.args.self.now c.act.new.self c.tell.new.self
+    (λ told. turn_made (given c.receive-came.result c.receive-came.new.into) c.in-Some.now c.args.self.now c.act.new.self _
     _ _ _ _ _ told c.receive-came.ensures.seen
     (subst (λ n. Adds (g.H.Host.effects c.receive-came.new.self) (g.H.Host.effects c.now.new.self) (Shows n ∷ [])) c.in-Some.is
     c.now.ensures)
-    c.in-Ok.ensures.acknowledged (omega (arith, c.if-now-gt-LAST_MOMENT.false)) c.in-Ok.ensures.known c.in-Ok.ensures.told
-    c.in-Ok.ensures.makes)
+    (omega (arith, c.if-now-gt-LAST_MOMENT.false)) c.in-Ok.ensures.done)
     c.tell.ensures.told
-
-pub returns-in-Ok-clause-clock : goal.returns-in-Ok-clause-clock
-returns-in-Ok-clause-clock g c e = absurd (cc (subst (λ r. IfErr r (λ s. s ≡ Write)) e c.tell.ensures.write))
 
 pub returns-in-Ok-clause-write : goal.returns-in-Ok-clause-write
 returns-in-Ok-clause-write g c e =
     turn_cut (given c.receive-came.result c.receive-came.new.into) c.in-Some.now c.args.self.now c.act.new.self
     _ _ _ _ _
-    (subst (λ r. OnErr r (IsCut (g.H.Host.effects c.act.new.host) (g.H.Host.effects c.tell.new.host) c.act.new.self)) e
+    (subst (λ r. OnErr r (IsCut (g.H.Host.effects c.act.new.host) (g.H.Host.effects c.tell.new.host) c.act.new.self.answerer)) e
     c.tell.ensures.cut)
     c.receive-came.ensures.seen
     (subst (λ n. Adds (g.H.Host.effects c.receive-came.new.self) (g.H.Host.effects c.now.new.self) (Shows n ∷ [])) c.in-Some.is
     c.now.ensures)
-    c.in-Ok.ensures.acknowledged (omega (arith, c.if-now-gt-LAST_MOMENT.false)) c.in-Ok.ensures.makes
-
-pub returns-in-Ok-clause-memory : goal.returns-in-Ok-clause-memory
-returns-in-Ok-clause-memory g c e = absurd (cc (subst (λ r. IfErr r (λ s. s ≡ Write)) e c.tell.ensures.write))
+    (omega (arith, c.if-now-gt-LAST_MOMENT.false)) c.in-Ok.ensures.done
 
 pub returns-in-Err-clause-memory : goal.returns-in-Err-clause-memory
 returns-in-Err-clause-memory g c _ =
@@ -66,4 +58,4 @@ returns-in-Err-clause-memory g c _ =
     c.receive-came.ensures.seen
     (subst (λ n. Adds (g.H.Host.effects c.receive-came.new.self) (g.H.Host.effects c.now.new.self) (Shows n ∷ [])) c.in-Some.is
     c.now.ensures)
-    c.in-Err.ensures.refused (omega (arith, c.if-now-gt-LAST_MOMENT.false))
+    (omega (arith, c.if-now-gt-LAST_MOMENT.false)) c.in-Err.ensures.broken

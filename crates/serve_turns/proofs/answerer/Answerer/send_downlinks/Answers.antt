@@ -1,0 +1,87 @@
+use Rattle.std.proofs.Common.{◌∙◌, ◌++◌, ap, map, refl, subst}
+use Rattle.text_lines.specs.Line.{text_of}
+use Rattle.serve_downlinks.specs.Downlinks.{to_send}
+use Rattle.serve_turns.specs.Sending.{asked, asking_kept, asking_kept_effects, kept_back, sendable}
+use Rattle.serve_turns.specs.Turn.{Did, Broke}
+use Rattle.serve_turns.proofs.Oks.{if_err, if_ok, on_err}
+use Rattle.serve_turns.proofs.Lives.{told_more}
+use Rattle.serve_turns.proofs.Sendings.{kept_some, no_keeping, sends_broke, sends_cut, sends_done, sends_unkept}
+use Rattle.serve_turns.proofs.answerer.Answerer.send_downlinks.Goals as goal
+
+pub returns-then-is_none-clause-done : goal.returns-then-is_none-clause-done
+returns-then-is_none-clause-done g c =
+    sends_unkept c.args.now (map (λ e. e.line) c.args.entries.now) c.args.self.now _ c.requires.ready
+    (no_keeping c.args.self.now.keeping c.if-is_none.ensures)
+
+pub returns-in_err-downlinks-clause-broken : goal.returns-in_err-downlinks-clause-broken
+returns-in_err-downlinks-clause-broken g c =
+    on_err c.from_residual.result _ (sends_broke c.args.now (map (λ e. e.line) c.args.entries.now) c.args.self.now _)
+
+pub returns-in_err-ready-clause-broken : goal.returns-in_err-ready-clause-broken
+returns-in_err-ready-clause-broken g c =
+    on_err c.from_residual-in_err-ready.result _
+    (sends_broke c.args.now (map (λ e. e.line) c.args.entries.now) c.args.self.now _)
+
+pub returns-in_err-asks-clause-broken : goal.returns-in_err-asks-clause-broken
+returns-in_err-asks-clause-broken g c =
+    on_err c.from_residual-in_err-asks.result _
+    (sends_broke c.args.now (map (λ e. e.line) c.args.entries.now) c.args.self.now _)
+
+pub returns-in_err-put_kept_back-clause-broken : goal.returns-in_err-put_kept_back-clause-broken
+returns-in_err-put_kept_back-clause-broken g c =
+    on_err c.from_residual-in_err-put_kept_back.result _
+    (sends_broke c.args.now (map (λ e. e.line) c.args.entries.now) c.args.self.now _)
+
+pub returns-clause-done : goal.returns-clause-done
+returns-clause-done g c =
+    let lines = map (λ e. e.line) c.args.entries.now in
+    let old = c.args.self.now in
+    let ks = old.forwarders.sessions.items in
+    let middle = record old { text = c.put_kept_back.new.text } in
+    let keeps = kept_some old.keeping c.if-is_none.ensures in
+    let found = map to_send c.in_ok-downlinks.downlinks.items in
+    let may = c.in_ok-ready.ensures ∙ ap (λ fs. sendable fs (map to_send c.deref.result.now)) c.sessions.ensures
+    ∙ ap (λ ds. sendable ks (map to_send ds)) c.deref.ensures.value in
+    let are = c.in_ok-asks.ensures ∙ ap (λ fs. asked fs (map to_send c.deref-2.result.now)) c.sessions-2.ensures
+    ∙ ap (λ ds. asked ks (map to_send ds)) c.deref-2.ensures.value in
+    let told = told_more (kept_back ks found) old middle c.requires.ready refl
+    (record { known = refl; kept = refl; drops = refl; told_at = refl })
+    (c.in_ok-put_kept_back.ensures
+    ∙ ap (λ fs. old.text.writer.items ++ text_of (kept_back fs (map to_send c.deref-3.result.now))) c.sessions-3.ensures
+    ∙ ap (λ ds. old.text.writer.items ++ text_of (kept_back ks (map to_send ds))) c.deref-3.ensures.value) in
+    if_ok c.ask.result _ _
+    (λ did. sends_done c.args.now lines old (g.H.Host.effects c.args.host.now) (g.H.Host.effects c.ask.new.host) keeps.0 found
+    (map to_send c.in_ok-ready.ready.items) c.in_ok-asks.asks.items middle keeps.1 c.in_ok-downlinks.ensures may are told c.ask.new.self
+    (subst (λ x. Did (g.H.Host.effects c.args.host.now) (g.H.Host.effects c.ask.new.host)
+    (asking_kept c.args.now (map to_send c.in_ok-ready.ready.items) x)
+    (asking_kept_effects c.args.now (map to_send c.in_ok-ready.ready.items) x) middle c.ask.new.self) c.deref-5.ensures.value
+    (subst (λ x. Did (g.H.Host.effects c.args.host.now) (g.H.Host.effects c.ask.new.host)
+    (asking_kept c.args.now (map to_send x) c.deref-5.result.now)
+    (asking_kept_effects c.args.now (map to_send x) c.deref-5.result.now) middle c.ask.new.self) c.deref-4.ensures.value did)))
+    c.ask.ensures.done
+
+pub returns-clause-broken : goal.returns-clause-broken
+returns-clause-broken g c =
+    let lines = map (λ e. e.line) c.args.entries.now in
+    let old = c.args.self.now in
+    let ks = old.forwarders.sessions.items in
+    let middle = record old { text = c.put_kept_back.new.text } in
+    let keeps = kept_some old.keeping c.if-is_none.ensures in
+    let found = map to_send c.in_ok-downlinks.downlinks.items in
+    let may = c.in_ok-ready.ensures ∙ ap (λ fs. sendable fs (map to_send c.deref.result.now)) c.sessions.ensures
+    ∙ ap (λ ds. sendable ks (map to_send ds)) c.deref.ensures.value in
+    let are = c.in_ok-asks.ensures ∙ ap (λ fs. asked fs (map to_send c.deref-2.result.now)) c.sessions-2.ensures
+    ∙ ap (λ ds. asked ks (map to_send ds)) c.deref-2.ensures.value in
+    let told = told_more (kept_back ks found) old middle c.requires.ready refl
+    (record { known = refl; kept = refl; drops = refl; told_at = refl })
+    (c.in_ok-put_kept_back.ensures
+    ∙ ap (λ fs. old.text.writer.items ++ text_of (kept_back fs (map to_send c.deref-3.result.now))) c.sessions-3.ensures
+    ∙ ap (λ ds. old.text.writer.items ++ text_of (kept_back ks (map to_send ds))) c.deref-3.ensures.value) in
+    if_err c.ask.result _ _
+    (λ broke. sends_cut c.args.now lines old (g.H.Host.effects c.args.host.now) (g.H.Host.effects c.ask.new.host) keeps.0 found
+    (map to_send c.in_ok-ready.ready.items) c.in_ok-asks.asks.items middle keeps.1 c.in_ok-downlinks.ensures may are told
+    (subst (λ x. Broke (g.H.Host.effects c.args.host.now) (g.H.Host.effects c.ask.new.host)
+    (asking_kept_effects c.args.now (map to_send c.in_ok-ready.ready.items) x) middle) c.deref-5.ensures.value
+    (subst (λ x. Broke (g.H.Host.effects c.args.host.now) (g.H.Host.effects c.ask.new.host)
+    (asking_kept_effects c.args.now (map to_send x) c.deref-5.result.now) middle) c.deref-4.ensures.value broke)))
+    c.ask.ensures.broken

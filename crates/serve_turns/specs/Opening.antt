@@ -1,0 +1,78 @@
+use Rattle.std.specs.Prelude.{ℕ, ◌≡◌, List, [], ◌∷◌, map, Some, None}
+use Rattle.forwarder_sessions.specs.declared.session.Forwarder.{Forwarder}
+use Rattle.forwarder_sessions.specs.Sessions.{opened_session, resumed_session}
+use Rattle.gateway_book.specs.Book.{Book}
+use Rattle.serve_journal.specs.Payload.{Waiting}
+use Rattle.serve_settings.specs.declared.forwarder as set
+use Rattle.server_core.specs.declared.event.Event.{Event}
+use Rattle.server_core.specs.declared.event.Event.TheVariants.{Queue}
+use Rattle.server_core.specs.Opened.{resuming}
+use Rattle.server_core.specs.Server.{seen}
+use Rattle.server_desk.specs.Settings.{SettingLists}
+use Rattle.server_desk.specs.UsualLimits.{usual_limits}
+use Rattle.server_desk.specs.World.{opening}
+use Rattle.serve_turns.specs.declared.serving.Serving.{Serving}
+use Rattle.serve_turns.specs.Forwarders.{AreByGateway}
+use Rattle.serve_turns.specs.Kept.{Kept}
+use Rattle.serve_turns.specs.Life.{Life, doing, IsAlive, IsReady}
+
+-- What a server opens with.
+
+-- the life of a server that has heard nothing, on empty books, which keeps no journal
+abbrev pub opened_life : SettingLists → List Forwarder → Life
+opened_life settings forwarders =
+    record {
+      world = opening settings usual_limits;
+      known = map opened_session forwarders;
+      kept = None;
+      drops = [];
+      told_at = 0;
+      text = [];
+    }
+
+-- it has heard nothing of these settings' gateways
+pub record IsOpened {S A R : Type 0} {C : _} (settings : SettingLists) (forwarders : List Forwarder) (s : Serving S A R C)
+    : Type 0 where
+  pub alive : IsAlive (opened_life settings forwarders) s.answerer
+  pub ready : IsReady s.answerer
+  pub steps : (seen s.answerer.server).steps ≡ None
+
+-- the same by settings that were read, with the packet forwarders by their gateways' numbers
+pub record IsOpenedBy {S A R : Type 0} {C : _} (settings : SettingLists) (are_set : List set.Forwarder.Forwarder)
+    (s : Serving S A R C) : Type 0 where
+  pub forwarders : List Forwarder
+  pub by_gateway : AreByGateway settings.gateways are_set forwarders
+  pub opened : IsOpened settings forwarders s
+
+-- a server that keeps a journal, which is still to be written: until then nothing is sent
+abbrev pub unwritten : List (ℕ × List ℕ) → Kept
+unwritten sessions = record { sessions = sessions; left = 0; failed_at = Some 0 }
+
+-- that a payload is queued for the device with an address
+abbrev pub queue_event : {A : Type 0} → ℕ × Waiting → Event A
+queue_event q = Queue q.0 q.1.port q.1.bytes
+
+abbrev pub after_queue : (A : Type 0) → ℕ × Waiting → Life → Life
+after_queue A q l = doing {A = A} (queue_event q) l
+
+-- one after another
+abbrev pub after_queues : (A : Type 0) → List (ℕ × Waiting) → Life → Life
+after_queues A [] l = l
+after_queues A (q ∷ qs) l = after_queues A qs (after_queue A q l)
+
+-- the life of a server that opens on books which hold transmissions already
+abbrev pub resumed_life : SettingLists → List Book → List (Forwarder × ℕ) → List (ℕ × List ℕ) → Life
+resumed_life settings books forwarders sessions =
+    record {
+      world = resuming settings usual_limits books;
+      known = map resumed_session forwarders;
+      kept = Some (unwritten sessions);
+      drops = [];
+      told_at = 0;
+      text = [];
+    }
+
+pub record IsResumed {S A R : Type 0} {C : _} (settings : SettingLists) (books : List Book) (forwarders : List (Forwarder × ℕ))
+    (sessions : List (ℕ × List ℕ)) (waiting : List (ℕ × Waiting)) (s : Serving S A R C) : Type 0 where
+  pub alive : IsAlive (after_queues A waiting (resumed_life settings books forwarders sessions)) s.answerer
+  pub ready : IsReady s.answerer
