@@ -142,6 +142,37 @@ fn a_downlink_is_in_the_journal_before_it_is_sent(rt: HostRuntime) -> Result<(),
     equal(&datagram.as_slice(), &DATAGRAM)
 }
 
+/// Why a downlink may not be sent, if it may not.
+fn kept_back(fate: Fate) -> Option<&'static str> {
+    match fate {
+        Fate::Barred => Some("barred"),
+        Fate::Unreachable => Some("unreachable"),
+        Fate::Sendable { .. } => None,
+    }
+}
+
+/// It isn't sent where the gateway has sent no PULL_DATA, or where its counter began anew since it heard the uplink.
+#[test]
+fn a_downlink_may_be_kept_back(rt: HostRuntime) -> Result<(), Fail> {
+    let (_, told) = passed(rt.alloc(), rt.alloc())?;
+    let found = downlinks_of(rt.alloc(), &told)?;
+    let [downlink] = found.as_slice() else {
+        return Err(Fail::from("one downlink"));
+    };
+    let mut known = Forwarders::new(rt.alloc(), &[forwarder(1), forwarder(2)])?;
+    known.hear(1, 4_294_000_000, 1_100);
+    known.join(1, 1);
+    equal(
+        &kept_back(fate_of(downlink, known.sessions())),
+        &Some("unreachable"),
+    )?;
+    known.hear(1, 5_000_000, 100_000);
+    equal(
+        &kept_back(fate_of(downlink, known.sessions())),
+        &Some("barred"),
+    )
+}
+
 // Refuses `serve_downlinks` `downlinks_of`: 1 for the list of one.
 #[test]
 fn growths_of_a_list_of_downlinks(rt: HostRuntime) -> Result<(), Fail> {

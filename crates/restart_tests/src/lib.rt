@@ -9,10 +9,20 @@ mod faults;
 #[cfg(test)]
 mod growths;
 #[cfg(test)]
+mod hosts;
+#[cfg(test)]
 mod journals;
 #[cfg(test)]
 mod lines;
 #[cfg(test)]
+mod restarts;
+#[cfg(test)]
 mod rules;
 #[cfg(test)]
+mod server_growths;
+#[cfg(test)]
+mod servers;
+#[cfg(test)]
 mod sql;
+#[cfg(test)]
+mod turns;

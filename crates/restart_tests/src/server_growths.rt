@@ -1,0 +1,212 @@
+// What a server opens with, its journal that is written anew, and an answer that it sends, with each growth refused in turn.
+ghost use Rattle.serve_turns.specs.Turn.{IsBetweenTurns};
+
+use crate::hosts::{Deed, Noting};
+use crate::restarts::{OF_OTHERS, RESUMED, WAITING};
+use crate::servers::{SET, is_played, resumed, settings, state_in};
+use crate::turns::{ANSWERED, HEARD_ONCE, HEARD_TWICE};
+use forwarder_sessions::Forwarders;
+use refusing_alloc::{Call, Refuser, Refusing, growths_of, refuse, same, was_refused};
+use serve_downlinks::add_entry;
+use serve_journal::Entry;
+use serve_opening::{OpeningFault, opening_of};
+use serve_renewal::renewal_of;
+use serve_turns::{Serving, resumed_forwarders};
+use server_core::{Server, Settings, USUAL_LIMITS};
+use std::alloc::{Allocator, Global};
+use std::test::Fail;
+use test_asserts::holds;
+use worked_inputs::{ADDR, WorkedHasher, hasher};
+
+/// What a server with these settings opens with. With all growths refused that follow one: a list whose growth is refused tries a
+/// smaller one.
+#[derive(Drop)]
+struct Opens<'r>(&'r Settings<Global>);
+
+impl Call for Opens<'_> {
+    fn is_refused(&mut self, alloc: &Refuser, number: u64) -> Result<bool, Fail> {
+        let state = state_in(alloc, Some(OF_OTHERS.as_bytes()))?;
+        refuse(alloc, (number, true));
+        let notes = opening_of(alloc, self.0, &SET, state).map(|opening| opening.notes.len());
+        let is_starved = notes == Err(OpeningFault::NoMemory);
+        let again = was_refused(alloc, number, is_starved, true)?;
+        if !is_starved {
+            same(notes, Ok(2))?;
+        }
+        Ok(again)
+    }
+}
+
+// Refuses `serve_opening` `opening_of`: 1 for each list, and for a gateway with another number those of `GatewayBook::list` and
+// `GatewayBook::trial`; 11 for two gateways, one of them with another number.
+#[test]
+fn growths_of_an_opening(rt: HostRuntime) -> Result<(), Fail> {
+    let settings = settings(rt.alloc())?;
+    let alloc = &Refusing::new(rt.alloc());
+    same(growths_of(alloc, &mut Opens(&settings))?, 11)
+}
+
+/// The packet forwarders of these settings.
+#[derive(Drop)]
+struct Matches<'r>(&'r Settings<Global>);
+
+impl Call for Matches<'_> {
+    fn is_refused(&mut self, alloc: &Refuser, number: u64) -> Result<bool, Fail> {
+        alloc.refuse(number);
+        let made = resumed_forwarders(alloc, self.0.gateways(), &SET, &[7, 8]);
+        let count = made.ok().map(|forwarders| forwarders.len());
+        let again = was_refused(alloc, number, count.is_none(), false)?;
+        if !again {
+            same(count, Some(2))?;
+        }
+        Ok(again)
+    }
+}
+
+// Refuses `serve_turns` `resumed_forwarders`: 2, a list each.
+#[test]
+fn growths_of_resumed_forwarders(rt: HostRuntime) -> Result<(), Fail> {
+    let settings = settings(rt.alloc())?;
+    let alloc = &Refusing::new(rt.alloc());
+    same(growths_of(alloc, &mut Matches(&settings))?, 2)
+}
+
+/// A server with these settings that goes on with a journal; with growths refused as there.
+#[derive(Drop)]
+struct Resumes<'r>(&'r Settings<Global>);
+
+impl Call for Resumes<'_> {
+    fn is_refused(&mut self, alloc: &Refuser, number: u64) -> Result<bool, Fail> {
+        let (settings, resumed) = resumed(alloc, self.0, Some(WAITING.as_bytes()))?;
+        refuse(alloc, (number, true));
+        let is_starved = Serving::resumed(alloc, hasher(), &settings, resumed).is_err();
+        was_refused(alloc, number, is_starved, true)
+    }
+}
+
+// Refuses `serve_turns` `Serving::resumed`: those of `Server::resumed` and `Forwarders::resumed`, and those of `Server::event` for
+// what waits; 12 for one payload.
+#[test]
+fn growths_of_a_resumed_server(rt: HostRuntime) -> Result<(), Fail> {
+    let settings = settings(rt.alloc())?;
+    let alloc = &Refusing::new(rt.alloc());
+    same(growths_of(alloc, &mut Resumes(&settings))?, 12)
+}
+
+/// The journal of a server with these settings, as a text.
+#[derive(Drop)]
+struct Spells<'r>(&'r Settings<Global>);
+
+impl Call for Spells<'_> {
+    fn is_refused(&mut self, alloc: &Refuser, number: u64) -> Result<bool, Fail> {
+        let (settings, resumed) = resumed(alloc, self.0, Some(WAITING.as_bytes()))?;
+        let server = Server::resumed(alloc, hasher(), &settings, USUAL_LIMITS, resumed.books)?;
+        let known = Forwarders::resumed(alloc, &resumed.forwarders)?;
+        alloc.refuse(number);
+        let journal = renewal_of(alloc, &server, known.sessions(), &resumed.sessions, 0);
+        let again = was_refused(alloc, number, journal.is_err(), false)?;
+        if let Ok(journal) = journal {
+            same(journal.as_slice(), RESUMED.as_bytes())?;
+        }
+        Ok(again)
+    }
+}
+
+// Refuses `serve_renewal` `renewal_of`: by size, those of its text; 4 for 196 bytes.
+#[test]
+fn growths_of_the_text_of_a_journal(rt: HostRuntime) -> Result<(), Fail> {
+    let settings = settings(rt.alloc())?;
+    let alloc = &Refusing::new(rt.alloc());
+    same(growths_of(alloc, &mut Spells(&settings))?, 4)
+}
+
+/// The journal of a server with these settings, in its place.
+#[derive(Drop)]
+struct Renews<'r>(&'r Settings<Global>, Global);
+
+impl Call for Renews<'_> {
+    fn is_refused(&mut self, alloc: &Refuser, number: u64) -> Result<bool, Fail> {
+        let (settings, resumed) = resumed(alloc, self.0, Some(WAITING.as_bytes()))?;
+        let mut serving = Serving::resumed(alloc, hasher(), &settings, resumed)?;
+        let mut host = Noting::new(self.1, 0, None, None);
+        alloc.refuse(number);
+        let renewed = serving.renew(&mut host, 0);
+        let again = was_refused(alloc, number, renewed.is_err(), false)?;
+        if again {
+            host.was_asked(&[])?;
+        } else {
+            host.was_asked(&[(Deed::Replace, 0, b"", WAITING)])?;
+        }
+        Ok(again)
+    }
+}
+
+// Refuses `serve_turns` `Serving::renew`: those of `renewal_of`.
+#[test]
+fn growths_of_a_journal_that_is_put_in_place(rt: HostRuntime) -> Result<(), Fail> {
+    let settings = settings(rt.alloc())?;
+    let alloc = &Refusing::new(rt.alloc());
+    same(growths_of(alloc, &mut Renews(&settings, rt.alloc()))?, 4)
+}
+
+/// The turns of a server with these settings in which it sends an answer; with growths refused as there.
+#[derive(Drop)]
+struct Sends<'r>(&'r Settings<Global>, Global);
+
+impl Sends<'_> {
+    /// Whether a server makes them.
+    fn is_sent<A: Allocator + Copy>(
+        &self,
+        serving: &mut Serving<WorkedHasher, A>,
+    ) -> Result<bool, Fail>
+        requires { IsBetweenTurns serving.old }
+    {
+        Ok(
+            is_played(self.1, serving, &HEARD_ONCE)?
+                && is_played(self.1, serving, &HEARD_TWICE)?
+                && is_played(self.1, serving, &ANSWERED)?,
+        )
+    }
+}
+
+impl Call for Sends<'_> {
+    fn is_refused(&mut self, alloc: &Refuser, number: u64) -> Result<bool, Fail> {
+        let (settings, resumed) = resumed(alloc, self.0, None)?;
+        let mut serving = Serving::resumed(alloc, hasher(), &settings, resumed)?;
+        let mut host = Noting::new(self.1, 0, None, None);
+        holds(serving.renew(&mut host, 0)?)?;
+        refuse(alloc, (number, true));
+        let is_starved = !self.is_sent(&mut serving)?;
+        was_refused(alloc, number, is_starved, true)
+    }
+}
+
+/// A server that keeps a journal stops too where a growth is refused, and has asked for nothing out of order.
+#[test]
+fn growths_of_an_answer(rt: HostRuntime) -> Result<(), Fail> {
+    let settings = settings(rt.alloc())?;
+    let alloc = &Refusing::new(rt.alloc());
+    same(growths_of(alloc, &mut Sends(&settings, rt.alloc()))?, 82)
+}
+
+/// A line of a journal.
+#[derive(Drop)]
+struct Adds;
+
+impl Call for Adds {
+    fn is_refused(&mut self, alloc: &Refuser, number: u64) -> Result<bool, Fail> {
+        let mut batch = Vec::new(alloc);
+        alloc.refuse(number);
+        let is_starved = add_entry(&mut batch, &Entry::Taken { addr: ADDR }).is_err();
+        let again = was_refused(alloc, number, is_starved, false)?;
+        let wanted: &[u8] = if again { b"" } else { b"taken 26011bda\n" };
+        same(batch.as_slice(), wanted)?;
+        Ok(again)
+    }
+}
+
+// Refuses `serve_downlinks` `add_entry`: 0 or 1, by size.
+#[test]
+fn growths_of_a_line(rt: HostRuntime) -> Result<(), Fail> {
+    same(growths_of(&Refusing::new(rt.alloc()), &mut Adds)?, 1)
+}
