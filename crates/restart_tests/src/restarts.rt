@@ -69,7 +69,7 @@ fn a_server_opens_with_what_was_sent_and_given(rt: HostRuntime) -> Result<(), Fa
 }
 
 /// The journal of the server that goes on, before anything is heard.
-pub(crate) const RESUMED: &str = "airbook journal 1
+const RESUMED: &str = "airbook journal 1
 gateway 1 aa555a0000000001 4096 45000
 gateway 2 aa555a0000000002 4096 45000
 device 26011bda 5c7efb43 7 1

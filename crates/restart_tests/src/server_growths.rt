@@ -2,17 +2,15 @@
 ghost use Rattle.serve_turns.specs.Turn.{IsBetweenTurns};
 
 use crate::hosts::{Deed, Noting};
-use crate::restarts::{OF_OTHERS, RESUMED, WAITING};
+use crate::restarts::{OF_OTHERS, WAITING};
 use crate::servers::{SET, is_played, resumed, settings, state_in};
 use crate::turns::{ANSWERED, HEARD_ONCE, HEARD_TWICE};
-use forwarder_sessions::Forwarders;
 use refusing_alloc::{Call, Refuser, Refusing, growths_of, refuse, same, was_refused};
 use serve_downlinks::add_entry;
 use serve_journal::Entry;
 use serve_opening::{OpeningFault, opening_of};
-use serve_renewal::renewal_of;
 use serve_turns::{Serving, resumed_forwarders};
-use server_core::{Server, Settings, USUAL_LIMITS};
+use server_core::Settings;
 use std::alloc::{Allocator, Global};
 use std::test::Fail;
 use test_asserts::holds;
@@ -93,33 +91,6 @@ fn growths_of_a_resumed_server(rt: HostRuntime) -> Result<(), Fail> {
     same(growths_of(alloc, &mut Resumes(&settings))?, 12)
 }
 
-/// The journal of a server with these settings, as a text.
-#[derive(Drop)]
-struct Spells<'r>(&'r Settings<Global>);
-
-impl Call for Spells<'_> {
-    fn is_refused(&mut self, alloc: &Refuser, number: u64) -> Result<bool, Fail> {
-        let (settings, resumed) = resumed(alloc, self.0, Some(WAITING.as_bytes()))?;
-        let server = Server::resumed(alloc, hasher(), &settings, USUAL_LIMITS, resumed.books)?;
-        let known = Forwarders::resumed(alloc, &resumed.forwarders)?;
-        alloc.refuse(number);
-        let journal = renewal_of(alloc, &server, known.sessions(), &resumed.sessions, 0);
-        let again = was_refused(alloc, number, journal.is_err(), false)?;
-        if let Ok(journal) = journal {
-            same(journal.as_slice(), RESUMED.as_bytes())?;
-        }
-        Ok(again)
-    }
-}
-
-// Refuses `serve_renewal` `renewal_of`: by size, those of its text; 4 for 196 bytes.
-#[test]
-fn growths_of_the_text_of_a_journal(rt: HostRuntime) -> Result<(), Fail> {
-    let settings = settings(rt.alloc())?;
-    let alloc = &Refusing::new(rt.alloc());
-    same(growths_of(alloc, &mut Spells(&settings))?, 4)
-}
-
 /// The journal of a server with these settings, in its place.
 #[derive(Drop)]
 struct Renews<'r>(&'r Settings<Global>, Global);
@@ -141,6 +112,7 @@ impl Call for Renews<'_> {
     }
 }
 
+// Refuses `serve_renewal` `renewal_of`: by size, those of its text; 4 for 196 bytes.
 // Refuses `serve_turns` `Serving::renew`: those of `renewal_of`.
 #[test]
 fn growths_of_a_journal_that_is_put_in_place(rt: HostRuntime) -> Result<(), Fail> {
