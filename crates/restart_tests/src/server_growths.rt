@@ -112,7 +112,7 @@ impl Call for Renews<'_> {
     }
 }
 
-// Refuses `serve_renewal` `renewal_of`: by size, those of its text; 4 for 196 bytes.
+// Refuses `serve_renewal` `renewal_of`: by size, those of its text; 4 for 218 bytes.
 // Refuses `serve_turns` `Serving::renew`: those of `renewal_of`.
 #[test]
 fn growths_of_a_journal_that_is_put_in_place(rt: HostRuntime) -> Result<(), Fail> {
