@@ -1,7 +1,6 @@
 // A server that was killed and goes on with its journal.
 
 use crate::hosts::{Deed, Turn};
-use crate::journals::WITH;
 use crate::servers::{opened, opening, play, renew, settings};
 use crate::turns::{BATCH, NEW, NEXT_HEARD, PULL_2, PUSH_2, RESP_1};
 use gateway_book::MemoryOut;
@@ -17,6 +16,10 @@ const SESSION: [u8; 4] = [0x5c, 0x7e, 0xfb, 0x43];
 
 /// The book of the first gateway, which has sent nothing.
 const EMPTY: &[u8] = b"airbook 2\ngateway 1 4096 0 45000\nend 0\n";
+
+/// The book of the second one, which is silent till 2 s and a gap behind the end of what it was asked for.
+const SILENT: &[u8] =
+    b"airbook 2\ngateway 2 4096 3087316 45000\nr 0 1001100 868100000 5 12\nend 1\n";
 
 /// The journal of a server that was killed when it had sent its first answer.
 fn journal(alloc: Global) -> Result<Vec<u8>, Fail> {
@@ -54,7 +57,7 @@ fn a_server_opens_with_what_was_sent_and_given(rt: HostRuntime) -> Result<(), Fa
         return Err(Fail::from("two books"));
     };
     equal(&saved(alloc, first)?.as_slice(), &EMPTY)?;
-    equal(&saved(alloc, second)?.as_slice(), &WITH)?;
+    equal(&saved(alloc, second)?.as_slice(), &SILENT)?;
     equal(
         &opening.highs.as_slice(),
         &[2_000_000, 2_200_981].as_slice(),
@@ -75,11 +78,11 @@ gateway 2 aa555a0000000002 4096 45000
 device 26011bda 5c7efb43 7 1
 sent 2 1001100 868100000 5 12
 clock 1 2000000 0
-clock 2 2200981 601001
+clock 2 2200981 3087316
 .
 ";
 
-/// Gateway 2 sends its PULL_DATA, and tells of the next uplink.
+/// Gateway 2 sends its PULL_DATA, and tells of the next uplink, whose windows open behind the silence.
 static HEARD_AGAIN: [Turn; 2] = [
     (
         10,
@@ -87,15 +90,15 @@ static HEARD_AGAIN: [Turn; 2] = [
         &[(Deed::Acknowledge, 1_702, &[2, 0, 7, 4], "")],
     ),
     (
-        1_000,
+        3_001_000,
         Some((1_802, PUSH_2, NEXT_HEARD)),
         &[
             (Deed::Acknowledge, 1_802, &[2, 0x12, 0x35, 1], ""),
             (
                 Deed::Tell,
                 0,
-                b"session 2 201981\n",
-                "> hear 2 201981 868100000 5 55 -80 1000 80da1b0126000800045f483d\nopened 1\n",
+                b"session 2 3201681\n",
+                "> hear 2 3201681 868100000 5 55 -80 3001000 80da1b0126000800045f483d\nopened 1\n",
             ),
         ],
     ),
@@ -103,14 +106,14 @@ static HEARD_AGAIN: [Turn; 2] = [
 
 /// It is answered with the next downlink counter, behind what was sent before.
 static GOES_ON: [Turn; 1] = [(
-    201_001,
+    3_201_001,
     None,
     &[
         (
             Deed::Append,
             0,
-            b"clock 2 2401962 801982\n",
-            "device 26011bda 5c7efb43 8 2\nsent 2 1201981 868100000 5 12\n.\n",
+            b"clock 2 5401662 3801682\n",
+            "device 26011bda 5c7efb43 8 2\nsent 2 4201681 868100000 5 12\n.\n",
         ),
         (Deed::Sync, 0, b"", ""),
         (
@@ -122,8 +125,8 @@ static GOES_ON: [Turn; 1] = [(
         (
             Deed::Tell,
             0,
-            b"> tick 2 801982\nfloor 2 801982\n> pass 201001\n",
-            "send 1 2 RX1 1201981 868100000 5 12\nframe 1 60da1b01262001002e22e36b\n",
+            b"> tick 2 3801682\nfloor 2 3801682\n> pass 3201001\n",
+            "send 1 2 RX1 4201681 868100000 5 12\nframe 1 60da1b01262001002e22e36b\n",
         ),
     ],
 )];
@@ -145,20 +148,20 @@ device 26011bda 5c7efb43 7 1
 queue 26011bda 9 0102
 sent 2 1001100 868100000 5 12
 clock 1 2000000 0
-clock 2 2200981 601001
+clock 2 2200981 3087316
 .
 ";
 
 /// The next uplink is answered with the payload.
 static TAKES_ALONG: [Turn; 1] = [(
-    201_001,
+    3_201_001,
     None,
     &[
         (
             Deed::Append,
             0,
-            b"clock 2 2401962 801982\n",
-            "device 26011bda 5c7efb43 8 2\ntaken 26011bda\nsent 2 1201981 868100000 5 15\n.\n",
+            b"clock 2 5401662 3801682\n",
+            "device 26011bda 5c7efb43 8 2\ntaken 26011bda\nsent 2 4201681 868100000 5 15\n.\n",
         ),
         (Deed::Sync, 0, b"", ""),
         (
@@ -170,8 +173,8 @@ static TAKES_ALONG: [Turn; 1] = [(
         (
             Deed::Tell,
             0,
-            b"> tick 2 801982\nfloor 2 801982\n> pass 201001\n",
-            "send 1 2 RX1 1201981 868100000 5 15\nframe 1 60da1b01262001000963b62338d057\n",
+            b"> tick 2 3801682\nfloor 2 3801682\n> pass 3201001\n",
+            "send 1 2 RX1 4201681 868100000 5 15\nframe 1 60da1b01262001000963b62338d057\n",
         ),
     ],
 )];
@@ -217,7 +220,7 @@ fn gateways_are_known_by_their_eui(rt: HostRuntime) -> Result<(), Fail> {
         return Err(Fail::from("two books"));
     };
     equal(&saved(alloc, first)?.as_slice(), &EMPTY)?;
-    equal(&saved(alloc, second)?.as_slice(), &WITH)?;
+    equal(&saved(alloc, second)?.as_slice(), &SILENT)?;
     equal(
         &ports(alloc, &opening.waiting)?.as_slice(),
         &[(ADDR, 9)].as_slice(),

@@ -35,13 +35,13 @@ impl Call for Opens<'_> {
     }
 }
 
-// Refuses `serve_opening` `opening_of`: 1 for each list, and for a gateway with another number those of `GatewayBook::list` and
-// `GatewayBook::trial`; 11 for two gateways, one of them with another number.
+// Refuses `serve_opening` `opening_of`: 1 for each list, that of `GatewayBook::list` for a book of the journal, and for one with
+// another number once more that, and those of `GatewayBook::trial`; 12 for two gateways, one of them with another number.
 #[test]
 fn growths_of_an_opening(rt: HostRuntime) -> Result<(), Fail> {
     let settings = settings(rt.alloc())?;
     let alloc = &Refusing::new(rt.alloc());
-    same(growths_of(alloc, &mut Opens(&settings))?, 11)
+    same(growths_of(alloc, &mut Opens(&settings))?, 12)
 }
 
 /// The packet forwarders of these settings.

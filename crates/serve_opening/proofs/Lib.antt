@@ -1,4 +1,5 @@
 pub mod Firsts
+pub mod Silences
 pub mod Matching
 pub mod Accepted
 pub mod Faultless

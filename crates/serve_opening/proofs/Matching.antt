@@ -19,6 +19,7 @@ use Rattle.serve_opening.specs.Gateways.{IsRuled, Ruled, Kept, renumbered, setti
 use Rattle.serve_opening.specs.Devices.{DeviceSession}
 use Rattle.serve_opening.specs.Notes.{notes_of}
 use Rattle.serve_opening.proofs.Firsts.{All-without_first, All-find}
+use Rattle.serve_opening.proofs.Silences.{bare_silenced}
 
 -- Gateways and what the journal has of them, gateway by gateway.
 
@@ -117,7 +118,9 @@ renumbered_by id b false e = rw e refl
 opened_id : (g : GatewaySetting) (o : Option Mast) (b : Book) → IsOpenedAs g o b → b.id ≡ g.id
 opened_id g None b is = ap (λ (x : Book). x.id) is
 opened_id g (Some m) b is =
-    ruled_id (rules_of g) (renumbered g.id m.book) b is ∙ renumbered_by g.id m.book (m.book.id == g.id) refl
+    ap (λ (x : Book). x.id) is.silent
+    ∙ ruled_id (rules_of g) (renumbered g.id m.book) is.book is.ruled
+    ∙ renumbered_by g.id m.book (m.book.id == g.id) refl
 
 pub same_ids : (gs : List GatewaySetting) (fs : List Forwarder) (ms : List Mast) (bs : List Book) → AllZip IsOpened (matched gs fs ms) bs
     → map (λ b. b.id) bs ≡ map (λ g. g.id) gs
@@ -174,8 +177,9 @@ bare_opened : (g : GatewaySetting) (o : Option Mast) (b : Book) → IsOpenedAs g
     → HasNoNumbers b
 bare_opened g None b is h = subst (All (λ r. r.number ≡ 0)) (sym (ap (λ (x : Book). x.list) is)) (All-nil (λ r. r.number ≡ 0))
 bare_opened g (Some m) b is h =
-    let same = ruled_list (rules_of g) (renumbered g.id m.book) b is ∙ renumbered_list g.id m.book (m.book.id == g.id) refl in
-    subst (All (λ r. r.number ≡ 0)) (sym same) (h m refl)
+    let same =
+    ruled_list (rules_of g) (renumbered g.id m.book) is.book is.ruled ∙ renumbered_list g.id m.book (m.book.id == g.id) refl in
+    subst HasNoNumbers (sym is.silent) (bare_silenced is.book (subst (All (λ r. r.number ≡ 0)) (sym same) (h m refl)))
 
 bare_known : (o : Option Forwarder) (ms : List Mast) → All IsBare ms → (m : Mast) → known_by o ms ≡ Some m → IsBare m
 bare_known None ms a m e = absurd (cc)

@@ -1,6 +1,9 @@
 use Rattle.std.proofs.Common.{◌≡◌, ◌≢◌, ℕ, List, [], ◌∷◌, Some, None, find, get_or, AllPairs, ap, refl, arith}
 use Rattle.std.proofs.lemmas.List.Elements.{All-nil, All-cons}
 use Rattle.std.proofs.lemmas.List.Kept.{AllPairs-cons}
+use Rattle.radio_airtime.specs.declared.data_rate.DataRate.TheVariants.{Dr5}
+use Rattle.radio_airtime.specs.TimeOnAir.{airtime_of}
+use Rattle.resv_list.specs.declared.reservation.Reservation.{Reservation}
 use Rattle.gateway_book.specs.Answer.{Rules}
 use Rattle.server_desk.specs.declared.setting.GatewaySetting.{GatewaySetting}
 use Rattle.serve_journal.specs.Journal.{Mast, empty_book}
@@ -9,6 +12,7 @@ use Rattle.serve_opening.specs.declared.note.Note.TheVariants.{RulesStay, Gatewa
 use Rattle.serve_opening.specs.Gateways.{has_eui, matched, unmatched, highs, renumbered}
 use Rattle.serve_opening.specs.Notes.{notes_of}
 use Rattle.serve_opening.specs.OwnLaw.{EachTakesItsOwn}
+use Rattle.serve_opening.specs.Silence.{silent_until}
 
 -- Three gateways of the settings and three of a journal, which has them in another order: the first one's EUI under another
 -- number, the second one's EUI, and an EUI that isn't in the settings. The third gateway is new.
@@ -81,3 +85,15 @@ apart =
 pub each_has_its_own : EachTakesItsOwn → (ms : List Mast) → matched gateways forwarders ms
     ≡ (gateway 1, find (has_eui (eui 1)) ms) ∷ (gateway 2, find (has_eui (eui 2)) ms) ∷ (gateway 3, find (has_eui (eui 3)) ms) ∷ []
 each_has_its_own law ms = law gateways forwarders ms apart
+
+-- the end of one transmission, a gap, and two seconds; and of two the later one
+abbrev IsAt : ℕ → Reservation → Type 0
+IsAt start r = (r.start ≡ start) × (r.rate ≡ Dr5) × (r.len ≡ 12)
+
+pub silent_behind_one : (r : Reservation) → IsAt 1001100 r → silent_until 45000 (r ∷ []) ≡ 3087316
+unfolding airtime_of
+silent_behind_one r at = rw (at.0, at.1, at.2) refl
+
+pub silent_behind_two : (r s : Reservation) → IsAt 1001100 r → IsAt 5001100 s → silent_until 45000 (r ∷ s ∷ []) ≡ 7087316
+unfolding airtime_of
+silent_behind_two r s at then = rw (at.0, at.1, at.2, then.0, then.1, then.2) refl

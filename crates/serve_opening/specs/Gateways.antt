@@ -7,6 +7,7 @@ use Rattle.server_desk.specs.declared.setting.GatewaySetting.{GatewaySetting}
 use Rattle.server_desk.specs.World.{rules_of}
 use Rattle.serve_journal.specs.Journal.{Mast, empty_book, first_high}
 use Rattle.serve_settings.specs.declared.forwarder.Forwarder.{Forwarder}
+use Rattle.serve_opening.specs.Silence.{silenced}
 
 -- What the gateways of a server open with, out of what its journal says of gateways.
 
@@ -52,10 +53,16 @@ pub data IsRuled (rules : Rules) (b opened : Book) : Type 0 where
   Ruled : IsBookList rules b.floor b.booked b.list → opened ≡ with_rules b rules → IsRuled rules b opened
   Kept : ¬ (IsBookList rules b.floor b.booked b.list) → opened ≡ b → IsRuled rules b opened
 
+-- the book goes on with what the journal has of the gateway, and is silent till all of that has ended
+pub record GoesOn (g : GatewaySetting) (m : Mast) (opened : Book) : Type 0 where
+  pub book : Book
+  pub ruled : IsRuled (rules_of g) (renumbered g.id m.book) book
+  pub silent : opened ≡ silenced book
+
 -- the book that a gateway opens with: an empty one, or what the journal has
 abbrev pub IsOpenedAs : GatewaySetting → Option Mast → Book → Type 0
 IsOpenedAs g None opened = opened ≡ empty_book g.id (rules_of g)
-IsOpenedAs g (Some m) opened = IsRuled (rules_of g) (renumbered g.id m.book) opened
+IsOpenedAs g (Some m) opened = GoesOn g m opened
 
 abbrev pub IsOpened : Matched → Book → Type 0
 IsOpened known opened = IsOpenedAs known.0 known.1 opened

@@ -1,4 +1,5 @@
 pub mod Faults
+pub mod Silence
 pub mod Gateways
 pub mod Devices
 pub mod Notes

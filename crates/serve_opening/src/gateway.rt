@@ -7,6 +7,7 @@ ghost use Rattle.server_desk.specs.World.{rules_of};
 ghost use Rattle.serve_opening.specs.Gateways.{has_eui, without_first, known_by, others, unmatched, renumbered, IsRuled, IsOpenedAs};
 ghost use Rattle.serve_opening.specs.Gateways.{AreOpened, high_as, highs, setting_of};
 
+use crate::silence::silenced;
 use resv_tree::TreeRoster;
 use serve_journal::JournalGateway;
 use serve_settings::Forwarder;
@@ -113,7 +114,7 @@ fn opened<A: Allocator + Copy>(
     match known {
         Some(known) => {
             let book = renumbered(alloc, gateway.id, known.book)?;
-            Ok(ruled(gateway, book))
+            silenced(alloc, ruled(gateway, book))
         }
         None => Ok(empty_book(alloc, gateway)),
     }

@@ -8,6 +8,7 @@ mod law_calls;
 mod laws;
 mod note;
 mod opening;
+mod silence;
 mod waiting;
 
 pub use fault::OpeningFault;
