@@ -1,4 +1,4 @@
-use Rattle.std.specs.Prelude.{ℕ, Bool, false, if◌then◌else◌, List, [], ◌∷◌, length, Option, Some, None}
+use Rattle.std.specs.Prelude.{ℕ, Bool, true, false, if◌then◌else◌, List, [], ◌∷◌, length, Option, Some, None}
 use Rattle.serve_journal.specs.Renewal.{renewal_text}
 use Rattle.serve_renewal.specs.State.{state_of}
 use Rattle.serve_turns.specs.Effects.{Effect, Replaces}
@@ -26,6 +26,15 @@ renewing_effects_if_kept now done (Some k) l = Replaces (journal_at now k l) don
 
 abbrev pub renewing_effects : ℕ → Bool → Life → List Effect
 renewing_effects now done l = renewing_effects_if_kept now done l.kept l
+
+-- one is in its place, and no write of it has failed since
+abbrev pub is_unfailed : Option ℕ → Bool
+is_unfailed None = true
+is_unfailed (Some at) = false
+
+abbrev pub is_in_place : Option Kept → Bool
+is_in_place None = false
+is_in_place (Some k) = is_unfailed k.failed_at
 
 -- whether that is to be done
 abbrev pub is_to_be_renewed : ℕ → Option Kept → Bool

@@ -1,7 +1,7 @@
 // A server's journal is written anew.
-ghost use Rattle.std.specs.Prelude.{◌≤◌, ◌≡◌, ◌^◌, OnOk, OnErr};
+ghost use Rattle.std.specs.Prelude.{◌≤◌, ◌≡◌, ◌^◌, IfOk, OnOk, OnErr};
 ghost use Rattle.serve_turns.specs.Life.{IsReady};
-ghost use Rattle.serve_turns.specs.Renewing.{after_renewal, is_to_be_renewed, renewal_effects, renewing, renewing_effects};
+ghost use Rattle.serve_turns.specs.Renewing.{after_renewal, is_in_place, is_to_be_renewed, renewal_effects, renewing, renewing_effects};
 ghost use Rattle.serve_turns.specs.Turn.{Did, Broke};
 
 use crate::answerer::Answerer;
@@ -43,6 +43,7 @@ impl<S: BuildHasher, A: Allocator + Copy> Answerer<S, A> {
         requires early { now ≤ 2 ^ 60 }
         requires ready { IsReady self.old }
         ensures text { OnOk result (self.new.text ≡ self.old.text) }
+        ensures in_place { IfOk result (λ is_done. is_done ≡ is_in_place self.new.keeping) }
         ensures done { OnOk result (Did (H.effects host.old) (H.effects host.new) (renewing now) (renewing_effects now)
             self.old self.new) }
         ensures broken { OnErr result (Broke (H.effects host.old) (H.effects host.new) (renewing_effects now) self.old) }

@@ -1,8 +1,8 @@
 // One turn of a server.
-ghost use Rattle.std.specs.Prelude.{◌≡◌, ◌≤◌, ◌^◌, length, Err, IfErr, IfSome, OnErr, OnOk};
+ghost use Rattle.std.specs.Prelude.{◌≡◌, ◌≤◌, ◌^◌, length, Err, IfErr, IfOk, IfSome, OnErr, OnOk};
 ghost use Rattle.serve_turns.specs.Effects.{Adds, given};
 ghost use Rattle.serve_turns.specs.Life.{Makes, IsReady};
-ghost use Rattle.serve_turns.specs.Renewing.{renewing, renewing_effects};
+ghost use Rattle.serve_turns.specs.Renewing.{is_in_place, renewing, renewing_effects};
 ghost use Rattle.serve_turns.specs.Turn.{Did, Broke, HasActed, HasBroken, IsBetweenTurns, IsTurn, IsTold, IsCut, IsUntold, IsBroken, HasNoMoment};
 ghost use Rattle.serve_turns.specs.Turn.{after_report, after_pass, pass_effects, packet_of, sent_back, took, took_effects, came_in, came_in_effects};
 
@@ -67,6 +67,7 @@ impl<S: BuildHasher, A: Allocator + Copy> Serving<S, A> {
         requires early { now ≤ 2 ^ 60 }
         requires between { IsBetweenTurns self.old }
         ensures between { OnOk result (IsBetweenTurns self.new) }
+        ensures in_place { IfOk result (λ is_done. is_done ≡ is_in_place self.new.answerer.keeping) }
         ensures done { OnOk result (Did (H.effects host.old) (H.effects host.new) (renewing now) (renewing_effects now)
             self.old.answerer self.new.answerer) }
     {
