@@ -13,4 +13,5 @@ mod Sendings
 mod Passes
 mod Acts
 mod SendLaws
+mod WorkedSends
 mod Paired
