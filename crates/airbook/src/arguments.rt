@@ -3,11 +3,10 @@ use crate::help;
 use crate::listen_command::listen;
 use crate::listening::Listening;
 use crate::recover_command::{Recovering, recover, recovering_of};
-use crate::serve_command::{bound_to, serve};
+use crate::serve_command::{ServeTask, serve, serving_of};
 use airbook_text::MAX_WORKERS;
 use clap::{Arg, ArgAction, ArgMatches, Command, value_parser};
 use std::alloc::{AllocError, Global};
-use std::net::SocketAddrV4;
 
 /// The version, as CHANGELOG.md has it, and the toolchain that the sources are proved with, as README.md has it. Whether this
 /// very program was proved it can't know.
@@ -15,7 +14,7 @@ const VERSION: &str = "0.2.0 (sources proved with rattle-kit-13f logic dac8208d6
 
 /// What is asked for on the command line.
 #[derive(Clone, Copy)]
-pub enum Task {
+pub enum Task<'a> {
     /// The time on air of a PHYPayload of `len` bytes at data rate `rate`.
     Toa { rate: u8, len: u8 },
     /// The book of a gateway.
@@ -32,8 +31,8 @@ pub enum Task {
     Run(Running),
     /// Settings of a server, and a socket that tells what happens there.
     Listen(Listening),
-    /// Settings of a server, and packet forwarders of gateways that send to a socket at this address.
-    Serve(SocketAddrV4),
+    /// Settings of a server, and packet forwarders of gateways that send to a socket.
+    Serve(ServeTask<'a>),
 }
 
 /// How a gateway's book is opened: an empty one that keeps at most `cap` transmissions, at least `gap` microseconds apart, or with
@@ -231,7 +230,7 @@ fn run<'a>(alloc: Global) -> Result<Command<'a>, AllocError> {
 }
 
 /// The task that the arguments name.
-pub fn task_of(matches: &ArgMatches<'_>) -> Option<Task> {
+pub fn task_of<'a>(matches: &ArgMatches<'a>) -> Option<Task<'a>> {
     match matches.subcommand() {
         Some(("toa", toa)) => Some(Task::Toa {
             rate: toa.get_one::<u8>("DR")?,
@@ -264,7 +263,7 @@ pub fn task_of(matches: &ArgMatches<'_>) -> Option<Task> {
             workers: listen.get_one::<u8>("workers")?,
             notes: listen.get_flag("notes"),
         })),
-        Some(("serve", serve)) => Some(Task::Serve(bound_to(serve)?)),
+        Some(("serve", serve)) => Some(Task::Serve(serving_of(serve)?)),
         _ => None,
     }
 }

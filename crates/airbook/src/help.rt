@@ -28,7 +28,7 @@ Examples:
   airbook check < examples/misspelt.toml
   airbook run < examples/two-gateways.txt
   airbook listen --port 1700 --turns 1 < examples/settings.toml
-  airbook serve --shadow < examples/serve.toml";
+  airbook serve --state /var/lib/airbook < examples/serve.toml";
 
 pub const TOA: &str = "Tells the time on air of a frame, in microseconds";
 
@@ -254,26 +254,36 @@ pub const SERVE: &str = "Answers uplinks of packet forwarders, by Semtech's UDP 
 
 pub const LONG_SERVE: &str = "\
 Hears uplinks from the packet forwarders of gateways, by version 2 of Semtech's
-UDP protocol, and tells how each of them would be answered. Standard input: the
-settings in TOML. It ends by a fault or a kill alone";
+UDP protocol, and tells how each of them is answered. With --state it sends the
+downlinks, and what it sends is in its journal before. With --shadow it sends
+none. Standard input: the settings in TOML. It ends by a fault or a kill alone";
+
+pub const STATE: &str = "\
+Keeps its journal in this folder, which has to be there, and sends
+downlinks. Started again it goes on with what the journal says";
+
+pub const NEW: &str = "\
+Begins a journal where there is none. For an hour before, nothing may
+have been sent by these gateways";
 
 pub const AFTER_SERVE: &str = "\
-PUSH_DATA and PULL_DATA are acknowledged, and nothing else is sent. Each gateway
-of the settings needs an eui, and a gap of 45000 or more: examples/serve.toml
-has all its keys. Lines of standard output:
+Each gateway of the settings needs an eui, and a gap of 45000 or more:
+examples/serve.toml has all its keys. Lines of standard output:
   > LINE                   a line of run: hear, tick or pass; below it stand the
                            lines that answer it
   session GATEWAY AT       the gateway's clock begins anew, at AT
-  acked TOKEN GATEWAY      the gateway took a downlink of another server
-  failed TOKEN GATEWAY ERROR
-                           it did not
+  acked N GATEWAY          the gateway took the downlink N
+  failed N GATEWAY ERROR   it did not, or the downlink was not sent
   dropped NAME COUNT EUI   so many datagrams, packets or copies were passed over
                            since this was last told, for the reason NAME; EUI is
                            the gateway's of the last one, or -
 
 Statuses: see airbook --help.
 
-Example:
+Examples:
+  $ mkdir state
+  $ airbook serve --state state --new < examples/serve.toml > log.1
+  $ airbook serve --state state < examples/serve.toml > log.2
   $ airbook serve --shadow --bind 127.0.0.1:1700 < examples/serve.toml &
   $ printf '\\2\\0\\0\\1' > /dev/udp/127.0.0.1/1700
   dropped Kind 1 -";

@@ -8,9 +8,12 @@ mod listening;
 mod noting;
 mod recover_command;
 mod recovering;
+mod resuming;
 mod serve_command;
 mod serving;
+mod state_folder;
 mod stopped;
+mod surroundings;
 mod tasks;
 
 use std::process::ExitCode;

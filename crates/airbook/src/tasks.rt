@@ -14,6 +14,7 @@ use log::Log;
 use noted_texts::{noted_book, noted_plan};
 use std::alloc::AllocError;
 use std::env::Env;
+use std::fs::{File, Files};
 use std::hash::RandomState;
 use std::io;
 use std::net::Net;
@@ -44,7 +45,8 @@ pub fn run<
         + Sync
         + Clock
         + Net
-        + Log,
+        + Log
+        + Files<File = File>,
 >(rt: &R) -> ExitCode {
     let words = match words_of(rt) {
         Ok(words) => words,
@@ -97,8 +99,9 @@ fn perform<
         + Sync
         + Clock
         + Net
-        + Log,
->(rt: &R, task: Task) -> ExitCode {
+        + Log
+        + Files<File = File>,
+>(rt: &R, task: Task<'_>) -> ExitCode {
     let mut reader = StdIn::new(rt.reader());
     let mut writer = StdOut::new(io::writer(rt));
     let answered = match task {
@@ -117,8 +120,8 @@ fn perform<
             Err(Stopped::Text(stopped)) => Err(stopped),
             Err(stopped) => return fault(rt, stopped.name()),
         },
-        Task::Serve(address) => {
-            return fault(rt, serve(rt, address, &mut reader, &mut writer).name());
+        Task::Serve(serving) => {
+            return fault(rt, serve(rt, serving, &mut reader, &mut writer).name());
         }
     };
     match answered {
