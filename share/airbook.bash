@@ -14,7 +14,7 @@ _airbook() {
         recover) options='--gateway --sql --help' ;;
         run) options='--workers --notes --help' ;;
         listen) options='--port --turns --workers --notes --help' ;;
-        serve) options='--shadow --bind --help' ;;
+        serve) options='--state --new --shadow --bind --help' ;;
         help) options='toa book plan picture recover check run listen serve help' ;;
     esac
     if [[ $word == -* || ${COMP_WORDS[1]} == help ]]; then
