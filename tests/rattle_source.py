@@ -9,7 +9,10 @@ TYPE = re.compile(r"^(?:pub(?:\([^)]*\))? )?(?:struct|enum) (\w+)", re.M)
 TRAIT = re.compile(r"^(?:pub(?:\([^)]*\))? )?trait (\w+)")
 WORD = re.compile(r"[A-Za-z_]\w*")
 TEXT_OR_COMMENT = re.compile(r'"(?:\\.|[^"\\])*"|//.*')
-# Methods that a source calls without their names: operators, loops, formatting, conversions, and what is let go.
+# A call, behind a dot, a path or nothing; and a function that is handed on as a value.
+CALL = re.compile(r"(\.|::)?\b([A-Za-z_]\w*)(?:::<[^()]*>)?\s*\(")
+HANDED_ON = re.compile(r"(?<=[(,])\s*&?(?:mut )?(?:\w+::)*([A-Za-z_]\w*)\s*(?=[,)])")
+# Methods of traits that a source calls without their names: operators, loops, formatting, conversions, and what is let go.
 UNNAMED = {"add", "sub", "mul", "eq", "ne", "cmp", "partial_cmp", "hash", "index", "deref", "next", "fmt", "from", "drop", "not"}
 
 
@@ -19,7 +22,10 @@ class Function:
     file: str
     first: int
     last: int
-    words: frozenset
+    # Whether it is a method, or another function of a type or a trait, and whether it is one of a trait.
+    is_owned: bool
+    is_of_trait: bool
+    code: str
 
     @property
     def name(self):
@@ -52,21 +58,22 @@ def functions_in(folder, file, homes):
     """The functions of a file, in the order of their lines. A method's path begins with the module of its type, a trait's with
     that of the `impl`."""
     lines = pathlib.Path(folder, file).read_text(encoding="utf-8").splitlines()
-    found, owner, module = [], "", module_of(file)
+    found, owner, module, is_of_trait = [], "", module_of(file), False
     for number, line in enumerate(lines):
         impl, trait, head = IMPL.match(line), TRAIT.match(line), HEAD.match(line)
         if impl:
-            owner = name_of(impl["type"]) + name_of(impl["trait"] or "")
+            owner, is_of_trait = name_of(impl["type"]) + name_of(impl["trait"] or ""), bool(impl["trait"])
             module = module_of(file) if impl["trait"] else homes.get(name_of(impl["type"]), module_of(file))
         elif trait:
-            owner = trait[1]
+            owner, is_of_trait = trait[1], True
         elif line.startswith("}"):
             owner, module = "", module_of(file)
         if head:
-            path = "::".join([*module, *([owner] if head[1] and owner else []), head[2]])
+            is_owned = bool(head[1] and owner)
+            path = "::".join([*module, *([owner] if is_owned else []), head[2]])
             last = end_of(lines, number, head[1])
             code = " ".join(TEXT_OR_COMMENT.sub("", it) for it in lines[number + 1 : last + 1])
-            found.append(Function(path, file, number, last, frozenset(WORD.findall(code))))
+            found.append(Function(path, file, number, last, is_owned, is_owned and is_of_trait, code))
     return found
 
 
@@ -82,13 +89,20 @@ def reached_from(functions):
     """For each function those of the crate that it may call, itself or through others: by name, so that it may be too many."""
     by_name = {}
     for it in functions.values():
-        by_name.setdefault(it.name, set()).add(it.path)
-    unnamed = {path for name in UNNAMED for path in by_name.get(name, ())}
-    calls = {
-        it.path: (unnamed | {path for word in it.words for path in by_name.get(word, ())}) - {it.path}
-        for it in functions.values()
-    }
+        by_name.setdefault(it.name, []).append(it)
+    unnamed = {it.path for name in UNNAMED for it in by_name.get(name, ()) if it.is_of_trait}
+    calls = {it.path: (unnamed | called_in(it.code, by_name)) - {it.path} for it in functions.values()}
     return {path: closure(path, calls) for path in calls}
+
+
+def called_in(code, by_name):
+    """The paths of the functions that code may name: behind a dot those of a type or a trait, behind nothing the others."""
+    found = set()
+    for before, name in CALL.findall(code):
+        found |= {it.path for it in by_name.get(name, ()) if before == "::" or it.is_owned == (before == ".")}
+    for name in HANDED_ON.findall(code):
+        found |= {it.path for it in by_name.get(name, ()) if not it.is_owned or f"::{name}" in code}
+    return found
 
 
 def closure(path, calls):

@@ -1,21 +1,25 @@
-"""Starts `airbook serve --shadow` for tests/serve.py and bench/serve.py, and reads what it writes; and a packet forwarder's socket.
+"""Starts `airbook serve` for tests/serve.py, tests/restarts.py and bench/serve.py, and reads what it writes; and a packet
+forwarder's socket.
 
 What the program writes goes to a file, so that it never waits for a reader. Each wait ends within a minute.
 """
 from __future__ import annotations
 
 import contextlib
+import itertools
 import os
 import pathlib
 import socket
 import subprocess
 import tempfile
 import time
-from typing import Any, Callable
+from typing import Any, Callable, Sequence
 
 SECONDS = 60
 EUIS = [bytes.fromhex(f"aa555a000000000{number}") for number in range(10)]
 TOKEN = b"\x12\x34"
+# Ports below those that Linux gives out by itself.
+PORTS = itertools.count(20_000 + os.getpid() % 10_000)
 
 
 class Failed(Exception):
@@ -47,9 +51,12 @@ def is_bound(port: int) -> bool:
 
 
 def free_port() -> int:
-    with socket.socket(type=socket.SOCK_DGRAM) as probe:
-        probe.bind(("127.0.0.1", 0))
-        return probe.getsockname()[1]
+    """A port that nobody has, and that no socket gets which asks for any port."""
+    for port in PORTS:
+        with socket.socket(type=socket.SOCK_DGRAM) as probe, contextlib.suppress(OSError):
+            probe.bind(("127.0.0.1", port))
+            return port
+    raise AssertionError
 
 
 def gateway_table(number: int, **more: object) -> str:
@@ -63,18 +70,22 @@ def device_table(addr: int, keys: tuple[bytes, bytes]) -> str:
 
 
 class Server:
-    """The program at work, in a `with`."""
+    """The program at work, in a `with`: a shadow, or as these words say; with more options of Popen where some are given."""
 
-    def __init__(self, program: str, settings: str, output: Any = None) -> None:
+    def __init__(
+        self, program: str, settings: str, output: Any = None, words: Sequence[str] = ("--shadow",), **options: Any
+    ) -> None:
         self.program, self.settings, self.given, self.port = program, settings, output, free_port()
         self.address, self.read, self.rest = ("127.0.0.1", self.port), 0, b""
+        self.words, self.options = words, options
 
     def __enter__(self) -> Server:
         self.folder = tempfile.TemporaryDirectory(prefix="serve-")
         self.output = pathlib.Path(self.folder.name, "lines").open("w+b")
         self.errors = pathlib.Path(self.folder.name, "errors").open("w+b")
-        words = [self.program, "serve", "--shadow", "--bind", f"127.0.0.1:{self.port}"]
-        self.child = subprocess.Popen(words, stdin=subprocess.PIPE, stdout=self.given or self.output, stderr=self.errors)
+        words = [self.program, "serve", *self.words, "--bind", f"127.0.0.1:{self.port}"]
+        pipes = {"stdin": subprocess.PIPE, "stdout": self.given or self.output, "stderr": self.errors}
+        self.child = subprocess.Popen(words, **pipes, **self.options)
         try:
             # One that has ended by now reads none of it.
             with contextlib.suppress(BrokenPipeError), self.child.stdin:

@@ -1,0 +1,205 @@
+"""An `airbook serve --state` whose journal can't be written for some time, for tests/restarts.py.
+
+Two disks fail here: one on which no file of the server may grow, and one that keeps nothing, by a library that is loaded before
+the C library. While one fails nothing is sent, and the program runs on. A whole journal is tried every 10 s. Once one was
+written the program sends again.
+"""
+from __future__ import annotations
+
+import os
+import pathlib
+import re
+import resource
+import time
+from typing import Callable, Optional
+
+import lorawan
+from gateway_model import PULL_RESP
+from plain_restarts import SetDevice, SetGateway, Settings, expect_state
+from played_forwarders import entry, now, push_data
+from preloaded import library_of
+from recover import State, reader
+from served_lives import datagrams, read_pull_resp
+from serving import EUIS, TOKEN, Failed, Sender, Server, awaited, expect
+
+KEYS = bytes.fromhex("2b7e151628aed2a6abf7158809cf4f3c"), bytes.fromhex("000102030405060708090a0b0c0d0e0f")
+ADDR = 0x26011BDA
+# A renewal is tried so often, in seconds, and the next uplink's answer comes some time later.
+RENEWED_EVERY, SOON = 10, 2
+# So many bytes of a batch have room on a full disk.
+PART = 20
+# Each sync of bytes, of a file and of a folder is told by a letter, and each rename. While a file is there no sync succeeds.
+SYNCING = r"""
+#define _GNU_SOURCE
+#include <dlfcn.h>
+#include <errno.h>
+#include <fcntl.h>
+#include <stdlib.h>
+#include <sys/stat.h>
+#include <unistd.h>
+
+static int synced(int file, const char *name, const char *call) {
+    int (*real)(int) = (int (*)(int))dlsym(RTLD_NEXT, name);
+    int told = open(getenv("CALLS_TOLD"), O_WRONLY | O_APPEND);
+    if (write(told, call, 1)) {}
+    close(told);
+    if (access(getenv("SYNC_FAILS"), F_OK)) return real(file);
+    errno = EIO;
+    return -1;
+}
+
+int fdatasync(int file) {
+    return synced(file, "fdatasync", "d");
+}
+
+int fsync(int file) {
+    struct stat seen;
+    return synced(file, "fsync", !fstat(file, &seen) && S_ISDIR(seen.st_mode) ? "F" : "f");
+}
+
+int rename(const char *from, const char *to) {
+    int (*real)(const char *, const char *) = (int (*)(const char *, const char *))dlsym(RTLD_NEXT, "rename");
+    int told = open(getenv("CALLS_TOLD"), O_WRONLY | O_APPEND);
+    if (write(told, "r", 1)) {}
+    close(told);
+    return real(from, to);
+}
+"""
+
+
+class FullDisk:
+    """No file of the server may grow beyond the journal, but for a part of a batch."""
+
+    # So the signal of a file that is too long is passed over.
+    options: dict[str, object] = {"restore_signals": False}
+
+    def breaks(self, server: Server, journal: pathlib.Path) -> None:
+        self.limit(server, journal.stat().st_size + PART)
+
+    def mends(self, server: Server) -> None:
+        self.limit(server, resource.RLIM_INFINITY)
+
+    def limit(self, server: Server, size: int) -> None:
+        resource.prlimit(server.child.pid, resource.RLIMIT_FSIZE, (size, resource.RLIM_INFINITY))
+
+    def calls(self) -> Optional[str]:
+        return None
+
+
+class ForgetfulDisk:
+    """No sync succeeds, though all is written. It knows all syncs and renames."""
+
+    def __init__(self, folder: pathlib.Path) -> None:
+        self.told, self.failing = folder / "told", folder / "failing"
+        self.told.touch()
+        more = {"LD_PRELOAD": str(library_of(SYNCING, folder)), "CALLS_TOLD": str(self.told), "SYNC_FAILS": str(self.failing)}
+        self.options: dict[str, object] = {"env": {**os.environ, **more}}
+
+    def breaks(self, server: Server, journal: pathlib.Path) -> None:
+        self.failing.touch()
+
+    def mends(self, server: Server) -> None:
+        self.failing.unlink()
+
+    def calls(self) -> Optional[str]:
+        return self.told.read_text()
+
+
+class Asker:
+    """A gateway that tells a confirmed uplink four times a second, and what comes of it."""
+
+    def __init__(self, server: Server, sender: Sender) -> None:
+        self.server, self.sender, self.counter = server, sender, 0
+        # By its number the start and the frame of each answer; what is told to fail; and the PULL_RESPs.
+        self.starts: dict[str, int] = {}
+        self.frames: dict[str, bytes] = {}
+        self.failed: list[str] = []
+        self.asked: list[bytes] = []
+
+    def ask(self) -> None:
+        """One uplink, and a quarter of a second."""
+        self.counter += 1
+        data = lorawan.uplink(True, ADDR, self.counter, KEYS)
+        self.sender.send(push_data(EUIS[1], TOKEN, [entry(data, now() % (1 << 32))]))
+        time.sleep(0.25)
+        self.take()
+
+    def take(self) -> None:
+        """The PULL_RESPs and the lines that came."""
+        self.sender.socket.setblocking(False)
+        self.asked += [one for one in datagrams(self.sender.socket) if one[3] == PULL_RESP]
+        expect(None, self.server.child.poll(), "the status of the program")
+        for line in self.server.lines():
+            first, number, *words = line.split()
+            if first == "send":
+                self.starts[number] = int(words[2])
+            elif first == "frame":
+                self.frames[number] = bytes.fromhex(words[0])
+            elif first == "failed":
+                self.failed.append(" ".join([number, *words]))
+
+    def until(self, seconds: float, is_enough: Callable[[], bool]) -> None:
+        """Goes on for so long, or until that is enough."""
+        ends = time.monotonic() + seconds
+        while time.monotonic() < ends and not is_enough():
+            self.ask()
+
+
+def settings_and_journal() -> tuple[Settings, bytes]:
+    """A gateway and a device, and others for which so much waits that the file of the lines stays shorter than the journal."""
+    devices = [SetDevice(ADDR + number, KEYS) for number in range(11)]
+    settings = Settings([SetGateway(1, EUIS[1])], devices)
+    waiting = [f"queue {one.addr:08x} 1 {'00' * 242}" for one in devices[1:] for _ in range(16)]
+    return settings, settings.journal(*waiting)
+
+
+def goes_through(program: str, folder: pathlib.Path, disk: FullDisk | ForgetfulDisk, seconds: float) -> None:
+    """The disk fails for so long."""
+    journal = folder / "journal"
+    settings, text = settings_and_journal()
+    journal.write_bytes(text)
+    words = ["--state", str(folder)]
+    with Server(program, settings.text(), words=words, **disk.options) as server, Sender(server) as sender:
+        sender.pull(EUIS[1])
+        play = Asker(server, sender)
+        play.ask()
+        awaited(lambda: play.take() or play.asked and play.frames, "the first answer", server.child)
+        expect((1, ["1"], []), (len(play.asked), list(play.starts), play.failed), "what is sent at first")
+        before = journal.read_bytes()
+        disk.breaks(server, journal)
+        play.until(seconds, lambda: False)
+        if len(play.starts) < 3:
+            raise Failed(f"{len(play.starts)} answers are told in {seconds} s in which the disk fails")
+        expect([f"{number} 1 Journal" for number in play.starts][1:], play.failed, "what fails with the disk")
+        expect(1, len(play.asked), "what is sent while the disk fails")
+        failing = journal.read_bytes()
+        expect(before, failing[:len(before)], "the front of the journal while the disk fails")
+        if isinstance(disk, FullDisk):
+            expect(len(before) + PART, len(failing), "the bytes of the journal while the disk is full")
+            expect_state(reader(before)[0], reader(failing)[0], "the journal while the disk is full")
+        disk.mends(server)
+        play.until(RENEWED_EVERY + SOON, lambda: len(play.asked) > 1)
+        # What was told last is answered by then.
+        time.sleep(0.5)
+        play.take()
+        sends_again(play, reader(journal.read_bytes())[0])
+        if disk.calls() is not None:
+            # A whole journal at the start; a batch that is kept, and one that isn't; each renewal; and a batch for each pass.
+            calls = re.fullmatch("frFdd" + "f" * int(seconds // RENEWED_EVERY) + "frFd+", disk.calls())
+            expect(True, calls is not None, f"the syncs and renames {disk.calls()}")
+
+
+def sends_again(play: Asker, state: State) -> None:
+    """Something was sent again, with the counter behind those of all that failed. The journal says that, and what failed too."""
+    told = [read_pull_resp(one) for one in play.asked[1:]]
+    if not told:
+        raise Failed("nothing is sent once the disk is mended")
+    first, last = told[0][0], told[-1][0]
+    expect(list(range(first, last + 1)), [token for token, *_ in told], "the tokens of what is sent again")
+    for token, _, _, _, frame in told:
+        expect(play.frames[str(token)], frame, "a frame that is sent again")
+        expect(lorawan.downlink(ADDR, token - 1, KEYS, ack=True), frame, "a frame that is sent again, by its counter")
+    expect([f"{number} 1 Journal" for number in range(2, first)], play.failed, "all that fails")
+    expect(last, state.devices[ADDR][2], "the next downlink counter by the journal")
+    starts = [start for start, *_ in state.gateways[1][2].members]
+    expect(sorted(play.starts.values()), starts, "the starts that the journal has")
