@@ -29,8 +29,8 @@ sys.dont_write_bytecode = True
 import lorawan
 from gateway_model import RATES
 from measured import STEP
-from serve import push_data
-from serving import EUIS, Sender, Server, device_table, gateway_table
+from played_forwarders import entry, push_data
+from serving import EUIS, TOKEN, Sender, Server, device_table, gateway_table
 
 RUNS, MEMBERS = 5, 65_536
 GATEWAYS = range(1, 5)
@@ -131,7 +131,7 @@ def sent_uplinks(server: Server, answers: Answers, count: int) -> None:
         moment = (time.monotonic_ns() // 1000) % (1 << 32)
         answers.began[(moment + 1_000_000) % (1 << 32)] = answers.began[(moment + 2_000_000) % (1 << 32)] = time.monotonic()
         for gateway in (first, second):
-            answers.senders[gateway - 1].send(push_data(gateway, moment, data))
+            answers.senders[gateway - 1].send(push_data(EUIS[gateway], TOKEN, [entry(data, moment)]))
 
 
 def time_answers(program: str, count: int) -> bool:
