@@ -18,8 +18,8 @@ from typing import Any, Callable, Sequence
 SECONDS = 60
 EUIS = [bytes.fromhex(f"aa555a000000000{number}") for number in range(10)]
 TOKEN = b"\x12\x34"
-# Ports below those that Linux gives out by itself.
-PORTS = itertools.count(20_000 + os.getpid() % 10_000)
+# Ports below those that Linux gives out by itself, each process beginning at another one.
+PORTS = map(lambda number: 20_000 + number % 12_000, itertools.count(os.getpid()))
 
 
 class Failed(Exception):
@@ -51,12 +51,9 @@ def is_bound(port: int) -> bool:
 
 
 def free_port() -> int:
-    """A port that nobody has, and that no socket gets which asks for any port."""
-    for port in PORTS:
-        with socket.socket(type=socket.SOCK_DGRAM) as probe, contextlib.suppress(OSError):
-            probe.bind(("127.0.0.1", port))
-            return port
-    raise AssertionError
+    """A port that nobody has, and that no socket gets which asks for any port. None is bound to try it: a process that another thread
+    starts at this moment would hold it too, until it is on its own."""
+    return next(port for port in PORTS if not is_bound(port))
 
 
 def gateway_table(number: int, **more: object) -> str:
