@@ -18,7 +18,6 @@ import contextlib
 import json
 import os
 import pathlib
-import subprocess
 import sys
 import tempfile
 import time
@@ -28,15 +27,14 @@ sys.path.insert(0, str(TOP / "tests"))
 sys.dont_write_bytecode = True
 import lorawan
 from gateway_model import RATES
-from measured import STEP
+from measured import STEP, used
 from played_forwarders import entry, push_data
 from serving import EUIS, TOKEN, Sender, Server, device_table, gateway_table
 
-RUNS, MEMBERS = 5, 65_536
 GATEWAYS = range(1, 5)
 DEVICES = {0x26011000 + number: (bytes([number] * 16), bytes([number, 1] * 8)) for number in range(64)}
 SETTINGS = "".join([*map(gateway_table, GATEWAYS), *(device_table(*device) for device in DEVICES.items())])
-EACH_US, ANSWERED_EACH = 5_000, 10
+MEMBERS, EACH_US, ANSWERED_EACH = 65_536, 5_000, 10
 
 
 def starts() -> range:
@@ -54,24 +52,10 @@ def saved() -> bytes:
     return f"airbook 2\ngateway 1 65536 0 45000\n{rows}end {MEMBERS}\n".encode()
 
 
-def seconds(program: str, words: list[str], text: bytes) -> float:
-    """The processor seconds of one run."""
-    with tempfile.TemporaryFile() as given:
-        given.write(text)
-        given.seek(0)
-        child = subprocess.Popen([program, *words], stdin=given, stdout=subprocess.DEVNULL)
-        _, status, usage = os.wait4(child.pid, 0)
-        child.returncode = os.waitstatus_to_exitcode(status)
-    if child.returncode != 0:
-        raise SystemExit(f"{program} {' '.join(words)} failed")
-    return usage.ru_utime + usage.ru_stime
-
-
 def compare_reading(program: str) -> bool:
     """Whether a journal is read within the goal."""
-    journals, books = journal(), saved()
-    read = min(seconds(program, ["recover", "--gateway", "1"], journals) for _ in range(RUNS))
-    loaded = min(seconds(program, ["book", "--resume", "--save"], books) for _ in range(RUNS))
+    read, _ = used(program, ["recover", "--gateway", "1"], journal())
+    loaded, _ = used(program, ["book", "--resume", "--save"], saved())
     print(f"reading a journal {read * 1000:.0f} ms, loading a book {loaded * 1000:.0f} ms, which is {read / loaded:.2f}")
     return read <= 1.5 * loaded
 

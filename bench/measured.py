@@ -46,3 +46,20 @@ def memory(program, lines, what="VmHWM"):
     if child.wait() not in (0, 1):
         raise SystemExit(f"{program} book failed")
     return found
+
+
+def used(program, words, text):
+    """The least processor seconds, and the greatest memory in KiB, of several runs of the program on this text."""
+    seconds, memory = [], []
+    with tempfile.TemporaryFile() as given:
+        given.write(text)
+        for _ in range(5):
+            given.seek(0)
+            child = subprocess.Popen([program, *words], stdin=given, stdout=subprocess.DEVNULL)
+            _, status, usage = os.wait4(child.pid, 0)
+            child.returncode = os.waitstatus_to_exitcode(status)
+            if child.returncode != 0:
+                raise SystemExit(f"{program} {' '.join(words)} failed")
+            seconds.append(usage.ru_utime + usage.ru_stime)
+            memory.append(usage.ru_maxrss)
+    return min(seconds), max(memory)

@@ -8,16 +8,13 @@ Two books are drawn: one of 600 transmissions an hour, and one that is as dense 
 most is drawn. What reading costs is what `book --resume` takes on the same text, with its report. It needs python3. The status is 0
 where drawing costs at most twice of reading, and at most 64 KiB more memory; else 1.
 """
-import os
 import pathlib
-import subprocess
 import sys
-import tempfile
 
-from measured import STEP
+from measured import STEP, used
 
 TOP = pathlib.Path(__file__).resolve().parent.parent
-RUNS, MEMBERS, HOUR = 5, 65_536, 3_600_000_000
+MEMBERS, HOUR = 65_536, 3_600_000_000
 # A channel of each sub-band at DR6, and how many empty frames of 10,368 us its limit holds in an hour.
 CHANNELS = [(863_500_000, 347), (867_100_000, 3_472), (868_300_000, 3_472), (868_950_000, 347), (869_525_000, 34_722)]
 CHANNELS += [(869_850_000, 3_472)]
@@ -39,23 +36,6 @@ def dense():
     order = [frequency for frequency, most in CHANNELS for _ in range(most)]
     drawn = [(HOUR * (number // len(order)) + number % len(order) * FRAME, order[number % len(order)], 0) for number in range(MEMBERS)]
     return saved(drawn)
-
-
-def used(program, words, text):
-    """The least processor seconds, and the greatest memory in KiB, of several runs."""
-    seconds, memory = [], []
-    with tempfile.TemporaryFile() as given:
-        given.write(text)
-        for _ in range(RUNS):
-            given.seek(0)
-            child = subprocess.Popen([program, *words], stdin=given, stdout=subprocess.DEVNULL)
-            _, status, usage = os.wait4(child.pid, 0)
-            child.returncode = os.waitstatus_to_exitcode(status)
-            if child.returncode != 0:
-                raise SystemExit(f"{program} {' '.join(words)} failed")
-            seconds.append(usage.ru_utime + usage.ru_stime)
-            memory.append(usage.ru_maxrss)
-    return min(seconds), max(memory)
 
 
 def main(words):
