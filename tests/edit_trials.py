@@ -5,15 +5,20 @@ Usage: tests/edit_trials.py
 
 The edits are in tests/edits. An edit that means the same must not be told as refused, also beside others that are; nor one
 whose caller or callee alone is refused, one that can't be read or applied, or one that is refused only since a name is gone.
-None may be passed over. The last line is 'N passed, M failed'; status 0 where none failed, 1 where one did, 2 where nothing
+None may be passed over. Then it looks at what is kept of them for later runs (tests/kept_verdicts.py): what was refused, and of
+that nothing once the edit, a file of its crate or a script is another. The last line is 'N passed, M failed'; status 0 where none failed, 1 where one did, 2 where nothing
 could be run.
 """
+import dataclasses
+import pathlib
 import sys
+import tempfile
 
 sys.dont_write_bytecode = True
 import edits
 import prover
 from edit_verdicts import Kind
+from kept_verdicts import KeptVerdicts
 
 FOLDER = prover.TOP / "tests" / "edits"
 WANTED = {
@@ -30,6 +35,24 @@ WANTED = {
     "radio_airtime/only_what_it_calls_is_refused": Kind.OTHER,
     "radio_airtime/stands_more_than_once": Kind.BAD,
 }
+# How many things are looked at of what is kept.
+KEPT = 4
+
+
+def kept_wrongly(folder, found):
+    """What is kept of these edits and shouldn't be, or the other way round."""
+    every = [edit for edits in found.values() for edit in edits]
+    refused = {edit.label for edit in every if WANTED.get(edit.label) is Kind.REFUSED}
+    known, unread, of_other_files = KeptVerdicts(folder), KeptVerdicts(folder, is_read=False), KeptVerdicts(folder)
+    of_other_files.sum_of_crate = lambda crate: "other files"
+    others = [dataclasses.replace(edit, only=f"{edit.only}_2") for edit in every]
+    kept = {
+        "what was refused, and no other edit": ({edit.label for edit in every if known.of(edit)}, refused),
+        "other edits of the same name": ({edit.label for edit in others if known.of(edit)}, set()),
+        "edits of files that have changed": ({edit.label for edit in every if of_other_files.of(edit)}, set()),
+        "edits that are to be tried anew": ({edit.label for edit in every if unread.of(edit)}, set()),
+    }
+    return [f"{what}: {sorted(told)} kept, and not {sorted(wanted)}" for what, (told, wanted) in kept.items() if told != wanted]
 
 
 def main():
@@ -38,12 +61,19 @@ def main():
     if unproved or len(sys.argv) > 1:
         print(__doc__.strip() if len(sys.argv) > 1 else f"edit_trials.py: not proved: {unproved}", file=sys.stderr)
         return 2
-    told = {label: it.kind for label, it in edits.tried(*edits.gathered(FOLDER, crates)).told.items()}
+    found, bad = edits.gathered(FOLDER, crates)
+    with tempfile.TemporaryDirectory(prefix="edit-trials-") as room:
+        folder = pathlib.Path(room)
+        told = {label: it.kind for label, it in edits.tried(found, bad, KeptVerdicts(folder)).told.items()}
+        kept = kept_wrongly(folder, found)
     wrong = sorted(label for label in WANTED.keys() | told.keys() if told.get(label) is not WANTED.get(label))
     for label in wrong:
         print(f"{label}: told as {told.get(label)}, and it is {WANTED.get(label)}")
-    print(f"{len(WANTED.keys() | told.keys()) - len(wrong)} passed, {len(wrong)} failed")
-    return 1 if wrong else 0
+    for line in kept:
+        print(line)
+    count, failed = len(WANTED.keys() | told.keys()) + KEPT, len(wrong) + len(kept)
+    print(f"{count - failed} passed, {failed} failed")
+    return 1 if failed else 0
 
 
 if __name__ == "__main__":

@@ -1,7 +1,9 @@
 #!/usr/bin/env python3
 """Tries edits, which are wrong changes of the sources: the prover has to refuse each.
 
-Usage: tests/edits.py FOLDER [CRATE ..]      (FOLDER: one whose folders are named after crates, as edits or mutants)
+Usage: tests/edits.py [--anew] FOLDER [CRATE ..]
+       (FOLDER: one whose folders are named after crates, as edits or mutants; --anew: tries all. Without it an edit that an
+       earlier run on this machine saw refused, over the same files, is told so and not tried: tests/kept_verdicts.py)
 
 What an edit is says tests/edit_files.py. It is refused only if the function that it names isn't proved, for a goal of its
 own; of a changed statement, if the fact that it names isn't. Without the edit both are proved, as tests/gate.py has shown, which
@@ -29,6 +31,7 @@ import prover
 import rattle_source
 from edit_files import BadEdit
 from edit_verdicts import Kind, Said, Verdict
+from kept_verdicts import KeptVerdicts, cache_folder
 
 MOST_AT_A_TIME = 12
 BYTES_OF_A_CHECK = 2_200_000_000
@@ -167,18 +170,22 @@ class Progress:
     """Tells what became of each edit as it is known."""
 
     def __init__(self, count):
-        self.count, self.told, self.started = count, {}, time.monotonic()
+        self.count, self.told, self.kept, self.started = count, {}, 0, time.monotonic()
 
-    def tell(self, label, verdict):
+    def tell(self, label, verdict, of=""):
         self.told[label] = verdict
         minutes = (time.monotonic() - self.started) / 60
-        print(f"[{len(self.told)} of {self.count}, {minutes:.1f} min] {label}: {verdict.kind.value}: {verdict.goal}", flush=True)
+        print(f"[{len(self.told)} of {self.count}, {minutes:.1f} min] {label}: {verdict.kind.value}{of}: {verdict.goal}", flush=True)
+
+    def tell_kept(self, label, verdict):
+        self.kept += 1
+        self.tell(label, verdict, " by an earlier run")
 
     def failed(self):
         return {label: it for label, it in self.told.items() if it.kind is not Kind.REFUSED}
 
 
-def tried_of(crate, edits, progress):
+def tried_of(crate, edits, progress, known):
     """Tries the edits of a crate, one check after another: what is proved for one need not be proved for the next, nor what the
     crate's own checks (rt check) have left."""
     with tempfile.TemporaryDirectory(prefix="edits-kept-") as kept:
@@ -187,17 +194,32 @@ def tried_of(crate, edits, progress):
             shutil.copytree(left, kept, dirs_exist_ok=True)
         for batch in Batches(crate).of(edits):
             for edit, verdict in verdicts(crate, batch, kept).items():
+                known.keep(edit, verdict)
                 progress.tell(edit.label, verdict)
 
 
-def tried(found, bad):
-    """Tries all edits, crates side by side, first those that take longest."""
+def new_ones(found, known, progress):
+    """The edits of which no earlier run has said that they are refused, by crate; the others are told."""
+    new = {}
+    for crate, edits in found.items():
+        for edit in edits:
+            verdict = known.of(edit)
+            if verdict is None:
+                new.setdefault(crate, []).append(edit)
+            else:
+                progress.tell_kept(edit.label, verdict)
+    return new
+
+
+def tried(found, bad, known):
+    """Tries all edits of which nothing is known, crates side by side, first those that take longest."""
     progress = Progress(sum(map(len, found.values())) + len(bad))
     for label, verdict in bad.items():
         progress.tell(label, verdict)
-    crates = sorted(found, key=lambda it: -len(found[it]) * size_of(it))
+    new = new_ones(found, known, progress)
+    crates = sorted(new, key=lambda it: -len(new[it]) * size_of(it))
     with concurrent.futures.ThreadPoolExecutor(lanes()) as pool:
-        for done in [pool.submit(tried_of, crate, found[crate], progress) for crate in crates]:
+        for done in [pool.submit(tried_of, crate, new[crate], progress, known) for crate in crates]:
             done.result()
     return progress
 
@@ -210,7 +232,7 @@ def report(progress):
     used = resource.getrusage(resource.RUSAGE_CHILDREN)
     minutes = (time.monotonic() - progress.started) / 60
     failed = progress.failed()
-    print(f"{minutes:.1f} minutes, {(used.ru_utime + used.ru_stime) / 60:.1f} processor minutes")
+    print(f"{minutes:.1f} minutes, {(used.ru_utime + used.ru_stime) / 60:.1f} processor minutes; {progress.kept} told by earlier runs")
     for label, verdict in failed.items():
         print(f"{label}: {verdict.kind.value}: {verdict.goal}")
     print(f"{len(progress.told) - len(failed)} passed, {len(failed)} failed")
@@ -218,6 +240,8 @@ def report(progress):
 
 
 def main(words):
+    is_anew = words[:1] == ["--anew"]
+    words = words[is_anew:]
     if not words or any(word.startswith("-") for word in words):
         print(__doc__.strip(), file=sys.stderr)
         return 2
@@ -234,7 +258,7 @@ def main(words):
     if unproved:
         print(f"edits.py: the gate has not proved {', '.join(unproved)} as they stand: run tests/gate.py first", file=sys.stderr)
         return 2
-    return report(tried(*gathered(folder, crates)))
+    return report(tried(*gathered(folder, crates), KeptVerdicts(cache_folder() / folder.name, not is_anew)))
 
 
 if __name__ == "__main__":
