@@ -13,5 +13,6 @@ mod Sendings
 mod Passes
 mod Acts
 mod SendLaws
+mod SendOnce
 mod WorkedSends
 mod Paired

@@ -1,6 +1,7 @@
-use Rattle.std.proofs.Common.{ℕ, ◌≡◌, true, false, Bool, List, [], ◌∷◌, ◌++◌, Contains, Option, Some, None, sym, subst, ◌∙◌}
+use Rattle.std.proofs.Common.{ℕ, ◌≡◌, true, false, Bool, List, [], ◌∷◌, ◌++◌, Contains, Option, Some, None, ap, subst, sym, ◌∙◌}
 use Rattle.forwarder_packets.specs.PullResp.{pull_resp_of}
 use Rattle.forwarder_sessions.specs.declared.session.Endpoint.{Endpoint}
+use Rattle.forwarder_sessions.specs.Sessions.{Known}
 use Rattle.serve_journal.specs.declared.entry.Entry.{Entry}
 use Rattle.serve_downlinks.specs.declared.fate.Fate.TheVariants.{Sendable}
 use Rattle.serve_downlinks.specs.Downlinks.{ToSend}
@@ -10,7 +11,7 @@ use Rattle.serve_downlinks.specs.Batch.{batch_text}
 use Rattle.serve_turns.specs.Effects.{Effect, Packet, Appends, Syncs, Sends}
 use Rattle.serve_turns.specs.Kept.{Kept}
 use Rattle.serve_turns.specs.Life.{Life}
-use Rattle.serve_turns.specs.SendLaw.{EachSend, EverySendIsKept, IsBehindItsBatch, IsTold, behind_pass, pass_downlinks}
+use Rattle.serve_turns.specs.SendLaw.{EachIsSentOnce, EachSend, EverySendIsKept, IsBehindItsBatch, IsFrontOf, IsTold, behind_pass, pass_downlinks, resp_by, resps_in, resps_of}
 use Rattle.serve_turns.specs.Turn.{Answered, acts}
 
 -- What the law says of a turn, from the law alone.
@@ -78,3 +79,39 @@ module _ (A : Type 0) (law : EverySendIsKept A) (now : ℕ) (came : Option Packe
   none_is_sent_unsynced bytes datagram to went does =
       let all = of_effects _ does in
       unsynced bytes all.0.before all.0.behind (batch_text all.0.batch) all.0.written
+
+-- What the other law says, from the law alone.
+
+module _ (A : Type 0) (law : EachIsSentOnce A) (now : ℕ) (came : Option Packet) (r : Answered) (l : Life) where
+  front_of : (effects : List Effect) → acts A now came r l ≡ effects
+      → IsFrontOf (resps_of (behind_pass A now came l).known (pass_downlinks A now came l)) (resps_in effects)
+  front_of effects does =
+      subst (λ e. IsFrontOf (resps_of (behind_pass A now came l).known (pass_downlinks A now came l)) (resps_in e)) does
+      (law now came r l)
+
+  two_of_one : (x y z : Endpoint × List ℕ) (rest : List (Endpoint × List ℕ)) → x ∷ [] ≡ (y ∷ z ∷ []) ++ rest → ⊥
+  two_of_one x y z rest e = absurd (cc)
+
+  other_first : (x y : Endpoint × List ℕ) (xs rest : List (Endpoint × List ℕ)) → x ∷ xs ≡ (y ∷ []) ++ rest → x ≡ y
+  other_first x y xs rest e = cc
+
+  -- no turn sends twice where one downlink alone may be sent
+  pub one_is_sent_once : (x : Endpoint × List ℕ) (bytes first second : List ℕ) (to other : Endpoint) (went also : Bool)
+      → resps_of (behind_pass A now came l).known (pass_downlinks A now came l) ≡ x ∷ []
+      → acts A now came r l ≡ Appends bytes true ∷ Syncs true ∷ Sends to first went ∷ Sends other second also ∷ [] → ⊥
+  one_is_sent_once x bytes first second to other went also one does =
+      let it = front_of _ does in
+      two_of_one x (to, first) (other, second) it.rest (sym one ∙ it.is)
+
+  -- and what it sends first is the first that may be sent
+  pub first_goes_first : (x : Endpoint × List ℕ) (xs : List (Endpoint × List ℕ)) (bytes first : List ℕ) (to : Endpoint) (went : Bool)
+      → resps_of (behind_pass A now came l).known (pass_downlinks A now came l) ≡ x ∷ xs
+      → acts A now came r l ≡ Appends bytes true ∷ Syncs true ∷ Sends to first went ∷ [] → x ≡ (to, first)
+  first_goes_first x xs bytes first to went some does =
+      let it = front_of _ does in
+      other_first x (to, first) xs it.rest (sym some ∙ it.is)
+
+-- a downlink that may be sent has one PULL_RESP
+pub one_for_each : (known : List Known) (d : ToSend) (to : Endpoint) (tmst power : ℕ) → fate_of d known ≡ Sendable to tmst power
+    → resps_of known (d ∷ []) ≡ (to, pull_resp_of (token_of d) (asked_for tmst power d)) ∷ []
+one_for_each known d to tmst power may = ap (λ f. resp_by d f ++ []) may

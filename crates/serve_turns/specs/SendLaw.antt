@@ -1,4 +1,5 @@
 use Rattle.std.specs.Prelude.{ℕ, ◌≡◌, true, ⊤, List, [], ◌∷◌, ◌++◌, Contains, Option, Some, None}
+use Rattle.std.specs.List.{flat_map}
 use Rattle.gateway_clock.specs.Clock.{line}
 use Rattle.forwarder_packets.specs.PullResp.{pull_resp_of}
 use Rattle.forwarder_sessions.specs.declared.session.Endpoint.{Endpoint}
@@ -8,7 +9,8 @@ use Rattle.server_core.specs.Entries.{event_lines}
 use Rattle.server_desk.specs.Register.{Device, device_with}
 use Rattle.serve_journal.specs.declared.entry.Entry.{Entry}
 use Rattle.serve_journal.specs.declared.entry.Entry.TheVariants as says
-use Rattle.serve_downlinks.specs.declared.fate.Fate.TheVariants.{Sendable}
+use Rattle.serve_downlinks.specs.declared.fate.Fate.{Fate}
+use Rattle.serve_downlinks.specs.declared.fate.Fate.TheVariants.{Barred, Unreachable, Sendable}
 use Rattle.serve_downlinks.specs.Downlinks.{ToSend, downlinks}
 use Rattle.serve_downlinks.specs.Fates.{fate_of, forwarder_of}
 use Rattle.serve_downlinks.specs.Datagram.{token_of, asked_for}
@@ -75,3 +77,30 @@ EverySendIsKept A =
     (now : ℕ) (came : Option Packet) (r : Answered) (l : Life)
     → EachSend (λ done to bytes. IsBehindItsBatch now (pass_downlinks A now came l) (behind_pass A now came l) done to bytes) []
     (acts A now came r l)
+
+-- the PULL_RESPs among these effects, in their order, each with where it goes
+abbrev pub resps_in : List Effect → List (Endpoint × List ℕ)
+resps_in [] = []
+resps_in (Sends to bytes went ∷ more) = (to, bytes) ∷ resps_in more
+resps_in (effect ∷ more) = resps_in more
+
+-- that of a downlink, with its gateway's peer, where it may be sent
+abbrev pub resp_by : ToSend → Fate → List (Endpoint × List ℕ)
+resp_by d Barred = []
+resp_by d Unreachable = []
+resp_by d (Sendable peer tmst power_dbm) = (peer, pull_resp_of (token_of d) (asked_for tmst power_dbm d)) ∷ []
+
+abbrev pub resps_of : List Known → List ToSend → List (Endpoint × List ℕ)
+resps_of known ds = flat_map (λ d. resp_by d (fate_of d known)) ds
+
+-- a list is the front of another
+pub record IsFrontOf {X : Type 0} (whole front : List X) : Type 0 where
+  pub rest : List X
+  pub is : whole ≡ front ++ rest
+
+-- the law: whatever a server knows, whatever comes and whatever the world around answers, the PULL_RESPs of a turn are, in their
+-- order, those of the first of its downlinks that may be sent: so of no downlink there are two
+abbrev pub EachIsSentOnce : Type 0 → Type 0
+EachIsSentOnce A =
+    (now : ℕ) (came : Option Packet) (r : Answered) (l : Life)
+    → IsFrontOf (resps_of (behind_pass A now came l).known (pass_downlinks A now came l)) (resps_in (acts A now came r l))

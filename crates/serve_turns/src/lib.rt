@@ -21,6 +21,6 @@ mod turn;
 pub use by_gateway::{forwarders_of, resumed_forwarders};
 pub use forwarder_sessions::{Endpoint, Forwarder};
 pub use host::{Came, Host};
-pub use send_law::law_every_send_is_kept;
+pub use send_law::{law_each_downlink_is_sent_once, law_every_send_is_kept};
 pub use serving::{Resumed, Serving};
 pub use turn::Stopped;

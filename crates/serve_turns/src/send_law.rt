@@ -1,5 +1,5 @@
-// What holds of each PULL_RESP that a server sends.
-ghost use Rattle.serve_turns.specs.SendLaw.{EverySendIsKept};
+// What holds of the PULL_RESPs that a server sends.
+ghost use Rattle.serve_turns.specs.SendLaw.{EachIsSentOnce, EverySendIsKept};
 
 use std::alloc::Allocator;
 
@@ -11,9 +11,17 @@ pub fn law_every_send_is_kept<A: Allocator>()
     ensures { EverySendIsKept A }
 {}
 
-/// The law by a call of its own: so it ensures just this statement, and asks for nothing.
-fn each_send<A: Allocator>()
-    ensures { EverySendIsKept A }
+/// Whatever a server knows, whatever comes and whatever the world around answers: the PULL_RESPs of a turn are, in their order, those of
+/// the first of its downlinks that may be sent. So each downlink is sent once at most. A call does nothing.
+pub fn law_each_downlink_is_sent_once<A: Allocator>()
+    ensures { EachIsSentOnce A }
+{}
+
+/// Each law by a call of its own: so it ensures just this statement, and asks for nothing.
+fn each_law<A: Allocator>()
+    ensures kept { EverySendIsKept A }
+    ensures once { EachIsSentOnce A }
 {
     law_every_send_is_kept::<A>();
+    law_each_downlink_is_sent_once::<A>();
 }
