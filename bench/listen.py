@@ -71,12 +71,12 @@ def listening(program: str, turns: int, output: IO[bytes]) -> Iterator[tuple[sub
             child.kill()
 
 
-def status_of(child: subprocess.Popen, sender: socket.socket, to: tuple[str, int]) -> int:
+def status_of(child: subprocess.Popen, sender: socket.socket, to: tuple[str, int], left: int) -> int:
     """The program's status, once it has taken the turns that are left, one by one, so that it ends by itself."""
-    ends = time.monotonic() + SECONDS
+    ends = time.monotonic() + SECONDS + left / 1000
     while child.poll() is None:
         if time.monotonic() > ends:
-            raise Failed(f"it did not end within {SECONDS} s")
+            raise Failed(f"it did not end, though {left} turns were left")
         sender.sendto(b"", to)
         time.sleep(0.0002)
     return child.returncode
@@ -97,7 +97,7 @@ def tell(program: str, sent: int) -> None:
             # Read at a place, which leaves that of the program alone.
             answered = os.pread(output.fileno(), os.fstat(output.fileno()).st_size, 0).count(b"\n")
             memory = held(child.pid)
-            status = status_of(child, sender, to)
+            status = status_of(child, sender, to, sent + 1 - answered)
     told = f"{answered} answered, {seconds:.2f} s, {memory / 1024:.0f} MiB"
     print(f"{sent} sent, {delivered} delivered, {told}")
     if status != 1 or answered != delivered:

@@ -121,21 +121,24 @@ def answers(program: str, text: str, more: Sequence[str] = ()) -> str:
 
 
 def held(pid: int, what: str = "VmHWM") -> int:
-    """The peak memory of a process in KiB; or by another name of Linux's /proc, as RssAnon: what it has allocated, without the
-    pages of the files that it maps."""
+    """The peak memory of a process in KiB, 0 where it has ended; or by another name of Linux's /proc, as RssAnon: what it has
+    allocated, without the pages of the files that it maps."""
     lines = pathlib.Path(f"/proc/{pid}/status").read_text().splitlines()
-    return next(int(line.split()[1]) for line in lines if line.startswith(what))
+    return next((int(line.split()[1]) for line in lines if line.startswith(what)), 0)
 
 
 def memory(program: str, lines: Iterable[str], what: str = "VmHWM") -> int:
     """What `book` holds in KiB, by its name in /proc, once these lines are read, while the input is still open."""
     words = words_of("book")
-    with subprocess.Popen([program, *words], stdin=subprocess.PIPE, stdout=subprocess.DEVNULL) as child:
-        for line in lines:
-            child.stdin.write(line.encode())
-        child.stdin.flush()
-        time.sleep(0.5)
-        found = held(child.pid, what)
+    try:
+        with subprocess.Popen([program, *words], stdin=subprocess.PIPE, stdout=subprocess.DEVNULL) as child:
+            for line in lines:
+                child.stdin.write(line.encode())
+            child.stdin.flush()
+            time.sleep(0.5)
+            found = held(child.pid, what)
+    except BrokenPipeError:
+        raise SystemExit(f"{program} {' '.join(words)} ended before its input") from None
     require(program, words, child.returncode)
     return found
 
@@ -152,4 +155,7 @@ def run_of(program: str, given: IO[bytes], more: Sequence[str] = ()) -> tuple[Co
     with tempfile.TemporaryFile() as written:
         taken = cost(program, ["run", *more], given, written)
         written.seek(max(0, written.seek(0, os.SEEK_END) - 4096))
-        return taken, written.read().splitlines()[-1].decode()
+        lines = written.read().splitlines()
+    if not lines:
+        raise SystemExit(f"{program} run wrote nothing")
+    return taken, lines[-1].decode()

@@ -11,6 +11,7 @@ where drawing costs at most twice of reading, and at most 64 KiB more memory; el
 import pathlib
 import sys
 
+sys.dont_write_bytecode = True
 from measured import STEP, used
 
 TOP = pathlib.Path(__file__).resolve().parent.parent

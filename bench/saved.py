@@ -19,6 +19,8 @@ RUNS = 5
 def main() -> int:
     program, lines = arguments(__doc__).parse_args().program, kept(CAP)
     _, head, rows = answers(program, lines, ["--save"]).partition("airbook 2\n")
+    if not head:
+        raise SystemExit(f"{program} saved no book")
     text = head + rows
     booked, written = (seconds(program, [lines], RUNS, more=more) for more in ([], ["--save"]))
     read, both = (seconds(program, [text], RUNS, more=more) for more in (["--resume"], ["--resume", "--save"]))
