@@ -1,8 +1,8 @@
 """What the scripts here measure of a program: which one it is, on which bookings, and the time and the memory that it takes.
 
 The program is `airbook`, or one that reads the same lines. All seconds are those of the processors, in user code and in the system,
-where nothing else is said. It needs Linux: of a program that has ended, Linux tells no less memory than what the script held that
-began it, some 14 MiB.
+where nothing else is said. It needs Linux. Of a program that has ended Linux tells no less memory than the script held that began
+it, some 15 MiB.
 """
 from __future__ import annotations
 
@@ -58,9 +58,9 @@ def book(number: int, start: int) -> str:
     return f"book {number} {start} 868300000 6 12\n"
 
 
-def kept(count: int, stride: int = 1) -> str:
+def kept(members: int, stride: int = 1) -> str:
     """So many bookings, in the order of their starts, or with the starts by another stride, each once."""
-    return "".join(book(number, number * stride % count * STEP) for number in range(count))
+    return "".join(book(number, number * stride % members * STEP) for number in range(members))
 
 
 def between(members: int, places: int, stride: int = STRIDE) -> Iterator[int]:
@@ -79,12 +79,12 @@ def require(program: str, words: Sequence[str], status: int, statuses: Sequence[
 
 
 def cost(
-    program: str, words: Sequence[str], given: IO[bytes], answers: Any = subprocess.DEVNULL, statuses: Sequence[int] = (0, 1)
+    program: str, words: Sequence[str], given: IO[bytes], written: Any = subprocess.DEVNULL, statuses: Sequence[int] = (0, 1)
 ) -> Cost:
     """What a run of the program with these words takes, whose input is a file, from its beginning."""
     given.seek(0)
     began = time.monotonic()
-    child = subprocess.Popen([program, *words], stdin=given, stdout=answers)
+    child = subprocess.Popen([program, *words], stdin=given, stdout=written)
     _, status, usage = os.wait4(child.pid, 0)
     elapsed = time.monotonic() - began
     child.returncode = os.waitstatus_to_exitcode(status)

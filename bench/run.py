@@ -4,7 +4,8 @@
 Usage: bench/run.py [PROGRAM] [--other PATH]      (PROGRAM: none is the one that the gate builds; PATH: a second one)
 
 Printed are seconds, peak memory, and the cost of one uplink as a ratio to that of the first row. With a second program it then
-prints the least seconds of nine runs of each in turn on the last input, and their ratio. It needs Linux.
+prints the least seconds of nine runs of each in turn on the last input, and their ratio. It needs Linux, which tells no less memory
+than the script itself holds, some 15 MiB.
 """
 from __future__ import annotations
 
