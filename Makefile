@@ -25,10 +25,10 @@ demo:
 # First what takes seconds: whether the documents go with the sources. Then the gate; the edits that the prover has to refuse,
 # after the script that tries them was tried itself; the installation of a program that is none; what must not compile; and then,
 # on the program that the gate has proved and built, the cases, settings with every kind of slip, random runs, saved books,
-# pictures and journals beside plain models, allocations that are refused, workers beside one thread, inputs of as many bytes and
-# uplinks as there may be, the commands of the pages, talks line by line, the example of a converter, a server that listens, one
-# that packet forwarders are pointed at, the same killed and started again, and what is installed. Where one fails, what comes after
-# it is not run.
+# pictures and journals beside plain models, torn journals and such at fault, allocations that are refused, workers beside one
+# thread, inputs of as many bytes and uplinks as there may be, the commands of the pages, talks line by line, the example of a
+# converter, a server that listens, one that packet forwarders are pointed at, the same killed and started again, and what is
+# installed. Where one fails, what comes after it is not run.
 test: documents
 	python3 tests/gate.py
 	python3 tests/edit_trials.py
@@ -41,6 +41,7 @@ test: documents
 	python3 tests/random_saved.py $(PROGRAM)
 	python3 tests/pictures.py $(PROGRAM)
 	python3 tests/recover.py $(PROGRAM)
+	python3 tests/journals.py $(PROGRAM)
 	python3 tests/refused_growths.py $(PROGRAM)
 	python3 tests/refused_books.py $(PROGRAM)
 	python3 tests/workers.py $(PROGRAM)

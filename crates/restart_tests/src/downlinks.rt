@@ -56,16 +56,18 @@ const UPLINK: [u8; 12] = [
 
 /// The gateway with this number hears the uplink, at the moment of its own clock at which it arrives.
 fn heard<A: Allocator>(alloc: A, gateway: u16, at: u64, rssi: i16) -> Result<Event<A>, Fail> {
+    let bytes = Bytes::new(Vec::from_slice(alloc, &UPLINK)?);
+    let heard = Heard1 {
+        gateway,
+        at,
+        freq_hz: 868_100_000,
+        rate: 5,
+        snr: 55,
+        rssi,
+    };
     Ok(Event::Hear {
-        bytes: Bytes::new(Vec::from_slice(alloc, &UPLINK)?),
-        heard: Heard1 {
-            gateway,
-            at,
-            freq_hz: 868_100_000,
-            rate: 5,
-            snr: 55,
-            rssi,
-        },
+        bytes,
+        heard,
         arrived: at,
     })
 }

@@ -1,11 +1,9 @@
-//! Tests of what a server needs that goes on after a restart: books under other rules, journals, and what is written before a
-//! downlink is sent. A crate with tests is proved twice, so they stand in one of their own.
+//! Tests of what a server needs that goes on after a restart: what is written before a downlink is sent, turns, and growths. A crate
+//! with tests is proved twice, so they stand in one of their own.
 #![tactic(auto)]
 
 #[cfg(test)]
 mod downlinks;
-#[cfg(test)]
-mod faults;
 #[cfg(test)]
 mod growths;
 #[cfg(test)]
@@ -13,11 +11,7 @@ mod hosts;
 #[cfg(test)]
 mod journals;
 #[cfg(test)]
-mod lines;
-#[cfg(test)]
 mod restarts;
-#[cfg(test)]
-mod rules;
 #[cfg(test)]
 mod server_growths;
 #[cfg(test)]

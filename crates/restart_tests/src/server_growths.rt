@@ -2,8 +2,8 @@
 ghost use Rattle.serve_turns.specs.Turn.{IsBetweenTurns};
 
 use crate::hosts::{Deed, Noting};
-use crate::restarts::{OF_OTHERS, WAITING};
-use crate::servers::{SET, is_played, resumed, settings, state_in};
+use crate::restarts::WAITING;
+use crate::servers::{SET, is_played, opened, resumed, settings, state_in};
 use crate::turns::{ANSWERED, HEARD_ONCE, HEARD_TWICE};
 use refusing_alloc::{Call, Refuser, Refusing, growths_of, refuse, same, was_refused};
 use serve_downlinks::add_entry;
@@ -15,6 +15,19 @@ use std::alloc::{Allocator, Global};
 use std::test::Fail;
 use test_asserts::holds;
 use worked_inputs::{ADDR, WorkedHasher, hasher};
+
+/// The journal of a server with other gateways and devices: its gateway 7 has the EUI of gateway 2.
+const OF_OTHERS: &str = "airbook journal 1
+gateway 7 aa555a0000000002 4096 45000
+gateway 2 aa555a0000000003 4096 45000
+device 26011bda 5c7efb43 7 1
+device 26011bdb 00000000 7 1
+queue 26011bda 9 0102
+queue 26011bdb 9 0304
+sent 7 1001100 868100000 5 12
+clock 7 2200981 601001
+.
+";
 
 /// What a server with these settings opens with. With all growths refused that follow one: a list whose growth is refused tries a
 /// smaller one.
@@ -97,19 +110,30 @@ struct Renews<'r>(&'r Settings<Global>, Global);
 
 impl Call for Renews<'_> {
     fn is_refused(&mut self, alloc: &Refuser, number: u64) -> Result<bool, Fail> {
-        let (settings, resumed) = resumed(alloc, self.0, Some(WAITING.as_bytes()))?;
-        let mut serving = Serving::resumed(alloc, hasher(), &settings, resumed)?;
-        let mut host = Noting::new(self.1, 0, None, None);
-        alloc.refuse(number);
-        let renewed = serving.renew(&mut host, 0);
-        let again = was_refused(alloc, number, renewed.is_err(), false)?;
-        if again {
-            host.was_asked(&[])?;
-        } else {
-            host.was_asked(&[(Deed::Replace, 0, b"", WAITING)])?;
-        }
-        Ok(again)
+        let mut serving = opened(alloc, self.0, Some(WAITING.as_bytes()))?;
+        is_unwritten(&mut serving, self.1, (alloc, number))
     }
+}
+
+/// Whether a server doesn't write its journal anew, with this growth refused; it asks for nothing then.
+fn is_unwritten<A: Allocator + Copy>(
+    serving: &mut Serving<WorkedHasher, A>,
+    memory: Global,
+    refused: (&Refuser, u64),
+) -> Result<bool, Fail>
+    requires { IsBetweenTurns serving.old }
+{
+    let (refuser, number) = refused;
+    let mut host = Noting::new(memory, 0, None, None);
+    refuser.refuse(number);
+    let is_starved = serving.renew(&mut host, 0).is_err();
+    let again = was_refused(refuser, number, is_starved, false)?;
+    if again {
+        host.was_asked(&[])?;
+    } else {
+        host.was_asked(&[(Deed::Replace, 0, b"", WAITING)])?;
+    }
+    Ok(again)
 }
 
 // Refuses `serve_renewal` `renewal_of`: by size, those of its text; 4 for 218 bytes.
@@ -126,13 +150,17 @@ fn growths_of_a_journal_that_is_put_in_place(rt: HostRuntime) -> Result<(), Fail
 struct Sends<'r>(&'r Settings<Global>, Global);
 
 impl Sends<'_> {
-    /// Whether a server makes them.
+    /// Whether a server makes them, with this growth refused and all that follow, once its journal is in its place.
     fn is_sent<A: Allocator + Copy>(
         &self,
         serving: &mut Serving<WorkedHasher, A>,
+        refused: (&Refuser, u64),
     ) -> Result<bool, Fail>
         requires { IsBetweenTurns serving.old }
     {
+        let mut host = Noting::new(self.1, 0, None, None);
+        holds(serving.renew(&mut host, 0)?)?;
+        refuse(refused.0, (refused.1, true));
         Ok(
             is_played(self.1, serving, &HEARD_ONCE)?
                 && is_played(self.1, serving, &HEARD_TWICE)?
@@ -143,12 +171,8 @@ impl Sends<'_> {
 
 impl Call for Sends<'_> {
     fn is_refused(&mut self, alloc: &Refuser, number: u64) -> Result<bool, Fail> {
-        let (settings, resumed) = resumed(alloc, self.0, None)?;
-        let mut serving = Serving::resumed(alloc, hasher(), &settings, resumed)?;
-        let mut host = Noting::new(self.1, 0, None, None);
-        holds(serving.renew(&mut host, 0)?)?;
-        refuse(alloc, (number, true));
-        let is_starved = !self.is_sent(&mut serving)?;
+        let mut serving = opened(alloc, self.0, None)?;
+        let is_starved = !self.is_sent(&mut serving, (alloc, number))?;
         was_refused(alloc, number, is_starved, true)
     }
 }

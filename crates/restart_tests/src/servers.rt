@@ -92,16 +92,41 @@ pub(crate) fn resumed<A: Allocator + Copy>(
     Ok((settings, resumed))
 }
 
-/// A server that goes on with a journal of these bytes, and has written nothing yet.
-pub(crate) fn opened(alloc: Global, journal: Option<&[u8]>) -> Result<Served, Fail>
+/// A server with these settings that goes on with a journal of these bytes, and has written nothing yet.
+pub(crate) fn opened<A: Allocator + Copy>(
+    alloc: A,
+    set: &Settings<Global>,
+    journal: Option<&[u8]>,
+) -> Result<Serving<WorkedHasher, A>, Fail>
     ensures { IfOk result (λ serving. IsBetweenTurns serving) }
 {
-    let (settings, resumed) = resumed(alloc, &settings(alloc)?, journal)?;
+    let (settings, resumed) = resumed(alloc, set, journal)?;
     Ok(Serving::resumed(alloc, hasher(), &settings, resumed)?)
 }
 
+/// Some turns, in which the host can't do what is broken.
+pub(crate) type Part = (Option<Deed>, &'static [Turn]);
+
+/// A server goes on with a journal of these bytes, if there is one, writes its own anew, where it is told what that is, and makes
+/// these turns.
+pub(crate) fn play(
+    alloc: Global,
+    journal: Option<&[u8]>,
+    renewed: Option<(Option<Deed>, &'static str)>,
+    parts: &[Part],
+) -> Result<(), Fail> {
+    let mut serving = opened(alloc, &settings(alloc)?, journal)?;
+    if let Some((broken, wanted)) = renewed {
+        renew(alloc, &mut serving, broken, wanted)?;
+    }
+    for (broken, turns) in parts {
+        play_part(alloc, &mut serving, *broken, turns)?;
+    }
+    Ok(())
+}
+
 /// The server writes its journal anew, or can't.
-pub(crate) fn renew(
+fn renew(
     alloc: Global,
     serving: &mut Served,
     broken: Option<Deed>,
@@ -117,7 +142,7 @@ pub(crate) fn renew(
 }
 
 /// The server makes these turns, in which the host can't do what is broken.
-pub(crate) fn play(
+fn play_part(
     alloc: Global,
     serving: &mut Served,
     broken: Option<Deed>,

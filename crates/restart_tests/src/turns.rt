@@ -2,7 +2,7 @@
 // each way in which it may not be.
 
 use crate::hosts::{Deed, Turn};
-use crate::servers::{opened, play, renew};
+use crate::servers::{Part, play};
 use std::alloc::Global;
 use std::test::Fail;
 
@@ -181,14 +181,14 @@ static NEXT_ANSWERED: [Turn; 1] = [(
 
 #[test]
 fn an_answer_is_sent_once_the_disk_has_it(rt: HostRuntime) -> Result<(), Fail> {
-    let alloc = rt.alloc();
-    let mut serving = opened(alloc, None)?;
-    renew(alloc, &mut serving, None, NEW)?;
-    play(alloc, &mut serving, None, &HEARD_ONCE)?;
-    play(alloc, &mut serving, None, &HEARD_TWICE)?;
-    play(alloc, &mut serving, None, &ANSWERED)?;
-    play(alloc, &mut serving, None, &NEXT_TOLD)?;
-    play(alloc, &mut serving, None, &NEXT_ANSWERED)
+    let parts: [Part; 5] = [
+        (None, &HEARD_ONCE),
+        (None, &HEARD_TWICE),
+        (None, &ANSWERED),
+        (None, &NEXT_TOLD),
+        (None, &NEXT_ANSWERED),
+    ];
+    play(rt.alloc(), None, Some((None, NEW)), &parts)
 }
 
 /// The answer can't be added to the journal.
@@ -284,15 +284,16 @@ static LAST_ANSWERED: [Turn; 2] = [
 ];
 
 /// A server that can't do this in the turn in which the first answer is due, which goes so.
-fn is_kept_back(alloc: Global, broken: Deed, failed: &[Turn]) -> Result<(), Fail> {
-    let mut serving = opened(alloc, None)?;
-    renew(alloc, &mut serving, None, NEW)?;
-    play(alloc, &mut serving, None, &HEARD_ONCE)?;
-    play(alloc, &mut serving, None, &HEARD_TWICE)?;
-    play(alloc, &mut serving, Some(broken), failed)?;
-    play(alloc, &mut serving, None, &NEXT_TOLD)?;
-    play(alloc, &mut serving, None, &NOT_TRIED)?;
-    play(alloc, &mut serving, None, &LAST_ANSWERED)
+fn is_kept_back(alloc: Global, broken: Deed, failed: &'static [Turn]) -> Result<(), Fail> {
+    let parts: [Part; 6] = [
+        (None, &HEARD_ONCE),
+        (None, &HEARD_TWICE),
+        (Some(broken), failed),
+        (None, &NEXT_TOLD),
+        (None, &NOT_TRIED),
+        (None, &LAST_ANSWERED),
+    ];
+    play(alloc, None, Some((None, NEW)), &parts)
 }
 
 #[test]
@@ -315,14 +316,14 @@ static NOT_SENT: [Turn; 1] = [(
 
 #[test]
 fn an_answer_that_does_not_go_out_is_told(rt: HostRuntime) -> Result<(), Fail> {
-    let alloc = rt.alloc();
-    let mut serving = opened(alloc, None)?;
-    renew(alloc, &mut serving, None, NEW)?;
-    play(alloc, &mut serving, None, &HEARD_ONCE)?;
-    play(alloc, &mut serving, None, &HEARD_TWICE)?;
-    play(alloc, &mut serving, Some(Deed::Send), &NOT_SENT)?;
-    play(alloc, &mut serving, None, &NEXT_TOLD)?;
-    play(alloc, &mut serving, None, &NEXT_ANSWERED)
+    let parts: [Part; 5] = [
+        (None, &HEARD_ONCE),
+        (None, &HEARD_TWICE),
+        (Some(Deed::Send), &NOT_SENT),
+        (None, &NEXT_TOLD),
+        (None, &NEXT_ANSWERED),
+    ];
+    play(rt.alloc(), None, Some((None, NEW)), &parts)
 }
 
 /// Without a PULL_DATA no copy of gateway 2 is taken, so that it sends no answer either: gateway 1 does.
@@ -366,11 +367,8 @@ static NOT_PULLED: [Turn; 3] = [
 
 #[test]
 fn a_gateway_without_pull_data_answers_nothing(rt: HostRuntime) -> Result<(), Fail> {
-    let alloc = rt.alloc();
-    let mut serving = opened(alloc, None)?;
-    renew(alloc, &mut serving, None, NEW)?;
-    play(alloc, &mut serving, None, &HEARD_ONCE)?;
-    play(alloc, &mut serving, None, &NOT_PULLED)
+    let parts: [Part; 2] = [(None, &HEARD_ONCE), (None, &NOT_PULLED)];
+    play(rt.alloc(), None, Some((None, NEW)), &parts)
 }
 
 /// The uplink with counter 8, which gateway 2 hears 2,901,000 us after its counter was seen to begin anew.
@@ -450,12 +448,12 @@ static BEGUN_ANEW: [Turn; 5] = [
 
 #[test]
 fn nothing_is_sent_by_a_counter_that_began_anew(rt: HostRuntime) -> Result<(), Fail> {
-    let alloc = rt.alloc();
-    let mut serving = opened(alloc, None)?;
-    renew(alloc, &mut serving, None, NEW)?;
-    play(alloc, &mut serving, None, &HEARD_ONCE)?;
-    play(alloc, &mut serving, None, &HEARD_TWICE)?;
-    play(alloc, &mut serving, None, &BEGUN_ANEW)
+    let parts: [Part; 3] = [
+        (None, &HEARD_ONCE),
+        (None, &HEARD_TWICE),
+        (None, &BEGUN_ANEW),
+    ];
+    play(rt.alloc(), None, Some((None, NEW)), &parts)
 }
 
 /// The journal is not in place yet.
@@ -510,17 +508,13 @@ clock 2 21998000 601001
 
 #[test]
 fn nothing_is_sent_before_there_is_a_journal(rt: HostRuntime) -> Result<(), Fail> {
-    let alloc = rt.alloc();
-    for is_tried in [false, true] {
-        let mut serving = opened(alloc, None)?;
-        if is_tried {
-            renew(alloc, &mut serving, Some(Deed::Replace), NEW)?;
-        }
-        play(alloc, &mut serving, None, &HEARD_ONCE)?;
-        play(alloc, &mut serving, None, &HEARD_TWICE)?;
-        play(alloc, &mut serving, None, &NOT_BEGUN)?;
-        play(alloc, &mut serving, Some(Deed::Replace), &NOT_RENEWED)?;
-        play(alloc, &mut serving, None, &RENEWED)?;
-    }
-    Ok(())
+    let parts: [Part; 5] = [
+        (None, &HEARD_ONCE),
+        (None, &HEARD_TWICE),
+        (None, &NOT_BEGUN),
+        (Some(Deed::Replace), &NOT_RENEWED),
+        (None, &RENEWED),
+    ];
+    play(rt.alloc(), None, None, &parts)?;
+    play(rt.alloc(), None, Some((Some(Deed::Replace), NEW)), &parts)
 }
