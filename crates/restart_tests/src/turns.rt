@@ -375,6 +375,17 @@ fn a_gateway_without_pull_data_answers_nothing(rt: HostRuntime) -> Result<(), Fa
 const HEARD_ANEW: &str =
     r#"{"rxpk":[{"tmst":7901000,"freq":868.100000,"stat":1,"modu":"LORA","datr":"SF7BW125","codr":"4/5","rssi":-80,"lsnr":5.5,"size":12,"data":"gNobASYACAAEX0g9"}]}"#;
 
+/// The journal that is written anew then: the device has given a counter for the answer that is kept back.
+const KEPT_BACK: &str = "airbook journal 1
+gateway 1 aa555a0000000001 4096 45000
+gateway 2 aa555a0000000002 4096 45000
+device 26011bda 5c7efb43 7 1
+sent 2 1001100 868100000 5 12
+clock 1 2200981 601001
+clock 2 2200981 600991
+.
+";
+
 /// The counter of gateway 2 begins anew before the pass, so that the moment of its answer can't be told any more. That of the next
 /// one can.
 static BEGUN_ANEW: [Turn; 5] = [
@@ -389,12 +400,15 @@ static BEGUN_ANEW: [Turn; 5] = [
     (
         201_001,
         None,
-        &[(
-            Deed::Tell,
-            0,
-            b"> tick 1 601001\nfloor 1 601001\n> tick 2 600991\nfloor 2 600991\n> pass 201001\n",
-            "send 1 2 RX1 1001100 868100000 5 12\nframe 1 60da1b0126200000240347ca\nfailed 1 2 Session\n",
-        )],
+        &[
+            (Deed::Replace, 0, b"", KEPT_BACK),
+            (
+                Deed::Tell,
+                0,
+                b"> tick 1 601001\nfloor 1 601001\n> tick 2 600991\nfloor 2 600991\n> pass 201001\n",
+                "send 1 2 RX1 1001100 868100000 5 12\nframe 1 60da1b0126200000240347ca\nfailed 1 2 Session\n",
+            ),
+        ],
     ),
     (
         1_000_000,

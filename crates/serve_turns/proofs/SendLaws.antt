@@ -1,5 +1,6 @@
 -- Each PULL_RESP is sent behind its batch.
 use Rattle.std.proofs.Common.{◌≡◌, ◌++◌, Bool, true, false, List, [], ◌∷◌, ℕ, zero, suc, Contains, Option, Some, None, ap, append_assoc, append-nil, arith, cond, filter, is_some, map, refl, subst, sym, zip}
+use Rattle.std.specs.Option.{option_map}
 use Rattle.forwarder_packets.specs.PullResp.{pull_resp_of}
 use Rattle.forwarder_sessions.specs.declared.session.Endpoint.{Endpoint}
 use Rattle.server_desk.specs.Passing.{pass_answer}
@@ -14,9 +15,9 @@ use Rattle.serve_downlinks.proofs.BatchLaw.{batches_tell_what_is_sent}
 use Rattle.serve_turns.specs.declared.sending.Written.{Written}
 use Rattle.serve_turns.specs.declared.sending.Written.TheVariants.{NotAppended, NotSynced, Synced}
 use Rattle.serve_turns.specs.Effects.{Effect, Packet, Receives, Shows, Acknowledges, Appends, Syncs, Replaces, Sends, Tells, Cuts}
-use Rattle.serve_turns.specs.Kept.{Kept}
-use Rattle.serve_turns.specs.Life.{Life, telling}
-use Rattle.serve_turns.specs.Sending.{Asked, Delivery, asked, asked_by, asking_effects, asking_effects_at, asking_effects_with, is_sendable, kept_back, known_then, sendable, sending_effects_if_kept, sending_if, sent_one, writing}
+use Rattle.serve_turns.specs.Kept.{Kept, with_kept_back}
+use Rattle.serve_turns.specs.Life.{Life}
+use Rattle.serve_turns.specs.Sending.{Asked, Delivery, after_kept_back, asked, asked_by, asking_effects, asking_effects_at, asking_effects_with, is_sendable, known_then, sendable, sending_effects_if_kept, sending_if, sent_one, some_kept_back, writing}
 use Rattle.serve_turns.specs.Renewing.{is_to_be_renewed, renewal_effects, renewing_effects, renewing_effects_if_kept}
 use Rattle.serve_turns.specs.SendLaw.{EachSend, EverySendIsKept, IsBehindItsBatch, before_pass, behind_pass, pass_downlinks}
 use Rattle.serve_turns.specs.Turn.{Answered, acknowledged, acts, after_came, after_pass, after_report, answering_effects, pass_effects, sent_back}
@@ -157,25 +158,29 @@ module _ (now : ℕ) (all : List ToSend) (l : Life) (done : List Effect) (d : De
   holds_of e to bytes = IsBehindItsBatch now all l e to bytes
 
   abbrev told : Life
-  told = telling (kept_back l.known all) l
+  told = after_kept_back all l
+
+  -- what is known of the journal then
+  abbrev then : Kept → Kept
+  then k = with_kept_back (some_kept_back l.known all) k
 
   each_at : (k : Kept) → l.kept ≡ Some k → (o : Option ℕ) → k.failed_at ≡ o
-      → EachSend holds_of done (asking_effects_at now d (sendable l.known all) (asked l.known all) k o told)
+      → EachSend holds_of done (asking_effects_at now d (sendable l.known all) (asked l.known all) (then k) o told)
   each_at k keeps None well = each_delivered now all l k keeps well done d.written d.went
   each_at k keeps (Some at) failed = tt
 
   each_asked : (k : Kept) → l.kept ≡ Some k → (asks : List Asked) → asks ≡ asked l.known all
-      → EachSend holds_of done (asking_effects now d (sendable l.known all) asks k told)
+      → EachSend holds_of done (asking_effects now d (sendable l.known all) asks (then k) told)
   each_asked k keeps [] is = tt
   each_asked k keeps (a ∷ asks) is =
-      subst (λ x. EachSend holds_of done (asking_effects_at now d (sendable l.known all) x k k.failed_at told)) (sym is)
+      subst (λ x. EachSend holds_of done (asking_effects_at now d (sendable l.known all) x (then k) k.failed_at told)) (sym is)
       (each_at k keeps k.failed_at refl)
 
   each_if_kept : (o : Option Kept) → l.kept ≡ o → EachSend holds_of done (sending_effects_if_kept now d all o l)
   each_if_kept None is = tt
   each_if_kept (Some k) is =
-      subst (λ o. EachSend holds_of done (asking_effects_with now d (sendable l.known all) (asked l.known all) o told)) (sym is)
-      (each_asked k is (asked l.known all) refl)
+      subst (λ o. EachSend holds_of done (asking_effects_with now d (sendable l.known all) (asked l.known all) (option_map then o) told))
+      (sym is) (each_asked k is (asked l.known all) refl)
 
 -- of a turn
 

@@ -1,8 +1,9 @@
 -- The downlinks of a pass.
-use Rattle.std.proofs.Common.{◌≡◌, ◌∙◌, ◌++◌, ◌<◌, ◌+◌, ◌==◌, Bool, true, false, List, [], ◌∷◌, ℕ, Option, Some, None, ap, get_or, is_some, length, length-set, map, refl, slice_set, subst, sym, take, true≢false, zip}
+use Rattle.std.proofs.Common.{◌≡◌, ◌∙◌, ◌++◌, ◌<◌, ◌+◌, ◌==◌, Bool, true, false, List, [], ◌∷◌, ℕ, Option, Some, None, ap, get_or, is_some, length, length-set, map, nat_lt, refl, slice_set, subst, sym, take, true≢false, zip}
 use Rattle.std.proofs.lemmas.Bool.{ne_eqb}
 use Rattle.std.proofs.lemmas.List.{map-append}
 use Rattle.server_core.specs.declared.entry.Line.{Line}
+use Rattle.forwarder_sessions.specs.Sessions.{Known}
 use Rattle.server_core.specs.Server.{seen}
 use Rattle.serve_downlinks.specs.Downlinks.{ToSend, downlinks}
 use Rattle.serve_downlinks.specs.Batch.{knows, batch_entries, batch_text}
@@ -11,7 +12,7 @@ use Rattle.serve_turns.specs.declared.sending.Written.TheVariants.{NotAppended}
 use Rattle.serve_turns.specs.Effects.{Effect, Adds, AddsFront}
 use Rattle.serve_turns.specs.Kept.{Kept}
 use Rattle.serve_turns.specs.Life.{Life, IsAlive, IsReady, Makes, telling}
-use Rattle.serve_turns.specs.Sending.{Asked, Delivery, asked, asking, asking_effects, asking_at, asking_effects_at, asking_with, asking_effects_with, asking_kept, asking_kept_effects, delivered_as, delivering, kept_back, sendable, sending, sending_if_kept, sending_effects, sending_effects_if_kept, sent_one, unwritten}
+use Rattle.serve_turns.specs.Sending.{Asked, Delivery, asked, asking, asking_effects, asking_at, asking_effects_at, asking_with, asking_effects_with, asking_kept, asking_kept_effects, after_kept_back, delivered_as, delivering, keeping_back, kept_back, sendable, sending, sending_if_kept, sending_effects, sending_effects_if_kept, sent_one, some_kept_back, unwritten}
 use Rattle.serve_turns.specs.Turn.{Did, Broke}
 use Rattle.serve_turns.proofs.Effects.{adds_none, adds_then}
 use Rattle.serve_turns.proofs.Known.{batch_same}
@@ -166,6 +167,16 @@ module _ {S A R : Type 0} {C : _} (now : ℕ) (ds : List ToSend) (asks : List As
   pub asks_broke : (h : Option (List Effect)) → Broke h h (asking_kept_effects now ds asks) old
   asks_broke h = record { how = unasked; effects = λ l alive. nothing_front h (asking_kept_effects now ds asks unasked l) }
 
+-- what is kept back of some is told, by what is known of the packet forwarders
+abbrev pub told_by : List Known → List ToSend → Life → Life
+told_by known ds l = keeping_back (some_kept_back known ds) (telling (kept_back known ds) l)
+
+-- whether one is, by how many may be sent
+pub fewer_kept_back : (known : List Known) (found ready : List ToSend) (few all : ℕ) → few ≡ length ready → all ≡ length found
+    → ready ≡ sendable known found → nat_lt few all ≡ some_kept_back known found
+fewer_kept_back known found ready few all are have may =
+    ap (λ n. nat_lt n all) (are ∙ ap length may) ∙ ap (nat_lt (length (sendable known found))) have
+
 module _ {S A R B : Type 0} {C : _} (now : ℕ) (lines : List (Line B)) (old : Answerer S A R C) where
   -- no journal is kept
   pub sends_unkept : (h : Option (List Effect)) → IsReady old → old.keeping ≡ None
@@ -187,9 +198,9 @@ module _ {S A R B : Type 0} {C : _} (now : ℕ) (lines : List (Line B)) (old : A
   module _ (h0 h1 : Option (List Effect)) (k : Kept) (found ready : List ToSend) (asks : List Asked) (middle : Answerer S A R C)
       (keeps : old.keeping ≡ Some k) (all : found ≡ downlinks lines)
       (may : ready ≡ sendable old.forwarders.sessions.items found) (are : asks ≡ asked old.forwarders.sessions.items found)
-      (told : Makes (telling (kept_back old.forwarders.sessions.items found)) old middle) where
+      (told : Makes (told_by old.forwarders.sessions.items found) old middle) where
     abbrev here : Life → List ToSend → Life
-    here l ds = telling (kept_back l.known ds) l
+    here l ds = after_kept_back ds l
 
     -- by what is known in its life
     module _ (l : Life) (alive : IsAlive l old) where
@@ -202,7 +213,7 @@ module _ {S A R B : Type 0} {C : _} (now : ℕ) (lines : List (Line B)) (old : A
       middle_alive : IsAlive (here l (downlinks lines)) middle
       middle_alive =
           subst (λ ds. IsAlive (here l ds) middle) all
-          (subst (λ ks. IsAlive (telling (kept_back ks found) l) middle) alive.known (told.goes l alive))
+          (subst (λ ks. IsAlive (told_by ks found l) middle) alive.known (told.goes l alive))
 
     pub sends_done : (new : Answerer S A R C) → Did h0 h1 (asking_kept now ready asks) (asking_kept_effects now ready asks) middle new
         → Did h0 h1 (sending now lines) (sending_effects now lines) old new

@@ -1,4 +1,4 @@
-use Rattle.std.specs.Prelude.{ℕ, ◌-◌, ◌*◌, ◌^◌, ◌==◌, Bool, true, false, nat_le, min, max, List, Option, Some, None}
+use Rattle.std.specs.Prelude.{ℕ, ◌-◌, ◌*◌, ◌^◌, ◌==◌, Bool, true, false, if◌then◌else◌, nat_le, min, max, List, Option, Some, None}
 
 -- What a server knows of its journal.
 
@@ -22,6 +22,10 @@ with_failure now k = record k { failed_at = Some now }
 
 abbrev pub with_renewal : ℕ → Kept → Kept
 with_renewal len k = record k { left = room_behind len; failed_at = None }
+
+-- where something was kept back, no batch tells that its device gave a counter, and what waited: so there is no more room
+abbrev pub with_kept_back : Bool → Kept → Kept
+with_kept_back any k = record k { left = if any then 0 else k.left }
 
 -- it was put in place, or that failed
 abbrev pub kept_after : ℕ → Bool → ℕ → Kept → Kept

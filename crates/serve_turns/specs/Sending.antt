@@ -1,5 +1,6 @@
-use Rattle.std.specs.Prelude.{ℕ, Bool, true, false, List, [], ◌∷◌, ◌++◌, length, map, filter, zip, codes, Option, Some, None}
+use Rattle.std.specs.Prelude.{ℕ, Bool, true, false, List, [], ◌∷◌, ◌++◌, length, map, filter, nat_lt, zip, codes, Option, Some, None}
 use Rattle.std.specs.List.{flat_map}
+use Rattle.std.specs.Option.{option_map}
 use Rattle.gateway_book.specs.Book.{Book}
 use Rattle.gateway_book.specs.Kept.{kept}
 use Rattle.forwarder_packets.specs.PullResp.{pull_resp_of}
@@ -16,7 +17,7 @@ use Rattle.serve_downlinks.specs.Batch.{Knows, batch_entries, batch_text}
 use Rattle.serve_turns.specs.declared.sending.Written.{Written}
 use Rattle.serve_turns.specs.declared.sending.Written.TheVariants.{NotAppended, NotSynced, Synced}
 use Rattle.serve_turns.specs.Effects.{Effect, Appends, Syncs, Sends}
-use Rattle.serve_turns.specs.Kept.{Kept, with_added, with_failure}
+use Rattle.serve_turns.specs.Kept.{Kept, with_added, with_failure, with_kept_back}
 use Rattle.serve_turns.specs.Life.{Life, telling}
 use Rattle.serve_turns.specs.Lines.{ack_line}
 
@@ -67,6 +68,17 @@ kept_back_by d (Sendable peer tmst power_dbm) = []
 
 abbrev pub kept_back : List Known → List ToSend → List (List ℕ)
 kept_back known ds = flat_map (λ d. kept_back_by d (fate_of d known)) ds
+
+-- whether one is kept back: fewer may be sent than there are
+abbrev pub some_kept_back : List Known → List ToSend → Bool
+some_kept_back known ds = nat_lt (length (sendable known ds)) (length ds)
+
+abbrev pub keeping_back : Bool → Life → Life
+keeping_back any l = record l { kept = option_map (with_kept_back any) l.kept }
+
+-- those are told that are kept back, and the journal is to be written anew
+abbrev pub after_kept_back : List ToSend → Life → Life
+after_kept_back ds l = keeping_back (some_kept_back l.known ds) (telling (kept_back l.known ds) l)
 
 -- a PULL_RESP: the downlink, where it goes, and its bytes
 pub record Asked : Type 0 where
@@ -166,7 +178,7 @@ asking_kept_effects now ds asks d l = asking_effects_with now d ds asks l.kept l
 abbrev pub sending_if_kept : ℕ → Delivery → List ToSend → Option Kept → Life → Life
 sending_if_kept now d ds None l = l
 sending_if_kept now d ds (Some k) l =
-    asking_kept now (sendable l.known ds) (asked l.known ds) d (telling (kept_back l.known ds) l)
+    asking_kept now (sendable l.known ds) (asked l.known ds) d (after_kept_back ds l)
 
 abbrev pub sending : {A : Type 0} → ℕ → List (Line A) → Delivery → Life → Life
 sending now lines d l = sending_if_kept now d (downlinks lines) l.kept l
@@ -174,7 +186,7 @@ sending now lines d l = sending_if_kept now d (downlinks lines) l.kept l
 abbrev pub sending_effects_if_kept : ℕ → Delivery → List ToSend → Option Kept → Life → List Effect
 sending_effects_if_kept now d ds None l = []
 sending_effects_if_kept now d ds (Some k) l =
-    asking_kept_effects now (sendable l.known ds) (asked l.known ds) d (telling (kept_back l.known ds) l)
+    asking_kept_effects now (sendable l.known ds) (asked l.known ds) d (after_kept_back ds l)
 
 abbrev pub sending_effects : {A : Type 0} → ℕ → List (Line A) → Delivery → Life → List Effect
 sending_effects now lines d l = sending_effects_if_kept now d (downlinks lines) l.kept l

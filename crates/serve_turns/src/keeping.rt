@@ -1,6 +1,6 @@
 // What a server knows of its journal.
 ghost use Rattle.std.specs.Prelude.{◌≡◌, length};
-ghost use Rattle.serve_turns.specs.Kept.{room_behind, with_added, with_failure, kept_after, is_renewed, is_renewed_at};
+ghost use Rattle.serve_turns.specs.Kept.{room_behind, with_added, with_failure, with_kept_back, kept_after, is_renewed, is_renewed_at};
 ghost use Rattle.serve_turns.specs.Opening.{unwritten};
 
 use std::alloc::Allocator;
@@ -62,6 +62,15 @@ impl<A: Allocator> Keeping<A> {
         ensures { self.new ≡ with_added len self.old }
     {
         self.left = self.left.saturating_sub(len);
+    }
+
+    /// Something was kept back, or nothing was: what its device gave stands in no batch, so the journal is to be written anew.
+    pub(crate) fn keep_back(&mut self, any: bool)
+        ensures { self.new ≡ with_kept_back any self.old }
+    {
+        if any {
+            self.left = 0;
+        }
     }
 
     /// A write failed when the server's clock showed `now`.

@@ -1,9 +1,9 @@
 // A server that keeps a journal sends the downlinks of a pass, once the disk has them.
-ghost use Rattle.std.specs.Prelude.{◌≡◌, ◌≤◌, ◌^◌, [], ◌∷◌, length, map, zip, IfSome, OnOk, OnErr};
+ghost use Rattle.std.specs.Prelude.{◌≡◌, ◌≤◌, ◌^◌, [], ◌∷◌, length, map, nat_lt, zip, IfSome, OnOk, OnErr};
 ghost use Rattle.serve_downlinks.specs.Downlinks.{to_send};
 ghost use Rattle.serve_turns.specs.Effects.{Adds};
 ghost use Rattle.serve_turns.specs.Life.{IsReady, Makes};
-ghost use Rattle.serve_turns.specs.Sending.{asking_kept, asking_kept_effects, delivered_as, delivering, sending, sending_effects, sent_one, writing};
+ghost use Rattle.serve_turns.specs.Sending.{asking_kept, asking_kept_effects, delivered_as, delivering, keeping_back, sending, sending_effects, sent_one, writing};
 ghost use Rattle.serve_turns.specs.Turn.{Did, Broke};
 
 use crate::answerer::Answerer;
@@ -57,7 +57,18 @@ impl<S: BuildHasher, A: Allocator + Copy> Answerer<S, A> {
             self.forwarders.sessions(),
             &downlinks,
         )?;
+        self.keep_back(is_shorter(&ready, &downlinks));
         self.ask(host, now, &ready, &asks)
+    }
+
+    /// Something was kept back, or nothing was.
+    fn keep_back(&mut self, any: bool)
+        requires ready { IsReady self.old }
+        ensures { Makes (keeping_back any) self.old self.new }
+    {
+        if let Some(keeping) = &mut self.keeping {
+            keeping.keep_back(any);
+        }
     }
 
     /// Sends these PULL_RESPs of these downlinks, if there are any, and no write has failed.
@@ -127,6 +138,13 @@ impl<S: BuildHasher, A: Allocator + Copy> Answerer<S, A> {
             }
         }
     }
+}
+
+/// Whether these are fewer than those.
+fn is_shorter(these: &[Downlink<'_>], those: &[Downlink<'_>]) -> bool
+    ensures { result ≡ nat_lt (length these.now) (length those.now) }
+{
+    these.len() < those.len()
 }
 
 /// Adds a batch to the journal's file, has the disk keep it, and then sends these PULL_RESPs; `went` tells of each whether it went
