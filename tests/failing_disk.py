@@ -1,12 +1,12 @@
-"""An `airbook serve --state` whose journal can't be written for some time, for tests/restarts.py.
+"""An `airbook serve --state` whose journal can't be written for some time, for tests/restarts.py and
+tests/soak.py.
 
-Two disks fail here: one on which no file of the server may grow, and one that keeps nothing, by a library that is loaded before
-the C library. While one fails nothing is sent, and the program runs on. A whole journal is tried every 10 s. Once one was
-written the program sends again.
+Three disks fail here: one on which no file of the server may grow; and, by a library that is loaded before the C library, one that
+keeps nothing, and one that takes no byte for any length of time. While one fails nothing is sent, and the program runs on. A whole
+journal is tried every 10 s. Once one was written the program sends again.
 """
 from __future__ import annotations
 
-import os
 import pathlib
 import re
 import resource
@@ -17,10 +17,10 @@ import lorawan
 from gateway_model import PULL_RESP
 from plain_restarts import SetDevice, SetGateway, Settings, expect_state
 from played_forwarders import entry, now, push_data
-from preloaded import library_of
+from played_gateway import datagrams, read_pull_resp
 from recover import State, reader
-from served_lives import datagrams, read_pull_resp
 from serving import EUIS, TOKEN, Failed, Sender, Server, awaited, expect
+from struck_calls import StruckCalls
 
 KEYS = bytes.fromhex("2b7e151628aed2a6abf7158809cf4f3c"), bytes.fromhex("000102030405060708090a0b0c0d0e0f")
 ADDR = 0x26011BDA
@@ -28,43 +28,6 @@ ADDR = 0x26011BDA
 RENEWED_EVERY, SOON = 10, 2
 # So many bytes of a batch have room on a full disk.
 PART = 20
-# Each sync of bytes, of a file and of a folder is told by a letter, and each rename. While a file is there no sync succeeds.
-SYNCING = r"""
-#define _GNU_SOURCE
-#include <dlfcn.h>
-#include <errno.h>
-#include <fcntl.h>
-#include <stdlib.h>
-#include <sys/stat.h>
-#include <unistd.h>
-
-static int synced(int file, const char *name, const char *call) {
-    int (*real)(int) = (int (*)(int))dlsym(RTLD_NEXT, name);
-    int told = open(getenv("CALLS_TOLD"), O_WRONLY | O_APPEND);
-    if (write(told, call, 1)) {}
-    close(told);
-    if (access(getenv("SYNC_FAILS"), F_OK)) return real(file);
-    errno = EIO;
-    return -1;
-}
-
-int fdatasync(int file) {
-    return synced(file, "fdatasync", "d");
-}
-
-int fsync(int file) {
-    struct stat seen;
-    return synced(file, "fsync", !fstat(file, &seen) && S_ISDIR(seen.st_mode) ? "F" : "f");
-}
-
-int rename(const char *from, const char *to) {
-    int (*real)(const char *, const char *) = (int (*)(const char *, const char *))dlsym(RTLD_NEXT, "rename");
-    int told = open(getenv("CALLS_TOLD"), O_WRONLY | O_APPEND);
-    if (write(told, "r", 1)) {}
-    close(told);
-    return real(from, to);
-}
-"""
 
 
 class FullDisk:
@@ -89,11 +52,11 @@ class FullDisk:
 class ForgetfulDisk:
     """No sync succeeds, though all is written. It knows all syncs and renames."""
 
+    fails = "SYNC_FAILS"
+
     def __init__(self, folder: pathlib.Path) -> None:
-        self.told, self.failing = folder / "told", folder / "failing"
-        self.told.touch()
-        more = {"LD_PRELOAD": str(library_of(SYNCING, folder)), "CALLS_TOLD": str(self.told), "SYNC_FAILS": str(self.failing)}
-        self.options: dict[str, object] = {"env": {**os.environ, **more}}
+        self.struck, self.failing = StruckCalls(folder), folder / "failing"
+        self.options: dict[str, object] = self.struck.options(**{self.fails: str(self.failing)})
 
     def breaks(self, server: Server, journal: pathlib.Path) -> None:
         self.failing.touch()
@@ -102,7 +65,16 @@ class ForgetfulDisk:
         self.failing.unlink()
 
     def calls(self) -> Optional[str]:
-        return self.told.read_text()
+        return re.sub("[^frFd]", "", self.struck.told())
+
+
+class NoRoomDisk(ForgetfulDisk):
+    """No file takes a byte, whatever the lines take."""
+
+    fails = "WRITE_FAILS"
+
+    def calls(self) -> Optional[str]:
+        return None
 
 
 class Asker:

@@ -12,9 +12,9 @@ Trials, side by side:
 - of the worked journal every third cut of its last batch, and every third byte of it set to 0: some 60 starts in all. SEED tells
   which third. Each journal that is written anew says what it says behind the whole one, or behind that without the batch;
 - settings that were changed beside a journal, and what is told of that (plain_restarts.py);
-- KILLS lives on one journal (served_lives.py). Three gateways go on through them, and forget no PULL_RESP. Every third life ends
-  0.05 to 1.5 s behind its start. A gateway is silent for some 2 s behind a restart. So the others wait for a PULL_RESP, up to
-  4.5 s, and end within 0.7 s behind it. In half of all the kill comes with a PULL_RESP, so while others are sent;
+- KILLS lives on one journal (served_lives.py, lawful_lives.py). Three gateways go on through them, and forget no PULL_RESP. Every
+  third life ends 0.05 to 1.5 s behind its start. A gateway is silent for some 2 s behind a restart. So the others wait for a
+  PULL_RESP, up to 4.5 s, and end within 0.7 s behind it. In half of all the kill comes with a PULL_RESP, so while others are sent;
 - disks that fail for some time (failing_disk.py): nothing is sent, the program runs on, and sends again once a whole journal was
   written. A disk is full for 2 s, and for 11 s, so that the first renewal fails too; another one keeps nothing for 2 s.
 
@@ -38,14 +38,15 @@ sys.dont_write_bytecode = True
 import lorawan
 from failing_disk import ADDR, KEYS, ForgetfulDisk, FullDisk, goes_through
 from gateway_model import Clock
+from lawful_lives import LEAD, kills
 from plain_restarts import GAP, SILENCE, SetDevice, SetGateway, Settings, expect_state, goes_on, within
 from played_forwarders import entry, now, push_data
+from played_gateway import pull_resp, read_pull_resp
 from recover import batches_of, reader
 from refused_states import BATCH, GATEWAYS, NEW_JOURNAL, arguments_refused, files_in, folder_used, folder_with, folders_refused
 from refused_states import journals_refused, state_words
 from serve import FIRST, OTHER, SETTINGS, answered_alike, numbers_of
 from serve_lines import Follower
-from served_lives import LEAD, kills, pull_resp, read_pull_resp
 from serving import EUIS, SECONDS, TOKEN, Failed, Sender, Server, expect
 
 SECOND_JOURNAL = GATEWAYS + """device 26011bda 5c7efb43 7 1
