@@ -84,14 +84,14 @@ class PlayedGateway:
     def __init__(self, number: int, port: int, begins: int, drift: int, delays: set[int]) -> None:
         self.number, self.eui, self.begins, self.drift, self.delays = number, EUIS[number], begins, drift, delays
         self.address, self.zero, self.socket = ("127.0.0.1", port), now(), forwarder_socket()
-        # What has to be added to what its clock shows for its counter.
-        self.shift = 0
+        # What has to be added to what its clock shows for its counter, and the token of what it tells by that.
+        self.shift, self.token = 0, 0
         self.asked: list[Asked] = []
         self.begin(0, 0)
 
     def begin(self, life: int, late: int) -> None:
         """A server begins, to which the first packet will be told so late."""
-        self.life, self.late, self.is_open, self.pulled = life, late, False, 0
+        self.life, self.late, self.is_open, self.is_first, self.pulled = life, late, False, True, 0
         # By what was told in this life the counter that was told with it.
         self.tmsts: dict[bytes, int] = {}
 
@@ -114,22 +114,28 @@ class PlayedGateway:
 
     def hear(self, moment: int, data: bytes, **told: object) -> None:
         """Tells an uplink that it hears, or the first of a life, which it heard before."""
-        self.tmsts[data] = (self.at(moment if self.tmsts else moment - self.late) + self.shift) % (1 << 32)
-        self.tell(moment, push_data(self.eui, b"\0\0", [entry(data, self.tmsts[data], **told)]))
+        self.tmsts[data] = (self.at(moment - self.late if self.is_first else moment) + self.shift) % (1 << 32)
+        self.is_first = False
+        self.tell(moment, push_data(self.eui, self.token.to_bytes(2, "big"), [entry(data, self.tmsts[data], **told)]))
 
     def tell(self, moment: int, datagram: bytes) -> None:
         self.socket.sendto(datagram, self.address)
 
     def take(self) -> int:
         """Takes in all that came: how many PULL_RESPs."""
-        count = 0
-        for datagram in datagrams(self.socket):
-            if datagram[3] == PULL_RESP:
-                self.keep(datagram)
-                count += 1
-            elif datagram[3] == PULL_ACK and int.from_bytes(datagram[1:3], "big") == self.life:
-                self.is_open = True
-        return count
+        return sum(self.came(datagram) for datagram in datagrams(self.socket))
+
+    def came(self, datagram: bytes) -> bool:
+        """Takes a datagram in: whether it is a PULL_RESP."""
+        if datagram[3] == PULL_RESP:
+            self.keep(datagram)
+        elif datagram[3] == PULL_ACK and int.from_bytes(datagram[1:3], "big") == self.life:
+            self.opened()
+        return datagram[3] == PULL_RESP
+
+    def opened(self) -> None:
+        """A server has taken its PULL_DATA."""
+        self.is_open = True
 
     def keep(self, datagram: bytes) -> None:
         """Keeps what a PULL_RESP asks for, and says so. Its counter stands for the nearest moment."""

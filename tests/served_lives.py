@@ -10,7 +10,7 @@ import pathlib
 import select
 import subprocess
 from random import Random
-from typing import Any, NamedTuple
+from typing import Any, Callable, NamedTuple
 
 import lorawan
 from gateway_model import RATES
@@ -54,7 +54,9 @@ class Lives:
     # By so many microseconds uplinks are apart.
     every = 10_000
 
-    def __init__(self, program: str, folder: pathlib.Path, chance: Random, kind: type[PlayedGateway] = PlayedGateway) -> None:
+    def __init__(
+        self, program: str, folder: pathlib.Path, chance: Random, kind: Callable[..., PlayedGateway] = PlayedGateway
+    ) -> None:
         self.program, self.folder, self.chance, self.port = program, folder, chance, free_port()
         devices = []
         for number in range(24):

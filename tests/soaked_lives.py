@@ -1,0 +1,122 @@
+"""Lives of one `airbook serve --state` that are cut off anywhere, for tests/soak.py.
+
+The program is killed at a moment, or by a library just before or behind one of its calls, also behind half of what it writes; or
+one call fails, and it is killed later. Packet forwarders are played roughly meanwhile (rough_gateway.py). Moments are in
+microseconds.
+"""
+from __future__ import annotations
+
+import collections
+import pathlib
+import re
+import signal
+from random import Random
+from typing import Any
+
+from lawful_lives import expect_lawful
+from played_gateway import Asked
+from recover import reader, sql
+from restarts import recovered
+from rough_gateway import RoughGateway
+from served_lives import Life, Lives
+from serving import Failed, expect
+from struck_calls import ALL, KEEPING, Strike, StruckCalls
+
+# What a server may name as it ends, where a call fails.
+NAMES = {"airbook: Journal", "airbook: Write"}
+# What is told of a downlink by the server itself.
+OWN_FAILURES = {"Journal", "Session", "Unsent"}
+
+
+def expect_order(calls: str) -> None:
+    """By the letters of its calls a PULL_RESP is sent only behind a batch that was written and synced, and nothing was before it but
+    others of its turn. Where the journal can't be written none is, until a whole one is in place."""
+    if "p" in re.sub(r"j(?!!)d(?!!)(p!?)+", "", calls):
+        raise Failed(f"a PULL_RESP is sent that isn't behind a batch and its sync: {calls[-400:]}")
+    opened = re.search("ojfrF(?!!)", calls)
+    for failed in re.finditer("[jd]!", calls[opened.end():] if opened else ""):
+        if "p" in calls[opened.end() + failed.end():].partition("ojfrF")[0]:
+            raise Failed(f"a PULL_RESP is sent behind a journal that failed: {calls[-400:]}")
+
+
+class SoakedLives(Lives):
+    """Lives that are struck at times."""
+
+    every = 25_000
+
+    def __init__(self, program: str, folder: pathlib.Path, chance: Random) -> None:
+        super().__init__(program, folder, chance, lambda *words: RoughGateway(*words, Random(chance.random())))
+        for one in self.gateways:
+            one.delay_of = {device.addr: device.delay for device in self.settings.devices}
+        self.calls, self.strike, self.status = StruckCalls(folder), None, None
+        # By life how it was struck, if it was; how many were killed, by what; and the calls at which one was struck, by their letters.
+        self.strikes: dict[int, Strike | None] = {}
+        self.kills: collections.Counter = collections.Counter()
+        self.letters: collections.Counter = collections.Counter()
+
+    def options(self) -> dict[str, Any]:
+        kind, number = self.chance.random(), 1 + int(self.chance.expovariate(1 / 7))
+        self.strike, self.status = None, None
+        if kind < 0.4:
+            self.strike = Strike(self.chance.choice("ba"), number, KEEPING + "p")
+        elif kind < 0.5:
+            self.strike = Strike("h", number, "j")
+        elif kind < 0.6:
+            self.strike = Strike(self.chance.choice("ba"), self.chance.randrange(1, 400), ALL)
+        elif kind < 0.75:
+            self.strike = Strike(self.chance.choice("ffp"), number, self.chance.choice(["jdp", KEEPING, "vpajd"]))
+        return self.calls.options(self.strike)
+
+    def ended(self, status: int) -> None:
+        self.status = status
+
+    def over(self, killed: int) -> None:
+        super().over(killed)
+        life, calls = self.lives[-1], self.calls.told()
+        expect_order(calls)
+        self.strikes[life.number] = self.strike
+        is_struck = self.strike is not None and self.strike.way in "bah" and self.status is not None
+        if self.status not in (None, 2, -signal.SIGKILL) or (self.status == -signal.SIGKILL) != is_struck:
+            raise Failed(f"life {life.number}, struck by {self.strike}, ended with {self.status}")
+        self.kills["no kill" if self.status == 2 else f"a call, {self.strike.way}" if is_struck else "a moment"] += 1
+        self.letters[calls[-1:] if is_struck else calls[calls.find("!") - 1:][:2] if "!" in calls else ""] += 1
+        wanted = "".join(line + "\n" for line in sql(reader(life.behind)[0]))
+        expect(wanted, recovered(self.program, life.behind.decode(), "--sql"), f"what is recovered behind life {life.number}")
+
+    def expect_errors(self, errors: str, number: int) -> None:
+        if self.strike is None or self.strike.way in "bah":
+            super().expect_errors(errors, number)
+        last = errors.splitlines()[-1:]
+        if (self.status == 2) != (last != [] and last[0] in NAMES):
+            raise Failed(f"life {number}, struck by {self.strike}, ends with {self.status}, and says {errors!r}")
+
+    def sessions(self, life: Life, gateway: int) -> int:
+        return 1 + self.gateways[gateway - 1].restarts[life.number]
+
+    def expect_told(self, life: Life, asked: list[Asked]) -> None:
+        """What fails does so for a reason. All else that the lines tell was asked for, but of gateways that were down."""
+        failed, strike = life.failures(), self.strikes[life.number]
+        for token, gateway, name in failed:
+            one = self.gateways[gateway - 1]
+            is_struck = strike is not None and strike.way in "fp"
+            why = is_struck if name in ("Journal", "Unsent") else one.restarts[life.number] > 0 if name == "Session" else None
+            if not (one.errors.get((life.number, token)) == name if why is None else why):
+                raise Failed(f"life {life.number} tells that {token} fails on {gateway} by {name}")
+        own = {(token, gateway) for token, gateway, name in failed if name in OWN_FAILURES}
+        got = {(one.token, one.gateway) for one in asked}
+        expect(set(), own & got, f"what life {life.number} tells as not sent, and was")
+        down = {one.number for one in self.gateways if one.restarts[life.number]}
+        told = {one for one in life.sends() - own - got if one[1] not in down}
+        expect(set(), told, f"what life {life.number} tells, and nobody was asked for")
+
+
+def lives_of(program: str, folder: pathlib.Path, kills: int, seed: int) -> SoakedLives:
+    """Lives on one journal, until so many were killed; and what has to hold of all of them."""
+    lives = SoakedLives(program, folder, Random(seed))
+    try:
+        while lives.kills.total() - lives.kills["no kill"] < kills:
+            lives.live(lives.chance.random() < 0.2)
+    finally:
+        lives.close()
+    lives.most = expect_lawful(lives)
+    return lives
