@@ -31,9 +31,3 @@ class DownlinkQueue:
             return "COLLISION_PACKET"
         self.waiting.append((start, start + airtime))
         return None
-
-    def dropped(self, own: int) -> list[int]:
-        """Forgets all, as at a restart: the starts of what was not on air yet."""
-        starts = [begins for begins, _ in self.waiting if begins > own]
-        self.waiting = []
-        return starts

@@ -67,6 +67,8 @@ def expect_rising(asked: list[Asked], device: SetDevice) -> dict[tuple[int, int]
 def appended(life: Life, settings: Settings) -> list[list[bytes]]:
     """The batches that were added in a life, behind the journal that it wrote first. That says what it goes on with."""
     batches, earlier = batches_of(life.behind)[0], batches_of(life.before)[0]
+    if life.is_renewed:
+        return batches[1:]
     if life.behind.startswith(life.before) and len(earlier) > 1:
         # It was killed before it had written one.
         return batches[len(earlier):]
@@ -97,7 +99,8 @@ def offsets_of(lives: Lives, life: Life) -> dict[int, list[int]]:
     begun = [told.gateway for told in follower.placed if isinstance(told, Session)]
     for gateway, count in collections.Counter(begun).items():
         if count > lives.sessions(life, gateway):
-            raise Failed(f"{count} sessions of gateway {gateway} begin in life {life.number}")
+            told = [line for line in life.lines if line.startswith((f"session {gateway} ", f"> hear {gateway} "))]
+            raise Failed(f"{count} sessions of gateway {gateway} begin in life {life.number}: {told[:100]}")
     fresh: set[int] = set()
     for told in follower.placed:
         if isinstance(told, Session):
@@ -114,10 +117,15 @@ def offsets_of(lives: Lives, life: Life) -> dict[int, list[int]]:
 def expect_kept(asked: list[Asked], life: Life, lives: Lives, counters: dict[int, dict[tuple[int, int], int]]) -> None:
     """What was asked for in a life stands in the journal behind it, and before it its device with a greater counter."""
     kept, offsets = kept_in(appended(life, lives.settings)), offsets_of(lives, life)
+    state = reader(life.behind)[0]
+    renewed = set(kept_in(batches_of(life.behind)[0][:1])) if life.is_renewed else set()
     for one in asked:
         more = one.frequency, one.rate, len(one.data)
-        found = [kept.get((one.gateway, (one.tmst + own) % (1 << 32), *more)) for own in offsets[one.gateway]]
-        addr, down = next(filter(None, found), (None, 0))
+        keys = [(one.gateway, (one.tmst + own) % (1 << 32), *more) for own in offsets[one.gateway]]
+        addr, down = next((kept[key] for key in keys if key in kept), (None, 0))
+        if renewed & set(keys):
+            # A whole journal has all counters before all transmissions.
+            addr, down = one.addr(), state.devices[one.addr()][2]
         expect(one.addr(), addr, f"the device beside which the journal has {one}")
         if down <= counters[one.addr()][one.life, one.token]:
             raise Failed(f"the journal has counter {down} beside {one}")

@@ -27,8 +27,8 @@ LATE = 1_200_000
 
 
 class Life(NamedTuple):
-    """A life of the server: its journal before and behind it, its lines, the counters of uplinks by gateway, and when it was
-    killed."""
+    """A life of the server: its journal before and behind it, its lines, the counters of uplinks by gateway, when it was killed, and
+    whether it wrote a whole journal more than once."""
 
     number: int
     before: bytes
@@ -36,6 +36,7 @@ class Life(NamedTuple):
     lines: list[str]
     tmsts: dict[int, dict[bytes, int]]
     killed: int
+    is_renewed: bool
 
     def sends(self) -> set[tuple[int, int]]:
         """The token and the gateway of each answer that it tells."""
@@ -146,8 +147,13 @@ class Lives:
             one.take()
         number, before, self.before = len(self.lives) + 1, self.before, self.journal.read_bytes()
         lines = (self.folder / "lines").read_text().split("\n")[:-1]
-        self.lives.append(Life(number, before, self.before, lines, {one.number: one.tmsts for one in self.gateways}, killed))
+        tmsts = {one.number: one.tmsts for one in self.gateways}
+        self.lives.append(Life(number, before, self.before, lines, tmsts, killed, self.is_renewed()))
         self.expect_errors((self.folder / "errors").read_bytes().decode(), number)
+
+    def is_renewed(self) -> bool:
+        """Whether the life that is over wrote a whole journal more than once."""
+        return False
 
     def expect_errors(self, errors: str, number: int) -> None:
         """What the program says on standard error is what it should."""

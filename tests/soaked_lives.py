@@ -11,7 +11,7 @@ import pathlib
 import re
 import signal
 from random import Random
-from typing import Any
+from typing import Any, Callable, Optional
 
 from lawful_lives import expect_lawful
 from played_gateway import Asked
@@ -20,6 +20,7 @@ from restarts import recovered
 from rough_gateway import RoughGateway
 from served_lives import Life, Lives
 from serving import Failed, expect
+from strict_gateway import StrictGateway
 from struck_calls import ALL, KEEPING, Strike, StruckCalls
 
 # What a server may name as it ends, where a call fails.
@@ -44,13 +45,15 @@ class SoakedLives(Lives):
 
     every = 25_000
 
-    def __init__(self, program: str, folder: pathlib.Path, chance: Random) -> None:
-        super().__init__(program, folder, chance, lambda *words: RoughGateway(*words, Random(chance.random())))
+    def __init__(
+        self, program: str, folder: pathlib.Path, chance: Random, kind: Optional[Callable[..., StrictGateway]] = None
+    ) -> None:
+        super().__init__(program, folder, chance, kind or (lambda *words: RoughGateway(*words, Random(chance.random()))))
         for one in self.gateways:
             one.delay_of = {device.addr: device.delay for device in self.settings.devices}
         self.calls, self.strike, self.status = StruckCalls(folder), None, None
         # By life how it was struck, if it was; how many were killed, by what; and the calls at which one was struck, by their letters.
-        self.strikes: dict[int, Strike | None] = {}
+        self.strikes: dict[int, Optional[Strike]] = {}
         self.kills: collections.Counter = collections.Counter()
         self.letters: collections.Counter = collections.Counter()
 
@@ -82,6 +85,9 @@ class SoakedLives(Lives):
         self.letters[calls[-1:] if is_struck else calls[calls.find("!") - 1:][:2] if "!" in calls else ""] += 1
         wanted = "".join(line + "\n" for line in sql(reader(life.behind)[0]))
         expect(wanted, recovered(self.program, life.behind.decode(), "--sql"), f"what is recovered behind life {life.number}")
+
+    def is_renewed(self) -> bool:
+        return len(re.findall("ojfrF(?!!)", self.calls.told())) > 1
 
     def expect_errors(self, errors: str, number: int) -> None:
         if self.strike is None or self.strike.way in "bah":

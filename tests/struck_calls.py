@@ -10,7 +10,7 @@ from __future__ import annotations
 
 import os
 import pathlib
-from typing import NamedTuple
+from typing import NamedTuple, Optional
 
 from preloaded import library_of
 
@@ -140,13 +140,13 @@ class Strike(NamedTuple):
 
 
 class StruckCalls:
-    """The library, made in a folder."""
+    """The library, which is made in a folder where none is given; and where it tells."""
 
-    def __init__(self, folder: pathlib.Path) -> None:
+    def __init__(self, folder: pathlib.Path, library: Optional[pathlib.Path] = None) -> None:
         self.file = folder / "calls"
-        self.env = {**os.environ, "LD_PRELOAD": str(library_of(LIBRARY, folder)), "CALLS_TOLD": str(self.file)}
+        self.env = {**os.environ, "LD_PRELOAD": str(library or library_of(LIBRARY, folder)), "CALLS_TOLD": str(self.file)}
 
-    def options(self, strike: Strike | None = None, **more: str) -> dict[str, object]:
+    def options(self, strike: Optional[Strike] = None, **more: str) -> dict[str, object]:
         """How a program is started over it, with more variables."""
         own = {} if strike is None else {"STRUCK_WAY": strike.way, "STRUCK_AT": str(strike.number), "STRUCK_KINDS": strike.kinds}
         return {"env": {**self.env, **own, **more}}
