@@ -25,6 +25,7 @@ TOP = pathlib.Path(__file__).resolve().parent.parent
 sys.path.insert(0, str(TOP / "tests"))
 sys.dont_write_bytecode = True
 import lorawan
+from flooding import malformed
 from serving import EUIS, TOKEN, Sender, Server, awaited, device_table, free_port, gateway_table, is_bound
 
 GATEWAYS = range(1, 9)
@@ -34,9 +35,7 @@ SETTINGS = "".join([*map(gateway_table, GATEWAYS), *(device_table(*device) for d
 Copy = tuple[int, int, bytes]
 RUNS, WINDOW = 3, 64
 SECONDS, BAD_EACH_MS, MS_EACH_GOOD = 10, 20, 10
-OWN = b"\2\0\0\0" + EUIS[1]
-BAD = [b"", b"\2", b"\1\0\0\0", b"\2\0\0\7" + EUIS[1], b"\2\0\0\0" + bytes(8), b"x" * 1400]
-BAD += [OWN + text for text in (b'{"rxpk":[{"tmst":1', b'{"rxpk":[{"stat":-1}]}', b"[" * 1400)]
+BAD = malformed(EUIS[1])
 
 
 def uplinks(count: int) -> Iterator[bytes]:

@@ -7,6 +7,7 @@ from __future__ import annotations
 
 from random import Random
 
+from gateway_model import PULL_ACK
 from played_forwarders import now
 from played_gateway import datagrams, forwarder_socket
 from served_lives import LATE
@@ -39,9 +40,8 @@ class RoughGateway(StrictGateway):
 
     def over(self) -> None:
         """The socket from before a change of address takes in what came, and no more."""
+        self.take_earlier()
         for one in self.earlier:
-            for datagram in datagrams(one):
-                self.came(datagram)
             one.close()
         self.earlier = []
 
@@ -97,4 +97,9 @@ class RoughGateway(StrictGateway):
         self.counts["late" if kind < 0.05 else "twice" if kind < 0.13 else "once"] += 1
 
     def take(self) -> int:
-        return super().take() + sum(self.came(datagram) for one in self.earlier for datagram in datagrams(one))
+        return self.take_earlier() + super().take()
+
+    def take_earlier(self) -> int:
+        """What came to the socket from before a change of address. The new one isn't known by what is acknowledged there."""
+        came = [datagram for one in self.earlier for datagram in datagrams(one)]
+        return sum(self.came(datagram) for datagram in came if datagram[3] != PULL_ACK)
