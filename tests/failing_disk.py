@@ -19,7 +19,7 @@ from plain_restarts import SetDevice, SetGateway, Settings, expect_state
 from played_forwarders import entry, now, push_data
 from played_gateway import datagrams, read_pull_resp
 from recover import State, reader
-from serving import EUIS, TOKEN, Failed, Sender, Server, awaited, expect
+from serving import EUIS, TOKEN, Failed, Sender, Server, awaited, expect, expect_going
 from struck_calls import StruckCalls
 
 KEYS = bytes.fromhex("2b7e151628aed2a6abf7158809cf4f3c"), bytes.fromhex("000102030405060708090a0b0c0d0e0f")
@@ -114,6 +114,7 @@ class Asker:
         """Goes on for so long, or until that is enough."""
         ends = time.monotonic() + seconds
         while time.monotonic() < ends and not is_enough():
+            expect_going()
             self.ask()
 
 
@@ -149,6 +150,8 @@ def goes_through(program: str, folder: pathlib.Path, disk: FullDisk | ForgetfulD
         if isinstance(disk, FullDisk):
             expect(len(before) + PART, len(failing), "the bytes of the journal while the disk is full")
             expect_state(reader(before)[0], reader(failing)[0], "the journal while the disk is full")
+        elif isinstance(disk, NoRoomDisk):
+            expect(before, failing, "the journal while the disk takes no byte")
         disk.mends(server)
         play.until(RENEWED_EVERY + SOON, lambda: len(play.asked) > 1)
         # What was told last is answered by then.

@@ -23,16 +23,13 @@ It takes some 45 s, and needs a C compiler. Every wait ends within a minute. A f
 """
 from __future__ import annotations
 
-import concurrent.futures
 import os
 import pathlib
 import re
 import signal
 import subprocess
 import sys
-import tempfile
 import time
-from typing import Callable
 
 sys.dont_write_bytecode = True
 import lorawan
@@ -48,6 +45,7 @@ from refused_states import journals_refused, state_words
 from serve import FIRST, OTHER, SETTINGS, answered_alike, numbers_of
 from serve_lines import Follower
 from serving import EUIS, SECONDS, TOKEN, Failed, Sender, Server, expect
+from trials import tell
 
 SECOND_JOURNAL = GATEWAYS + """device 26011bda 5c7efb43 7 1
 sent 2 {start} 868100000 5 12
@@ -302,21 +300,6 @@ def changed(program: str, parent: pathlib.Path) -> None:
             expect("note: " + begin, line[:len("note: " + begin)], f"the note {line!r} {what}")
 
 
-def tell(trials: list[tuple[str, Callable[[pathlib.Path], None]]]) -> int:
-    """Makes these trials side by side, each in a folder, and prints what failed, and how many did: the status."""
-    failed = 0
-    with tempfile.TemporaryDirectory(prefix="restarts-") as name:
-        with concurrent.futures.ThreadPoolExecutor(len(trials)) as pool:
-            made = [(told, pool.submit(trial, folder_with(pathlib.Path(name)))) for told, trial in trials]
-            for told, one in made:
-                fault = one.exception()
-                if fault is not None:
-                    failed += 1
-                    print(f"failed: {told}: {fault if isinstance(fault, Failed) else repr(fault)}", flush=True)
-    print(f"{len(trials) - failed} passed, {failed} failed")
-    return 1 if failed else 0
-
-
 def main() -> int:
     if not 2 <= len(sys.argv) <= 4 or not os.access(sys.argv[1], os.X_OK):
         print(__doc__.strip(), file=sys.stderr)
@@ -325,7 +308,7 @@ def main() -> int:
     signal.signal(signal.SIGTERM, lambda *_: sys.exit(1))
     program = str(pathlib.Path(sys.argv[1]).resolve())
     count, seed = (int(word) for word in (sys.argv[2:] + ["20", "1"][len(sys.argv) - 2:]))
-    return tell([
+    return tell([[
         ("the worked run, and a second life", lambda folder: worked(program, folder)),
         ("folders that are refused", lambda folder: folders_refused(program, folder)),
         ("a folder that is used", lambda folder: folder_used(program, folder)),
@@ -337,7 +320,7 @@ def main() -> int:
         ("a full disk", lambda folder: goes_through(program, folder, FullDisk(), 2)),
         ("a disk that stays full", lambda folder: goes_through(program, folder, FullDisk(), 11)),
         ("a disk that keeps nothing", lambda folder: goes_through(program, folder_with(folder), ForgetfulDisk(folder), 2)),
-    ])
+    ]])
 
 
 if __name__ == "__main__":

@@ -17,7 +17,7 @@ from gateway_model import RATES
 from plain_restarts import RX2, SetDevice, SetGateway, Settings
 from played_forwarders import now
 from played_gateway import Asked, PlayedGateway
-from serving import EUIS, Failed, expect, free_port
+from serving import EUIS, Failed, expect, expect_going, free_port
 
 # Channels in Hz, each with a data rate. An hour of sub-bands K and N has room for some dozens of these.
 NARROW = (864_100_000, 3)
@@ -100,6 +100,7 @@ class Lives:
         that is struck goes on to the next PULL_RESP, for 0.3 s at most."""
         is_asked = False
         while True:
+            expect_going()
             came, moment = sum(one.take() for one in self.gateways), now()
             if came and not is_asked:
                 is_asked, ends = True, min(ends, moment + more)

@@ -1,5 +1,5 @@
-"""Starts `airbook serve` for tests/serve.py, tests/restarts.py and bench/serve.py, and reads what it writes; and a packet
-forwarder's socket.
+"""Starts `airbook serve` for tests/serve.py, tests/restarts.py, tests/soak.py and bench/serve.py, and reads what it writes; and a
+packet forwarder's socket.
 
 What the program writes goes to a file, so that it never waits for a reader. Each wait ends within a minute.
 """
@@ -12,6 +12,7 @@ import pathlib
 import socket
 import subprocess
 import tempfile
+import threading
 import time
 from typing import Any, Callable, Sequence
 
@@ -26,6 +27,15 @@ class Failed(Exception):
     """What was not as it had to be."""
 
 
+# Set where a script is ended, so that its threads end too.
+STOPPED = threading.Event()
+
+
+def expect_going() -> None:
+    if STOPPED.is_set():
+        raise Failed("the script was ended")
+
+
 def expect(wanted: object, got: object, what: str) -> None:
     if wanted != got:
         raise Failed(f"{what}: wanted {wanted!r}, got {got!r}"[:2000])
@@ -35,6 +45,7 @@ def awaited(found: Callable[[], Any], what: str, child: subprocess.Popen | None 
     """What is found, once something is; the program that it depends on has to run on."""
     ends = time.monotonic() + SECONDS
     while time.monotonic() < ends:
+        expect_going()
         is_over = child is not None and child.poll() is not None
         got = found()
         if got:

@@ -56,6 +56,8 @@ class SoakedLives(Lives):
         self.strikes: dict[int, Optional[Strike]] = {}
         self.kills: collections.Counter = collections.Counter()
         self.letters: collections.Counter = collections.Counter()
+        # What was spent at most in an hour of each sub-band.
+        self.most: collections.Counter = collections.Counter()
 
     def options(self) -> dict[str, Any]:
         kind, number = self.chance.random(), 1 + int(self.chance.expovariate(1 / 7))

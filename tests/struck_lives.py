@@ -21,7 +21,7 @@ from lawful_lives import expect_lawful
 from played_forwarders import now
 from preloaded import library_of
 from refused_states import folder_with
-from serving import SECONDS, Failed, expect, is_bound
+from serving import SECONDS, Failed, expect, expect_going, is_bound
 from soaked_lives import SoakedLives
 from strict_gateway import StrictGateway
 from struck_calls import LIBRARY, Strike, StruckCalls
@@ -50,6 +50,7 @@ class ShortLives(SoakedLives):
         one, asked, told = self.gateways[0], len(self.gateways[0].asked), 0
         ends = now() + (RENEWED_EVERY * 1_000_000 if self.strike and self.strike.way in "fp" else 0) + ANSWERED + SOON * 1_000_000
         while len(one.asked) < asked + (1 if self.lives else 2):
+            expect_going()
             moment = now()
             if child.poll() is not None:
                 return self.ended(child.returncode)

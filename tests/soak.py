@@ -1,0 +1,117 @@
+#!/usr/bin/env python3
+"""Kills `airbook serve --state` again and again, anywhere, and looks at the end at all that was sent over all its lives.
+
+Usage: soak.py PROGRAM [KILLS [SEED]] [--full SECONDS]     (50, 1, 22)
+       soak.py PROGRAM --uplinks COUNT                     (its memory over so many uplinks, and nothing else)
+
+Trials, of which the first three kinds are made side by side:
+
+- KILLS kills, on journals of up to 100 lives each (soaked_lives.py). The program is killed at a moment, or by a library just before
+  or behind one of its calls, or behind half of a write; or one call fails, and it is killed later. Three gateways go on through all
+  lives, whose counters wrap and begin anew, whose addresses change, and which tell packets late and twice (rough_gateway.py). They
+  keep their own rules about what they are asked to send. Over all lives no two transmissions of a gateway are nearer than its gap,
+  each hour of a sub-band keeps its limit by the gateway's own clock, each device's downlink counters rise, and whatever was
+  received stands in the journal behind that life. Each journal says what the one before and its batches come to, and
+  `airbook recover` tells it as the plain reader does;
+- a short life in which each call in turn is struck in each of these ways, and the life behind it (struck_lives.py);
+- a disk that takes no byte for SECONDS (failing_disk.py); two machines with one EUI (bad_forwarders.py);
+- floods, from one gateway and from none, beside a gateway that is answered.
+
+Each hour is by a gateway's clock from the first life on, and no run here is longer than one: so nothing is told of an hour across
+two sessions of a counter, of which docs/PROOFS.md says what holds.
+
+Lives are played in real time, so a run is never quite the same again; SEED sets what is drawn. It takes some 80 s with 50 kills on
+four processors, and some 6 minutes with 500, and needs a C compiler. Each trial that passed tells its figures on a line, one that
+failed why. The last line is 'N passed, M failed'. The status is 0 where none failed, 1 where one did, 2 where nothing could be run.
+"""
+from __future__ import annotations
+
+import argparse
+import collections
+import os
+import pathlib
+import signal
+import sys
+import time
+from typing import Optional, Sequence
+
+sys.dont_write_bytecode = True
+import lorawan
+from bad_forwarders import flooded, one_eui
+from failing_disk import NoRoomDisk, goes_through
+from soaked_lives import SoakedLives, lives_of
+from soaked_memory import over_uplinks
+from struck_lives import each_call
+from trials import Trial, tell
+
+# So many kills are made on one journal, and at least so many journals are side by side.
+MOST, LEAST = 100, 4
+
+
+class Soak:
+    """The lives on all journals, and what came of them."""
+
+    def __init__(self, program: str, kills: int, seed: int) -> None:
+        self.program, self.seed, self.done, self.began = program, seed, [], time.monotonic()
+        count = max(-(-kills // MOST), min(LEAST, kills))
+        self.shares = [(kills * (place + 1)) // count - (kills * place) // count for place in range(count)]
+
+    def trials(self) -> list[Trial]:
+        return [(f"{share} kills, journal {place}", self.trial(place, share)) for place, share in enumerate(self.shares)]
+
+    def trial(self, place: int, share: int):
+        def made(folder: pathlib.Path) -> str:
+            self.done.append(lives_of(self.program, folder, share, 1_000 * self.seed + place))
+            return figures([self.done[-1]])
+
+        return made
+
+    def told(self) -> str:
+        return figures(self.done) + f"; {time.monotonic() - self.began:.0f} s"
+
+
+def figures(done: Sequence[SoakedLives]) -> str:
+    """How many lives there were, what they were ended by, and what was sent."""
+    total = lambda counters: sum(counters, collections.Counter())
+    kills, letters = total(one.kills for one in done), total(one.letters for one in done)
+    gateways = [gateway for one in done for gateway in one.gateways]
+    counts, asked = total(one.counts for one in gateways), sum(len(one.asked) for one in gateways)
+    most = {band: max(one.most[band] for one in done) / limit for band, limit in lorawan.LIMITS.items()}
+    hours = ", ".join(f"{band} {share:.0%}" for band, share in most.items() if share)
+    sending = sum(len({asked.life for asked in one.asked()}) for one in done)
+    ways = ", ".join(f"{count} by {way}" for way, count in sorted(kills.items()) if way != "no kill")
+    struck = " ".join(f"{letter}{count}" for letter, count in sorted(letters.items()) if letter)
+    told = f"{kills.total() - kills['no kill']} kills ({ways}), {kills['no kill']} faults, calls {struck}; {asked} PULL_RESPs in {sending}"
+    told += f" lives, of which {counts['taken']} fit, {counts['TOO_LATE']} too late, {counts['full']} without room, {counts['stale']} stale"
+    return f"{told}; {counts['restart']} restarts and {counts['move']} moves of gateways; fullest hours {hours}"
+
+
+def main() -> int:
+    reader = argparse.ArgumentParser(usage=__doc__.strip(), add_help=False)
+    reader.add_argument("program")
+    reader.add_argument("kills", type=int, nargs="?", default=50)
+    reader.add_argument("seed", type=int, nargs="?", default=1)
+    reader.add_argument("--full", type=int, default=22)
+    reader.add_argument("--uplinks", type=int)
+    words = reader.parse_args()
+    if not os.access(words.program, os.X_OK):
+        print(__doc__.strip(), file=sys.stderr)
+        return 2
+    lorawan.checked()
+    signal.signal(signal.SIGTERM, lambda *_: sys.exit(1))
+    program = str(pathlib.Path(words.program).resolve())
+    if words.uplinks is not None:
+        return tell([[(f"{words.uplinks} uplinks", lambda folder: over_uplinks(program, folder, words.uplinks))]])
+    soak = Soak(program, words.kills, words.seed)
+
+    def full(folder: pathlib.Path) -> None:
+        goes_through(program, folder, NoRoomDisk(folder), words.full)
+
+    beside = [*soak.trials(), ("each call of a short life", lambda folder: each_call(program, folder))]
+    beside += [(f"a disk that is full for {words.full} s", full), ("two machines with one EUI", lambda folder: one_eui(program, folder))]
+    floods = [[(f"a flood from {name}", lambda folder, own=own: flooded(program, folder, own))] for name, own in (("one gateway", True), ("none", False))]
+    return tell([beside, *floods, [("all kills", lambda _: soak.told())]])
+
+
+if __name__ == "__main__":
+    sys.exit(main())
