@@ -46,7 +46,7 @@ def expect_answers(play: Asker, folder: pathlib.Path) -> None:
         last, before = int.from_bytes(frame[6:8], "little"), last
         expect(lorawan.downlink(ADDR, last, KEYS, ack=True), frame, f"the frame under counter {last}")
         if last <= before or play.starts[str(token)] not in starts or state.devices[ADDR][2] <= last:
-            raise Failed(f"the journal says {sorted(starts)[-5:]} and {state.devices[ADDR]}, and {play.asked[-1]!r} was sent behind {before}")
+            raise Failed(f"the journal has {sorted(starts)[-5:]} and {state.devices[ADDR]}, and {frame!r} was sent behind {before}")
     own = [one for one in play.failed if one.split()[1] == "1"]
     expect([], own, "what fails of the gateway that is answered as ever")
 
@@ -71,7 +71,8 @@ def flooded(program: str, folder: pathlib.Path, is_gateway: bool) -> str:
         play.take()
         more, behind = server.memory() - before, play.counter - rest
     got, share = len(play.asked) - during, (during - asked) / (rest - asked)
-    told = f"{flood.sent} datagrams in {flood.seconds:.1f} s; {share:.0%} answered meanwhile, {got} of {behind} behind it; {more} KiB more"
+    told = f"{flood.sent} datagrams in {flood.seconds:.1f} s; {share:.0%} answered meanwhile, {got} of {behind} behind it"
+    told += f"; {more} KiB more"
     if share < ENOUGH or got < behind or more > MORE or flood.sent < 1_000 * FLOODED:
         raise Failed(told)
     expect_answers(play, folder)
@@ -114,7 +115,7 @@ def expect_sessions(lines: list[str], got: set[int]) -> int:
 
 
 def expect_counters(told: list[bytes], folder: pathlib.Path) -> int:
-    """What both machines were asked for is under counters that rise, by device, and has its place in the journal: how many there are."""
+    """What both machines were asked for is under counters that rise, by device, and has a place in the journal: how much it is."""
     state, last = reader((folder / "journal").read_bytes())[0], {}
     for token, _, frequency, rate, frame in sorted(map(read_pull_resp, told)):
         addr, counter = int.from_bytes(frame[1:5], "little"), int.from_bytes(frame[6:8], "little")

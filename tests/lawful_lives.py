@@ -67,6 +67,9 @@ def expect_rising(asked: list[Asked], device: SetDevice) -> dict[tuple[int, int]
 def appended(life: Life, settings: Settings) -> list[list[bytes]]:
     """The batches that were added in a life, behind the journal that it wrote first. That says what it goes on with."""
     batches, earlier = batches_of(life.behind)[0], batches_of(life.before)[0]
+    if reader(life.behind)[1]:
+        # The last one is torn, and counts for nothing.
+        batches.pop()
     if life.is_renewed:
         return batches[1:]
     if life.behind.startswith(life.before) and len(earlier) > 1:

@@ -27,8 +27,8 @@ LATE = 1_200_000
 
 
 class Life(NamedTuple):
-    """A life of the server: its journal before and behind it, its lines, the counters of uplinks by gateway, when it was killed, and
-    whether it wrote a whole journal more than once."""
+    """A life of the server: its journal before and behind it, its lines, the counters of uplinks by gateway, when it was killed,
+    and whether it wrote a whole journal more than once."""
 
     number: int
     before: bytes

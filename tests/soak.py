@@ -33,12 +33,13 @@ import pathlib
 import signal
 import sys
 import time
-from typing import Optional, Sequence
+from typing import Callable, Sequence
 
 sys.dont_write_bytecode = True
 import lorawan
 from bad_forwarders import flooded, one_eui
 from failing_disk import NoRoomDisk, goes_through
+from serving import Failed
 from soaked_lives import SoakedLives, lives_of
 from soaked_memory import over_uplinks
 from struck_lives import each_call
@@ -46,6 +47,8 @@ from trials import Trial, tell
 
 # So many kills are made on one journal, and at least so many journals are side by side.
 MOST, LEAST = 100, 4
+# So many kills are enough that most kinds of them come.
+ENOUGH = 25
 
 
 class Soak:
@@ -59,7 +62,7 @@ class Soak:
     def trials(self) -> list[Trial]:
         return [(f"{share} kills, journal {place}", self.trial(place, share)) for place, share in enumerate(self.shares)]
 
-    def trial(self, place: int, share: int):
+    def trial(self, place: int, share: int) -> Callable[[pathlib.Path], str]:
         def made(folder: pathlib.Path) -> str:
             self.done.append(lives_of(self.program, folder, share, 1_000 * self.seed + place))
             return figures([self.done[-1]])
@@ -67,7 +70,13 @@ class Soak:
         return made
 
     def told(self) -> str:
-        return figures(self.done) + f"; {time.monotonic() - self.began:.0f} s"
+        """The figures of all kills, of which there have to be enough of most kinds."""
+        told = figures(self.done) + f"; {time.monotonic() - self.began:.0f} s"
+        kills, struck, cuts = sum(self.shares), sum(one.letters.total() for one in self.done), sum(one.cuts for one in self.done)
+        asked = [asked for one in self.done for asked in one.asked()]
+        if kills >= ENOUGH and (len(asked) < kills or 4 * struck < kills or 25 * cuts < kills):
+            raise Failed(f"too little to tell much: {told}")
+        return told
 
 
 def figures(done: Sequence[SoakedLives]) -> str:
@@ -80,10 +89,13 @@ def figures(done: Sequence[SoakedLives]) -> str:
     hours = ", ".join(f"{band} {share:.0%}" for band, share in most.items() if share)
     sending = sum(len({asked.life for asked in one.asked()}) for one in done)
     ways = ", ".join(f"{count} by {way}" for way, count in sorted(kills.items()) if way != "no kill")
-    struck = " ".join(f"{letter}{count}" for letter, count in sorted(letters.items()) if letter)
-    told = f"{kills.total() - kills['no kill']} kills ({ways}), {kills['no kill']} faults, calls {struck}; {asked} PULL_RESPs in {sending}"
-    told += f" lives, of which {counts['taken']} fit, {counts['TOO_LATE']} too late, {counts['full']} without room, {counts['stale']} stale"
-    return f"{told}; {counts['restart']} restarts and {counts['move']} moves of gateways; fullest hours {hours}"
+    overdue, cuts = sum(one.overdue.total() for one in gateways), sum(one.cuts for one in done)
+    struck = " ".join(f"{letter}{count}" for letter, count in sorted(letters.items()))
+    told = f"{kills.total() - kills['no kill']} kills ({ways}), {kills['no kill']} faults, calls {struck}; "
+    told += f"{asked} PULL_RESPs in {sending} lives, of which {counts['taken']} fit, {counts['TOO_LATE']} too late, "
+    told += f"{counts['full']} without room, {counts['stale']} stale"
+    told += f"; {counts['restart']} restarts and {counts['move']} moves of gateways, {overdue} first packets overdue"
+    return f"{told}; {cuts} times something was lost that wasn't synced; fullest hours {hours}"
 
 
 def main() -> int:
@@ -108,8 +120,11 @@ def main() -> int:
         goes_through(program, folder, NoRoomDisk(folder), words.full)
 
     beside = [*soak.trials(), ("each call of a short life", lambda folder: each_call(program, folder))]
-    beside += [(f"a disk that is full for {words.full} s", full), ("two machines with one EUI", lambda folder: one_eui(program, folder))]
-    floods = [[(f"a flood from {name}", lambda folder, own=own: flooded(program, folder, own))] for name, own in (("one gateway", True), ("none", False))]
+    beside += [("two machines with one EUI", lambda folder: one_eui(program, folder)), (f"a disk full for {words.full} s", full)]
+    floods = [
+        [("a flood from one gateway", lambda folder: flooded(program, folder, True))],
+        [("a flood from none", lambda folder: flooded(program, folder, False))],
+    ]
     return tell([beside, *floods, [("all kills", lambda _: soak.told())]])
 
 

@@ -30,7 +30,7 @@ OWN_FAILURES = {"Journal", "Session", "Unsent"}
 
 
 def expect_order(calls: str) -> None:
-    """By the letters of its calls a PULL_RESP is sent only behind a batch that was written and synced, and nothing was before it but
+    """By the letters of its calls a PULL_RESP is sent only behind a batch that was written and synced, with nothing between but
     others of its turn. Where the journal can't be written none is, until a whole one is in place."""
     if "p" in re.sub(r"j(?!!)d(?!!)(p!?)+", "", calls):
         raise Failed(f"a PULL_RESP is sent that isn't behind a batch and its sync: {calls[-400:]}")
@@ -52,30 +52,53 @@ class SoakedLives(Lives):
         for one in self.gateways:
             one.delay_of = {device.addr: device.delay for device in self.settings.devices}
         self.calls, self.strike, self.status = StruckCalls(folder), None, None
-        # By life how it was struck, if it was; how many were killed, by what; and the calls at which one was struck, by their letters.
+        # By life how it was struck, if it was; how many were killed, by what; and by their letters the calls that were struck.
         self.strikes: dict[int, Optional[Strike]] = {}
         self.kills: collections.Counter = collections.Counter()
         self.letters: collections.Counter = collections.Counter()
+        # How often something was lost that wasn't synced.
+        self.cuts = 0
         # What was spent at most in an hour of each sub-band.
         self.most: collections.Counter = collections.Counter()
 
     def options(self) -> dict[str, Any]:
-        kind, number = self.chance.random(), 1 + int(self.chance.expovariate(1 / 7))
-        self.strike, self.status = None, None
-        if kind < 0.4:
-            self.strike = Strike(self.chance.choice("ba"), number, KEEPING + "p")
-        elif kind < 0.5:
-            self.strike = Strike("h", number, "j")
-        elif kind < 0.6:
-            self.strike = Strike(self.chance.choice("ba"), self.chance.randrange(1, 400), ALL)
-        elif kind < 0.75:
-            self.strike = Strike(self.chance.choice("ffp"), number, self.chance.choice(["jdp", KEEPING, "vpajd"]))
+        self.strike, self.status = self.drawn_strike(), None
         return self.calls.options(self.strike)
+
+    def drawn_strike(self) -> Optional[Strike]:
+        """None for a kill at a moment. Of the calls that keep the journal 4 make the first whole one, and 2 each batch."""
+        kind, few, more = self.chance.random(), int(self.chance.expovariate(1 / 2)), int(self.chance.expovariate(1 / 5))
+        way = self.chance.choice("ba")
+        if kind < 0.3:
+            return Strike(way, 1 + more, KEEPING + "p")
+        if kind < 0.4:
+            return Strike("h", 1 + few, "j")
+        if kind < 0.5:
+            return Strike("b", 1 + few, "d")
+        if kind < 0.6:
+            return Strike(way, self.chance.randrange(1, 400), ALL)
+        if kind < 0.75:
+            return Strike(self.chance.choice("ffp"), 1 + more, self.chance.choice(["jdp", KEEPING, "vpajd"]))
+        return None
 
     def ended(self, status: int) -> None:
         self.status = status
 
+    def lose_power(self) -> None:
+        """Behind half of all kills it looks as if the power had gone: of what was added to the journal behind its last sync a front is
+        left, in which some bytes are 0."""
+        is_whole = re.search("f(?!!)r(?!!)F(?!!)[^f]*$", self.calls.told())
+        if not is_whole or self.chance.random() < 0.5:
+            return
+        text, synced = self.journal.read_bytes(), self.calls.synced()
+        rest = bytearray(text[synced:self.chance.randrange(synced, len(text) + 1)])
+        for place in range(len(rest) if self.chance.random() < 0.5 else 0):
+            rest[place] *= self.chance.random() < 0.8
+        self.journal.write_bytes(text[:synced] + rest)
+        self.cuts += len(text) > synced
+
     def over(self, killed: int) -> None:
+        self.lose_power()
         super().over(killed)
         life, calls = self.lives[-1], self.calls.told()
         expect_order(calls)
@@ -84,7 +107,8 @@ class SoakedLives(Lives):
         if self.status not in (None, 2, -signal.SIGKILL) or (self.status == -signal.SIGKILL) != is_struck:
             raise Failed(f"life {life.number}, struck by {self.strike}, ended with {self.status}")
         self.kills["no kill" if self.status == 2 else f"a call, {self.strike.way}" if is_struck else "a moment"] += 1
-        self.letters[calls[-1:] if is_struck else calls[calls.find("!") - 1:][:2] if "!" in calls else ""] += 1
+        if is_struck or "!" in calls:
+            self.letters[calls[-1:] if is_struck else calls[calls.find("!") - 1:][:2]] += 1
         wanted = "".join(line + "\n" for line in sql(reader(life.behind)[0]))
         expect(wanted, recovered(self.program, life.behind.decode(), "--sql"), f"what is recovered behind life {life.number}")
 
@@ -99,7 +123,8 @@ class SoakedLives(Lives):
             raise Failed(f"life {number}, struck by {self.strike}, ends with {self.status}, and says {errors!r}")
 
     def sessions(self, life: Life, gateway: int) -> int:
-        return 1 + self.gateways[gateway - 1].restarts[life.number]
+        one = self.gateways[gateway - 1]
+        return 1 + one.restarts[life.number] + one.overdue[life.number]
 
     def expect_told(self, life: Life, asked: list[Asked]) -> None:
         """What fails does so for a reason. All else that the lines tell was asked for, but of gateways that were down."""

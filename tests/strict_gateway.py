@@ -7,13 +7,17 @@ from __future__ import annotations
 
 import collections
 import json
+from typing import Optional
 
 from downlink_queue import DownlinkQueue
 from gateway_model import PUSH_ACK
+from played_forwarders import now
 from played_gateway import Asked, PlayedGateway
 from serving import Failed
 
 SECOND = 1_000_000
+# A session's first packet has to be known within this time.
+DUE = 1_900_000
 
 
 class StrictGateway(PlayedGateway):
@@ -30,11 +34,14 @@ class StrictGateway(PlayedGateway):
         # By what it told since it restarted the counter; and the token of what was acknowledged last.
         self.own: dict[bytes, int] = {}
         self.acknowledged = 0
+        # When it heard the first packet that it told of a session; by life how many of these the server took in too late.
+        self.first: Optional[int] = None
+        self.overdue: collections.Counter = collections.Counter()
         super().__init__(number, port, begins, drift, delays)
 
     def begin(self, life: int, late: int) -> None:
         super().begin(life, late)
-        self.own = {}
+        self.own, self.first = {}, None
 
     def forget(self, own: int) -> None:
         """A restart at this moment of its own: what was to begin later is never sent."""
@@ -42,12 +49,17 @@ class StrictGateway(PlayedGateway):
         self.lost |= {(one.life, one.token) for one in self.asked if one.start > own}
 
     def hear(self, moment: int, data: bytes, **told: object) -> None:
+        if self.is_first:
+            self.first = moment - self.late
         super().hear(moment, data, **told)
         self.own[data] = self.tmsts[data]
 
     def came(self, datagram: bytes) -> bool:
         if datagram[3] == PUSH_ACK:
             self.acknowledged = int.from_bytes(datagram[1:3], "big")
+            if self.first is not None and self.acknowledged == self.token:
+                self.overdue[self.life] += now() - self.first > DUE
+                self.first = None
         return super().came(datagram)
 
     def is_stale(self, asked: Asked) -> bool:
@@ -55,7 +67,8 @@ class StrictGateway(PlayedGateway):
         windows = [asked.tmst - SECOND * (self.delay_of[asked.addr()] + more) for more in (0, 1)]
 
         def answers(told: dict[bytes, int]) -> bool:
-            return any((tmst - one) % (1 << 32) == 0 for data, tmst in told.items() if data[1:5] == asked.data[1:5] for one in windows)
+            own = [tmst for data, tmst in told.items() if data[1:5] == asked.data[1:5]]
+            return any((tmst - one) % (1 << 32) == 0 for tmst in own for one in windows)
 
         if not answers(self.tmsts):
             raise Failed(f"{asked} is in no window of what gateway {self.number} told")

@@ -10,6 +10,7 @@ from __future__ import annotations
 
 import os
 import pathlib
+import sys
 from typing import NamedTuple, Optional
 
 from preloaded import library_of
@@ -33,11 +34,12 @@ LIBRARY = r"""
    taken, and the next call for a file fails. */
 enum way { NOT = 0, BEFORE = 'b', BEHIND = 'a', HALF = 'h', FAILING = 'f', PART = 'p' };
 
-static int told = -1;
+static int told = -1, kept = -1;
 static long count, rest_fails;
 
 __attribute__((constructor)) static void begin(void) {
     told = syscall(SYS_openat, AT_FDCWD, getenv("CALLS_TOLD"), O_WRONLY | O_CREAT | O_TRUNC | O_APPEND | O_CLOEXEC, 0600);
+    kept = syscall(SYS_openat, AT_FDCWD, getenv("SYNCED_TOLD"), O_WRONLY | O_CREAT | O_TRUNC | O_CLOEXEC, 0600);
 }
 
 static void tell(char letter) {
@@ -93,6 +95,8 @@ static int synced(int file, long call, char letter) {
     if (way == BEFORE) die();
     if (way == FAILING || is_there("SYNC_FAILS")) return failed(EIO);
     int result = syscall(call, file);
+    struct stat seen;
+    if (!result && letter != 'F' && !fstat(file, &seen)) syscall(SYS_pwrite64, kept, &seen.st_size, sizeof seen.st_size, 0);
     if (way == BEHIND) die();
     return result;
 }
@@ -143,8 +147,9 @@ class StruckCalls:
     """The library, which is made in a folder where none is given; and where it tells."""
 
     def __init__(self, folder: pathlib.Path, library: Optional[pathlib.Path] = None) -> None:
-        self.file = folder / "calls"
-        self.env = {**os.environ, "LD_PRELOAD": str(library or library_of(LIBRARY, folder)), "CALLS_TOLD": str(self.file)}
+        self.file, self.size = folder / "calls", folder / "synced"
+        self.env = {**os.environ, "LD_PRELOAD": str(library or library_of(LIBRARY, folder))}
+        self.env |= {"CALLS_TOLD": str(self.file), "SYNCED_TOLD": str(self.size)}
 
     def options(self, strike: Optional[Strike] = None, **more: str) -> dict[str, object]:
         """How a program is started over it, with more variables."""
@@ -154,3 +159,7 @@ class StruckCalls:
     def told(self) -> str:
         """The letters of all calls since the program was started last."""
         return self.file.read_text()
+
+    def synced(self) -> int:
+        """How many bytes the file has that was synced last."""
+        return int.from_bytes(self.size.read_bytes(), sys.byteorder)
