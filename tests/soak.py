@@ -38,6 +38,7 @@ from typing import Callable, Sequence
 sys.dont_write_bytecode = True
 import lorawan
 from bad_forwarders import flooded, one_eui
+from downlink_queue import expect_rules
 from failing_disk import NoRoomDisk, goes_through
 from serving import Failed
 from soaked_lives import SoakedLives, lives_of
@@ -119,7 +120,8 @@ def main() -> int:
     def full(folder: pathlib.Path) -> None:
         goes_through(program, folder, NoRoomDisk(folder), words.full)
 
-    beside = [*soak.trials(), ("each call of a short life", lambda folder: each_call(program, folder))]
+    beside = [("the rules of a packet forwarder", lambda _: expect_rules()), *soak.trials()]
+    beside += [("each call of a short life", lambda folder: each_call(program, folder))]
     beside += [("two machines with one EUI", lambda folder: one_eui(program, folder)), (f"a disk full for {words.full} s", full)]
     floods = [
         [("a flood from one gateway", lambda folder: flooded(program, folder, True))],

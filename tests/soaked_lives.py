@@ -25,6 +25,8 @@ from struck_calls import ALL, KEEPING, Strike, StruckCalls
 
 # What a server may name as it ends, where a call fails.
 NAMES = {"airbook: Journal", "airbook: Write"}
+# So many lives may end by a fault beside as many as are killed.
+MORE = 20
 # What is told of a downlink by the server itself.
 OWN_FAILURES = {"Journal", "Session", "Unsent"}
 
@@ -85,8 +87,8 @@ class SoakedLives(Lives):
         self.status = status
 
     def lose_power(self) -> None:
-        """Behind half of all kills it looks as if the power had gone: of what was added to the journal behind its last sync a front is
-        left, in which some bytes are 0."""
+        """Behind half of all kills it looks as if the power had gone: of what was added to the journal behind its last sync a
+        front is left, in which some bytes are 0."""
         is_whole = re.search("f(?!!)r(?!!)F(?!!)[^f]*$", self.calls.told())
         if not is_whole or self.chance.random() < 0.5:
             return
@@ -149,6 +151,8 @@ def lives_of(program: str, folder: pathlib.Path, kills: int, seed: int) -> Soake
     try:
         while lives.kills.total() - lives.kills["no kill"] < kills:
             lives.live(lives.chance.random() < 0.2)
+            if len(lives.lives) > 2 * kills + MORE:
+                raise Failed(f"of {len(lives.lives)} lives most end by themselves: {lives.kills}")
     finally:
         lives.close()
     lives.most = expect_lawful(lives)

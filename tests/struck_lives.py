@@ -38,7 +38,7 @@ class ShortLives(SoakedLives):
     """Two lives, of which the first may be struck."""
 
     def __init__(self, program: str, folder: pathlib.Path, library: pathlib.Path, first: Optional[Strike]) -> None:
-        super().__init__(program, folder, Random(1), StrictGateway)
+        super().__init__(program, folder, Random(first.number if first else 0), StrictGateway)
         self.calls, self.first, self.device = StruckCalls(folder, library), first, self.settings.devices[0]
 
     def options(self) -> dict[str, Any]:
