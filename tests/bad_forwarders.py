@@ -17,9 +17,10 @@ from plain_restarts import SetDevice, SetGateway, Settings
 from played_forwarders import entry, now, push_data
 from played_gateway import datagrams, read_pull_resp
 from recover import reader
-from serving import EUIS, TOKEN, Failed, Sender, Server, expect
+from serving import EUIS, TOKEN, Failed, Sender, Server, awaited, expect
 
-FLOODED, BEHIND, ENOUGH = 4, 8, 0.75
+# How long a flood is, how long the gateway is played behind it, and the share of its uplinks that are answered meanwhile.
+FLOODED, BEHIND, ENOUGH = 4, 2, 0.75
 # The memory that a flood may cost, in KiB.
 MORE = 4_096
 # How long two machines have one EUI, and one of them goes on alone.
@@ -66,14 +67,12 @@ def flooded(program: str, folder: pathlib.Path, is_gateway: bool) -> str:
         time.sleep(0.5)
         play.take()
         rest, during = play.counter, len(play.asked)
-        play.until(BEHIND / 4, lambda: False)
-        time.sleep(0.5)
-        play.take()
-        more, behind = server.memory() - before, play.counter - rest
-    got, share = len(play.asked) - during, (during - asked) / (rest - asked)
-    told = f"{flood.sent} datagrams in {flood.seconds:.1f} s; {share:.0%} answered meanwhile, {got} of {behind} behind it"
-    told += f"; {more} KiB more"
-    if share < ENOUGH or got < behind or more > MORE or flood.sent < 1_000 * FLOODED:
+        play.until(BEHIND, lambda: False)
+        awaited(lambda: play.take() or len(play.asked) >= during + play.counter - rest, "each answer behind the flood", server.child)
+        more = server.memory() - before
+    share = (during - asked) / (rest - asked)
+    told = f"{flood.sent} datagrams in {flood.seconds:.1f} s; {share:.0%} answered meanwhile; {more} KiB more"
+    if share < ENOUGH or more > MORE or flood.sent < 1_000 * FLOODED:
         raise Failed(told)
     expect_answers(play, folder)
     return told
@@ -149,12 +148,10 @@ def one_eui(program: str, folder: pathlib.Path) -> str:
         sender.pull(EUIS[1])
         play = Asker(server, sender)
         both, alone = both_play(play, machines, BOTH), both_play(play, machines[:1], ALONE)
-        time.sleep(0.5)
-        play.take()
+        awaited(lambda: play.take() or len(play.asked) >= play.counter, "all answers of another gateway", server.child)
         lines = pathlib.Path(server.folder.name, "lines").read_text().splitlines()
     if not alone[0]:
         raise Failed("a machine is answered nothing once it is alone")
-    expect(play.counter, len(play.asked), "how many uplinks of the gateway that is answered as ever are answered")
     expect_answers(play, folder)
     told = both[0] + both[1] + alone[0]
     held, got = expect_sessions(lines, {read_pull_resp(one)[0] for one in told}), expect_counters(told, folder)

@@ -29,8 +29,8 @@ from struck_calls import LIBRARY, Strike, StruckCalls
 # So many lives go on side by side.
 BESIDE = 8
 # How long it takes to answer, and how often an uplink is sent until it is.
-ANSWERED, APART, PULLED = 4_500_000, 250_000, 1_000_000
-# The calls of the short life. Each of those on its way is made once more where a datagram comes twice.
+ANSWERED, APART, PULLED = 4_500_000, 400_000, 1_000_000
+# The calls of the short life. There are more where it takes longer.
 WANTED = "oooojfrF" + "va" + "val" + "jdpl" + "vl" + "val" + "jdpl" + "vl"
 
 
@@ -98,12 +98,11 @@ def two_lives(program: str, folder: pathlib.Path, library: pathlib.Path, strike:
     return lives
 
 
-def strikes_of(calls: str) -> list[Strike]:
-    """Each call, in each way."""
-    found = []
-    for number, letter in enumerate(calls, 1):
-        found += [Strike(way, number) for way in ("bafhp" if letter == "j" else "baf")]
-    return found
+def strikes() -> list[Strike]:
+    """Each call, in each way: those of which half is written are counted by themselves."""
+    return [Strike(way, place + 1) for place in range(len(WANTED)) for way in "baf"] + [
+        Strike(way, place + 1, "j") for place in range(WANTED.count("j")) for way in "hp"
+    ]
 
 
 def expect_end(strike: Strike, lives: ShortLives) -> None:
@@ -124,18 +123,17 @@ def each_call(program: str, folder: pathlib.Path) -> str:
     """All of them: how many lives, and by how many ways."""
     library = library_of(LIBRARY, folder)
     calls = two_lives(program, folder_with(folder), library, None).first_calls
-    expect(WANTED, calls, "the calls of a short life")
-    strikes = strikes_of(calls)
+    expect((set(WANTED), 2), (set(calls), calls.count("jdp")), f"the kinds of calls of a short life, and its answers, by {calls}")
 
     def tried(strike: Strike) -> Optional[str]:
         try:
             expect_end(strike, two_lives(program, folder_with(folder), library, strike))
         except Failed as fault:
-            return f"call {strike.number} of {calls}, struck by {strike.way}: {fault}"
+            return f"{strike}: {fault}"
         return None
 
     with concurrent.futures.ThreadPoolExecutor(BESIDE) as pool:
-        faults = [fault for fault in pool.map(tried, strikes) if fault]
+        faults = [fault for fault in pool.map(tried, strikes()) if fault]
     if faults:
-        raise Failed(f"{len(faults)} of {len(strikes)}: " + "; ".join(faults)[:1500])
-    return f"{len(strikes)} lives struck at each of {len(calls)} calls"
+        raise Failed(f"{len(faults)} of {len(strikes())}: " + "; ".join(faults)[:1500])
+    return f"{len(strikes())} lives, each struck at one of the calls {WANTED}"
