@@ -82,10 +82,9 @@ class Soak:
 
 def figures(done: Sequence[SoakedLives]) -> str:
     """How many lives there were, what they were ended by, and what was sent."""
-    total = lambda counters: sum(counters, collections.Counter())
-    kills, letters = total(one.kills for one in done), total(one.letters for one in done)
-    gateways = [gateway for one in done for gateway in one.gateways]
-    counts, asked = total(one.counts for one in gateways), sum(len(one.asked) for one in gateways)
+    gateways, none = [gateway for one in done for gateway in one.gateways], collections.Counter()
+    kills, letters = sum((one.kills for one in done), none), sum((one.letters for one in done), none)
+    counts, asked = sum((one.counts for one in gateways), none), sum(len(one.asked) for one in gateways)
     most = {band: max(one.most[band] for one in done) / limit for band, limit in lorawan.LIMITS.items()}
     hours = ", ".join(f"{band} {share:.0%}" for band, share in most.items() if share)
     sending = sum(len({asked.life for asked in one.asked()}) for one in done)

@@ -33,10 +33,12 @@ OWN_FAILURES = {"Journal", "Session", "Unsent"}
 
 def expect_order(calls: str) -> None:
     """By the letters of its calls a PULL_RESP is sent only behind a batch that was written and synced, with nothing between but
-    others of its turn. Where the journal can't be written none is, until a whole one is in place."""
+    others of its turn. None is before a whole journal is in place, nor where it can't be written, until one is again."""
     if "p" in re.sub(r"j(?!!)d(?!!)(p!?)+", "", calls):
         raise Failed(f"a PULL_RESP is sent that isn't behind a batch and its sync: {calls[-400:]}")
     opened = re.search("ojfrF(?!!)", calls)
+    if "p" in calls and not opened:
+        raise Failed(f"a PULL_RESP is sent before a whole journal is in place: {calls[-400:]}")
     for failed in re.finditer("[jd]!", calls[opened.end():] if opened else ""):
         if "p" in calls[opened.end() + failed.end():].partition("ojfrF")[0]:
             raise Failed(f"a PULL_RESP is sent behind a journal that failed: {calls[-400:]}")
@@ -87,10 +89,16 @@ class SoakedLives(Lives):
         self.status = status
 
     def lose_power(self) -> None:
-        """Behind half of all kills it looks as if the power had gone: of what was added to the journal behind its last sync a
-        front is left, in which some bytes are 0."""
-        is_whole = re.search("f(?!!)r(?!!)F(?!!)[^f]*$", self.calls.told())
-        if not is_whole or self.chance.random() < 0.5:
+        """Behind half of all kills it looks as if the power had gone. Of what was added to the journal behind its last sync a front
+        is left, in which some bytes are 0. Where the folder wasn't synced, its first whole journal has the name no more."""
+        calls = self.calls.told()
+        if self.chance.random() < 0.5:
+            return
+        if re.search("^[^r]*r(F!|F$|$)", calls):
+            self.journal.write_bytes(self.before)
+            self.cuts += 1
+            return
+        if not re.search("f(?!!)r(?!!)F(?!!)[^f]*$", calls):
             return
         text, synced = self.journal.read_bytes(), self.calls.synced()
         rest = bytearray(text[synced:self.chance.randrange(synced, len(text) + 1)])

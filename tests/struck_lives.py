@@ -16,7 +16,7 @@ from random import Random
 from typing import Any, Optional
 
 import lorawan
-from failing_disk import RENEWED_EVERY, SOON
+from failing_disk import RENEWED_EVERY
 from lawful_lives import expect_lawful
 from played_forwarders import now
 from preloaded import library_of
@@ -28,8 +28,8 @@ from struck_calls import LIBRARY, Strike, StruckCalls
 
 # So many lives go on side by side.
 BESIDE = 8
-# How long it takes to answer, and how often an uplink is sent until it is.
-ANSWERED, APART, PULLED = 4_500_000, 400_000, 1_000_000
+# How long it takes until two are answered at most; how far apart uplinks are, and PULL_DATAs.
+ANSWERED, APART, PULLED = 10_000_000, 400_000, 1_000_000
 # The calls of the short life. There are more where it takes longer.
 WANTED = "oooojfrF" + "va" + "val" + "jdpl" + "vl" + "val" + "jdpl" + "vl"
 
@@ -40,6 +40,8 @@ class ShortLives(SoakedLives):
     def __init__(self, program: str, folder: pathlib.Path, library: pathlib.Path, first: Optional[Strike]) -> None:
         super().__init__(program, folder, Random(first.number if first else 0), StrictGateway)
         self.calls, self.first, self.device = StruckCalls(folder, library), first, self.settings.devices[0]
+        # What the first life called, and how it ended by itself.
+        self.first_calls, self.first_status = "", None
 
     def options(self) -> dict[str, Any]:
         self.strike, self.status = None if self.lives else self.first, None
@@ -48,7 +50,7 @@ class ShortLives(SoakedLives):
     def play(self, child: subprocess.Popen, *_: object) -> None:
         """Sends an uplink of the device again and again, until two of the first life are answered, or one of the second."""
         one, asked, told = self.gateways[0], len(self.gateways[0].asked), 0
-        ends = now() + (RENEWED_EVERY * 1_000_000 if self.strike and self.strike.way in "fp" else 0) + ANSWERED + SOON * 1_000_000
+        ends = now() + ANSWERED + (RENEWED_EVERY * 1_000_000 if self.strike and self.strike.way in "fp" else 0)
         while len(one.asked) < asked + (1 if self.lives else 2):
             expect_going()
             moment = now()
