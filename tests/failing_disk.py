@@ -26,6 +26,8 @@ KEYS = bytes.fromhex("2b7e151628aed2a6abf7158809cf4f3c"), bytes.fromhex("0001020
 ADDR = 0x26011BDA
 # A renewal is tried so often, in seconds, and the next uplink's answer comes some time later.
 RENEWED_EVERY, SOON = 10, 2
+# Before each so many-th uplink comes a PULL_DATA: nothing is heard of a gateway that sends none for a minute.
+PULLED_EVERY = 40
 # So many bytes of a batch have room on a full disk.
 PART = 20
 
@@ -90,6 +92,8 @@ class Asker:
 
     def ask(self) -> None:
         """One uplink, and a quarter of a second."""
+        if self.counter % PULLED_EVERY == 0:
+            self.sender.send(b"\2" + TOKEN + b"\2" + EUIS[1])
         self.counter += 1
         data = lorawan.uplink(True, ADDR, self.counter, KEYS)
         self.sender.send(push_data(EUIS[1], TOKEN, [entry(data, now() % (1 << 32))]))

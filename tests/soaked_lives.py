@@ -138,19 +138,26 @@ class SoakedLives(Lives):
 
     def expect_told(self, life: Life, asked: list[Asked]) -> None:
         """What fails does so for a reason. All else that the lines tell was asked for, but of gateways that were down."""
-        failed, strike = life.failures(), self.strikes[life.number]
+        failed = life.failures()
         for token, gateway, name in failed:
-            one = self.gateways[gateway - 1]
-            is_struck = strike is not None and strike.way in "fp"
-            why = is_struck if name in ("Journal", "Unsent") else one.restarts[life.number] > 0 if name == "Session" else None
-            if not (one.errors.get((life.number, token)) == name if why is None else why):
-                raise Failed(f"life {life.number} tells that {token} fails on {gateway} by {name}")
+            if not self.is_reason(life, token, gateway, name):
+                told = [line for line in life.lines if line.startswith(("session", f"> hear {gateway} ", "failed"))]
+                raise Failed(f"life {life.number} tells that {token} fails on {gateway} by {name}: {told[:100]}")
         own = {(token, gateway) for token, gateway, name in failed if name in OWN_FAILURES}
         got = {(one.token, one.gateway) for one in asked}
         expect(set(), own & got, f"what life {life.number} tells as not sent, and was")
         down = {one.number for one in self.gateways if one.restarts[life.number]}
         told = {one for one in life.sends() - own - got if one[1] not in down}
         expect(set(), told, f"what life {life.number} tells, and nobody was asked for")
+
+    def is_reason(self, life: Life, token: int, gateway: int, name: str) -> bool:
+        """Whether something may fail by this name: a call failed, a session began, or the gateway told so."""
+        if name in ("Journal", "Unsent"):
+            strike = self.strikes[life.number]
+            return strike is not None and strike.way in "fp"
+        if name == "Session":
+            return self.sessions(life, gateway) > 1
+        return self.gateways[gateway - 1].errors.get((life.number, token)) == name
 
 
 def lives_of(program: str, folder: pathlib.Path, kills: int, seed: int) -> SoakedLives:
