@@ -59,20 +59,28 @@ class Lives:
         self, program: str, folder: pathlib.Path, chance: Random, kind: Callable[..., PlayedGateway] = PlayedGateway
     ) -> None:
         self.program, self.folder, self.chance, self.port = program, folder, chance, free_port()
+        self.settings, waiting = self.drawn()
+        self.journal, self.before = folder / "journal", self.settings.journal(*waiting)
+        self.journal.write_bytes(self.before)
+        self.gateways = self.played(kind)
+        # By its address the last uplink counter of a device; and when the next uplink comes.
+        self.ups, self.next = {one.addr: one.up for one in self.settings.devices}, 0
+        self.lives: list[Life] = []
+
+    def drawn(self) -> tuple[Settings, list[str]]:
+        """The settings, and the lines of the payloads that wait."""
         devices = []
         for number in range(24):
             keys, rx2 = (bytes([number] * 16), bytes([number, 7] * 8)), NARROW if number % 3 else RX2
             devices.append(SetDevice(0x26011000 + number, keys, 65_500, 65_510, (1, 5)[number % 2], rx2))
-        self.settings = Settings([SetGateway(number, EUIS[number]) for number in (1, 2, 3)], devices)
         waiting = [f"queue {one.addr:08x} 9 {place:02x}ff" for one in devices[::3] for place in range(16)]
-        self.journal, self.before = folder / "journal", self.settings.journal(*waiting)
-        self.journal.write_bytes(self.before)
+        return Settings([SetGateway(number, EUIS[number]) for number in (1, 2, 3)], devices), waiting
+
+    def played(self, kind: Callable[..., PlayedGateway]) -> list[PlayedGateway]:
+        """The gateways, whose counters soon begin anew."""
         begins = [(1 << 32) - seconds * 1_000_000 for seconds in (4, 10, 16)]
         rows = zip((1, 2, 3), begins, (50, -50, 0), ({1}, {5}, {1, 5}))
-        self.gateways = [kind(number, self.port, *more) for number, *more in rows]
-        # By its address the last uplink counter of a device; and when the next uplink comes.
-        self.ups, self.next = {one.addr: one.up for one in devices}, 0
-        self.lives: list[Life] = []
+        return [kind(number, self.port, *more) for number, *more in rows]
 
     def close(self) -> None:
         for one in self.gateways:

@@ -17,7 +17,7 @@ import time
 from typing import Any, Callable, Sequence
 
 SECONDS = 60
-EUIS = [bytes.fromhex(f"aa555a000000000{number}") for number in range(10)]
+EUIS = [bytes.fromhex(f"aa555a00000000{number:02x}") for number in range(65)]
 TOKEN = b"\x12\x34"
 # Ports below those that Linux gives out by itself, each process beginning at another one.
 PORTS = map(lambda number: 20_000 + number % 12_000, itertools.count(os.getpid()))

@@ -15,7 +15,9 @@ Trials, of which the first three kinds are made side by side:
   `airbook recover` tells it as the plain reader does;
 - a short life in which each call in turn is struck in each of these ways, and the life behind it (struck_lives.py);
 - a disk that takes no byte for SECONDS (failing_disk.py); two machines with one EUI (bad_forwarders.py);
-- floods, from one gateway and from none, beside a gateway that is answered.
+- floods, from one gateway and from none, beside a gateway that is answered;
+- a journal that grows by 1 MiB, so that a whole one takes its place, and a kill at a call of that (grown_lives.py): by SEED at one
+  of six places, and where KILLS are 100 or more at each of them.
 
 Each hour is by a gateway's clock from the first life on, and no run here is longer than one: so nothing is told of an hour across
 two sessions of a counter, of which docs/PROOFS.md says what holds.
@@ -40,6 +42,7 @@ import lorawan
 from bad_forwarders import flooded, one_eui
 from downlink_queue import expect_rules
 from failing_disk import NoRoomDisk, goes_through
+from grown_lives import STRIKES, grown
 from serving import Failed
 from soaked_lives import SoakedLives, lives_of
 from soaked_memory import over_uplinks
@@ -75,7 +78,8 @@ class Soak:
         told = figures(self.done) + f"; {time.monotonic() - self.began:.0f} s"
         kills, struck, cuts = sum(self.shares), sum(one.letters.total() for one in self.done), sum(one.cuts for one in self.done)
         asked = [asked for one in self.done for asked in one.asked()]
-        if kills >= ENOUGH and (len(asked) < kills or 4 * struck < kills or 25 * cuts < kills):
+        is_full = max((one.most["K"] for one in self.done), default=0) * 2 >= lorawan.LIMITS["K"]
+        if kills >= ENOUGH and (len(asked) < kills or 4 * struck < kills or 25 * cuts < kills) or kills >= MOST and not is_full:
             raise Failed(f"too little to tell much: {told}")
         return told
 
@@ -126,7 +130,9 @@ def main() -> int:
         [("a flood from one gateway", lambda folder: flooded(program, folder, True))],
         [("a flood from none", lambda folder: flooded(program, folder, False))],
     ]
-    return tell([beside, *floods, [("all kills", lambda _: soak.told())]])
+    places = range(words.seed, words.seed + (len(STRIKES) if words.kills >= MOST else 1))
+    grow = [[("a journal that grows", lambda folder, place=place: grown(program, folder, place))] for place in places]
+    return tell([beside, *floods, *grow, [("all kills", lambda _: soak.told())]])
 
 
 if __name__ == "__main__":

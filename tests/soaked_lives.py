@@ -123,7 +123,7 @@ class SoakedLives(Lives):
         expect(wanted, recovered(self.program, life.behind.decode(), "--sql"), f"what is recovered behind life {life.number}")
 
     def is_renewed(self) -> bool:
-        return len(re.findall("ojfrF(?!!)", self.calls.told())) > 1
+        return len(re.findall("ojfr(?!!)", self.calls.told())) > 1
 
     def expect_errors(self, errors: str, number: int) -> None:
         if self.strike is None or self.strike.way in "bah":

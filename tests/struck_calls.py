@@ -152,7 +152,9 @@ class StruckCalls:
         self.env |= {"CALLS_TOLD": str(self.file), "SYNCED_TOLD": str(self.size)}
 
     def options(self, strike: Optional[Strike] = None, **more: str) -> dict[str, object]:
-        """How a program is started over it, with more variables."""
+        """How a program is started over it, with more variables. Nothing is told yet."""
+        self.file.write_text("")
+        self.size.write_bytes(b"")
         own = {} if strike is None else {"STRUCK_WAY": strike.way, "STRUCK_AT": str(strike.number), "STRUCK_KINDS": strike.kinds}
         return {"env": {**self.env, **own, **more}}
 
