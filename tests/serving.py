@@ -19,8 +19,9 @@ from typing import Any, Callable, Sequence
 SECONDS = 60
 EUIS = [bytes.fromhex(f"aa555a00000000{number:02x}") for number in range(65)]
 TOKEN = b"\x12\x34"
-# Ports below those that Linux gives out by itself, each process beginning at another one.
-PORTS = map(lambda number: 20_000 + number % 12_000, itertools.count(os.getpid()))
+# Ports below those that Linux gives out by itself. One process begins far from the next, since a server that is started again and
+# again keeps its port without having it bound.
+PORTS = map(lambda number: 20_000 + number % 12_000, itertools.count(500 * os.getpid()))
 
 
 class Failed(Exception):
