@@ -57,8 +57,8 @@ class RoughGateway(StrictGateway):
         if self.is_open and passed < SECOND:
             kind = self.chance.random() * SECOND
             if kind < RESTARTS * passed:
-                self.restart(moment)
-            elif kind < (RESTARTS + MOVES) * passed:
+                return self.restart(moment)
+            if kind < (RESTARTS + MOVES) * passed:
                 self.move()
         super().pull(moment)
 
