@@ -14,7 +14,8 @@ Trials, of which the first three kinds are made side by side:
   received stands in the journal behind that life. Each journal says what the one before and its batches come to, and
   `airbook recover` tells it as the plain reader does;
 - a short life in which each call in turn is struck in each of these ways, and the life behind it (struck_lives.py);
-- a disk that takes no byte for SECONDS (failing_disk.py); two machines with one EUI (bad_forwarders.py);
+- a disk that takes no byte for SECONDS (failing_disk.py); two machines with one EUI (bad_forwarders.py); a payload whose downlink
+  is held back (held_payloads.py);
 - floods, from one gateway and from none, beside a gateway that is answered;
 - a journal that grows by 1 MiB, so that a whole one takes its place, and a kill at a call of that (grown_lives.py): by SEED at one
   of six places, and where KILLS are 100 or more at each of them.
@@ -43,6 +44,7 @@ from bad_forwarders import flooded, one_eui
 from downlink_queue import expect_rules
 from failing_disk import NoRoomDisk, goes_through
 from grown_lives import STRIKES, grown
+from held_payloads import held_back
 from serving import Failed
 from soaked_lives import SoakedLives, lives_of
 from soaked_memory import over_uplinks
@@ -125,6 +127,7 @@ def main() -> int:
 
     beside = [("the rules of a packet forwarder", lambda _: expect_rules()), *soak.trials()]
     beside += [("each call of a short life", lambda folder: each_call(program, folder))]
+    beside += [("a payload that is held back", lambda folder: held_back(program, folder))]
     beside += [("two machines with one EUI", lambda folder: one_eui(program, folder)), (f"a disk full for {words.full} s", full)]
     floods = [
         [("a flood from one gateway", lambda folder: flooded(program, folder, True))],
