@@ -24,7 +24,7 @@ Each hour is by a gateway's clock from the first life on, and no run here is lon
 two sessions of a counter, of which docs/PROOFS.md says what holds.
 
 Lives are played in real time, so a run is never quite the same again; SEED sets what is drawn. It takes some 80 s with 50 kills on
-four processors, and some 6 minutes with 500, and needs a C compiler. Each trial that passed tells its figures on a line, one that
+four processors, and 6 minutes with 500, and needs a C compiler. Each trial that passed tells its figures on a line, one that
 failed why. The last line is 'N passed, M failed'. The status is 0 where none failed, 1 where one did, 2 where nothing could be run.
 """
 from __future__ import annotations
