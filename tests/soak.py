@@ -23,7 +23,7 @@ Trials, of which the first three kinds are made side by side:
 Each hour is by a gateway's clock from the first life on, and no run here is longer than one: so nothing is told of an hour across
 two sessions of a counter, of which docs/PROOFS.md says what holds.
 
-Lives are played in real time, so a run is never quite the same again; SEED sets what is drawn. It takes some 80 s with 50 kills on
+Lives are played in real time, so a run is never quite the same again; SEED sets what is drawn. It takes some 90 s with 50 kills on
 four processors, and 6 minutes with 500, and needs a C compiler. Each trial that passed tells its figures on a line, one that
 failed why. The last line is 'N passed, M failed'. The status is 0 where none failed, 1 where one did, 2 where nothing could be run.
 """
@@ -81,7 +81,7 @@ class Soak:
         kills, struck, cuts = sum(self.shares), sum(one.letters.total() for one in self.done), sum(one.cuts for one in self.done)
         asked = [asked for one in self.done for asked in one.asked()]
         is_full = max((one.most["K"] for one in self.done), default=0) * 2 >= lorawan.LIMITS["K"]
-        if kills >= ENOUGH and (len(asked) < kills or 4 * struck < kills or 25 * cuts < kills) or kills >= MOST and not is_full:
+        if kills >= ENOUGH and (2 * len(asked) < kills or 4 * struck < kills or 50 * cuts < kills) or kills >= MOST and not is_full:
             raise Failed(f"too little to tell much: {told}")
         return told
 
