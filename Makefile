@@ -56,13 +56,15 @@ test: documents
 	python3 tests/installed.py
 
 # Whether links lead somewhere, sentences are short, the lists of definitions, of calls that take memory and of changes of
-# statements are those of the sources, the version is told alike everywhere, and the program of docs/BUILDING.md is the crate's.
+# statements are those of the sources, all edits can be applied to these, the version is told alike everywhere, and the program of
+# docs/BUILDING.md is the crate's.
 documents:
 	python3 tests/links.py
 	python3 tests/english.py
 	python3 tests/model.py
 	python3 tests/growths.py
 	python3 tests/edit_table.py
+	python3 tests/edits_apply.py
 	python3 tests/version.py
 	python3 tests/examples.py
 
