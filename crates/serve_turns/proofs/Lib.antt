@@ -15,4 +15,15 @@ mod Acts
 mod SendLaws
 mod SendOnce
 mod WorkedSends
+mod TurnWorlds
+mod DeviceSteps
+mod Counters
+mod CounterTurns
+mod CounterLives
+mod Unnumbered
+mod GatewayDeeds
+mod LifeLaws
+mod WorkedCounters
+mod WorkedServed
+mod WorkedLives
 mod Paired

@@ -9,5 +9,8 @@ pub mod Sending
 pub mod Renewing
 pub mod Turn
 pub mod SendLaw
+pub mod CounterLaw
+pub mod LifeLaw
+pub mod CounterLives
 pub mod Forwarders
 pub mod Opening

@@ -8,6 +8,7 @@ mod asking;
 mod by_gateway;
 mod host;
 mod keeping;
+mod life_law;
 mod names;
 mod renewing;
 mod send_law;
@@ -21,6 +22,9 @@ mod turn;
 pub use by_gateway::{forwarders_of, resumed_forwarders};
 pub use forwarder_sessions::{Endpoint, Forwarder};
 pub use host::{Came, Host};
+pub use life_law::{
+    law_devices_go_on, law_each_downlink_is_counted, law_every_served_life_keeps_duty, law_every_served_life_raises_counters,
+};
 pub use send_law::{law_each_downlink_is_sent_once, law_every_send_is_kept};
 pub use serving::{Resumed, Serving};
 pub use turn::Stopped;
