@@ -302,8 +302,8 @@ module _ (devices : List Device) (own : HaveOwnAddresses (settings_of devices)) 
   device_found place d there = by_option (λ o. device_with d.setting.addr devices ≡ o → o ≡ Some (place, d)) _
       (λ none is. absurd (none_passes test devices place d none there (eq-eqb _ _ refl)))
       (λ found is e.
-          let f = found_there test devices found is in
-          found_is found f.0 (eqb-true found.1.setting.addr d.setting.addr f.1))
+      let f = found_there test devices found is in
+      found_is found f.0 (eqb-true found.1.setting.addr d.setting.addr f.1))
       refl
     where
       test : Device → Bool

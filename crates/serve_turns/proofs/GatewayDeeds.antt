@@ -120,11 +120,11 @@ module _ (id : ℕ) (rules : Rules) (rested : rules.gap ≤ most_gap) (p : ℕ) 
                 leads = ap (λ b. record { journal = journal; book = b }) ((unseen s h.by_start).after (Ticked_to now));
               }
           | inr o ↦ record {
-              state = s;
-              stands = record { there = o; named = named_set w s i g (tick_step g.state now) h e; by_start = h.by_start };
-              deeds = [];
-              leads = refl;
-            }
+            state = s;
+            stands = record { there = o; named = named_set w s i g (tick_step g.state now) h e; by_start = h.by_start };
+            deeds = [];
+            leads = refl;
+          }
         ]
 
     pub tick_leads : (number now : ℕ) → Leads (tick w number now).0 s journal journal
@@ -209,11 +209,11 @@ module _ (id : ℕ) (rules : Rules) (rested : rules.gap ≤ most_gap) (p : ℕ) 
             elim (get_set_after w.gateways i p (record g { state = book_step g.rules g.state ask }) (gateway s) h.there) [
               | inl o ↦ absurd (is o.0)
               | inr o ↦ record {
-                  state = s;
-                  stands = record { there = o; named = named_set w s i g (book_step g.rules g.state ask) h there; by_start = h.by_start };
-                  deeds = [];
-                  leads = ap (λ j. record { journal = j; book = forgetful (bare_state s) }) (sym (noted_other (is_kept sent) (c.gateway == id) journal _ other));
-                }
+                state = s;
+                stands = record { there = o; named = named_set w s i g (book_step g.rules g.state ask) h there; by_start = h.by_start };
+                deeds = [];
+                leads = ap (λ j. record { journal = j; book = forgetful (bare_state s) }) (sym (noted_other (is_kept sent) (c.gateway == id) journal _ other));
+              }
             ]
 
         by_test : (t : Bool) → (c.gateway == id) ≡ t → Leads after s journal (noted is_kept id sent journal)

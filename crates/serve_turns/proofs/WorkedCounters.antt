@@ -52,15 +52,19 @@ module _ (A : Type 0) (keeps : EverySendIsKept A) (counts : EachDownlinkIsCounte
   a_greater_counter_is_told bytes datagram to went does =
       let it = (subst (λ e. EachSend (λ done to bytes. IsBehindItsBatch now (pass_downlinks A now came l) after done to bytes) [] e)
       does (keeps now came r l)).0 in
-      let p = All-contains _ _ it.downlink (counts now came l own) it.among in
-      (it.downlink, it.kept, it.batch, record {
-        job = p.job;
-        device = p.after.1;
-        frame = p.frame;
-        keys = p.keys;
-        greater = p.below;
-        told = λ f session forwarder known. it.told f p.job.addr p.after session forwarder p.addressed p.is known;
-      })
+      let p = All-contains _ _ it.downlink (counts now came l own) it.among in (
+        it.downlink,
+        it.kept,
+        it.batch,
+        record {
+          job = p.job;
+          device = p.after.1;
+          frame = p.frame;
+          keys = p.keys;
+          greater = p.below;
+          told = λ f session forwarder known. it.told f p.job.addr p.after session forwarder p.addressed p.is known;
+        },
+      )
 
 -- Of two turns one after the other.
 
@@ -93,10 +97,15 @@ module _ (A : Type 0) (counts : EachDownlinkIsCounted A) (goes : DevicesGoOn A) 
       let f = found_at p.job.addr (behind_pass A now came l).world.reg.devices p.after p.is in
       let g = found_at q.job.addr next.world.reg.devices q.before q.was in
       let at : slice_get (settings_of next.world.reg.devices) p.after.0 ≡ Some p.after.1.setting =
-      subst (λ s. slice_get s p.after.0 ≡ Some p.after.1.setting) (sym on.settings) f.0 in
-      (p.job, q.job, p.frame, q.frame, λ same.
-          let place : p.after.0 ≡ q.before.0 = apart_once (λ s. s) (λ s. s.addr) (settings_of next.world.reg.devices)
-          (settings_of next.world.reg.devices) (map-id (settings_of next.world.reg.devices)) addresses_stay_own.differ p.after.0
-          q.before.0 p.after.1.setting q.before.1.setting at g.0 (f.2 ∙ same ∙ sym g.2) in
-          let there = subst (λ k. slice_get next.world.reg.devices k ≡ Some q.before.1) (sym place) g.1 in
-          omega (arith, p.below, q.not_below, on.counters p.after.0 p.after.1 q.before.1 f.1 there))
+      subst (λ s. slice_get s p.after.0 ≡ Some p.after.1.setting) (sym on.settings) f.0 in (
+        p.job,
+        q.job,
+        p.frame,
+        q.frame,
+        λ same.
+            let place : p.after.0 ≡ q.before.0 = apart_once (λ s. s) (λ s. s.addr) (settings_of next.world.reg.devices)
+            (settings_of next.world.reg.devices) (map-id (settings_of next.world.reg.devices)) addresses_stay_own.differ p.after.0
+            q.before.0 p.after.1.setting q.before.1.setting at g.0 (f.2 ∙ same ∙ sym g.2) in
+            let there = subst (λ k. slice_get next.world.reg.devices k ≡ Some q.before.1) (sym place) g.1 in
+            omega (arith, p.below, q.not_below, on.counters p.after.0 p.after.1 q.before.1 f.1 there),
+      )

@@ -23,7 +23,8 @@ pub use by_gateway::{forwarders_of, resumed_forwarders};
 pub use forwarder_sessions::{Endpoint, Forwarder};
 pub use host::{Came, Host};
 pub use life_law::{
-    law_devices_go_on, law_each_downlink_is_counted, law_every_served_life_keeps_duty, law_every_served_life_raises_counters,
+    law_devices_go_on, law_each_downlink_is_counted, law_every_served_life_keeps_duty,
+    law_every_served_life_raises_counters,
 };
 pub use send_law::{law_each_downlink_is_sent_once, law_every_send_is_kept};
 pub use serving::{Resumed, Serving};
