@@ -72,25 +72,30 @@ module _ (A : Type 0) (addr : ℕ) where
     for_addr d o a e h = eqb-true a addr (sym (ap (is_for addr) e) ∙ h)
 
     counted : (d : ToSend) → IsCounted l.world.reg.devices passed d → is_noted_for addr t.is_kept d ≡ true
-        → HasCounterWithin told (max told (down_at addr passed)) d
+        → HasCounterWithin passed addr told (max told (down_at addr passed)) d
     counted d c noted =
         let own_addr = for_addr d (addr_in d.frame) c.job.addr c.addressed (and_parts (t.is_kept d) (is_for addr (addr_in d.frame)) noted).1 in
         let first = down_found addr l.world.reg.devices c.before
         (subst (λ a. device_with a l.world.reg.devices ≡ Some c.before) own_addr c.was) in
-        let last = down_found addr passed c.after (subst (λ a. device_with a passed ≡ Some c.after) own_addr c.is) in
+        let there = subst (λ a. device_with a passed ≡ Some c.after) own_addr c.is in
+        let last = down_found addr passed c.after there in
         record {
           job = c.job;
           frame = c.frame;
+          own = own_addr;
+          found = c.after;
+          there = there;
+          keys = c.keys;
           not_below = omega (arith, known, first, c.not_below);
           below = omega (arith, last, c.below);
         }
 
     fresh_if : (due : Bool) (d : ToSend) → Contains (cond due then []) d → is_noted_for addr t.is_kept d ≡ true
-        → HasCounterWithin told (cond (list_any (is_noted_for addr t.is_kept) (cond due then []))
+        → HasCounterWithin passed addr told (cond (list_any (is_noted_for addr t.is_kept) (cond due then []))
         (max told (down_at addr passed)) told) d
     fresh_if false d (k, within, is) noted = absurd (omega (arith, within))
     fresh_if true d among noted =
-        subst (λ any. HasCounterWithin told (cond any (max told (down_at addr passed)) told) d)
+        subst (λ any. HasCounterWithin passed addr told (cond any (max told (down_at addr passed)) told) d)
         (sym (any_passes (is_noted_for addr t.is_kept) then d among noted))
         (counted d (All-contains (IsCounted l.world.reg.devices passed) then d
         (each_downlink_is_counted A t.now t.came l own) among) noted)
@@ -133,8 +138,8 @@ module _ (A : Type 0) (addr : ℕ) where
 
   lives_fresh : (lives : List ServedLife) (told : ℕ) → LivesAreFresh A addr lives told
   lives_fresh [] told = tt
-  lives_fresh (life ∷ lives) told = λ own known. (
-    turns_fresh life.turns life.opened own told known,
+  lives_fresh (life ∷ lives) told = (
+    λ own known. turns_fresh life.turns life.opened own told known,
     lives_fresh lives (told_after A addr life.turns life.opened told),
   )
 

@@ -15,7 +15,7 @@ use Rattle.server_desk.specs.World.{Gateway, World, ids}
 use Rattle.serve_journal.specs.Lives.{HasGap, Life as BookLife, Recorded, after_deeds, after_life, after_lives}
 use Rattle.serve_journal.proofs.LivesLaws.{every_life_keeps_duty}
 use Rattle.serve_turns.specs.Life.{Life}
-use Rattle.serve_turns.specs.LifeLaw.{EveryServedLifeKeepsDuty, OpenInTurn, OpensOn, ServedLife, Turn, after_served, after_turns, all_noted, behind, turn_downlinks}
+use Rattle.serve_turns.specs.LifeLaw.{EveryServedLifeKeepsDuty, OpenInTurn, OpensOn, ServedLife, Turn, after_life as after_served_life, after_served, after_turns, all_noted, behind, turn_downlinks}
 use Rattle.serve_turns.specs.SendLaw.{before_pass, behind_pass, pass_downlinks}
 use Rattle.serve_turns.specs.Turn.{after_came}
 use Rattle.serve_turns.proofs.GatewayDeeds.{Follows, Leads, Stands, follows_both, follows_same, hear_follows, leads_both, leads_same, pass_leads, tick_follows}
@@ -85,11 +85,12 @@ record IsLife (gap : ℕ) (journal after : List Reservation) : Type 0 where
   same : after_life life journal ≡ after
 
 module _ (A : Type 0) (gap : ℕ) where
-  own_life : (ts : List Turn) (l : Life) (id : ℕ) (journal : List Reservation) (o : OpensOn gap id journal l)
-      → IsLife gap journal (after_turns A o.gateway.id ts l journal)
-  own_life ts l id journal o =
+  own_life : (life : ServedLife) (journal : List Reservation) (o : OpensOn gap journal life)
+      → IsLife gap journal (after_turns A o.gateway.id life.turns life.opened journal)
+  own_life served journal o =
       let g = o.gateway in
-      let led = turns_led A g.id g.rules o.rested o.there.0 (ids l.world) o.apart ts l g.state journal (record {
+      let l = served.opened in
+      let led = turns_led A g.id g.rules o.rested o.there.0 (ids l.world) o.apart served.turns l g.state journal (record {
         there = slice_get-get_or l.world.gateways o.there.0 g o.there.1 ∙ ap (λ (x : Gateway). Some x) o.there.2;
         named = refl;
         by_start = o.by_start;
@@ -110,11 +111,10 @@ module _ (A : Type 0) (gap : ℕ) where
           (record { journal = journal; book = forgetful (bare_state s) })
       opens_alike s journal keeps none = rw (keeps, none) refl
 
-  served_life : (life : ServedLife) (id : ℕ) (journal : List Reservation) → OpensOn gap id journal life.opened
-      → IsLife gap journal (after_turns A id life.turns life.opened journal)
-  served_life life id journal o =
-      subst (λ i. IsLife gap journal (after_turns A i life.turns life.opened journal)) o.own
-      (own_life life.turns life.opened id journal o)
+  served_life : (life : ServedLife) (journal : List Reservation) → OpensOn gap journal life
+      → IsLife gap journal (after_served_life A life journal)
+  served_life life journal o =
+      subst (λ i. IsLife gap journal (after_turns A i life.turns life.opened journal)) o.own (own_life life journal o)
 
   -- one upon the other
   record AreLives (journal after : List Reservation) : Type 0 where
@@ -122,13 +122,12 @@ module _ (A : Type 0) (gap : ℕ) where
     gaps : All (HasGap gap) lives
     same : after_lives lives journal ≡ after
 
-  served_lives : (lives : List ServedLife) (id : ℕ) (journal : List Reservation) → OpenInTurn A gap id lives journal
-      → AreLives journal (after_served A id lives journal)
-  served_lives [] id journal o = record { lives = []; gaps = All-nil (HasGap gap); same = refl }
-  served_lives (life ∷ lives) id journal o =
-      let first = served_life life id journal o.0 in
-      let next = after_turns A id life.turns life.opened journal in
-      let rest = served_lives lives id next o.1 in
+  served_lives : (lives : List ServedLife) (journal : List Reservation) → OpenInTurn A gap lives journal
+      → AreLives journal (after_served A lives journal)
+  served_lives [] journal o = record { lives = []; gaps = All-nil (HasGap gap); same = refl }
+  served_lives (life ∷ lives) journal o =
+      let first = served_life life journal o.0 in
+      let rest = served_lives lives (after_served_life A life journal) o.1 in
       record {
         lives = first.life ∷ rest.lives;
         gaps = All-cons (HasGap gap) first.life rest.lives first.rested rest.gaps;
@@ -136,6 +135,6 @@ module _ (A : Type 0) (gap : ℕ) where
       }
 
 pub every_served_life_keeps_duty : (A : Type 0) → EveryServedLifeKeepsDuty A
-every_served_life_keeps_duty A gap id lives small opens =
-    let are = served_lives A gap lives id [] opens in
+every_served_life_keeps_duty A gap lives small opens =
+    let are = served_lives A gap lives [] opens in
     subst (IsOrderly gap) are.same (every_life_keeps_duty gap are.lives small are.gaps)

@@ -1,4 +1,4 @@
-use Rattle.std.proofs.Common.{ℕ, ◌≡◌, ◌∙◌, ◌<◌, true, Bool, List, [], ◌∷◌, All, Contains, ◌≤◌, Option, Some, arith, subst, sym}
+use Rattle.std.proofs.Common.{ℕ, ◌≡◌, ◌∙◌, ◌<◌, true, Bool, List, [], ◌∷◌, Contains, Option, Some, arith, subst, sym}
 use Rattle.std.specs.Prelude.{◌==◌, is_some, slice_get}
 use Rattle.std.proofs.lemmas.Bool.{eqb-true}
 use Rattle.std.proofs.lemmas.List.{map-id}
@@ -17,7 +17,7 @@ use Rattle.serve_downlinks.specs.Batch.{floor_of, sent_of, session_at, taken_ent
 use Rattle.serve_downlinks.specs.BatchLaw.{AreInOrder}
 use Rattle.serve_downlinks.specs.Downlinks.{ToSend}
 use Rattle.serve_downlinks.specs.Fates.{forwarder_of}
-use Rattle.serve_turns.specs.CounterLaw.{DevicesGoOn, EachDownlinkIsCounted, GoOn, HaveOwnAddresses, IsCounted, settings_of}
+use Rattle.serve_turns.specs.CounterLaw.{DevicesGoOn, EachDownlinkIsCounted, HaveOwnAddresses, IsCounted, settings_of}
 use Rattle.serve_turns.specs.Effects.{Packet, Appends, Syncs, Sends}
 use Rattle.serve_turns.specs.Kept.{Kept}
 use Rattle.serve_turns.specs.Life.{Life}
@@ -34,13 +34,13 @@ module _ (A : Type 0) (keeps : EverySendIsKept A) (counts : EachDownlinkIsCounte
   after = behind_pass A now came l
 
   -- a frame with a device's keys, and a batch which tells that the device is given a greater downlink counter next
-  record HasGreaterCounter (d : ToSend) (k : Kept) (batch : List Entry) : Type 0 where
-    job : Job
-    device : Device
-    frame : d.frame ≡ frame_for job d.candidate
-    keys : job.keys ≡ keys_of device.setting
-    greater : job.counter < device.down
-    told : (f : Known) (session : List ℕ) → forwarder_of d.candidate.gateway after.known ≡ Some f
+  pub record HasGreaterCounter (d : ToSend) (k : Kept) (batch : List Entry) : Type 0 where
+    pub job : Job
+    pub device : Device
+    pub frame : d.frame ≡ frame_for job d.candidate
+    pub keys : job.keys ≡ keys_of device.setting
+    pub greater : job.counter < device.down
+    pub told : (f : Known) (session : List ℕ) → forwarder_of d.candidate.gateway after.known ≡ Some f
         → session_at job.addr k.sessions ≡ Some session
         → AreInOrder (says.Clock d.candidate.gateway (line f.clock now) (floor_of d.candidate.gateway (known_then k now after).books))
         (says.Device job.addr session device.up device.down) (taken_entries job.addr d.frame) (sent_of d.candidate) batch
@@ -52,7 +52,8 @@ module _ (A : Type 0) (keeps : EverySendIsKept A) (counts : EachDownlinkIsCounte
   a_greater_counter_is_told bytes datagram to went does =
       let it = (subst (λ e. EachSend (λ done to bytes. IsBehindItsBatch now (pass_downlinks A now came l) after done to bytes) [] e)
       does (keeps now came r l)).0 in
-      let p = All-contains _ _ it.downlink (counts now came l own) it.among in (
+      let counted = IsCounted l.world.reg.devices after.world.reg.devices in
+      let p = All-contains counted (pass_downlinks A now came l) it.downlink (counts now came l own) it.among in (
         it.downlink,
         it.kept,
         it.batch,
@@ -88,11 +89,13 @@ module _ (A : Type 0) (counts : EachDownlinkIsCounted A) (goes : DevicesGoOn A) 
   -- a downlink of the next turn has a greater counter than one of this turn to the same device
   pub next_counter_is_greater : is_some (pass_answer (after_came A now came l).world.reg now) ≡ true → (then : ℕ)
       (comes : Option Packet) (d e : ToSend) → Contains (pass_downlinks A now came l) d → Contains (pass_downlinks A then comes next) e
-      → (first second : Job) × (d.frame ≡ frame_for first d.candidate) × (e.frame ≡ frame_for second e.candidate)
+      → (first : Job) × (second : Job) × (d.frame ≡ frame_for first d.candidate) × (e.frame ≡ frame_for second e.candidate)
       × (first.addr ≡ second.addr → first.counter < second.counter)
   next_counter_is_greater due then comes d e among also =
-      let p = All-contains _ _ d (counts now came l own) among in
-      let q = All-contains _ _ e (counts then comes next addresses_stay_own) also in
+      let p = All-contains (IsCounted l.world.reg.devices (behind_pass A now came l).world.reg.devices) (pass_downlinks A now came l) d
+      (counts now came l own) among in
+      let q = All-contains (IsCounted next.world.reg.devices (behind_pass A then comes next).world.reg.devices)
+      (pass_downlinks A then comes next) e (counts then comes next addresses_stay_own) also in
       let on = (goes now came r l).pass due in
       let f = found_at p.job.addr (behind_pass A now came l).world.reg.devices p.after p.is in
       let g = found_at q.job.addr next.world.reg.devices q.before q.was in

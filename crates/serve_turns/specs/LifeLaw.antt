@@ -18,7 +18,7 @@ use Rattle.serve_turns.specs.Turn.{Answered, after_came, after_turn, without_tex
 -- What gets into a gateway's journal over all lives of a server, each of which makes turn after turn, and may end at any moment.
 
 -- a turn: what the server's clock shows, what comes, what the world around answers; and which of its downlinks ever get into the
--- journal, by their batch or in a whole one: where the life ends before, or the disk fails, not all do
+-- journal, by their batch or in a whole one: if the life ends first, or the disk fails, some never do
 pub record Turn : Type 0 where
   pub now : ℕ
   pub came : Option Packet
@@ -45,7 +45,7 @@ ask_of d =
       len = d.candidate.len;
     }
 
--- one gets into the journal of a gateway, if it is this gateway's, and gets there
+-- a downlink is added to the journal of the gateway with a number, if it is this gateway's, and if it ever gets there
 abbrev pub noted : (ToSend → Bool) → ℕ → ToSend → List Reservation → List Reservation
 noted is_kept id d journal =
     if is_kept d && (d.candidate.gateway == id) then placed (reservation_of (ask_of d)) journal else journal
@@ -61,38 +61,42 @@ after_turns A id [] l journal = journal
 after_turns A id (t ∷ ts) l journal =
     after_turns A id ts (behind A t l) (all_noted t.is_kept id (turn_downlinks A t l) journal)
 
--- a life of a server: what it opens with, and its turns
+-- a life of a server: what it opens with, its turns, and the number that the gateway has in it
 pub record ServedLife : Type 0 where
   pub opened : Life
   pub turns : List Turn
+  pub id : ℕ
 
--- a server opens with a book of a gateway that keeps what is kept of its journal, numbers aside, and has cancelled nothing; gateways are
--- told apart by their numbers
-pub record OpensOn (gap id : ℕ) (journal : List Reservation) (l : Life) : Type 0 where
+-- one gateway alone has this number; what its book keeps is, numbers of reservations aside, what its floor keeps of the journal; it stands
+-- by start, nothing of it was cancelled, and its gap is no less than `gap`
+pub record OpensOn (gap : ℕ) (journal : List Reservation) (life : ServedLife) : Type 0 where
   pub gateway : Gateway
-  pub there : Contains l.world.gateways gateway
-  pub own : gateway.id ≡ id
-  pub apart : AllPairs (λ m n. m ≢ n) (ids l.world)
+  pub there : Contains life.opened.world.gateways gateway
+  pub own : gateway.id ≡ life.id
+  pub apart : AllPairs (λ m n. m ≢ n) (ids life.opened.world)
   pub wide : gap ≤ gateway.rules.gap
   pub rested : gateway.rules.gap ≤ most_gap
   pub by_start : IsByStart gateway.state.list
   pub keeps : kept (map unnumbered gateway.state.list) gateway.state.floor ≡ kept journal gateway.state.floor
   pub cancelled : gateway.state.cancelled ≡ 0
 
+-- the journal of the gateway behind a life
+abbrev pub after_life : (A : Type 0) → ServedLife → List Reservation → List Reservation
+after_life A life journal = after_turns A life.id life.turns life.opened journal
+
 -- each life opens on the journal of those before it
-abbrev pub OpenInTurn : Type 0 → ℕ → ℕ → List ServedLife → List Reservation → Type 0
-OpenInTurn A gap id [] journal = ⊤
-OpenInTurn A gap id (life ∷ lives) journal =
-    OpensOn gap id journal life.opened × OpenInTurn A gap id lives (after_turns A id life.turns life.opened journal)
+abbrev pub OpenInTurn : Type 0 → ℕ → List ServedLife → List Reservation → Type 0
+OpenInTurn A gap [] journal = ⊤
+OpenInTurn A gap (life ∷ lives) journal = OpensOn gap journal life × OpenInTurn A gap lives (after_life A life journal)
 
 -- the journal behind all of them
-abbrev pub after_served : (A : Type 0) → ℕ → List ServedLife → List Reservation → List Reservation
-after_served A id [] journal = journal
-after_served A id (life ∷ lives) journal = after_served A id lives (after_turns A id life.turns life.opened journal)
+abbrev pub after_served : (A : Type 0) → List ServedLife → List Reservation → List Reservation
+after_served A [] journal = journal
+after_served A (life ∷ lives) journal = after_served A lives (after_life A life journal)
 
--- the law: over every list of lives, each of any turns, whatever comes and whatever the world around answers in them, and whichever
--- of the downlinks get into a gateway's journal: all that ever got there is what one gateway may send, disjoint, with the gap between
--- two of them, and no hour of a sub-band over its limit
+-- the law: over every list of lives, each of which opens on the journal of those before, makes any turns and may end after any of them,
+-- whatever comes and whatever the world around answers, and whichever of the downlinks get into the journal: all that ever got there is
+-- what one gateway may send, disjoint, with a gap that no life's is below, and no hour of a sub-band over its limit
 abbrev pub EveryServedLifeKeepsDuty : Type 0 → Type 0
 EveryServedLifeKeepsDuty A =
-    (gap id : ℕ) (lives : List ServedLife) → gap ≤ most_gap → OpenInTurn A gap id lives [] → IsOrderly gap (after_served A id lives [])
+    (gap : ℕ) (lives : List ServedLife) → gap ≤ most_gap → OpenInTurn A gap lives [] → IsOrderly gap (after_served A lives [])
