@@ -1,7 +1,9 @@
 #!/usr/bin/env python3
 """Runs `make test` on a clone of this repository, tells where its processor time goes, and writes that to bench/results/gate.md.
 
-Usage: bench/gate.py [COMMIT]      (COMMIT: what is checked out in the clone; none: HEAD)
+Usage: bench/gate.py [--processors N] [--gigabytes G] [COMMIT]
+       (N and G: how many processors and 10^9 bytes of memory it may use, which are kept from it by control groups of version 1;
+       these it has to be allowed to make. COMMIT: what is checked out in the clone; none: HEAD)
 
 For each crate the table has the processor seconds of its proof, of its tests and of the edits that are tried on it, how many
 edits these are, the most memory that one of its checks took, and its chain: the proofs of the crates below it that have to end
@@ -13,6 +15,7 @@ What an earlier gate passed on this machine is kept beside the toolchain, and th
 the folder rattle-kept aside that lies beside the toolchain's. Nothing else should run on the machine meanwhile. It needs git,
 python3, Linux's /proc and the toolchain's command rt.
 """
+import argparse
 import collections
 import datetime
 import os
@@ -29,11 +32,40 @@ RESULT = TOP / "bench" / "results" / "gate.md"
 TICKS = os.sysconf("SC_CLK_TCK")
 POLL_SECONDS = 0.2
 PARTS = ("proof", "tests", "edits")
+GROUPS = pathlib.Path("/sys/fs/cgroup")
 
 sys.path.insert(0, str(TOP / "tests"))
 sys.dont_write_bytecode = True
 import gate as gate_run
 import prover
+
+
+class Limits:
+    """Control groups that keep processors and memory from whoever goes into them; none where nothing is to be kept."""
+
+    def __init__(self, processors, gigabytes):
+        self.groups, self.words = [], []
+        if processors:
+            self.limit("cpuset", "cpuset.cpus", f"0-{processors - 1}", f"{processors} processors")
+        if gigabytes:
+            self.limit("memory", "memory.limit_in_bytes", str(gigabytes * 10**9), f"{gigabytes} GB")
+
+    def limit(self, controller, name, value, word):
+        group = GROUPS / controller / "airbook-gate"
+        group.mkdir(exist_ok=True)
+        if controller == "cpuset":
+            (group / "cpuset.mems").write_text((GROUPS / controller / "cpuset.mems").read_text())
+        (group / name).write_text(value)
+        self.groups.append(group)
+        self.words.append(word)
+
+    def enter(self):
+        """For the process that is to be limited, before it runs anything."""
+        for group in self.groups:
+            (group / "tasks").write_text(str(os.getpid()))
+
+    def told(self):
+        return f" It was kept to {' and '.join(self.words)}." if self.words else ""
 
 
 def processes():
@@ -177,7 +209,7 @@ def machine():
     return f"{len(os.sched_getaffinity(0))} processors ({model[1] if model else 'unknown'}), {int(memory[1]) / 2**20:.0f} GiB"
 
 
-def result(folder, commit, meter, minutes, said):
+def result(folder, commit, meter, minutes, said, kept_to=""):
     """The text of bench/results/gate.md."""
     sums = meter.sums()
     lines, longest, crate = table(folder, sums, meter.peaks)
@@ -189,7 +221,7 @@ def result(folder, commit, meter, minutes, said):
     return "\n".join([
         "# Where the gate's time goes",
         "",
-        f"Written by `bench/gate.py` on {datetime.date.today()}, of commit {commit[:8]}, on {machine()}.",
+        f"Written by `bench/gate.py` on {datetime.date.today()}, of commit {commit[:8]}, on {machine()}.{kept_to}",
         "",
         f"- `make test` took {whole / 60:.0f} processor minutes, and {minutes:.0f} by the clock. Its last line: `{last}`.",
         f"- Its longest chain of proofs and tests takes {longest / 60:.0f} minutes; it ends in `{crate}`.",
@@ -204,32 +236,45 @@ def result(folder, commit, meter, minutes, said):
     ])
 
 
+def run_gate(folder, room, limits):
+    """Runs the gate in a clone: its status, the meter, the minutes that went by, and what it said."""
+    started = time.monotonic()
+    with open(pathlib.Path(room, "said"), "w+") as said:
+        words = {"cwd": folder, "stdin": subprocess.DEVNULL, "stdout": said, "stderr": subprocess.STDOUT}
+        gate = subprocess.Popen(["bash", ".ci/run"], preexec_fn=limits.enter, **words)
+        meter = Meter(gate.pid)
+        while gate.poll() is None:
+            meter.look()
+            time.sleep(POLL_SECONDS)
+        said.seek(0)
+        return gate.returncode, meter, (time.monotonic() - started) / 60, said.read().splitlines()
+
+
 def main():
-    commit = sys.argv[1] if len(sys.argv) > 1 else "HEAD"
+    words = argparse.ArgumentParser(description=__doc__, formatter_class=argparse.RawDescriptionHelpFormatter)
+    words.add_argument("--processors", type=int, metavar="N")
+    words.add_argument("--gigabytes", type=int, metavar="G")
+    words.add_argument("commit", nargs="?", default="HEAD", metavar="COMMIT")
+    asked = words.parse_args()
+    try:
+        limits = Limits(asked.processors, asked.gigabytes)
+    except OSError as why:
+        print(f"gate.py: no control group could be made: {why}", file=sys.stderr)
+        return 2
     with tempfile.TemporaryDirectory(prefix="gate-") as room:
         folder = pathlib.Path(room, "clone")
         subprocess.run(["git", "clone", "--quiet", TOP, folder], check=True)
-        named = subprocess.check_output(["git", "-C", TOP, "rev-parse", commit], text=True).strip()
+        named = subprocess.check_output(["git", "-C", TOP, "rev-parse", asked.commit], text=True).strip()
         subprocess.run(["git", "-C", folder, "checkout", "--quiet", named], check=True)
-        started = time.monotonic()
-        with open(pathlib.Path(room, "said"), "w+") as said:
-            gate = subprocess.Popen(
-                ["bash", ".ci/run"], cwd=folder, stdin=subprocess.DEVNULL, stdout=said, stderr=subprocess.STDOUT
-            )
-            meter = Meter(gate.pid)
-            while gate.poll() is None:
-                meter.look()
-                time.sleep(POLL_SECONDS)
-            said.seek(0)
-            lines = said.read().splitlines()
-        text = result(folder, named, meter, (time.monotonic() - started) / 60, lines)
+        status, meter, minutes, lines = run_gate(folder, room, limits)
+        text = result(folder, named, meter, minutes, lines, limits.told())
     print(text)
-    if gate.returncode:
+    if status:
         print("\n".join(lines), file=sys.stderr)
     else:
         RESULT.parent.mkdir(exist_ok=True)
         RESULT.write_text(text)
-    return gate.returncode
+    return status
 
 
 if __name__ == "__main__":
