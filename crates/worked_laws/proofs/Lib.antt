@@ -8,3 +8,4 @@ pub mod EveryRun
 pub mod Resumed
 pub mod EmptyBooks
 pub mod Stations
+pub mod FrameLengths
