@@ -17,7 +17,8 @@ from plain_restarts import SetDevice, SetGateway, Settings
 from played_forwarders import entry, now, push_data
 from played_gateway import datagrams, read_pull_resp
 from recover import reader
-from serving import EUIS, TOKEN, Failed, Sender, Server, awaited, expect
+from serving import EUIS, TOKEN, Sender, Server, awaited
+from trials import Failed, expect
 
 # How long a flood is, how long the gateway is played behind it, and the share of its uplinks that are answered meanwhile.
 FLOODED, BEHIND, ENOUGH = 4, 2, 0.75

@@ -20,11 +20,15 @@ A failing case has a line, and under it what differs ('-' is wanted, '+' was wri
 'N passed, M failed'. The status is 0 where none failed, 1 where one did, 2 where nothing could be run.
 """
 import difflib
+import functools
 import os
 import pathlib
 import subprocess
 import sys
 import tempfile
+
+sys.dont_write_bytecode = True
+from trials import tell
 
 SECONDS = 120
 TOP = pathlib.Path(__file__).resolve().parent.parent
@@ -141,17 +145,9 @@ def main():
     if missing or not names:
         print(f"cases.py: no case {' '.join(missing)} in {CASES}", file=sys.stderr)
         return 2
-    failed = 0
-    runs = [(name, title, more) for name in names for title, more in runs_of(name)]
+    runs = [(title, CASES / name, more) for name in names for title, more in runs_of(name)]
     with tempfile.TemporaryDirectory() as folder:
-        for name, title, more in runs:
-            faults = faults_of(program, CASES / name, more, folder)
-            if faults:
-                failed += 1
-                print(f"failed: {title}")
-                print("\n".join("    " + fault for fault in faults))
-    print(f"{len(runs) - failed} passed, {failed} failed")
-    return 1 if failed else 0
+        return tell([(title, functools.partial(faults_of, program, case, more, folder)) for title, case, more in runs])
 
 
 if __name__ == "__main__":

@@ -6,10 +6,14 @@ Usage: tests/dialogue.py PROGRAM
 Input and output are pipes, as of a program that asks a book and goes by its answer. A failing talk has a line; the last line is
 'N passed, M failed'. The status is 0 where none failed, 1 where one did, 2 where there is no program.
 """
+import functools
 import os
 import select
 import subprocess
 import sys
+
+sys.dont_write_bytecode = True
+from trials import tell
 
 SECONDS = 20
 
@@ -68,12 +72,7 @@ def main():
         print(__doc__.strip(), file=sys.stderr)
         return 2
     path = os.path.abspath(sys.argv[1])
-    faults = {name: fault_of(path, *talk) for name, talk in TALKS.items()}
-    failed = {name: fault for name, fault in faults.items() if fault}
-    for name, fault in failed.items():
-        print(f"FAIL {name}: {fault}")
-    print(f"{len(faults) - len(failed)} passed, {len(failed)} failed")
-    return 1 if failed else 0
+    return tell([(name, functools.partial(fault_of, path, *talk)) for name, talk in TALKS.items()])
 
 
 if __name__ == "__main__":

@@ -6,7 +6,7 @@ from __future__ import annotations
 
 from typing import Optional
 
-from serving import expect
+from trials import expect
 
 # What is asked for less than this before its start is too late; what is asked for so long before it, too early.
 LATEST, EARLIEST = 42_500, 512_000_000

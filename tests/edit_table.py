@@ -12,6 +12,7 @@ import sys
 sys.dont_write_bytecode = True
 import edit_files
 import prover
+from trials import Tally
 
 PAGE = prover.TOP / "docs" / "PROOFS.md"
 BEGIN, END = "<!-- changes of statements: written by tests/edit_table.py -->", "<!-- end -->"
@@ -47,11 +48,9 @@ def main():
     if sys.argv[1:]:
         PAGE.write_text(text[:start] + wanted + text[end:], encoding="utf-8")
         return 0
-    same = text[start:end] == wanted
-    if not same:
-        print("docs/PROOFS.md has another table than the edits: tests/edit_table.py --write")
-    print(f"{int(same)} passed, {int(not same)} failed")
-    return 0 if same else 1
+    tally = Tally()
+    tally.take(text[start:end] == wanted, "docs/PROOFS.md has another table than the edits: tests/edit_table.py --write")
+    return tally.status()
 
 
 if __name__ == "__main__":

@@ -19,6 +19,7 @@ import edits
 import prover
 from edit_verdicts import Kind
 from kept_verdicts import KeptVerdicts
+from trials import last_line
 
 FOLDER = prover.TOP / "tests" / "edits"
 WANTED = {
@@ -72,8 +73,7 @@ def main():
     for line in kept:
         print(line)
     count, failed = len(WANTED.keys() | told.keys()) + KEPT, len(wrong) + len(kept)
-    print(f"{count - failed} passed, {failed} failed")
-    return 1 if failed else 0
+    return last_line(count - failed, failed)
 
 
 if __name__ == "__main__":

@@ -16,6 +16,7 @@ from typing import Optional
 sys.dont_write_bytecode = True
 import edit_files
 import prover
+from trials import Tally
 
 FOLDERS = ("edits", "mutants")
 
@@ -32,11 +33,10 @@ def fault_of(path: pathlib.Path) -> Optional[str]:
 
 def main() -> int:
     paths = [path for folder in FOLDERS for path in sorted((prover.TOP / folder).glob("*/*"))]
-    faults = [fault for fault in map(fault_of, paths) if fault]
-    for fault in faults:
-        print(fault)
-    print(f"{len(paths) - len(faults)} passed, {len(faults)} failed")
-    return 1 if faults or not paths else 0
+    tally = Tally()
+    for fault in map(fault_of, paths):
+        tally.take(not fault, fault or "")
+    return tally.status()
 
 
 if __name__ == "__main__":

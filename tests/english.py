@@ -13,6 +13,9 @@ import pathlib
 import re
 import sys
 
+sys.dont_write_bytecode = True
+from trials import last_line
+
 TOP = pathlib.Path(__file__).resolve().parent.parent
 LONGEST, AVERAGE = 45, 20
 LEFT_OUT = re.compile(r"\||#|    |\t|<!--")
@@ -77,8 +80,7 @@ def main():
         if average > AVERAGE:
             print(f"{name}: more than {AVERAGE} words a sentence on average")
         failed += average > AVERAGE or max(counts, default=0) > LONGEST
-    print(f"{len(pages) - failed} passed, {failed} failed")
-    return 1 if failed else 0
+    return last_line(len(pages) - failed, failed)
 
 
 if __name__ == "__main__":

@@ -8,12 +8,12 @@ that crate. The lines of crates.txt that the page shows are what the book's prog
 crates/example_station, the page shows what it writes and its file of the proof. Prints what differs; the last line is 'N passed, M failed'. The status is 0 where none failed, else 1.
 """
 import difflib
-import pathlib
 import re
 import sys
 
 sys.dont_write_bytecode = True
 import prover
+from trials import Tally
 
 PAGE = prover.TOP / "docs" / "BUILDING.md"
 BOOK, STATION = "example_book", "example_station"
@@ -49,19 +49,15 @@ def main():
     if len(sys.argv) > 1:
         print(__doc__.strip(), file=sys.stderr)
         return 2
-    passed = failed = 0
+    tally = Tally()
     try:
         for name, shown, wanted in pairs():
-            passed += shown == wanted
-            failed += shown != wanted
             lines = shown.splitlines(), wanted.splitlines()
             differing = difflib.unified_diff(*lines, f"{name}: the page", "the crate", lineterm="")
-            print("".join(line + "\n" for line in differing), end="")
+            tally.take(shown == wanted, "\n".join(differing))
     except (OSError, ValueError, TypeError) as why:
-        print(f"examples.py: docs/BUILDING.md or a program of it can't be read: {why}")
-        failed += 1
-    print(f"{passed} passed, {failed} failed")
-    return 1 if failed else 0
+        tally.take(False, f"examples.py: docs/BUILDING.md or a program of it can't be read: {why}")
+    return tally.status()
 
 
 if __name__ == "__main__":

@@ -19,8 +19,9 @@ from plain_restarts import SetDevice, SetGateway, Settings, expect_state
 from played_forwarders import entry, now, push_data
 from played_gateway import datagrams, read_pull_resp
 from recover import State, reader
-from serving import EUIS, TOKEN, Failed, Sender, Server, awaited, expect, expect_going
+from serving import EUIS, TOKEN, Sender, Server, awaited
 from struck_calls import StruckCalls
+from trials import Failed, expect, expect_going
 
 KEYS = bytes.fromhex("2b7e151628aed2a6abf7158809cf4f3c"), bytes.fromhex("000102030405060708090a0b0c0d0e0f")
 ADDR = 0x26011BDA

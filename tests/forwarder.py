@@ -7,6 +7,7 @@ Each trial starts a converter with a program of its own, and ends both. Every wa
 line; the last line is 'N passed, M failed'. The status is 0 where none failed, 1 where one did, 2 where nothing could be run.
 """
 import base64
+import functools
 import json
 import os
 import pathlib
@@ -20,6 +21,7 @@ import time
 
 sys.dont_write_bytecode = True
 import lorawan
+from trials import Failed, expect, tell
 
 SECONDS = 10
 EXAMPLE = pathlib.Path(__file__).resolve().parent.parent / "examples" / "forwarder.py"
@@ -41,15 +43,6 @@ EUIS = {1: bytes.fromhex("aa555a0000000001"), 2: bytes.fromhex("aa555a0000000002
 PUSH_DATA, PUSH_ACK, PULL_DATA, PULL_RESP, PULL_ACK, TX_ACK = range(6)
 
 
-class Failed(Exception):
-    """What was not as it had to be."""
-
-
-def expect(wanted, got):
-    if wanted != got:
-        raise Failed(f"wanted {wanted!r}, got {got!r}")
-
-
 class Forwarder:
     """A gateway's packet forwarder."""
 
@@ -68,16 +61,16 @@ class Forwarder:
             datagram = self.socket.recv(65536)
         except socket.timeout:
             raise Failed(f"no datagram of kind {kind} came") from None
-        expect((2, kind), (datagram[0], datagram[3]))
+        expect((2, kind), (datagram[0], datagram[3]), "the version and the kind of a datagram")
         return datagram
 
     def pull(self):
         self.send(PULL_DATA)
-        expect(b"\2\x12\x34\4", self.wanted(PULL_ACK))
+        expect(b"\2\x12\x34\4", self.wanted(PULL_ACK), "the PULL_ACK")
 
     def push(self, *entries):
         self.send(PUSH_DATA, json.dumps({"rxpk": entries}).encode())
-        expect(b"\2\x12\x34\1", self.wanted(PUSH_ACK))
+        expect(b"\2\x12\x34\1", self.wanted(PUSH_ACK), "the PUSH_ACK")
 
     def is_quiet(self):
         self.socket.settimeout(0.6)
@@ -161,7 +154,7 @@ def the_best_gateway_answers(program):
         frame = lorawan.downlink(DEVICE, 0, KEYS, ack=True)
         wanted = {"imme": False, "tmst": 32_704, "freq": 868.1, "rfch": 0, "powe": 14, "modu": "LORA", "datr": "SF7BW125"}
         wanted |= {"codr": "4/5", "ipol": True, "ncrc": True, "size": 12, "data": base64.b64encode(frame).decode()}
-        expect((1, wanted), (token, txpk))
+        expect((1, wanted), (token, txpk), "the token, and what is to be sent")
         if not 0.2 <= took <= 0.9:
             raise Failed(f"it was answered after {took:.3f} s")
         one.is_quiet()
@@ -171,11 +164,11 @@ def the_clock_goes_on_where_tmst_wraps(program):
     with Converter(program) as (converter, one, _):
         one.pull()
         one.push(entry(4_294_900_000, 1))
-        expect((4_294_900_000 + 1_000_000) % (1 << 32), response(one)[1]["tmst"])
+        expect((4_294_900_000 + 1_000_000) % (1 << 32), response(one)[1]["tmst"], "when the first answer is sent")
         one.push(entry(1_032_704, 2))
-        expect(2_032_704, response(one)[1]["tmst"])
+        expect(2_032_704, response(one)[1]["tmst"], "when the second answer is sent")
         ends = [int(line.split()[3]) for line in converter.log if line.startswith("> hear")]
-        expect(1_100_000, ends[1] - ends[0])
+        expect(1_100_000, ends[1] - ends[0], "how far the uplinks are apart")
 
 
 def what_is_no_uplink_is_passed_over(program):
@@ -191,9 +184,9 @@ def what_is_no_uplink_is_passed_over(program):
         for datagram in (b"", b"\2", b"\2\0\0\2", b"\1\0\0\2" + one.eui, b"\2\0\0\2" + bytes(8), b"\2\0\0\7" + one.eui):
             one.socket.sendto(datagram, one.address)
         one.is_quiet()
-        expect([], [line for line in converter.log if line.startswith("> hear")])
+        expect([], [line for line in converter.log if line.startswith("> hear")], "what was heard")
         one.push(entry(1, 1))
-        expect(1_000_001, response(one)[1]["tmst"])
+        expect(1_000_001, response(one)[1]["tmst"], "when the answer is sent")
 
 
 def a_queued_payload_goes_along(program):
@@ -201,22 +194,22 @@ def a_queued_payload_goes_along(program):
         one.pull()
         converter.child.stdin.write("queue 26011bda 9 0102\n")
         converter.child.stdin.flush()
-        expect("queued 26011bda 1", converter.line("queued"))
+        expect("queued 26011bda 1", converter.line("queued"), "what is told of the payload")
         one.push(entry(1, 1, confirmed=False))
         token, txpk = response(one)
-        expect(lorawan.downlink(DEVICE, 0, KEYS, body=(9, b"\1\2")), base64.b64decode(txpk["data"]))
+        expect(lorawan.downlink(DEVICE, 0, KEYS, body=(9, b"\1\2")), base64.b64decode(txpk["data"]), "the frame with the payload")
         one.send(TX_ACK, b'{"txpk_ack":{"error":"TOO_LATE"}}', token.to_bytes(2, "big"))
-        expect("# TX_ACK 1 b'{\"txpk_ack\":{\"error\":\"TOO_LATE\"}}'", converter.line("# TX_ACK"))
+        expect("# TX_ACK 1 b'{\"txpk_ack\":{\"error\":\"TOO_LATE\"}}'", converter.line("# TX_ACK"), "what is told of the error")
 
 
 def nothing_is_sent_in_the_first_hour(program):
     with Converter(program, more=()) as (converter, one, two):
         one.pull()
         one.push(entry(1, 1))
-        expect("unanswered 1 Passed", converter.line("unanswered"))
+        expect("unanswered 1 Passed", converter.line("unanswered"), "what is told of the first uplink")
         two.pull()
         two.push(entry(1, 2))
-        expect("unanswered 2 Passed", converter.line("unanswered 2"))
+        expect("unanswered 2 Passed", converter.line("unanswered 2"), "what is told of the second uplink")
         one.is_quiet()
         two.is_quiet()
 
@@ -233,9 +226,9 @@ def counters_are_carried_over(program):
             one.push(entry(1, len(frames) // 2 + 1))
             frames.append(base64.b64decode(response(one)[1]["data"]))
             converter.line("frame 1 " + frames[-1].hex())
-    expect([0, 0, 1], [int.from_bytes(frame[6:8], "little") for frame in frames])
+    expect([0, 0, 1], [int.from_bytes(frame[6:8], "little") for frame in frames], "the counters of the frames")
     streams = [frame[9:-4] for frame in frames]
-    expect(bytes([0 ^ 1, 0]), bytes(a ^ b for a, b in zip(streams[0], streams[1])))
+    expect(bytes([0 ^ 1, 0]), bytes(a ^ b for a, b in zip(streams[0], streams[1])), "two payloads under one counter")
 
 
 TRIALS = [
@@ -252,15 +245,8 @@ def main():
     if len(sys.argv) != 2 or not pathlib.Path(sys.argv[1]).is_file():
         print("usage: forwarder.py PROGRAM", file=sys.stderr)
         return 2
-    failed = 0
-    for trial in TRIALS:
-        try:
-            trial(str(pathlib.Path(sys.argv[1]).resolve()))
-        except Failed as fault:
-            failed += 1
-            print(f"FAIL {trial.__name__}: {fault}")
-    print(f"{len(TRIALS) - failed} passed, {failed} failed")
-    return 1 if failed else 0
+    program = str(pathlib.Path(sys.argv[1]).resolve())
+    return tell([(trial.__name__, functools.partial(trial, program)) for trial in TRIALS])
 
 
 if __name__ == "__main__":

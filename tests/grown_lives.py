@@ -16,10 +16,11 @@ from lawful_lives import expect_lawful
 from plain_restarts import SetDevice, SetGateway, Settings
 from played_forwarders import now
 from played_gateway import PlayedGateway
-from serving import EUIS, Failed, expect, expect_going
+from serving import EUIS
 from soaked_lives import SoakedLives
 from strict_gateway import StrictGateway
 from struck_calls import Strike
+from trials import Failed, expect, expect_going
 
 GATEWAYS, DEVICES = 64, 128
 # How long the journal may take to grow.

@@ -16,6 +16,9 @@ import pathlib
 import re
 import sys
 
+sys.dont_write_bytecode = True
+from trials import last_line
+
 TOP = pathlib.Path(__file__).resolve().parent.parent
 PAGE = TOP / "docs" / "MEMORY.md"
 FOR_TESTS = {"worked_inputs", "refusing_alloc", "test_asserts"}
@@ -184,9 +187,7 @@ def main():
     same = of_sources in page
     if not same:
         print("docs/MEMORY.md has another table than the sources: tests/growths.py --write")
-    failed = len(wanted ^ set(told)) + len(twice) + (not same)
-    print(f"{len(wanted & set(told)) + same} passed, {failed} failed")
-    return 1 if failed else 0
+    return last_line(len(wanted & set(told)) + same, len(wanted ^ set(told)) + len(twice) + (not same))
 
 
 if __name__ == "__main__":

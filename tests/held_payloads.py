@@ -14,7 +14,8 @@ from plain_restarts import SILENCE, SetDevice, SetGateway, Settings
 from played_forwarders import entry, now, push_data
 from played_gateway import read_pull_resp
 from recover import reader
-from serving import EUIS, TOKEN, Failed, Sender, Server, expect
+from serving import EUIS, TOKEN, Sender, Server
+from trials import Failed, expect
 
 PAYLOADS = [bytes([place, 255]) for place in range(4)]
 JUMP = 1 << 31

@@ -14,6 +14,9 @@ import subprocess
 import sys
 import tempfile
 
+sys.dont_write_bytecode = True
+from trials import Tally
+
 TOP = pathlib.Path(__file__).resolve().parent.parent
 PARTS = ["Makefile", "CHANGELOG.md", "README.md", "crates.txt", "crates", "docs", "examples", "share", "tests"]
 PROGRAM = b"#!/bin/sh\necho airbook 0.0.0\n"
@@ -54,7 +57,7 @@ def tells_sum(room):
     return told["sha256"] == hashlib.sha256(PROGRAM).hexdigest() and {"version", "toolchain", "commit"} <= set(told)
 
 
-def trials(room):
+def tried(room):
     """A name, and whether it went as wanted."""
     program, source = room / "crates/airbook/out/airbook", room / "crates/lora_frame/src/lib.rt"
     yield "a proved program is installed", is_installed(room) is True
@@ -73,15 +76,13 @@ def main():
     if len(sys.argv) > 1:
         print(__doc__.strip(), file=sys.stderr)
         return 2
-    passed = failed = 0
+    tally = Tally()
     with tempfile.TemporaryDirectory(prefix="install-trials-") as folder:
         room = pathlib.Path(folder)
         copied(room)
-        for name, is_well in trials(room):
-            passed, failed = passed + is_well, failed + (not is_well)
-            print("" if is_well else f"FAIL: {name}\n", end="")
-    print(f"{passed} passed, {failed} failed")
-    return 1 if failed else 0
+        for name, is_well in tried(room):
+            tally.take(is_well, f"failed: {name}")
+    return tally.status()
 
 
 if __name__ == "__main__":

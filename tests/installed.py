@@ -6,6 +6,7 @@ Usage: tests/installed.py      (after a gate, as tests/install.py)
 A failing trial has a line; the last line is 'N passed, M failed'. The status is 0 where none failed, 1 where one did, 2 where
 nothing could be installed.
 """
+import functools
 import hashlib
 import os
 import pathlib
@@ -19,6 +20,7 @@ sys.dont_write_bytecode = True
 import install
 import manual
 import prover
+from trials import tell
 
 SECONDS = 60
 COMPLETE = 'source "$1"; COMP_WORDS=("${@:2}"); COMP_CWORD=$(($# - 2)); _airbook; printf "%s\\n" "${COMPREPLY[@]}"'
@@ -91,13 +93,7 @@ def main():
         status = install.main()
         if status:
             return 2
-        faults = {trial.__name__: trial(pathlib.Path(room)) for trial in TRIALS}
-    for name, fault in faults.items():
-        if fault:
-            print(f"FAIL {name}: {fault}")
-    failed = sum(1 for fault in faults.values() if fault)
-    print(f"{len(faults) - failed} passed, {failed} failed")
-    return 1 if failed else 0
+        return tell([(trial.__name__, functools.partial(trial, pathlib.Path(room))) for trial in TRIALS])
 
 
 if __name__ == "__main__":

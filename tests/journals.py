@@ -13,11 +13,14 @@ where there is no program.
 """
 from __future__ import annotations
 
-import concurrent.futures
+import functools
 import pathlib
 import subprocess
 import sys
 from typing import Iterator, NamedTuple, Optional
+
+sys.dont_write_bytecode = True
+from trials import tell
 
 SECONDS = 60
 FIRST = b"""airbook journal 1
@@ -98,7 +101,7 @@ class Trial(NamedTuple):
             is_well = (ran.returncode, ran.stdout, errors) == (0, self.book, [])
         else:
             is_well = (ran.returncode, ran.stdout) == (2, b"") and self.told in "\n".join(errors)
-        return None if is_well else f"{self.name}: status {ran.returncode}, {ran.stdout!r}, {errors}"
+        return None if is_well else f"status {ran.returncode}, {ran.stdout!r}, {errors}"
 
 
 def torn() -> Iterator[Trial]:
@@ -126,12 +129,7 @@ def main(words: list[str]) -> int:
         print(__doc__.strip(), file=sys.stderr)
         return 2
     trials = [*torn(), *at_fault()]
-    with concurrent.futures.ThreadPoolExecutor(4) as pool:
-        faults = [fault for fault in pool.map(lambda it: it.fault(words[0]), trials) if fault]
-    for fault in faults:
-        print(fault)
-    print(f"{len(trials) - len(faults)} passed, {len(faults)} failed")
-    return 1 if faults else 0
+    return tell([(one.name, functools.partial(one.fault, words[0])) for one in trials], beside=4)
 
 
 if __name__ == "__main__":

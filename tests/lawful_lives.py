@@ -14,7 +14,7 @@ from played_gateway import Asked
 from recover import batches_of, reader
 from serve_lines import Follower, Session
 from served_lives import Life, Lives
-from serving import Failed, expect
+from trials import Failed, expect
 
 # How long before its start a transmission is to be decided at the latest.
 LEAD = 400_000

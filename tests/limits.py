@@ -22,7 +22,8 @@ import tempfile
 import threading
 
 sys.dont_write_bytecode = True
-from listen import NO_REPORT, SETTINGS, tell
+from listen import NO_REPORT, SETTINGS
+from trials import tell
 
 SECONDS = 60
 LIMIT = 1 << 28

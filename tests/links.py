@@ -13,6 +13,9 @@ import pathlib
 import re
 import sys
 
+sys.dont_write_bytecode = True
+from trials import Tally
+
 TOP = pathlib.Path(sys.argv[1] if len(sys.argv) > 1 else pathlib.Path(__file__).resolve().parent.parent)
 FOLDERS = {"bench", "cases", "crates", "docs", "edits", "examples", "mutants", "tests", ".ci"}
 ENDS = r"\.(?:md|py|sh|txt|toml|rt|antt|edit)"
@@ -57,16 +60,11 @@ def paths(text):
 
 def main():
     names = {path.name for path in TOP.rglob("*") if ".git" not in path.parts}
-    passed = failed = 0
+    tally = Tally()
     for page in [TOP / "README.md", TOP / "CHANGELOG.md", *sorted((TOP / "docs").glob("*.md"))]:
         for number, word, crate in paths(page.read_text(encoding="utf-8")):
-            if is_there(word, crate, names):
-                passed += 1
-            else:
-                failed += 1
-                print(f"{page.relative_to(TOP)}:{number}: there is no {word}")
-    print(f"{passed} passed, {failed} failed")
-    return 1 if failed else 0
+            tally.take(is_there(word, crate, names), f"{page.relative_to(TOP)}:{number}: there is no {word}")
+    return tally.status()
 
 
 if __name__ == "__main__":

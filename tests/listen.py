@@ -25,6 +25,7 @@ import lorawan
 import plain_server
 from drawn_turns import KEYS, SESSION, SETTINGS, STEPS, UPLINK, Alone, drawn_run, run_of_steps
 from preloaded import COUNTING, FAILING_RECEIVE, NO_RANDOM_BYTES, NO_THREADS, NO_TIME_LIMIT, Counter, library_of, over
+from trials import tell
 
 SECONDS = 60
 EXAMPLE = pathlib.Path(__file__).resolve().parent.parent / "examples" / "settings.toml"
@@ -346,21 +347,6 @@ def why_not_bound(program):
     if told[1] != "airbook: Bind" or not third.stderr.startswith(b"note: settings, line 1, column "):
         return f"{second}, {third}"
     return None
-
-
-def tell(trials):
-    """Makes these trials, and prints what failed, and how many did: the status."""
-    failed = 0
-    for name, trial in trials:
-        try:
-            fault = trial()
-        except subprocess.TimeoutExpired as late:
-            fault = f"it did not end within {late.timeout} seconds"
-        if fault:
-            failed += 1
-            print(f"failed: {name}: {fault}")
-    print(f"{len(trials) - failed} passed, {failed} failed")
-    return 1 if failed else 0
 
 
 def main():

@@ -11,6 +11,7 @@ A file tests/misuse/NAME.txt has lines
 The compiler has to give each error that is wanted, and no other; nothing is proved. The last line is 'N passed, M failed'; the
 status is 0 where none failed, 1 where one did, 2 where nothing could be run.
 """
+import functools
 import pathlib
 import re
 import subprocess
@@ -19,6 +20,7 @@ import tempfile
 
 sys.dont_write_bytecode = True
 import prover
+from trials import tell
 
 FILES = prover.TOP / "tests" / "misuse"
 SECONDS = 120
@@ -66,15 +68,7 @@ def main():
     if missing or not names:
         print(f"misuse.py: no file {' '.join(missing) or '*'} in {FILES}", file=sys.stderr)
         return 2
-    failed = 0
-    for name in names:
-        faults = faults_of(FILES / f"{name}.txt")
-        if faults:
-            failed += 1
-            print(f"failed: {name}")
-            print("\n".join("    " + fault for fault in faults))
-    print(f"{len(names) - failed} passed, {failed} failed")
-    return 1 if failed else 0
+    return tell([(name, functools.partial(faults_of, FILES / f"{name}.txt")) for name in names])
 
 
 if __name__ == "__main__":

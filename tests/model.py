@@ -12,6 +12,9 @@ import pathlib
 import re
 import sys
 
+sys.dont_write_bytecode = True
+from trials import Tally
+
 TOP = pathlib.Path(__file__).resolve().parent.parent
 PAGE = TOP / "docs" / "MODEL.md"
 BEGIN, END = "<!-- definitions: written by tests/model.py -->", "<!-- end -->"
@@ -96,11 +99,9 @@ def main():
     if "--bare" in sys.argv:
         print("\n".join(bare))
         return 0
-    same = text[start:end] == wanted
-    if not same:
-        print("docs/MODEL.md has other definitions than the sources: tests/model.py --write")
-    print(f"{int(same)} passed, {int(not same)} failed")
-    return 0 if same else 1
+    tally = Tally()
+    tally.take(text[start:end] == wanted, "docs/MODEL.md has other definitions than the sources: tests/model.py --write")
+    return tally.status()
 
 
 if __name__ == "__main__":

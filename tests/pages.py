@@ -19,6 +19,9 @@ import subprocess
 import sys
 import tempfile
 
+sys.dont_write_bytecode = True
+from trials import Tally
+
 TOP = pathlib.Path(__file__).resolve().parent.parent
 PAGES = ["README.md", "docs/RUNNING.md"]
 SECONDS = 60
@@ -79,7 +82,7 @@ def main():
     if len(sys.argv) != 2 or not pathlib.Path(sys.argv[1]).is_file():
         print("usage: pages.py PROGRAM", file=sys.stderr)
         return 2
-    passed = failed = 0
+    tally = Tally()
     with tempfile.TemporaryDirectory(prefix="pages-") as room:
         folder, tools = pathlib.Path(room, "work"), pathlib.Path(room, "bin")
         folder.mkdir()
@@ -94,13 +97,10 @@ def main():
         for page in PAGES:
             for commands, wanted in blocks((TOP / page).read_text(encoding="utf-8")):
                 got, status = ran("\n".join(script(commands, port)), folder, f"{tools}:{os.environ['PATH']}")
-                if got == wanted and (wanted or status == 0):
-                    passed += 1
-                else:
-                    failed += 1
-                    print(f"FAIL {page}: {commands[0]}: wanted {wanted}, got {got} and status {status}")
-    print(f"{passed} passed, {failed} failed")
-    return 1 if failed else 0
+                is_well = got == wanted and (wanted or status == 0)
+                fault = None if is_well else f"wanted {wanted}, got {got} and status {status}"
+                tally.named(f"{page}: {commands[0]}", fault)
+    return tally.status()
 
 
 if __name__ == "__main__":

@@ -11,7 +11,8 @@ from typing import NamedTuple, Optional
 import lorawan
 from plain_book import PlainBook
 from recover import State
-from serving import SECONDS, Failed, device_table, expect, gateway_table
+from serving import SECONDS, device_table, gateway_table
+from trials import Failed, expect
 
 GAP = 45_000
 # What the clock of a gateway shows at least that no journal knows.

@@ -15,7 +15,8 @@ from typing import NamedTuple
 import lorawan
 from gateway_model import RATES, Gateways, Known, Packet
 from serve_lines import Drops, Follower, Heard, Session
-from serving import SECONDS, Failed, Sender, Server, expect
+from serving import SECONDS, Sender, Server
+from trials import Failed, expect
 
 # How far a moment may be from the model's, where a packet that isn't told came at a moment that is only known so well.
 GUESSED = 1_000_000

@@ -14,7 +14,8 @@ from typing import Iterable, NamedTuple, Optional
 import lorawan
 from gateway_model import PULL_ACK, PULL_RESP, RATES
 from played_forwarders import entry, now, push_data
-from serving import EUIS, Failed, expect
+from serving import EUIS
+from trials import Failed, expect
 
 
 class Asked(NamedTuple):

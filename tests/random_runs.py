@@ -23,7 +23,8 @@ sys.dont_write_bytecode = True
 import lorawan
 from drawn_settings import NARROW, rows_of, settings_of, spoiled, table_text
 from plain_server import COUNTERS, JOINS, LAST_MOMENT, LATE, OPEN_AT_MOST, Server, played
-from random_books import HOUR, asked_for, status_of
+from random_books import HOUR, asked_for
+from trials import last_line
 
 RUNS, SECONDS = 200, 60
 COMMON = """queued;no queue UnknownDevice;no queue Port;no queue Long;no queue QueueFull;opened;opened repeat;joined;no hear Short
@@ -267,20 +268,20 @@ def compared(words, usual, common, tried):
     if asked is None:
         return 2
     program, count, seed = asked
-    passed, kinds = [], collections.Counter()
+    passed, kinds = 0, collections.Counter()
     for one in range(seed, seed + count):
         arguments, text, wanted, came, note = tried(one, count >= usual and one == seed + count - 1)
         got = ran(program, arguments, text)
-        passed.append(wanted == got)
+        passed += wanted == got
         kinds.update(came)
-        if not passed[-1]:
+        if wanted != got:
             shown(one, wanted, got)
             print(f"    {note}")
     print(", ".join(f"{kinds[kind]} {kind}" for kind in sorted(kinds)))
     missing = [kind for kind in common.replace("\n", ";").split(";") if not kinds[kind]] if count >= usual else []
     if missing:
         print(f"never came: {', '.join(missing)}")
-    return status_of(passed + [False] * bool(missing))
+    return last_line(passed, count - passed + bool(missing))
 
 
 def tried(seed, is_last):

@@ -12,6 +12,7 @@ behind it. Of the growths of a book just as many as its row says change the answ
 booking. The last line is 'N passed, M failed', of the rows; the status is 0 where none failed, 1 where one did, 2 where
 nothing could be run.
 """
+import functools
 import os
 import pathlib
 import re
@@ -22,6 +23,7 @@ sys.dont_write_bytecode = True
 from cases import CASES, TOP
 from preloaded import library_of
 from refused_growths import ALL, MOST, REFUSING, run_on
+from trials import tell
 
 # Refuses `airtime_planner` `answer_to` (`plan_text` calls it): as `GatewayBook::book`.
 # Refuses `book_texts` `book_text`: 1 for each booking that is accepted, and for each member of a saved book.
@@ -121,16 +123,10 @@ def main(words):
     if not program.is_file():
         print(f"refused_books.py: no program at {program}", file=sys.stderr)
         return 2
-    failed = 0
     with tempfile.TemporaryDirectory() as made:
         folder = pathlib.Path(made)
         library = library_of(REFUSING, folder)
-        for row in ROWS:
-            faults = faults_of(program, library, folder, row)
-            failed += bool(faults)
-            print("".join(f"{' '.join(row[0])}: {fault}\n" for fault in faults), end="", flush=True)
-    print(f"{len(ROWS) - failed} passed, {failed} failed")
-    return 1 if failed else 0
+        return tell([(" ".join(row[0]), functools.partial(faults_of, program, library, folder, row)) for row in ROWS])
 
 
 if __name__ == "__main__":

@@ -11,7 +11,8 @@ from typing import Optional, Sequence
 
 from recover import MALFORMED
 from serve import DEVICE, SETTINGS
-from serving import EUIS, SECONDS, Failed, Sender, Server, expect, free_port, gateway_table
+from serving import EUIS, SECONDS, Sender, Server, free_port, gateway_table
+from trials import Failed, expect
 
 GATEWAYS = """airbook journal 1
 gateway 1 aa555a0000000001 4096 45000

@@ -44,8 +44,8 @@ from refused_states import BATCH, GATEWAYS, NEW_JOURNAL, arguments_refused, file
 from refused_states import journals_refused, state_words
 from serve import FIRST, OTHER, SETTINGS, answered_alike, numbers_of
 from serve_lines import Follower
-from serving import EUIS, SECONDS, TOKEN, Failed, Sender, Server, expect
-from trials import tell
+from serving import EUIS, SECONDS, TOKEN, Sender, Server
+from trials import Failed, expect, tell_of_folders
 
 SECOND_JOURNAL = GATEWAYS + """device 26011bda 5c7efb43 7 1
 sent 2 {start} 868100000 5 12
@@ -308,7 +308,7 @@ def main() -> int:
     signal.signal(signal.SIGTERM, lambda *_: sys.exit(1))
     program = str(pathlib.Path(sys.argv[1]).resolve())
     count, seed = (int(word) for word in (sys.argv[2:] + ["20", "1"][len(sys.argv) - 2:]))
-    return tell([[
+    return tell_of_folders([[
         ("the worked run, and a second life", lambda folder: worked(program, folder)),
         ("folders that are refused", lambda folder: folders_refused(program, folder)),
         ("a folder that is used", lambda folder: folder_used(program, folder)),

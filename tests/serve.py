@@ -20,7 +20,7 @@ import signal
 import subprocess
 import sys
 import time
-from typing import Callable, Sequence
+from typing import Sequence
 
 sys.dont_write_bytecode = True
 import lorawan
@@ -28,7 +28,8 @@ from drawn_datagrams import Drawn
 from gateway_model import Clock, Known
 from played_forwarders import LATE_BY, Copy, Devices, Exchange, Gateway, PlainDesk, copies_of, entries_of, entry, now, push_data
 from serve_lines import Drops, Follower
-from serving import EUIS, SECONDS, TOKEN, Failed, Sender, Server, device_table, expect, free_port, gateway_table
+from serving import EUIS, SECONDS, TOKEN, Sender, Server, device_table, free_port, gateway_table
+from trials import Failed, expect, tell
 
 KEYS = bytes.fromhex("2b7e151628aed2a6abf7158809cf4f3c"), bytes.fromhex("000102030405060708090a0b0c0d0e0f")
 DEVICE = device_table(0x26011BDA, KEYS)
@@ -324,19 +325,6 @@ def killed(program: str) -> None:
     with Server(program, SETTINGS) as server:
         server.child.terminate()
         expect((-signal.SIGTERM, ""), server.ended(), "a program that is killed")
-
-
-def tell(trials: list[tuple[str, Callable[[], None]]]) -> int:
-    """Makes these trials, and prints what failed, and how many did: the status."""
-    failed = 0
-    for name, trial in trials:
-        try:
-            trial()
-        except (Failed, subprocess.TimeoutExpired) as fault:
-            failed += 1
-            print(f"failed: {name}: {fault}", flush=True)
-    print(f"{len(trials) - failed} passed, {failed} failed")
-    return 1 if failed else 0
 
 
 def main() -> int:

@@ -9,7 +9,7 @@ import itertools
 import re
 from typing import Iterable, NamedTuple, Sequence
 
-from serving import Failed, expect
+from trials import Failed, expect
 
 JOINS, OLDEST, NAMES = 200_000, 2_000_000, 30
 LINE = re.compile(r"session \d+ \d+|acked \d+ \d+|failed \d+ \d+ \w{1,32}|dropped [A-Za-z]+ [1-9]\d* (?:[0-9a-f]{16}|-)")

@@ -17,7 +17,8 @@ from gateway_model import RATES
 from plain_restarts import RX2, SetDevice, SetGateway, Settings
 from played_forwarders import now
 from played_gateway import Asked, PlayedGateway
-from serving import EUIS, Failed, expect, expect_going, free_port
+from serving import EUIS, free_port
+from trials import Failed, expect, expect_going
 
 # Channels in Hz, each with a data rate. An hour of sub-bands K and N has room for some dozens of these.
 NARROW = (864_100_000, 3)

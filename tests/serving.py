@@ -12,9 +12,10 @@ import pathlib
 import socket
 import subprocess
 import tempfile
-import threading
 import time
 from typing import Any, Callable, Sequence
+
+from trials import Failed, expect, expect_going
 
 SECONDS = 60
 EUIS = [bytes.fromhex(f"aa555a00000000{number:02x}") for number in range(65)]
@@ -22,24 +23,6 @@ TOKEN = b"\x12\x34"
 # Ports below those that Linux gives out by itself. One process begins far from the next, since a server that is started again and
 # again keeps its port without having it bound.
 PORTS = map(lambda number: 20_000 + number % 12_000, itertools.count(500 * os.getpid()))
-
-
-class Failed(Exception):
-    """What was not as it had to be."""
-
-
-# Set where a script is ended, so that its threads end too.
-STOPPED = threading.Event()
-
-
-def expect_going() -> None:
-    if STOPPED.is_set():
-        raise Failed("the script was ended")
-
-
-def expect(wanted: object, got: object, what: str) -> None:
-    if wanted != got:
-        raise Failed(f"{what}: wanted {wanted!r}, got {got!r}"[:2000])
 
 
 def awaited(found: Callable[[], Any], what: str, child: subprocess.Popen | None = None) -> Any:

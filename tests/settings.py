@@ -11,9 +11,13 @@ Then come large settings, for their time: 100,000 unknown keys, as many unknown 
 none failed, 1 where one did, 2 where there is no program.
 """
 import difflib
+import functools
 import pathlib
 import subprocess
 import sys
+
+sys.dont_write_bytecode = True
+from trials import tell
 
 TOP = pathlib.Path(__file__).resolve().parent.parent
 SECONDS = 60
@@ -248,21 +252,21 @@ def faults_of(program, settings, findings, refused):
     status, output, errors = ran(program, "check", settings)
     written = output.splitlines()[: len(lines)]
     told = list(difflib.unified_diff(lines, written, "wanted", "written", lineterm="")) if written != lines else []
-    told += [f"  status {status}, wanted {want}"] if status != want else []
-    told += [f"  standard error: {errors!r}"] if errors else []
+    told += [f"status {status}, wanted {want}"] if status != want else []
+    told += [f"standard error: {errors!r}"] if errors else []
     run_status, _, run_errors = ran(program, "run", settings)
     named = f"airbook: {refused}\n" if refused else ""
     if (run_status == 2, run_errors) != (bool(refused), named):
-        told.append(f"  run: status {run_status}, {run_errors!r}, wanted {named!r}")
+        told.append(f"run: status {run_status}, {run_errors!r}, wanted {named!r}")
     if refused and not any(line.startswith(f"error {refused} ") for line in output.splitlines()):
-        told.append(f"  {refused} stands in no error")
+        told.append(f"{refused} stands in no error")
     return told
 
 
-def large(program):
+def large():
     """Settings that are large: the status and how many findings are wanted."""
     count = 100_000
-    rows = [
+    return [
         ("100,000 unknown keys", BOTH + "".join(f"key{n} = {n}\n" for n in range(count)), 1, count),
         ("100,000 unknown tables", BOTH + "[[devices]]\n" * count, 1, count),
         ("100,000 devices of one address", GATEWAY + DEVICE * count, 2, count),
@@ -271,11 +275,14 @@ def large(program):
         ("a key of 10 MB", BOTH + "k" * 10_000_000 + " = 1\n", 1, 1),
         ("10 MB of comments", BOTH + "# nothing\n" * 1_000_000, 0, 0),
     ]
-    for name, settings, want, found in rows:
-        status, output, errors = ran(program, "check", settings.encode())
-        lines = [line for line in output.splitlines() if line.startswith(("error ", "warning "))]
-        good = (status, len(lines), errors) == (want, found, "")
-        yield name, [] if good else [f"  status {status}, {len(lines)} findings, {errors!r}; wanted {want}, {found}"]
+
+
+def fault_of_large(program, settings, want, found):
+    """What a row of those gets wrong."""
+    status, output, errors = ran(program, "check", settings.encode())
+    lines = [line for line in output.splitlines() if line.startswith(("error ", "warning "))]
+    good = (status, len(lines), errors) == (want, found, "")
+    return None if good else f"status {status}, {len(lines)} findings, {errors!r}; wanted {want}, {found}"
 
 
 def main():
@@ -283,12 +290,8 @@ def main():
     if len(sys.argv) > 2 or not pathlib.Path(program).is_file():
         print(__doc__.strip(), file=sys.stderr)
         return 2
-    tried = [(name, faults_of(program, *rest)) for name, *rest in ROWS] + list(large(program))
-    failed = [(name, told) for name, told in tried if told]
-    for name, told in failed:
-        print("\n".join([f"FAIL {name}", *told]))
-    print(f"{len(tried) - len(failed)} passed, {len(failed)} failed")
-    return 1 if failed else 0
+    trials = [(name, functools.partial(faults_of, program, *rest)) for name, *rest in ROWS]
+    return tell(trials + [(name, functools.partial(fault_of_large, program, *rest)) for name, *rest in large()])
 
 
 if __name__ == "__main__":

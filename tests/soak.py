@@ -45,11 +45,10 @@ from downlink_queue import expect_rules
 from failing_disk import NoRoomDisk, goes_through
 from grown_lives import STRIKES, grown
 from held_payloads import held_back
-from serving import Failed
 from soaked_lives import SoakedLives, lives_of
 from soaked_memory import over_uplinks
 from struck_lives import each_call
-from trials import Trial, tell
+from trials import Failed, FolderTrial, tell_of_folders
 
 # So many kills are made on one journal, and at least so many journals are side by side.
 MOST, LEAST = 100, 4
@@ -65,7 +64,7 @@ class Soak:
         count = max(-(-kills // MOST), min(LEAST, kills))
         self.shares = [(kills * (place + 1)) // count - (kills * place) // count for place in range(count)]
 
-    def trials(self) -> list[Trial]:
+    def trials(self) -> list[FolderTrial]:
         return [(f"{share} kills, journal {place}", self.trial(place, share)) for place, share in enumerate(self.shares)]
 
     def trial(self, place: int, share: int) -> Callable[[pathlib.Path], str]:
@@ -119,7 +118,7 @@ def main() -> int:
     signal.signal(signal.SIGTERM, lambda *_: sys.exit(1))
     program = str(pathlib.Path(words.program).resolve())
     if words.uplinks is not None:
-        return tell([[(f"{words.uplinks} uplinks", lambda folder: over_uplinks(program, folder, words.uplinks))]])
+        return tell_of_folders([[(f"{words.uplinks} uplinks", lambda folder: over_uplinks(program, folder, words.uplinks))]])
     soak = Soak(program, words.kills, words.seed)
 
     def full(folder: pathlib.Path) -> None:
@@ -135,7 +134,7 @@ def main() -> int:
     ]
     places = range(words.seed, words.seed + (len(STRIKES) if words.kills >= MOST else 1))
     grow = [[("a journal that grows", lambda folder, place=place: grown(program, folder, place))] for place in places]
-    return tell([beside, *floods, *grow, [("all kills", lambda _: soak.told())]])
+    return tell_of_folders([beside, *floods, *grow, [("all kills", lambda _: soak.told())]])
 
 
 if __name__ == "__main__":

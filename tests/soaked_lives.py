@@ -19,9 +19,9 @@ from recover import reader, sql
 from restarts import recovered
 from rough_gateway import RoughGateway
 from served_lives import Life, Lives
-from serving import Failed, expect
 from strict_gateway import StrictGateway
 from struck_calls import ALL, KEEPING, Strike, StruckCalls
+from trials import Failed, expect
 
 # What a server may name as it ends, where a call fails.
 NAMES = {"airbook: Journal", "airbook: Write"}

@@ -7,7 +7,8 @@ import time
 import lorawan
 from plain_restarts import SetDevice, SetGateway, Settings
 from played_forwarders import entry, now, push_data
-from serving import EUIS, TOKEN, Failed, Sender, Server
+from serving import EUIS, TOKEN, Sender, Server
+from trials import Failed
 
 # So many are sent and awaited at a time, of so many devices in turn.
 AT_A_TIME, DEVICES = 64, 16

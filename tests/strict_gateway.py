@@ -13,7 +13,7 @@ from downlink_queue import DownlinkQueue
 from gateway_model import PUSH_ACK
 from played_forwarders import now
 from played_gateway import Asked, PlayedGateway
-from serving import Failed
+from trials import Failed
 
 SECOND = 1_000_000
 # A session's first packet has to be known within this time.

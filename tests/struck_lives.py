@@ -21,10 +21,11 @@ from lawful_lives import expect_lawful
 from played_forwarders import now
 from preloaded import library_of
 from refused_states import folder_with
-from serving import SECONDS, Failed, expect, expect_going, is_bound
+from serving import SECONDS, is_bound
 from soaked_lives import SoakedLives
 from strict_gateway import StrictGateway
 from struck_calls import LIBRARY, Strike, StruckCalls
+from trials import Failed, expect, expect_going
 
 # So many lives go on side by side.
 BESIDE = 8

@@ -14,6 +14,9 @@ import shutil
 import subprocess
 import sys
 
+sys.dont_write_bytecode = True
+from trials import last_line
+
 TOP = pathlib.Path(__file__).resolve().parent.parent
 LINE = r"rattle-kit-\w+ logic [0-9a-f]{16}"
 
@@ -61,8 +64,7 @@ def main():
     at_fault = list(faults())
     for fault in at_fault:
         print(fault)
-    print(f"{4 - len(at_fault)} passed, {len(at_fault)} failed")
-    return 1 if at_fault else 0
+    return last_line(4 - len(at_fault), len(at_fault))
 
 
 if __name__ == "__main__":

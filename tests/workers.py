@@ -14,8 +14,8 @@ import sys
 import tempfile
 
 sys.dont_write_bytecode = True
-from listen import tell
 from preloaded import COUNTING, NO_RANDOM_BYTES, NO_THREADS, Counter, library_of, over
+from trials import tell
 
 SECONDS = 120
 DEVICES = 1_000
