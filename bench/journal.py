@@ -25,11 +25,11 @@ import time
 TOP = pathlib.Path(__file__).resolve().parent.parent
 sys.path.insert(0, str(TOP / "tests"))
 sys.dont_write_bytecode = True
-import lorawan
-from gateway_model import RATES
+from lib import lorawan
+from lib.gateway_model import RATES
+from lib.played_forwarders import entry, push_data
+from lib.serving import EUIS, TOKEN, Sender, Server, device_table, gateway_table
 from measured import STEP, used
-from played_forwarders import entry, push_data
-from serving import EUIS, TOKEN, Sender, Server, device_table, gateway_table
 
 GATEWAYS = range(1, 5)
 DEVICES = {0x26011000 + number: (bytes([number] * 16), bytes([number, 1] * 8)) for number in range(64)}

@@ -21,9 +21,9 @@ from typing import IO, Iterator
 
 sys.path.insert(0, str(pathlib.Path(__file__).resolve().parent.parent / "tests"))
 sys.dont_write_bytecode = True
+from lib.serving import SECONDS, awaited, free_port, is_bound
+from lib.trials import Failed
 from measured import arguments, count, held
-from serving import SECONDS, awaited, free_port, is_bound
-from trials import Failed
 
 UPLINK = "80da1b0126000700" + 8 * "0"
 SETTINGS = b"""[[gateway]]

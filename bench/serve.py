@@ -24,9 +24,9 @@ from typing import IO, Callable, Iterator
 TOP = pathlib.Path(__file__).resolve().parent.parent
 sys.path.insert(0, str(TOP / "tests"))
 sys.dont_write_bytecode = True
-import lorawan
-from flooding import malformed
-from serving import EUIS, TOKEN, Sender, Server, awaited, device_table, free_port, gateway_table, is_bound
+from lib import lorawan
+from lib.flooding import malformed
+from lib.serving import EUIS, TOKEN, Sender, Server, awaited, device_table, free_port, gateway_table, is_bound
 
 GATEWAYS = range(1, 9)
 DEVICES = {0x26011000 + number: (bytes([number] * 16), bytes([number, 1] * 8)) for number in range(16)}

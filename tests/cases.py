@@ -28,11 +28,11 @@ import sys
 import tempfile
 
 sys.dont_write_bytecode = True
-from trials import tell
+from lib.case_files import input_of, words_in
+from lib.places import CASES, TOP
+from lib.trials import tell
 
 SECONDS = 120
-TOP = pathlib.Path(__file__).resolve().parent.parent
-CASES = TOP / "cases"
 FILES = {"args", "stdin", "from", "stdout", "stderr", "status", "also", "broken"}
 
 
@@ -62,23 +62,10 @@ def unasked(status, errors):
     return ["standard error, where the library's words are wanted alone:"] + lines_of(errors)
 
 
-def words_in(path):
-    return path.read_bytes().splitlines() if path.is_file() else []
-
-
 def runs_of(name):
     """The runs of a case: a name, and the arguments that come after the case's own."""
     more = words_in(CASES / name / "also")
     return [(name, [])] + [(f"{name} {words.decode()}", words.split()) for words in more]
-
-
-def input_of(case, broken, folder):
-    """What the program reads."""
-    if b"input" in broken:
-        return os.open(folder, os.O_RDONLY)
-    named = words_in(case / "from")
-    given = TOP / named[0].decode() if named else case / "stdin"
-    return os.open(given if named or given.is_file() else os.devnull, os.O_RDONLY)
 
 
 def output_of(broken):

@@ -13,7 +13,8 @@ import subprocess
 import sys
 
 sys.dont_write_bytecode = True
-from trials import tell
+from lib.arguments import asked_by
+from lib.trials import tell
 
 SECONDS = 20
 
@@ -68,10 +69,7 @@ def fault_of(path, words, turns):
 
 
 def main():
-    if len(sys.argv) != 2 or not os.access(sys.argv[1], os.X_OK):
-        print(__doc__.strip(), file=sys.stderr)
-        return 2
-    path = os.path.abspath(sys.argv[1])
+    path, _ = asked_by(__doc__)
     return tell([(name, functools.partial(fault_of, path, *talk)) for name, talk in TALKS.items()])
 
 

@@ -12,7 +12,7 @@ import sys
 sys.dont_write_bytecode = True
 import edit_files
 import prover
-from trials import Tally
+from lib.trials import Tally
 
 PAGE = prover.TOP / "docs" / "PROOFS.md"
 BEGIN, END = "<!-- changes of statements: written by tests/edit_table.py -->", "<!-- end -->"

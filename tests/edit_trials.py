@@ -19,7 +19,7 @@ import edits
 import prover
 from edit_verdicts import Kind
 from kept_verdicts import KeptVerdicts
-from trials import last_line
+from lib.trials import last_line
 
 FOLDER = prover.TOP / "tests" / "edits"
 WANTED = {

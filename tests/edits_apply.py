@@ -16,7 +16,7 @@ from typing import Optional
 sys.dont_write_bytecode = True
 import edit_files
 import prover
-from trials import Tally
+from lib.trials import Tally
 
 FOLDERS = ("edits", "mutants")
 

@@ -13,7 +13,7 @@ import sys
 
 sys.dont_write_bytecode = True
 import prover
-from trials import Tally
+from lib.trials import Tally
 
 PAGE = prover.TOP / "docs" / "BUILDING.md"
 BOOK, STATION = "example_book", "example_station"

@@ -10,7 +10,6 @@ import base64
 import functools
 import json
 import os
-import pathlib
 import signal
 import socket
 import subprocess
@@ -20,11 +19,13 @@ import threading
 import time
 
 sys.dont_write_bytecode = True
-import lorawan
-from trials import Failed, expect, tell
+from lib import lorawan
+from lib.arguments import asked_by
+from lib.places import TOP
+from lib.trials import Failed, expect, tell
 
 SECONDS = 10
-EXAMPLE = pathlib.Path(__file__).resolve().parent.parent / "examples" / "forwarder.py"
+EXAMPLE = TOP / "examples" / "forwarder.py"
 KEYS = bytes.fromhex("2b7e151628aed2a6abf7158809cf4f3c"), bytes.fromhex("000102030405060708090a0b0c0d0e0f")
 DEVICE = 0x26011BDA
 SETTINGS = f"""
@@ -242,10 +243,7 @@ TRIALS = [
 
 
 def main():
-    if len(sys.argv) != 2 or not pathlib.Path(sys.argv[1]).is_file():
-        print("usage: forwarder.py PROGRAM", file=sys.stderr)
-        return 2
-    program = str(pathlib.Path(sys.argv[1]).resolve())
+    program, _ = asked_by("usage: forwarder.py PROGRAM")
     return tell([(trial.__name__, functools.partial(trial, program)) for trial in TRIALS])
 
 

@@ -13,9 +13,8 @@ import subprocess
 import sys
 
 sys.dont_write_bytecode = True
-import manual
 import prover
-import version
+from lib import manual_page, told_version
 
 CRATE = "airbook"
 # What is copied below the folder, from where in the repository.
@@ -45,7 +44,7 @@ def commit():
 
 def record():
     return [
-        f"version {version.told()[0]}",
+        f"version {told_version.told()[0]}",
         f"toolchain {answer_of('rt', 'version')}",
         f"commit {commit()}",
         f"sha256 {prover.program_sum(CRATE)}",
@@ -72,7 +71,7 @@ def put_pages(folder):
     for part in ("share/airbook", "share/man/man1"):
         (folder / part).mkdir(parents=True, exist_ok=True)
     (folder / "share/airbook/BUILD").write_text("\n".join(record()) + "\n")
-    (folder / "share/man/man1/airbook.1").write_text(manual.page(prover.program(CRATE)))
+    (folder / "share/man/man1/airbook.1").write_text(manual_page.page(prover.program(CRATE)))
 
 
 def main():

@@ -15,7 +15,7 @@ import sys
 import tempfile
 
 sys.dont_write_bytecode = True
-from trials import Tally
+from lib.trials import Tally
 
 TOP = pathlib.Path(__file__).resolve().parent.parent
 PARTS = ["Makefile", "CHANGELOG.md", "README.md", "crates.txt", "crates", "docs", "examples", "share", "tests"]

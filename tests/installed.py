@@ -17,10 +17,9 @@ import sys
 import tempfile
 
 sys.dont_write_bytecode = True
-import install
-import manual
 import prover
-from trials import tell
+from lib import manual_page
+from lib.trials import tell
 
 SECONDS = 60
 COMPLETE = 'source "$1"; COMP_WORDS=("${@:2}"); COMP_CWORD=$(($# - 2)); _airbook; printf "%s\\n" "${COMPREPLY[@]}"'
@@ -35,7 +34,7 @@ def completed(folder, *words):
 
 def offered(folder, *words):
     """The long options that --help tells."""
-    return set(re.findall(r"--[a-z]+(?= <|\n)", manual.help_of(folder / "bin/airbook", *words)))
+    return set(re.findall(r"--[a-z]+(?= <|\n)", manual_page.help_of(folder / "bin/airbook", *words)))
 
 
 def it_is_the_gates(folder):
@@ -46,11 +45,11 @@ def it_is_the_gates(folder):
 
 def commands_are_offered(folder):
     found = completed(folder, "")
-    return None if set(manual.COMMANDS) <= found else f"bash offers {sorted(found)}"
+    return None if set(manual_page.COMMANDS) <= found else f"bash offers {sorted(found)}"
 
 
 def options_are_offered(folder):
-    for command in manual.COMMANDS:
+    for command in manual_page.COMMANDS:
         found, wanted = completed(folder, command, "--"), offered(folder, command)
         if found != wanted:
             return f"of {command} bash offers {sorted(found)}, and --help tells {sorted(wanted)}"
@@ -58,8 +57,8 @@ def options_are_offered(folder):
 
 
 def help_is_narrow(folder):
-    for words in ([], *([command] for command in manual.COMMANDS)):
-        wide = [line for line in manual.help_of(folder / "bin/airbook", *words).splitlines() if len(line) > 80]
+    for words in ([], *([command] for command in manual_page.COMMANDS)):
+        wide = [line for line in manual_page.help_of(folder / "bin/airbook", *words).splitlines() if len(line) > 80]
         if wide:
             return f"--help of {words or 'the program'} has a line of more than 80 columns: {wide[0]}"
     return None
@@ -72,7 +71,7 @@ def manual_is_shown(folder):
         return None if page.read_text().startswith(".TH") else "the manual page has no title"
     told = {**os.environ, "MANWIDTH": "100", "LC_ALL": "C.UTF-8"}
     ran = subprocess.run(["man", "--warnings", "-l", page], capture_output=True, text=True, timeout=SECONDS, env=told)
-    lacking = [command for command in manual.COMMANDS if f"Usage: airbook {command}" not in ran.stdout]
+    lacking = [command for command in manual_page.COMMANDS if f"Usage: airbook {command}" not in ran.stdout]
     if ran.returncode or ran.stderr or lacking:
         return f"man ends with {ran.returncode}, says {ran.stderr[:200]!r}, and lacks {lacking}"
     return None
@@ -89,9 +88,7 @@ TRIALS = (it_is_the_gates, commands_are_offered, options_are_offered, help_is_na
 
 def main():
     with tempfile.TemporaryDirectory(prefix="installed-") as room:
-        sys.argv[1:] = [room]
-        status = install.main()
-        if status:
+        if subprocess.run([sys.executable, prover.TOP / "tests" / "install.py", room]).returncode:
             return 2
         return tell([(trial.__name__, functools.partial(trial, pathlib.Path(room))) for trial in TRIALS])
 

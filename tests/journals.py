@@ -14,13 +14,13 @@ where there is no program.
 from __future__ import annotations
 
 import functools
-import pathlib
 import subprocess
 import sys
 from typing import Iterator, NamedTuple, Optional
 
 sys.dont_write_bytecode = True
-from trials import tell
+from lib.arguments import asked_by
+from lib.trials import tell
 
 SECONDS = 60
 FIRST = b"""airbook journal 1
@@ -124,13 +124,11 @@ def at_fault() -> Iterator[Trial]:
         yield Trial(f"journal {place}", journal, 9, None, told)
 
 
-def main(words: list[str]) -> int:
-    if len(words) != 1 or not pathlib.Path(words[0]).is_file():
-        print(__doc__.strip(), file=sys.stderr)
-        return 2
+def main() -> int:
+    program, _ = asked_by(__doc__)
     trials = [*torn(), *at_fault()]
-    return tell([(one.name, functools.partial(one.fault, words[0])) for one in trials], beside=4)
+    return tell([(one.name, functools.partial(one.fault, program)) for one in trials], beside=4)
 
 
 if __name__ == "__main__":
-    sys.exit(main(sys.argv[1:]))
+    sys.exit(main())

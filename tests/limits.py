@@ -14,7 +14,6 @@ is 'N passed, M failed'. The status is 0 where none failed, 1 where one did, 2 w
 """
 import contextlib
 import functools
-import pathlib
 import socket
 import subprocess
 import sys
@@ -22,8 +21,9 @@ import tempfile
 import threading
 
 sys.dont_write_bytecode = True
-from listen import NO_REPORT, SETTINGS
-from trials import tell
+from lib.arguments import asked_by
+from lib.drawn_turns import NO_REPORT, SETTINGS
+from lib.trials import tell
 
 SECONDS = 60
 LIMIT = 1 << 28
@@ -186,10 +186,7 @@ def rows(port):
 
 
 def main():
-    if len(sys.argv) != 2 or not pathlib.Path(sys.argv[1]).is_file():
-        print(__doc__.strip(), file=sys.stderr)
-        return 2
-    program = str(pathlib.Path(sys.argv[1]).resolve())
+    program, _ = asked_by(__doc__)
     with socket.socket(type=socket.SOCK_DGRAM) as other:
         other.bind(("127.0.0.1", 0))
         port = other.getsockname()[1]

@@ -14,7 +14,7 @@ import re
 import sys
 
 sys.dont_write_bytecode = True
-from trials import Tally
+from lib.trials import Tally
 
 TOP = pathlib.Path(sys.argv[1] if len(sys.argv) > 1 else pathlib.Path(__file__).resolve().parent.parent)
 FOLDERS = {"bench", "cases", "crates", "docs", "edits", "examples", "mutants", "tests", ".ci"}

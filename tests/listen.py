@@ -4,11 +4,11 @@
 Usage: listen.py PROGRAM [DATAGRAMS [SEED]]     (5,000, 1: how many random datagrams)
 
 Each datagram is sent once the answers to those before it were read, so none is lost. What the random ones are answered is found
-in drawn_turns.py, as docs/FORMATS.md says. The lines of a case and of some drawn runs are sent too, a datagram each, and have to
-be answered as the case has it, and as by the model in plain_server.py. Libraries that are loaded before the C library count the
-threads, of which there have to be some where workers are asked for, and refuse threads, random bytes and one receive. Every
-program that is started ends within a minute, or is stopped. A failing trial has a line; the last line is 'N passed, M failed'.
-The status is 0 where none failed, 1 where one did, 2 where nothing could be run.
+in lib/drawn_turns.py, as docs/FORMATS.md says. The lines of a case and of some drawn runs are sent too, a datagram each, and have
+to be answered as the case has it, and as by the model in lib/plain_server.py. Libraries that are loaded before the C library
+count the threads, of which there have to be some where workers are asked for, and refuse threads, random bytes and one receive.
+Every program that is started ends within a minute, or is stopped. A failing trial has a line; the last line is 'N passed, M
+failed'. The status is 0 where none failed, 1 where one did, 2 where nothing could be run.
 """
 import os
 import pathlib
@@ -21,33 +21,22 @@ import tempfile
 import time
 
 sys.dont_write_bytecode = True
-import lorawan
-import plain_server
-from drawn_turns import KEYS, SESSION, SETTINGS, STEPS, UPLINK, Alone, drawn_run, run_of_steps
-from preloaded import COUNTING, FAILING_RECEIVE, NO_RANDOM_BYTES, NO_THREADS, NO_TIME_LIMIT, Counter, library_of, over
-from trials import tell
+from lib import lorawan, plain_server
+from lib.arguments import asked_by
+from lib.drawn_turns import KEYS, NO_REPORT, SESSION, SETTINGS, STEPS, UPLINK, Alone, drawn_run, run_of_steps
+from lib.places import TOP
+from lib.preloaded import COUNTING, FAILING_RECEIVE, NO_RANDOM_BYTES, NO_THREADS, NO_TIME_LIMIT, Counter, library_of, over
+from lib.serving import LOOPBACK, free_port, is_bound
+from lib.trials import tell
 
 SECONDS = 60
-EXAMPLE = pathlib.Path(__file__).resolve().parent.parent / "examples" / "settings.toml"
+EXAMPLE = TOP / "examples" / "settings.toml"
 # As many uplinks as several workers share out.
 SHARED = 64
 # How many runs are drawn, of some dozens of datagrams each.
 RUNS = 12
 # What is answered to an uplink whose counter is past, and to four more, of which the last was heard twice.
 OWN_ANSWERS = ["no"] + ["opened"] * 4 + ["joined"] + ["send"] * 3 + ["unanswered"]
-NO_REPORT = [f"gateway {g} booked 0 cancelled 0 retired 0 kept 0" for g in (1, 2)] + ["answered 0 unanswered 0 silent 0"]
-
-
-def free_port():
-    with socket.socket(type=socket.SOCK_DGRAM) as probe:
-        probe.bind(("127.0.0.1", 0))
-        return probe.getsockname()[1]
-
-
-def is_bound(port):
-    """Whether a socket has this port of 127.0.0.1, and not of every address of the machine."""
-    with open("/proc/net/udp") as sockets:
-        return any(line.split()[1] == f"0100007F:{port:04X}" for line in list(sockets)[1:])
 
 
 class Server:
@@ -65,7 +54,7 @@ class Server:
         self.child.stdin.close()
 
     def __enter__(self):
-        while not is_bound(self.port) and self.child.poll() is None and time.monotonic() < self.ends:
+        while not is_bound(self.port, LOOPBACK) and self.child.poll() is None and time.monotonic() < self.ends:
             time.sleep(0.005)
         return self
 
@@ -350,11 +339,7 @@ def why_not_bound(program):
 
 
 def main():
-    if len(sys.argv) < 2 or not pathlib.Path(sys.argv[1]).is_file():
-        print(__doc__.strip(), file=sys.stderr)
-        return 2
-    program = str(pathlib.Path(sys.argv[1]).resolve())
-    datagrams, seed = (int(word) for word in (sys.argv[2:] + ["5000", "1"][len(sys.argv) - 2:])[:2])
+    program, (datagrams, seed) = asked_by(__doc__, 5_000, 1)
     trials = [
         ("the example", lambda: example(program)),
         ("the example of the help", lambda: example_of_help(program)),

@@ -20,7 +20,7 @@ import tempfile
 
 sys.dont_write_bytecode = True
 import prover
-from trials import tell
+from lib.trials import tell
 
 FILES = prover.TOP / "tests" / "misuse"
 SECONDS = 120

@@ -14,15 +14,16 @@ import os
 import pathlib
 import re
 import signal
-import socket
 import subprocess
 import sys
 import tempfile
 
 sys.dont_write_bytecode = True
-from trials import Tally
+from lib.arguments import asked_by
+from lib.places import TOP
+from lib.serving import free_port
+from lib.trials import Tally
 
-TOP = pathlib.Path(__file__).resolve().parent.parent
 PAGES = ["README.md", "docs/RUNNING.md"]
 SECONDS = 60
 # What examples/forwarder.py would log of examples/two-gateways.txt.
@@ -79,21 +80,17 @@ def ran(text, folder, path):
 
 
 def main():
-    if len(sys.argv) != 2 or not pathlib.Path(sys.argv[1]).is_file():
-        print("usage: pages.py PROGRAM", file=sys.stderr)
-        return 2
+    program, _ = asked_by("usage: pages.py PROGRAM")
     tally = Tally()
     with tempfile.TemporaryDirectory(prefix="pages-") as room:
         folder, tools = pathlib.Path(room, "work"), pathlib.Path(room, "bin")
         folder.mkdir()
         tools.mkdir()
-        (tools / "airbook").symlink_to(pathlib.Path(sys.argv[1]).resolve())
+        (tools / "airbook").symlink_to(program)
         (folder / "examples").symlink_to(TOP / "examples")
         (folder / "log").write_text(LOG)
         (folder / "lines.txt").write_text(LINES)
-        with socket.socket(type=socket.SOCK_DGRAM) as probe:
-            probe.bind(("127.0.0.1", 0))
-            port = probe.getsockname()[1]
+        port = free_port()
         for page in PAGES:
             for commands, wanted in blocks((TOP / page).read_text(encoding="utf-8")):
                 got, status = ran("\n".join(script(commands, port)), folder, f"{tools}:{os.environ['PATH']}")

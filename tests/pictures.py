@@ -3,10 +3,10 @@
 
 Usage: tests/pictures.py [PROGRAM [BOOKS [SEED]]]     (the program that the gate leaves, 200, 1)
 
-The books are those of random_saved.py, whose reader tells the fault of a damaged one. Each picture is of an hour that is asked
-for, near a transmission or far off, or of the latest. The model is written from docs/FORMATS.md alone; the lines that are always
-the same are taken from the case of an empty book. Output, standard error and status are compared. In what Python's XML reader
-finds, the marks are counted, by their class, and elements of one id.
+The books are drawn as in random_saved.py; the plain reader tells the fault of a damaged one. Each picture is of an hour that is
+asked for, near a transmission or far off, or of the latest. The model is written from docs/FORMATS.md alone; the lines that are
+always the same are taken from the case of an empty book. Output, standard error and status are compared. In what Python's XML
+reader finds, the marks are counted, by their class, and elements of one id.
 
 What differs has a line. Then comes how many of each kind were drawn, and of each fault; where 200 books or more were asked for, a
 common kind that never came is one failure. The last line is 'N passed, M failed', of the books. The status is 0 where none failed,
@@ -18,13 +18,14 @@ import sys
 import xml.etree.ElementTree
 
 sys.dont_write_bytecode = True
-import lorawan
-from cases import CASES
-from random_runs import compared
-from random_saved import Fault, book_of, damaged, lines_behind, reader, saved
+from lib import lorawan
+from lib.drawn_books import book_of, damaged, lines_behind
+from lib.lorawan import HOUR
+from lib.model_trials import compared
+from lib.places import CASES
+from lib.plain_saved import Fault, reader, saved
 
 BOOKS = 200
-HOUR = 3_600_000_000
 ROWS = "KLMNPQ"
 RIGHT = ' class="right"'
 EMPTY = CASES / "picture_of_an_empty_book" / "stdout"

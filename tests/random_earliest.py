@@ -4,18 +4,20 @@
 Usage: tests/random_earliest.py [PROGRAM [BOOKS [SEED]]]     (the program that the gate leaves, 10,000, 1)
 
 Each book has its own gap and a dozen commands at most; then it is asked for earliest starts within narrow bounds about the
-moments at which the answer can change: its floor, the ends of its transmissions and an hour after their starts. What is
-wanted is found by trying each start in the bounds on a plain list (random_books.py). Each answer that differs has a line, and so
-has it where no earliest start of all stands right behind a transmission, or behind a full hour; the last line is
-'N passed, M failed', of the books. The status is 0 where none failed, 1 where one did, 2 where there is no program.
+moments at which the answer can change: its floor, the ends of its transmissions and an hour after their starts. What is wanted is
+found by trying each start in the bounds on a plain list (lib/plain_book.py). Each answer that differs has a line, and so has it
+where no earliest start of all stands right behind a transmission, or behind a full hour; the last line is 'N passed, M failed',
+of the books. The status is 0 where none failed, 1 where one did, 2 where there is no program.
 """
 import collections
 import random
 import sys
 
 sys.dont_write_bytecode = True
-from random_books import HOUR, K, M, P, Book, answers_alike, asked_for
-from trials import last_line
+from lib.arguments import asked_for
+from lib.model_trials import answers_alike
+from lib.plain_book import HOUR, K, M, P, Book
+from lib.trials import last_line
 
 ASKS, WIDTH = 4, 60
 ENOUGH = 1_000      # so many books have each kind of start

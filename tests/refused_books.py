@@ -20,10 +20,10 @@ import sys
 import tempfile
 
 sys.dont_write_bytecode = True
-from cases import CASES, TOP
-from preloaded import library_of
-from refused_growths import ALL, MOST, REFUSING, run_on
-from trials import tell
+from lib.places import CASES, PROGRAM
+from lib.preloaded import library_of
+from lib.refusing import ALL, MOST, REFUSING, run_on
+from lib.trials import tell
 
 # Refuses `airtime_planner` `answer_to` (`plan_text` calls it): as `GatewayBook::book`.
 # Refuses `book_texts` `book_text`: 1 for each booking that is accepted, and for each member of a saved book.
@@ -119,7 +119,7 @@ def faults_of(program, library, folder, row):
 
 
 def main(words):
-    program = pathlib.Path(words[0] if words else TOP / "crates/airbook/out/airbook").resolve()
+    program = pathlib.Path(words[0] if words else PROGRAM).resolve()
     if not program.is_file():
         print(f"refused_books.py: no program at {program}", file=sys.stderr)
         return 2

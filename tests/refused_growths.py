@@ -10,10 +10,10 @@ to end within SECONDS, by no signal, and
     as with memory   it may always end
     with status 2    want of memory is named on standard error, and what was written is a front of what is written with memory
     with 0 or 1      a line of the output ends in NoMemory, and the status is 1 where a line begins with no or bad, else 0; all of
-                     a run's output is what a plain model of the server (starved_server.py) writes, in which a number that finds
-                     no memory books nothing (texts of a book are compared by refused_books.py). With workers it may also be
-                     that the report and the status alone are as with memory, since what a worker finds no memory for is
-                     answered last
+                     a run's output is what a plain model of the server writes (lib/starved_server.py), in which a number that
+                     finds no memory books nothing (texts of a book are compared by refused_books.py). With workers it may
+                     also be that the report and the status alone are as with memory, since what a worker finds no memory
+                     for is answered last
 Prints a line for each run that ends otherwise, and one for each case with the number of its growths and how often each answer
 came. A case in which no growth was refused, or in which there is no end of them, has failed, and so has one that finds no memory
 though none is refused. The status is 0 where none has failed or ended otherwise, 1 where one has, 2 where nothing could be run.
@@ -22,18 +22,18 @@ import collections
 import os
 import pathlib
 import re
-import socket
-import subprocess
 import sys
 import tempfile
-import time
 
 sys.dont_write_bytecode = True
-from cases import CASES as FOLDER, TOP, input_of, words_in
-from drawn_settings import said_in
-from listen import SETTINGS, UPLINK, free_port, is_bound
-from preloaded import library_of
-from starved_server import is_followed
+from lib.case_files import input_of, words_in
+from lib.drawn_settings import said_in
+from lib.drawn_turns import SETTINGS
+from lib.places import CASES as FOLDER, PROGRAM
+from lib.preloaded import library_of
+from lib.refusing import ALL, DATAGRAMS, MOST, REFUSING, run_on
+from lib.serving import free_port
+from lib.starved_server import is_followed
 
 # Refuses `server_core` `answer_events` (a run without workers calls it; no test counts them): as `replay`, but for its
 # steps and their copies of bytes.
@@ -74,70 +74,6 @@ CASES = [
 # Where the lists that workers begin with, five for each, find no memory, the thread that runs answers all: so many growths at
 # least may be refused, each alone, and nothing of it is seen.
 UNSEEN = {("run_three_devices_at_once", "--workers 1"): 9, ("run_payload_in_rx1", "--workers 1"): 9}
-# What is sent to a server that listens: two gateways hear an uplink, a payload is queued, and the uplink is answered.
-DATAGRAMS = [
-    f"hear 1 5000000 868100000 5 55 -90 1000 {UPLINK}", f"hear 2 9000000 868100000 5 55 -80 1100 {UPLINK}",
-    "queue 26011bda 9 0102", "pass 201001",
-]
-Ended = collections.namedtuple("Ended", "status out err")
-SECONDS = 20
-MOST = 20_000
-ALL = 1 << 62
-REFUSING = r"""
-#define _GNU_SOURCE
-#include <dlfcn.h>
-#include <errno.h>
-#include <link.h>
-#include <stdatomic.h>
-#include <stdlib.h>
-#include <unistd.h>
-
-static atomic_long asked;
-static long first, last, tell;
-static char *low, *high;
-
-static int own(struct dl_phdr_info *info, size_t size, void *data) {
-    for (int i = 0; i < info->dlpi_phnum; i++)
-        if (info->dlpi_phdr[i].p_type == PT_LOAD && (info->dlpi_phdr[i].p_flags & PF_X)) {
-            low = (char *)info->dlpi_addr + info->dlpi_phdr[i].p_vaddr;
-            high = low + info->dlpi_phdr[i].p_memsz;
-        }
-    return 1; /* the program is the first */
-}
-
-__attribute__((constructor)) static void begin(void) {
-    first = atol(getenv("REFUSE_FIRST"));
-    last = atol(getenv("REFUSE_LAST"));
-    tell = atol(getenv("REFUSE_TELL"));
-    dl_iterate_phdr(own, 0);
-}
-
-static int refused(void *caller) {
-    if ((char *)caller < low || (char *)caller >= high) return 0;
-    long number = atomic_fetch_add(&asked, 1) + 1;
-    if (number < first || number > last) return 0;
-    if (write(tell, "x", 1)) {}
-    return 1;
-}
-
-void *malloc(size_t size) {
-    static void *(*real)(size_t);
-    if (!real) real = (void *(*)(size_t))dlsym(RTLD_NEXT, "malloc");
-    return refused(__builtin_return_address(0)) ? 0 : real(size);
-}
-
-void *realloc(void *old, size_t size) {
-    static void *(*real)(void *, size_t);
-    if (!real) real = (void *(*)(void *, size_t))dlsym(RTLD_NEXT, "realloc");
-    return refused(__builtin_return_address(0)) ? 0 : real(old, size);
-}
-
-int posix_memalign(void **made, size_t align, size_t size) {
-    static int (*real)(void **, size_t, size_t);
-    if (!real) real = (int (*)(void **, size_t, size_t))dlsym(RTLD_NEXT, "posix_memalign");
-    return refused(__builtin_return_address(0)) ? ENOMEM : real(made, align, size);
-}
-"""
 
 
 def opened(name, more, folder):
@@ -148,38 +84,6 @@ def opened(name, more, folder):
     (folder / "settings").write_text(SETTINGS)
     words = ["listen", "--port", str(port), "--turns", str(len(DATAGRAMS)), *more.split()]
     return words, os.open(folder / "settings", os.O_RDONLY), port
-
-
-def ended(child, port):
-    """How a program ended: its status, and what it wrote to standard output and error; no status where it didn't in time."""
-    ends = time.monotonic() + SECONDS
-    if port is not None:
-        while not is_bound(port) and child.poll() is None and time.monotonic() < ends:
-            time.sleep(0.001)
-        with socket.socket(type=socket.SOCK_DGRAM) as sender:
-            for datagram in DATAGRAMS:
-                sender.sendto(datagram.encode(), ("127.0.0.1", port))
-    try:
-        out, err = child.communicate(timeout=SECONDS)
-        return Ended(child.returncode, out, err)
-    except subprocess.TimeoutExpired:
-        child.kill()
-        return Ended(None, *child.communicate())
-
-
-def run_on(program, library, folder, opened, first, last):
-    """Runs the program on these words, standard input and port with these growths refused: how many were, and how it ended."""
-    words, given, port = opened
-    read, write = os.pipe()
-    env = {"LD_PRELOAD": str(library), "REFUSE_FIRST": str(first), "REFUSE_LAST": str(last), "REFUSE_TELL": str(write)}
-    child = subprocess.Popen(
-        [program, *words], stdin=given, stdout=subprocess.PIPE, stderr=subprocess.PIPE, env=env, pass_fds=[write], cwd=folder
-    )
-    os.close(write)
-    os.close(given)
-    how = ended(child, port)
-    with os.fdopen(read, "rb") as told:
-        return len(told.read()), how
 
 
 def run(program, library, folder, case, first, last):
@@ -252,7 +156,7 @@ def refuse_each(program, library, folder, case):
 
 
 def main(words):
-    program = pathlib.Path(words[0] if words else TOP / "crates/airbook/out/airbook").resolve()
+    program = pathlib.Path(words[0] if words else PROGRAM).resolve()
     if not program.is_file():
         print(f"refused_growths.py: no program at {program}", file=sys.stderr)
         return 2

@@ -3,7 +3,7 @@
 
 Usage: restarts.py PROGRAM [KILLS [SEED]]     (20, 1: how many lives, and what is drawn)
 
-Trials, side by side:
+Trials, side by side (the files that are named stand in lib/):
 
 - the worked run from a new state on, which `airbook run` answers alike; its journal and its PULL_RESP to the byte; a kill; the
   book that is recovered; and a second life, in which the gateway that was asked for something is silent first, and the downlink
@@ -23,29 +23,28 @@ It takes some 45 s, and needs a C compiler. Every wait ends within a minute. A f
 """
 from __future__ import annotations
 
-import os
 import pathlib
 import re
 import signal
-import subprocess
 import sys
 import time
 
 sys.dont_write_bytecode = True
-import lorawan
-from failing_disk import ADDR, KEYS, ForgetfulDisk, FullDisk, goes_through
-from gateway_model import Clock
-from lawful_lives import LEAD, kills
-from plain_restarts import GAP, SILENCE, SetDevice, SetGateway, Settings, expect_state, goes_on, within
-from played_forwarders import entry, now, push_data
-from played_gateway import pull_resp, read_pull_resp
-from recover import batches_of, reader
-from refused_states import BATCH, GATEWAYS, NEW_JOURNAL, arguments_refused, files_in, folder_used, folder_with, folders_refused
-from refused_states import journals_refused, state_words
-from serve import FIRST, OTHER, SETTINGS, answered_alike, numbers_of
-from serve_lines import Follower
-from serving import EUIS, SECONDS, TOKEN, Sender, Server
-from trials import Failed, expect, tell_of_folders
+from lib import lorawan
+from lib.arguments import asked_by
+from lib.failing_disk import ADDR, KEYS, ForgetfulDisk, FullDisk, goes_through
+from lib.gateway_model import Clock
+from lib.lawful_lives import LEAD, kills
+from lib.plain_journal import batches_of, reader
+from lib.plain_restarts import GAP, SILENCE, SetDevice, SetGateway, Settings, expect_state, goes_on, within
+from lib.played_forwarders import entry, now, push_data
+from lib.played_gateway import pull_resp, read_pull_resp
+from lib.refused_states import BATCH, GATEWAYS, NEW_JOURNAL, arguments_refused, files_in, folder_used, folder_with
+from lib.refused_states import folders_refused, journals_refused, state_words
+from lib.serve_lines import Follower
+from lib.serving import EUIS, SECONDS, TOKEN, Sender, Server, recovered
+from lib.trials import Failed, expect, tell_of_folders
+from lib.worked_run import FIRST, OTHER, SETTINGS, answered_alike, numbers_of, words_of
 
 SECOND_JOURNAL = GATEWAYS + """device 26011bda 5c7efb43 7 1
 sent 2 {start} 868100000 5 12
@@ -78,24 +77,6 @@ r 0 {start} 868100000 5 12
 end 1
 """
 MINUTE = SECONDS * 1_000_000
-
-
-def words_of(template: str, text: str, what: str) -> dict[str, int]:
-    """The numbers that stand in a text for the words in braces of a template, which else is the text."""
-    expect(template.count("\n"), text.count("\n"), f"how many lines has {what}, {text!r}")
-    found: dict[str, str] = {}
-    for wanted, line in zip(template.split("\n"), text.split("\n")):
-        expect(len(wanted.split(" ")), len(line.split(" ")), f"how many words has {line!r} of {what}")
-        for name, word in zip(wanted.split(" "), line.split(" ")):
-            expect(found.setdefault(name, word) if name.startswith("{") else name, word, f"a word of {line!r} of {what}")
-    return {name.strip("{}"): int(word) for name, word in found.items()}
-
-
-def recovered(program: str, journal: str, *words: str) -> str:
-    """What `airbook recover` writes of a journal."""
-    done = subprocess.run([program, "recover", *words], input=journal.encode(), capture_output=True, timeout=SECONDS)
-    expect((0, b""), (done.returncode, done.stderr), f"the status of recover, and what it tells of {journal!r}")
-    return done.stdout.decode()
 
 
 def killed(server: Server) -> None:
@@ -301,13 +282,9 @@ def changed(program: str, parent: pathlib.Path) -> None:
 
 
 def main() -> int:
-    if not 2 <= len(sys.argv) <= 4 or not os.access(sys.argv[1], os.X_OK):
-        print(__doc__.strip(), file=sys.stderr)
-        return 2
+    program, (count, seed) = asked_by(__doc__, 20, 1)
     lorawan.checked()
     signal.signal(signal.SIGTERM, lambda *_: sys.exit(1))
-    program = str(pathlib.Path(sys.argv[1]).resolve())
-    count, seed = (int(word) for word in (sys.argv[2:] + ["20", "1"][len(sys.argv) - 2:]))
     return tell_of_folders([[
         ("the worked run, and a second life", lambda folder: worked(program, folder)),
         ("folders that are refused", lambda folder: folders_refused(program, folder)),

@@ -4,17 +4,15 @@
 Usage: serve.py PROGRAM [DATAGRAMS [SECONDS [SEED]]]     (3,000, 4, 1: how many datagrams, and how long)
 
 Trials: a worked run, each cut of its first datagram, and copies that are refused; drawn datagrams with every kind of slip, and
-counters that jump, beside the plain model in gateway_model.py; four packet forwarders whose counters drift, wrap and begin anew.
-What stands behind `> ` in all but the drawn ones is then an input of `airbook run`, which has to answer the same lines. Then come
-faults of settings and arguments, a port that is taken, outputs that can't be written, and a kill. With 60 seconds or more a gateway
-is also played for a minute that sends one PULL_DATA. Datagrams are sent so many at a time that the socket has room for them. Every
-wait ends within a minute. A failing trial has a line; the last line is 'N passed, M failed'. The status is 0 where none failed, 1
-where one did, 2 where nothing could be run.
+counters that jump, beside the plain model in lib/gateway_model.py; four packet forwarders whose counters drift, wrap and begin
+anew. What stands behind `> ` in all but the drawn ones is then an input of `airbook run`, which has to answer the same lines.
+Then come faults of settings and arguments, a port that is taken, outputs that can't be written, and a kill. With 60 seconds or
+more a gateway is also played for a minute that sends one PULL_DATA. Datagrams are sent so many at a time that the socket has room
+for them. Every wait ends within a minute. A failing trial has a line; the last line is 'N passed, M failed'. The status is 0
+where none failed, 1 where one did, 2 where nothing could be run.
 """
 from __future__ import annotations
 
-import os
-import pathlib
 import random
 import signal
 import subprocess
@@ -23,35 +21,17 @@ import time
 from typing import Sequence
 
 sys.dont_write_bytecode = True
-import lorawan
-from drawn_datagrams import Drawn
-from gateway_model import Clock, Known
-from played_forwarders import LATE_BY, Copy, Devices, Exchange, Gateway, PlainDesk, copies_of, entries_of, entry, now, push_data
-from serve_lines import Drops, Follower
-from serving import EUIS, SECONDS, TOKEN, Sender, Server, device_table, free_port, gateway_table
-from trials import Failed, expect, tell
+from lib import lorawan
+from lib.arguments import asked_by
+from lib.drawn_datagrams import Drawn
+from lib.gateway_model import Clock, Known
+from lib.played_forwarders import LATE_BY, Copy, Devices, Exchange, Gateway, PlainDesk, copies_of, entries_of, entry, now
+from lib.played_forwarders import push_data
+from lib.serve_lines import Drops, Follower
+from lib.serving import EUIS, SECONDS, TOKEN, Sender, Server, device_table, free_port, gateway_table
+from lib.trials import Failed, expect, tell
+from lib.worked_run import DEVICE, FIRST, OTHER, PACKET, SETTINGS, answered_alike, numbers_of
 
-KEYS = bytes.fromhex("2b7e151628aed2a6abf7158809cf4f3c"), bytes.fromhex("000102030405060708090a0b0c0d0e0f")
-DEVICE = device_table(0x26011BDA, KEYS)
-SETTINGS = gateway_table(1) + gateway_table(2) + DEVICE
-PACKET = '{"rxpk":[{"tmst":5000000,"freq":868.100000,"stat":1,"modu":"LORA","datr":"SF7BW125","codr":"4/5","rssi":-90,"lsnr":5.5,'
-PACKET += '"size":12,"data":"gNobASYABwAJyJFB"}]}'
-FIRST = bytes.fromhex("02123400aa555a0000000001") + PACKET.encode()
-OTHER = PACKET.replace("5000000", "4294000000").replace("-90", "-80").encode()
-# A word in braces stands for a number, the same wherever it stands.
-WORKED = """session 1 {at1}
-> hear 1 {at1} 868100000 5 55 -90 {arrived1} 80da1b012600070009c89141
-opened 1
-session 2 {at2}
-> hear 2 {at2} 868100000 5 55 -80 {arrived2} 80da1b012600070009c89141
-joined 1 2
-> tick 1 {floor1}
-floor 1 {floor1}
-> tick 2 {floor2}
-floor 2 {floor2}
-> pass {now}
-send 1 2 RX1 {start} 868100000 5 12
-frame 1 60da1b0126200000240347ca"""
 # Why something is dropped, but for the reasons that need time.
 NAMES = set("Short Version Kind UnknownGateway Peer NoPull Json Many Shape Crc Modulation Rate Number Data Size Ghost".split())
 NAMES |= set("Long NotData Major OptionsCut NoBand UnknownDevice BadMic".split())
@@ -60,30 +40,6 @@ WINDOW = 60_000
 LEAD = 400_000
 # So many drawn datagrams are dropped for every reason.
 ENOUGH = 3_000
-
-
-def numbers_of(lines: list[str]) -> dict[str, int]:
-    """The numbers of the worked lines, by their names."""
-    expect(len(WORKED.splitlines()), len(lines), f"how many lines come: {lines}")
-    found: dict[str, str] = {}
-    for wanted, line in zip(WORKED.splitlines(), lines):
-        expect(len(wanted.split()), len(line.split()), f"the words of {line!r}")
-        for name, word in zip(wanted.split(), line.split()):
-            expect(found.setdefault(name, word) if name.startswith("{") else name, word, f"a word of {line!r}")
-    return {name.strip("{}"): int(word) for name, word in found.items()}
-
-
-def answered_alike(program: str, settings: str, follower: Follower) -> None:
-    """`airbook run` answers the lines behind `> ` as they were answered."""
-    text = "\n".join([settings + "---", *follower.events, ""])
-    ran = subprocess.run([program, "run"], input=text.encode(), capture_output=True, timeout=SECONDS)
-    lines = ran.stdout.decode().splitlines()
-    expect((0, b""), (ran.returncode, ran.stderr), "the status of run, and what it says on standard error")
-    for place, (own, other) in enumerate(zip(follower.answers, lines)):
-        expect(other, own, f"answer {place} of serve, and of run")
-    report = lines[len(follower.answers):]
-    if not report or not report[0].startswith("gateway "):
-        raise Failed(f"behind {len(follower.answers)} answers run tells {report[:3]}")
 
 
 def worked(program: str) -> None:
@@ -328,13 +284,9 @@ def killed(program: str) -> None:
 
 
 def main() -> int:
-    if not 2 <= len(sys.argv) <= 5 or not os.access(sys.argv[1], os.X_OK):
-        print(__doc__.strip(), file=sys.stderr)
-        return 2
+    program, (datagrams, seconds, seed) = asked_by(__doc__, 3_000, 4, 1)
     lorawan.checked()
     signal.signal(signal.SIGTERM, lambda *_: sys.exit(1))
-    program = str(pathlib.Path(sys.argv[1]).resolve())
-    datagrams, seconds, seed = (int(word) for word in (sys.argv[2:] + ["3000", "4", "1"][len(sys.argv) - 2:]))
     trials = [
         ("the worked run", lambda: worked(program)),
         ("each cut", lambda: cuts(program)),

@@ -17,9 +17,9 @@ import subprocess
 import sys
 
 sys.dont_write_bytecode = True
-from trials import tell
+from lib.places import PROGRAM
+from lib.trials import tell
 
-TOP = pathlib.Path(__file__).resolve().parent.parent
 SECONDS = 60
 
 GATEWAY = "[[gateway]]\nid = 1\ngap = 45000\n"
@@ -286,7 +286,7 @@ def fault_of_large(program, settings, want, found):
 
 
 def main():
-    program = sys.argv[1] if sys.argv[1:] else str(TOP / "crates/airbook/out/airbook")
+    program = sys.argv[1] if sys.argv[1:] else str(PROGRAM)
     if len(sys.argv) > 2 or not pathlib.Path(program).is_file():
         print(__doc__.strip(), file=sys.stderr)
         return 2

@@ -4,7 +4,7 @@
 Usage: soak.py PROGRAM [KILLS [SEED]] [--full SECONDS]     (50, 1, 22)
        soak.py PROGRAM --uplinks COUNT                     (its memory over so many uplinks, and nothing else)
 
-Trials, of which the first three kinds are made side by side:
+Trials, of which the first three kinds are made side by side (the files that are named stand in lib/):
 
 - KILLS kills, on journals of up to 100 lives each (soaked_lives.py). The program is killed at a moment, or by a library just before
   or behind one of its calls, or behind half of a write; or one call fails, and it is killed later. Three gateways go on through all
@@ -39,16 +39,16 @@ import time
 from typing import Callable, Sequence
 
 sys.dont_write_bytecode = True
-import lorawan
-from bad_forwarders import flooded, one_eui
-from downlink_queue import expect_rules
-from failing_disk import NoRoomDisk, goes_through
-from grown_lives import STRIKES, grown
-from held_payloads import held_back
-from soaked_lives import SoakedLives, lives_of
-from soaked_memory import over_uplinks
-from struck_lives import each_call
-from trials import Failed, FolderTrial, tell_of_folders
+from lib import lorawan
+from lib.bad_forwarders import flooded, one_eui
+from lib.downlink_queue import expect_rules
+from lib.failing_disk import NoRoomDisk, goes_through
+from lib.grown_lives import STRIKES, grown
+from lib.held_payloads import held_back
+from lib.soaked_lives import SoakedLives, lives_of
+from lib.soaked_memory import over_uplinks
+from lib.struck_lives import each_call
+from lib.trials import Failed, FolderTrial, tell_of_folders
 
 # So many kills are made on one journal, and at least so many journals are side by side.
 MOST, LEAST = 100, 4

@@ -8,32 +8,14 @@ toolchain's line that README.md ends with. The case clap_version wants both. Whe
 the same logic; its kit may be another. Prints a line for each that differs; the last line is 'N passed, M failed'. The status is
 0 where none failed, else 1.
 """
-import pathlib
-import re
 import shutil
 import subprocess
 import sys
 
 sys.dont_write_bytecode = True
-from trials import last_line
-
-TOP = pathlib.Path(__file__).resolve().parent.parent
-LINE = r"rattle-kit-\w+ logic [0-9a-f]{16}"
-
-
-def found(path, what):
-    """The parts of what a file of the repository has; SystemExit with 1 where it has none."""
-    text = (TOP / path).read_text(encoding="utf-8")
-    match = re.search(what, text)
-    if not match:
-        print(f"{path}: there is nothing like {what}\n0 passed, 1 failed")
-        raise SystemExit(1)
-    return match.groups()
-
-
-def told():
-    """The version and the toolchain's line that the program tells."""
-    return found("crates/airbook/src/arguments.rt", rf'const VERSION: &str =\s*"(\S+) \(sources proved with ({LINE})\)"')
+from lib.places import TOP
+from lib.told_version import LINE, found, told
+from lib.trials import last_line
 
 
 def logic_of(line):

@@ -14,8 +14,9 @@ import sys
 import tempfile
 
 sys.dont_write_bytecode = True
-from preloaded import COUNTING, NO_RANDOM_BYTES, NO_THREADS, Counter, library_of, over
-from trials import tell
+from lib.arguments import asked_by
+from lib.preloaded import COUNTING, NO_RANDOM_BYTES, NO_THREADS, Counter, library_of, over
+from lib.trials import tell
 
 SECONDS = 120
 DEVICES = 1_000
@@ -264,10 +265,7 @@ def is_long(wanted):
 
 
 def main():
-    if len(sys.argv) != 2 or not pathlib.Path(sys.argv[1]).is_file():
-        print(__doc__.strip(), file=sys.stderr)
-        return 2
-    program = str(pathlib.Path(sys.argv[1]).resolve())
+    program, _ = asked_by(__doc__)
     trials = [
         (f"{DEVICES} uplinks apart", lambda: alike(program, apart(), is_answered)),
         (f"{ROUNDS * DEVICES} uplinks of one gateway", lambda: alike(program, crammed(), is_full)),

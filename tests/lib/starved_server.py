@@ -1,0 +1,46 @@
+"""The plain server of plain_server.py beside a program that finds no memory at times, for tests/refused_growths.py.
+
+It answers as that model does, but for the numbers of which the program wrote that there was no memory. One that was not taken up
+has changed nothing; one that was taken up and then given up has used a downlink counter, and books nothing.
+"""
+import copy
+
+from lib.plain_server import Server, lines_of
+
+
+class StarvedServer(Server):
+    """A server that knows what the program wrote."""
+
+    def __init__(self, gateways, devices, wrote):
+        super().__init__(gateways, devices)
+        self.wrote, self.at = wrote, 0
+
+    def has_next(self, line):
+        return self.wrote[self.at : self.at + 1] == [line]
+
+    def answered(self, number, gathering):
+        twin = copy.deepcopy(self)
+        is_owed = Server.answered(twin, number, twin.gathered[number - 1])[0].startswith(("send ", "unanswered "))
+        if is_owed and self.has_next(f"no {number} NoMemory"):
+            told = [f"no {number} NoMemory"]
+        elif is_owed and self.has_next(f"unanswered {number} NoMemory"):
+            told = [f"unanswered {number} NoMemory"]
+            gathering["device"]["down"] += 1
+            self.counts["unanswered"] += 1
+        else:
+            told = Server.answered(self, number, gathering)
+        self.at += len(told)
+        return told
+
+    def answers(self, line, place):
+        before = self.at
+        told = super().answers(line, place)
+        self.at = before + len(told)
+        return told
+
+
+def is_followed(gateways, devices, events, wrote):
+    """Whether these lines are what is written for these settings and events, but for numbers that found no memory."""
+    server = StarvedServer(gateways, devices, wrote)
+    told = [answer for place, line in enumerate(lines_of(events), 1) for answer in server.answers(line, place)]
+    return told + server.report() == wrote
