@@ -12,10 +12,10 @@ import sys
 sys.dont_write_bytecode = True
 import edit_files
 import prover
-from lib.trials import Tally
+from lib.written_pages import WrittenPart
 
 PAGE = prover.TOP / "docs" / "PROOFS.md"
-BEGIN, END = "<!-- changes of statements: written by tests/edit_table.py -->", "<!-- end -->"
+BEGIN = "<!-- changes of statements: written by tests/edit_table.py -->"
 
 
 def changes():
@@ -32,7 +32,7 @@ def changes():
 
 def table():
     rows = [f"| `{crate}` | `{law}` | {'; '.join(told)} |" for (crate, law), told in sorted(changes().items())]
-    return "\n".join([BEGIN, "", "| Crate | Law | Changes that are refused |", "|---|---|---|", *rows, "", END])
+    return ["", "| Crate | Law | Changes that are refused |", "|---|---|---|", *rows]
 
 
 def main():
@@ -40,17 +40,12 @@ def main():
         print(__doc__.strip(), file=sys.stderr)
         return 2
     try:
-        text, wanted = PAGE.read_text(encoding="utf-8"), table()
-        start, end = text.index(BEGIN), text.index(END) + len(END)
+        part, lines = WrittenPart(PAGE, BEGIN), table()
     except (OSError, ValueError, edit_files.BadEdit) as why:
         print(f"edit_table.py: {why}", file=sys.stderr)
         return 2
-    if sys.argv[1:]:
-        PAGE.write_text(text[:start] + wanted + text[end:], encoding="utf-8")
-        return 0
-    tally = Tally()
-    tally.take(text[start:end] == wanted, "docs/PROOFS.md has another table than the edits: tests/edit_table.py --write")
-    return tally.status()
+    differs = "docs/PROOFS.md has another table than the edits: tests/edit_table.py --write"
+    return part.status(lines, bool(sys.argv[1:]), differs)
 
 
 if __name__ == "__main__":

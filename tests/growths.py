@@ -18,12 +18,13 @@ import sys
 
 sys.dont_write_bytecode = True
 from lib.trials import last_line
+from lib.written_pages import WrittenPart
 
 TOP = pathlib.Path(__file__).resolve().parent.parent
 PAGE = TOP / "docs" / "MEMORY.md"
 FOR_TESTS = {"worked_inputs", "refusing_alloc", "test_asserts"}
 WANT = r"\b(NoMemory|AllocError)\b"
-BEGIN, END = "<!-- allocations: written by tests/growths.py -->", "<!-- end -->"
+BEGIN = "<!-- allocations: written by tests/growths.py -->"
 TOLD = re.compile(r"Refuses `(\w+)` `([\w:]+)`(?: \((.+?)\))?: (.+)\.$")
 COMMENT = re.compile(r"^(?://|#) ")
 # They answer out of memory by handing back what was given, within what another call's fault is told in, or go on without it.
@@ -160,7 +161,7 @@ def table(told):
     crates = [line.split(":")[0] for line in (TOP / "crates.txt").read_text(encoding="utf-8").splitlines()]
     rows = sorted(told.items(), key=lambda row: (crates.index(row[0][0]), row[0][1]))
     lines = [f"| `{crate}` | `{call}` | {allocations} | {by} |" for (crate, call), (allocations, by) in rows]
-    return "\n".join([BEGIN, "", "| Crate | Call | Allocations | Refused by |", "|---|---|---|---|", *lines, "", END])
+    return ["", "| Crate | Call | Allocations | Refused by |", "|---|---|---|---|", *lines]
 
 
 def main():
@@ -170,11 +171,9 @@ def main():
     wanted = set(calls()) | UNNAMED
     try:
         told, twice = all_told()
-        page, of_sources = PAGE.read_text(encoding="utf-8"), table(told)
-        start, end = page.index(BEGIN), page.index(END) + len(END)
         if sys.argv[1:]:
-            page = page[:start] + of_sources + page[end:]
-            PAGE.write_text(page, encoding="utf-8")
+            WrittenPart(PAGE, BEGIN).write(table(told))
+        same = WrittenPart(PAGE, BEGIN).holds(table(told))
     except (OSError, ValueError, StopIteration) as why:
         print(f"growths.py: {why}", file=sys.stderr)
         return 2
@@ -184,7 +183,6 @@ def main():
         print(f"a test speaks of {call} of {crate}, which can't answer out of memory")
     for crate, call in twice:
         print(f"two tests speak of {call} of {crate}")
-    same = of_sources in page
     if not same:
         print("docs/MEMORY.md has another table than the sources: tests/growths.py --write")
     return last_line(len(wanted & set(told)) + same, len(wanted ^ set(told)) + len(twice) + (not same))

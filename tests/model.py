@@ -13,11 +13,11 @@ import re
 import sys
 
 sys.dont_write_bytecode = True
-from lib.trials import Tally
+from lib.written_pages import WrittenPart
 
 TOP = pathlib.Path(__file__).resolve().parent.parent
 PAGE = TOP / "docs" / "MODEL.md"
-BEGIN, END = "<!-- definitions: written by tests/model.py -->", "<!-- end -->"
+BEGIN = "<!-- definitions: written by tests/model.py -->"
 # A definition, which says its kind; a lemma says none.
 KIND = "(?:abbrev|unfoldable|opaque|record|data) "
 MADE = re.compile(rf"(?:{KIND}pub |pub {KIND})([^\s(){{}},.;:]+)(?=[\s:({{])")
@@ -87,21 +87,15 @@ def main():
         print(__doc__.strip(), file=sys.stderr)
         return 2
     try:
-        lines, bare = sections(named_by_contracts())
-        text, wanted = PAGE.read_text(encoding="utf-8"), "\n".join([BEGIN, *lines, "", END])
-        start, end = text.index(BEGIN), text.index(END) + len(END)
+        part, (lines, bare) = WrittenPart(PAGE, BEGIN), sections(named_by_contracts())
     except (OSError, ValueError) as why:
         print(f"model.py: {why}", file=sys.stderr)
         return 2
-    if "--write" in sys.argv:
-        PAGE.write_text(text[:start] + wanted + text[end:], encoding="utf-8")
-        return 0
     if "--bare" in sys.argv:
         print("\n".join(bare))
         return 0
-    tally = Tally()
-    tally.take(text[start:end] == wanted, "docs/MODEL.md has other definitions than the sources: tests/model.py --write")
-    return tally.status()
+    differs = "docs/MODEL.md has other definitions than the sources: tests/model.py --write"
+    return part.status(lines, "--write" in sys.argv, differs)
 
 
 if __name__ == "__main__":

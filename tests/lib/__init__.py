@@ -10,7 +10,7 @@
 - Forwarders that are played: played_forwarders, played_gateway, strict_gateway and rough_gateway; flooding, bad_forwarders,
   failing_disk and held_payloads are trials with them.
 - Many lives of one server: served_lives, soaked_lives, struck_lives, grown_lives and soaked_memory; lawful_lives says what holds.
-- The program's own words: told_version and manual_page.
+- The program's own words: told_version and manual_page; written_pages has the parts of documents that scripts write.
 
 Those of the prover stay in tests/ (prover, machine, edit_files and what tests/edits.py imports): verdicts are kept by their sum.
 """
