@@ -1,4 +1,9 @@
 """Saved books that are drawn, what is damaged of their text, and lines behind them."""
+from __future__ import annotations
+
+from random import Random
+from typing import Iterator, Sequence
+
 from lib import lorawan
 from lib.drawn_traffic import NO_CHANNELS
 from lib.plain_book import HOUR, PlainBook
@@ -6,14 +11,14 @@ from lib.plain_book import HOUR, PlainBook
 CHANNELS = [863_500_000, 864_000_000, 867_100_000, 868_100_000, 868_537_500, 868_850_000, 869_525_000, 869_850_000]
 
 
-def frame_of(chance, rates):
+def frame_of(chance: Random, rates: Sequence[int]) -> tuple[int, int, int]:
     """A frequency, data rate and length that a book may have."""
     rate = chance.choice(rates)
     frequency = chance.choice([one for one in CHANNELS if lorawan.band_of(one, rate)])
     return frequency, rate, chance.choice([12, 12, 12, 0, lorawan.greatest(rate), chance.randrange(lorawan.greatest(rate))])
 
 
-def book_of(chance):
+def book_of(chance: Random) -> tuple[PlainBook, Sequence[int]]:
     """A book with some transmissions, most within few hours and some of them next to one another."""
     cap, gap = chance.choice([1, 5, 20, 4_096, 65_536]), chance.choice([0, 0, 1, 1_000, 100_000])
     book = PlainBook(cap, gap, chance.choice([1, 0, 7, 65_535]))
@@ -29,7 +34,7 @@ def book_of(chance):
     return book, rates
 
 
-def lines_behind(chance, book, rates):
+def lines_behind(chance: Random, book: PlainBook, rates: Sequence[int]) -> Iterator[str]:
     """Some lines for a book, with what a plain one keeps in mind; some ask for nothing."""
     for number in range(chance.randrange(0, 12)):
         frequency, rate, length = frame_of(chance, rates)
@@ -52,7 +57,7 @@ def lines_behind(chance, book, rates):
             yield chance.choice(["", "# nothing", "plan", "airbook 2", "end 0", member, f"book {number} {near} {frequency} 7 12"])
 
 
-def respelled(chance, lines):
+def respelled(chance: Random, lines: list[str]) -> list[str]:
     """A line with one word, blank or byte otherwise."""
     at = chance.randrange(len(lines))
     words, line = lines[at].split(" "), lines[at]
@@ -65,14 +70,14 @@ def respelled(chance, lines):
     return lines[:at] + [chance.choice(drawn)] + lines[at + 1:]
 
 
-def reordered(chance, lines):
+def reordered(chance: Random, lines: list[str]) -> list[str]:
     """A line left out, doubled, or before the one that it follows."""
     at = chance.randrange(len(lines))
     swapped = lines[:at] + lines[at:at + 2][::-1] + lines[at + 2:]
     return chance.choice([lines[:at] + lines[at + 1:], lines[:at + 1] + lines[at:], swapped])
 
 
-def renumbered(chance, lines):
+def renumbered(chance: Random, lines: list[str]) -> list[str]:
     """The text of another version, with another cap, floor, gap or count, or with a transmission that no such book may hold."""
     told = [line.split(" ") for line in lines]
     members = [words for words in told if words[0] == "r" and len(words) == 6]
@@ -100,7 +105,7 @@ def renumbered(chance, lines):
     return [" ".join(words) for words in told]
 
 
-def damaged(chance, lines):
+def damaged(chance: Random, lines: list[str]) -> list[str]:
     """The lines of a saved book with one or two faults, or what happens to be none."""
     for _ in range(chance.choice([1, 1, 2])):
         lines = chance.choice([respelled, reordered, renumbered, renumbered])(chance, lines) or ["end 0"]

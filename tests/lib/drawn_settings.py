@@ -1,17 +1,23 @@
 """Settings of gateways and devices for `airbook run`: random ones, with a fault or without, as TOML, and read from that."""
-from lib.plain_server import COUNTERS
+from __future__ import annotations
 
+from random import Random
+
+from lib.plain_server import COUNTERS, Table
+
+# A table of the settings: its kind, and its keys.
+Row = tuple[str, Table]
 # Where devices listen in RX2.
 RX2 = [(869_525_000, 0)] * 4 + [(868_100_000, 5), (869_850_000, 3), (869_525_000, 6)]
 # Channels on which three frames of 12 bytes at data rate 0 fill the hour.
 NARROW = [863_500_000, 868_850_000]
 # What holds where a table doesn't say it.
-UNSAID = {
+UNSAID: Table = {
     "cap": 4_096, "gap": 0, "delay": 1, "offset": 0, "rx2_freq": 869_525_000, "rx2_dr": 0, "down": 0, "up": None,
 }
 
 
-def settings_of(chance):
+def settings_of(chance: Random) -> tuple[list[Table], list[Table]]:
     """Gateways and devices."""
     ids = chance.sample([1, 2, 3, 9, 255, 256, 65_535, chance.randrange(1, 65_536)], chance.randrange(1, 7))
     gateways = []
@@ -30,14 +36,14 @@ def settings_of(chance):
     return gateways, list({one["addr"]: one for one in devices}.values())
 
 
-def device_keys(one):
+def device_keys(one: Table) -> Table:
     """What a device's table says, as TOML writes it."""
     said = dict(one)
     nwk, app = said.pop("keys")
     return said | {"addr": f'"{one["addr"]:08x}"', "nwkskey": f'"{nwk.hex()}"', "appskey": f'"{app.hex().upper()}"'}
 
 
-def partly_said(chance, said):
+def partly_said(chance: Random, said: Table) -> Table:
     """The same, of which a key may be left out where it says what holds without it."""
     said = dict(said)
     for key, value in UNSAID.items():
@@ -46,13 +52,13 @@ def partly_said(chance, said):
     return said
 
 
-def rows_of(chance, gateways, devices):
+def rows_of(chance: Random, gateways: list[Table], devices: list[Table]) -> list[Row]:
     """The settings as tables, each a kind and its keys."""
     rows = [("gateway", one) for one in gateways] + [("device", device_keys(one)) for one in devices]
     return [(kind, partly_said(chance, said)) for kind, said in rows]
 
 
-def spoiled(chance, rows):
+def spoiled(chance: Random, rows: list[Row]) -> str:
     """The settings with one fault, and its name."""
     gateway, device = (next(said for kind, said in rows if kind == one) for one in ("gateway", "device"))
     table, key, value, name = chance.choice([
@@ -74,17 +80,17 @@ def spoiled(chance, rows):
     return name
 
 
-def table_text(rows):
+def table_text(rows: list[Row]) -> str:
     return "".join(f"[[{kind}]]\n" + "".join(f"{key} = {value}\n" for key, value in said.items()) for kind, said in rows)
 
 
-def said_in(text):
+def said_in(text: str) -> tuple[list[Table], list[Table]]:
     """The gateways and devices of such a text without a fault, in which a line may be empty."""
-    tables = {"gateway": [], "device": []}
+    tables: dict[str, list[Table]] = {"gateway": [], "device": []}
     for line in filter(None, text.splitlines()):
         key, _, value = line.partition(" = ")
         if not value:
-            table = dict(UNSAID)
+            table: Table = dict(UNSAID)
             tables[line.strip("[]")].append(table)
         else:
             table[key] = value.strip('"') if value.startswith('"') else int(value)

@@ -1,8 +1,12 @@
 """Lines of `airbook run` that are drawn, for tests/random_runs.py and datagrams of tests/listen.py."""
+from __future__ import annotations
+
+from random import Random
+
 from lib import lorawan
 from lib.drawn_settings import NARROW
 from lib.plain_book import HOUR
-from lib.plain_server import COUNTERS, JOINS, LAST_MOMENT, LATE, Server
+from lib.plain_server import COUNTERS, JOINS, LAST_MOMENT, LATE, Server, Table
 
 # A frequency in a sub-band at each data rate, or at 125 kHz alone where it is an edge; the last ones are in none.
 CHANNELS = [868_100_000, 868_300_000, 868_537_500, 867_100_000, 863_500_000, 868_850_000, 869_525_000, 869_850_000]
@@ -13,21 +17,22 @@ STEPS = [0, 0, 1_000, 50_000, 150_000, 200_000, 200_001, 1_000_001, 5_000_000]
 class Traffic:
     """Draws lines, beside a server that says how far devices and gatherings have come."""
 
-    def __init__(self, chance, gateways, devices):
-        self.chance, self.server, self.lines = chance, Server(gateways, devices), []
+    def __init__(self, chance: Random, gateways: list[Table], devices: list[Table]) -> None:
+        self.chance, self.server = chance, Server(gateways, devices)
+        self.lines: list[bytes] = []
         self.now = chance.choice([0, 0, 0, 7_000_000_000, 7_000_000_000, LAST_MOMENT - 20_000_000])
         ahead = [0, 0, 3_000_000, HOUR] if self.now < LAST_MOMENT // 2 else [0]
         self.clocks = {one["id"]: chance.choice(ahead) for one in gateways}
         self.channels, self.rates, self.steps = chance.sample(CHANNELS, 2), chance.sample(range(7), 3), STEPS
         if devices[0]["rx2_freq"] in NARROW:
             self.channels, self.rates, self.steps = NARROW, [0, 0, 1], STEPS[-4:] + [5_000_000, 60_000_000]
-        self.heard = []
+        self.heard: list[bytes] = []
 
-    def add(self, line):
+    def add(self, line: bytes) -> None:
         self.server.answers(line, 0)
         self.lines.append(line)
 
-    def drawn(self):
+    def drawn(self) -> list[bytes]:
         """Some dozens of lines."""
         steps = [self.uplink] * 9 + [self.again, self.payload] * 3 + [self.passing] * 6 + [self.ticking, self.cancelling] * 2
         steps += [self.odd_copy, self.odd_frame, self.odd_counter, self.damaged, self.nothing]
@@ -38,14 +43,14 @@ class Traffic:
         self.add(b"pass %d" % self.now)
         return self.lines
 
-    def counter(self, device):
+    def counter(self, device: Table) -> int:
         """A counter that may come next, or none."""
         last = device["up"]
         first = 0 if last is None else last + 1
         counter = first + self.chance.choice([0, 0, 0, 1, 7, 65_534])
         return counter if counter < COUNTERS else last
 
-    def copy(self, where, word, **other):
+    def copy(self, where: int, word: bytes, **other: int) -> bytes:
         """A line `hear`, but for what is told otherwise."""
         chance = self.chance
         after = chance.choice([0, 0, 1, 41_216, chance.randrange(600_000)])
@@ -58,7 +63,7 @@ class Traffic:
         words = " ".join(str(value) for value in said.values())
         return b"hear " + words.encode() + b" " + word
 
-    def uplink(self):
+    def uplink(self) -> None:
         """An uplink that some gateways hear."""
         chance = self.chance
         device = chance.choice(list(self.server.devices.values()))
@@ -79,14 +84,14 @@ class Traffic:
         for gateway in chance.sample(gateways, chance.randrange(1, len(gateways) + 1)):
             self.add(self.copy(gateway, word))
 
-    def again(self):
+    def again(self) -> None:
         """An uplink that was heard before, now or about where copies no longer join, or where they open a gathering."""
         word = self.chance.choice(self.heard) if self.heard else b"-"
         edges = JOINS, JOINS + 1, LATE, LATE + 1
         arrived = self.chance.choice([self.now] + [one["opened"] + far for one in self.server.gathered[-3:] for far in edges])
         self.add(self.copy(self.chance.choice(list(self.clocks)), word, arrived=arrived))
 
-    def payload(self):
+    def payload(self) -> None:
         chance = self.chance
         addr = chance.choice(list(self.server.devices) + [chance.randrange(1 << 32)] * (chance.random() < 0.2))
         length = chance.choice([0, 1, 10, 38, 39, 46, 47, 51, 52, 102, 110, 115, 116, 242, 243])
@@ -95,21 +100,21 @@ class Traffic:
         for _ in range(17 if chance.random() < 0.03 else 1):
             self.add(line)
 
-    def passing(self):
+    def passing(self) -> None:
         opened = [one["opened"] for one in self.server.gathered if not one["closed"]]
         self.add(b"pass %d" % self.chance.choice([self.now] + [moment + far for moment in opened for far in (JOINS, JOINS + 1)]))
 
-    def ticking(self):
+    def ticking(self) -> None:
         gateway = self.chance.choice(list(self.clocks) + [4])
         clock = self.now + self.clocks.get(gateway, 0)
         ahead = self.chance.choice([-1_000_000, -100_000, 0, 0, 500_000, 1_500_000, 3_000_000, HOUR + 2_000_000])
         self.add(b"tick %d %d" % (gateway, max(clock + (ahead if ahead < HOUR or self.chance.random() < 0.3 else 0), 0)))
 
-    def cancelling(self):
+    def cancelling(self) -> None:
         booked = list(self.server.booked)
         self.add(b"cancel %d" % self.chance.choice(booked[-3:] + [len(self.server.gathered), self.chance.randrange(9)]))
 
-    def odd_copy(self):
+    def odd_copy(self) -> None:
         """A copy that no gateway may have."""
         word = self.chance.choice(self.heard + [b"@c:00000000:0", b"@u:ffffffff:70000"])
         gateway = self.chance.choice(list(self.clocks))
@@ -120,7 +125,7 @@ class Traffic:
         ])
         self.add(self.copy(gateway, word, **other))
 
-    def odd_frame(self):
+    def odd_frame(self) -> None:
         """Bytes that are no uplink, or one of no device, or with a fault."""
         chance, device = self.chance, self.chance.choice(list(self.server.devices.values()))
         good = lorawan.uplink(True, device["addr"], self.counter(device), device["keys"])
@@ -133,7 +138,7 @@ class Traffic:
         word = chance.choice([bytes(flipped), bytes(flipped), other, major, kind, cut, good[:11], short, good + bytes(244)])
         self.add(self.copy(chance.choice(list(self.clocks)), word.hex().encode() or b"-"))
 
-    def odd_counter(self):
+    def odd_counter(self) -> None:
         """A counter that can't come next, or that the last uplink had; or other keys."""
         chance, device = self.chance, self.chance.choice(list(self.server.devices.values()))
         last = device["up"] or 0
@@ -143,7 +148,7 @@ class Traffic:
         self.heard.append(made.hex().encode())
         self.add(self.copy(chance.choice(list(self.clocks)), self.heard[-1]))
 
-    def damaged(self):
+    def damaged(self) -> None:
         """A line of before, spelled otherwise, or no line of any kind."""
         chance = self.chance
         line = chance.choice(self.lines) if self.lines else b"pass 0"
@@ -158,5 +163,5 @@ class Traffic:
         drawn += [line.ljust(1024), line.ljust(1025), b"#".ljust(1025), b" " * 1024, b"---"]
         self.add(chance.choice(drawn))
 
-    def nothing(self):
+    def nothing(self) -> None:
         self.add(self.chance.choice([b"", b"# nothing", b" \t ", b"#" * 1024]))

@@ -3,9 +3,16 @@
 All is written from docs/FORMATS.md, docs/MODEL.md and the standards that these name, by hand and without any library of ciphers.
 `checked` compares it with values of the standards, of a published frame and of docs/FORMATS.md; those who use this call it first.
 """
+from __future__ import annotations
+
 import functools
 import sys
+from typing import Iterable, Iterator, Optional, Sequence
 
+# NwkSKey and AppSKey.
+Keys = tuple[bytes, bytes]
+# A port and a payload; none where a frame has neither.
+Body = Optional[tuple[int, bytes]]
 HOUR = 3_600_000_000
 # The end of time: nothing that is booked ends later.
 END = 1 << 61
@@ -26,12 +33,12 @@ UNCONFIRMED_UP, UNCONFIRMED_DOWN, CONFIRMED_UP = 2, 3, 4
 UP, DOWN = 0, 1
 
 
-def greatest(rate):
+def greatest(rate: int) -> int:
     """The longest PHYPayload: MHDR and MIC are five bytes."""
     return RATES[rate][2] + 5
 
 
-def airtime(rate, length):
+def airtime(rate: int, length: int) -> int:
     """The time on air in microseconds: 8 + 4.25 symbols and the payload's, with explicit header, coding rate 4/5 and no CRC."""
     factor, bandwidth, _ = RATES[rate]
     quarter = (1 << factor) * 1_000_000 // (4 * bandwidth)
@@ -43,13 +50,13 @@ def airtime(rate, length):
     return (4 * 8 + 17 + 4 * symbols) * quarter
 
 
-def band_of(frequency, rate):
-    """The sub-band in which the channel lies, edges included."""
+def band_of(frequency: int, rate: int) -> Optional[str]:
+    """The sub-band in which the channel lies, edges included; none where it lies in no sub-band."""
     half = RATES[rate][1] // 2
     return next((b for b, low, high, _ in BANDS if low <= frequency - half and frequency + half <= high), None)
 
 
-def times(a, b):
+def times(a: int, b: int) -> int:
     """The product of two bytes as polynomials over two elements, modulo x^8 + x^4 + x^3 + x + 1."""
     product = 0
     for place in range(8):
@@ -61,7 +68,7 @@ def times(a, b):
     return product
 
 
-def substitute(byte):
+def substitute(byte: int) -> int:
     """The S-box of FIPS 197: the inverse, and then each bit with four others and one of 63."""
     inverse = next((b for b in range(1, 256) if times(byte, b) == 1), 0)
     bits = [inverse >> i & 1 for i in range(8)]
@@ -73,12 +80,12 @@ BOX = [substitute(byte) for byte in range(256)]
 TWICE, THRICE = [times(2, byte) for byte in range(256)], [times(3, byte) for byte in range(256)]
 
 
-def added(one, other):
+def added(one: Iterable[int], other: Iterable[int]) -> bytes:
     return bytes(a ^ b for a, b in zip(one, other))
 
 
 @functools.lru_cache(maxsize=None)
-def round_keys(key):
+def round_keys(key: bytes) -> list[bytes]:
     words, constant = [key[4 * i:4 * i + 4] for i in range(4)], 1
     for i in range(4, 44):
         last = words[-1]
@@ -89,15 +96,15 @@ def round_keys(key):
     return [b"".join(words[4 * i:4 * i + 4]) for i in range(11)]
 
 
-def encrypted(key, block):
+def encrypted(key: bytes, block: bytes) -> bytes:
     """A block under AES-128: the state is 4 by 4, filled column by column."""
     keys = round_keys(key)
-    state = added(block, keys[0])
+    state: Sequence[int] = added(block, keys[0])
     for turn in range(1, 11):
         # ShiftRows: byte r of column c comes from column c + r.
         state = [BOX[state[(4 * (i // 4 + i % 4) + i % 4) % 16]] for i in range(16)]
         if turn < 10:
-            mixed = []
+            mixed: list[int] = []
             for at in range(0, 16, 4):
                 a, b, c, d = state[at:at + 4]
                 mixed += [TWICE[a] ^ THRICE[b] ^ c ^ d, a ^ TWICE[b] ^ THRICE[c] ^ d]
@@ -107,13 +114,13 @@ def encrypted(key, block):
     return bytes(state)
 
 
-def doubled(block):
+def doubled(block: bytes) -> bytes:
     """A block shifted left by one bit, with 87 added to its last byte where a bit falls out."""
     number = int.from_bytes(block, "big") << 1
     return (number ^ (1 << 128 | 0x87) if number >> 128 else number).to_bytes(16, "big")
 
 
-def cmac(key, message):
+def cmac(key: bytes, message: bytes) -> bytes:
     """The code of RFC 4493."""
     first = doubled(encrypted(key, bytes(16)))
     count = max(-(-len(message) // 16), 1)
@@ -125,24 +132,24 @@ def cmac(key, message):
     return chain
 
 
-def header(first, way, addr, counter, last):
+def header(first: int, way: int, addr: int, counter: int, last: int) -> bytes:
     """What B0 and the blocks A i share."""
     return bytes([first, 0, 0, 0, 0, way]) + addr.to_bytes(4, "little") + counter.to_bytes(4, "little") + bytes([0, last])
 
 
 @functools.lru_cache(maxsize=None)
-def mic(key, way, addr, counter, message):
+def mic(key: bytes, way: int, addr: int, counter: int, message: bytes) -> bytes:
     return cmac(key, header(0x49, way, addr, counter, len(message)) + message)[:4]
 
 
-def crypted(key, way, addr, counter, payload):
+def crypted(key: bytes, way: int, addr: int, counter: int, payload: bytes) -> bytes:
     """The payload and the key stream, added: encrypted, or decrypted again."""
     blocks = -(-len(payload) // 16)
     return added(payload, b"".join(encrypted(key, header(1, way, addr, counter, i)) for i in range(1, blocks + 1)))
 
 
-def frame(kind, way, addr, control, counter, options, body, keys):
-    """A PHYPayload; the body is a port and a payload, or None, the keys are NwkSKey and AppSKey."""
+def frame(kind: int, way: int, addr: int, control: int, counter: int, options: bytes, body: Body, keys: Keys) -> bytes:
+    """A PHYPayload."""
     text = bytes([kind << 5]) + addr.to_bytes(4, "little") + bytes([control]) + (counter & 0xFFFF).to_bytes(2, "little") + options
     if body is not None:
         port, payload = body
@@ -150,18 +157,21 @@ def frame(kind, way, addr, control, counter, options, body, keys):
     return text + mic(keys[0], way, addr, counter, text)
 
 
-def uplink(confirmed, addr, counter, keys, adr=False, adr_ack_req=False, ack=False, options=b"", body=None):
+def uplink(
+    confirmed: bool, addr: int, counter: int, keys: Keys, adr: bool = False, adr_ack_req: bool = False, ack: bool = False,
+    options: bytes = b"", body: Body = None,
+) -> bytes:
     """What a device sends."""
     control = 0x80 * adr | 0x40 * adr_ack_req | 0x20 * ack | len(options)
     return frame(CONFIRMED_UP if confirmed else UNCONFIRMED_UP, UP, addr, control, counter, options, body, keys)
 
 
-def downlink(addr, counter, keys, ack=False, pending=False, body=None):
+def downlink(addr: int, counter: int, keys: Keys, ack: bool = False, pending: bool = False, body: Body = None) -> bytes:
     """What a server sends: unconfirmed, without FOpts."""
     return frame(UNCONFIRMED_DOWN, DOWN, addr, 0x20 * ack | 0x10 * pending, counter, b"", body, keys)
 
 
-def uplink_fault(data):
+def uplink_fault(data: bytes) -> Optional[str]:
     """Why the bytes are no uplink; none where they are one."""
     if len(data) < 12:
         return "Short"
@@ -174,18 +184,18 @@ def uplink_fault(data):
     return "OptionsCut" if 8 + data[5] % 16 > len(data) - 4 else None
 
 
-def has_mic(data, counter, key):
+def has_mic(data: bytes, counter: int, key: bytes) -> bool:
     """Whether an uplink ends in the MIC that it has under the counter."""
     return data[-4:] == mic(key, UP, int.from_bytes(data[1:5], "little"), counter, data[:-4])
 
 
-def inferred(last, low):
+def inferred(last: Optional[int], low: int) -> Optional[int]:
     """The least counter that is not below the last one and has these low 16 bits; none where that needs more than 32 bits."""
     counter = next(c for c in range(last or 0, (last or 0) + 0x10000) if c & 0xFFFF == low)
     return counter if counter < 1 << 32 else None
 
 
-def published():
+def published() -> Iterator[tuple[str, object, object]]:
     """A name, a value that is published, or stands in docs/FORMATS.md, and what is found here."""
     text = bytes.fromhex
     yield "FIPS 197, 5.1.1, S(53)", 0xED, BOX[0x53]
@@ -217,12 +227,12 @@ def published():
     yield "limits", [3_600_000, 36_000_000, 36_000_000, 3_600_000, 360_000_000, 36_000_000], [LIMITS[b[0]] for b in BANDS]
 
 
-def faults():
+def faults() -> list[str]:
     """What is found otherwise than it is published."""
     return [f"{name}: wanted {want}, found {found}" for name, want, found in published() if want != found]
 
 
-def checked():
+def checked() -> None:
     """Ends the program with status 1 where something here is not as it is published."""
     found = faults()
     if found:

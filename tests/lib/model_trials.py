@@ -1,17 +1,25 @@
 """Compares a program with a plain model, on what is drawn by seeds."""
+from __future__ import annotations
+
 import collections
 import subprocess
+from typing import Callable, Iterable, Optional, Sequence
 
 from lib import lorawan
 from lib.arguments import asked_for
+from lib.plain_book import Book
 from lib.trials import last_line
 
 SECONDS = 60
+# Output, standard error and status; no status where it didn't end.
+Written = tuple[bytes, bytes, Optional[int]]
+# What is tried by a seed: the arguments, the input, what is wanted, its kinds, and what is told beside a difference.
+Tried = tuple[Sequence[str], bytes, Written, Iterable[str], str]
 # So long a book of many commands may take.
 BOOK_SECONDS = 600
 
 
-def answers_alike(program, name, plain, lines, wanted):
+def answers_alike(program: str, name: str, plain: Book, lines: Iterable[str], wanted: Sequence[str]) -> bool:
     """Whether a book with the plain one's cap and gap answers the lines as wanted; each answer that differs has a line."""
     arguments = ["book", "--cap", str(plain.cap), "--gap", str(plain.gap)]
     given = "".join(line + "\n" for line in lines)
@@ -33,7 +41,7 @@ def answers_alike(program, name, plain, lines, wanted):
     return wanted == written
 
 
-def shown(seed, wanted, got):
+def shown(seed: int, wanted: Written, got: Written) -> None:
     """The first differences of a run."""
     for name, want, have in zip(("output", "standard error"), wanted, got):
         lines, written = want.decode().splitlines(), have.decode("utf-8", "backslashreplace").splitlines()
@@ -44,7 +52,7 @@ def shown(seed, wanted, got):
         print(f"run {seed}: status {wanted[2]} wanted, {got[2]} found")
 
 
-def ran(program, words, text):
+def ran(program: str, words: Sequence[str], text: bytes) -> Written:
     """What a program writes, and how it ends."""
     try:
         done = subprocess.run([program, *words], input=text, capture_output=True, timeout=SECONDS)
@@ -53,16 +61,19 @@ def ran(program, words, text):
     return done.stdout, done.stderr, done.returncode
 
 
-def compared(words, usual, common, tried):
-    """Compares a program with a model, and answers the status. `tried` gives, for a seed and whether it is the last of as many as
-    are usual, the arguments, the input, what is wanted, its kinds, and what is told beside a difference; of `common` each kind
-    has to come among as many as are usual."""
+def compared(words: Sequence[str], usual: int, common: str, tried: Callable[[int, bool], Tried]) -> int:
+    """Compares a program with a model, and answers the status.
+
+    `tried` says what is tried by a seed, and is told whether it is the last of as many as are usual. Of `common` each kind has to
+    come among as many as are usual.
+    """
     lorawan.checked()
     asked = asked_for(words, usual)
     if asked is None:
         return 2
     program, count, seed = asked
-    passed, kinds = 0, collections.Counter()
+    kinds: collections.Counter[str] = collections.Counter()
+    passed = 0
     for one in range(seed, seed + count):
         arguments, text, wanted, came, note = tried(one, count >= usual and one == seed + count - 1)
         got = ran(program, arguments, text)

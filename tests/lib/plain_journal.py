@@ -2,10 +2,16 @@
 
 It goes line by line, and each transmission is asked of the plain list of plain_book.py, which holds those before it.
 """
+from __future__ import annotations
+
+from typing import Any, Callable, Optional, Union
+
 from lib.plain_book import PlainBook
 from lib.plain_saved import plain
 from lib.plain_server import Malformed
 
+# A value of a row.
+Value = Union[None, int, str, bytes]
 LOWER = b"0123456789abcdef"
 TABLES = """\
 CREATE TABLE gateway (id INTEGER PRIMARY KEY, eui TEXT NOT NULL, cap INTEGER NOT NULL, gap INTEGER NOT NULL, high INTEGER NOT NULL, \
@@ -25,42 +31,43 @@ class State:
     """What a journal says: of each gateway its EUI, what its clock shows and its book; of each device its session, its counters and
     what waits for it."""
 
-    def __init__(self):
-        self.gateways, self.devices = {}, {}
+    def __init__(self) -> None:
+        self.gateways: dict[int, list[Any]] = {}
+        self.devices: dict[int, list[Any]] = {}
 
-    def gateway(self, number, eui, cap, gap):
+    def gateway(self, number: int, eui: bytes, cap: int, gap: int) -> None:
         taken = number in self.gateways or any(eui == other[0] for other in self.gateways.values())
         if taken or len(self.gateways) == 64 or not 1 <= cap <= 65_536 or gap > 100_000:
             raise Malformed
         self.gateways[number] = [eui, 2_000_000, PlainBook(cap, gap, number)]
 
-    def device(self, addr, session, up, down):
+    def device(self, addr: int, session: bytes, up: Optional[int], down: int) -> None:
         if addr not in self.devices and len(self.devices) == 1_024:
             raise Malformed
         waiting = self.devices[addr][3] if addr in self.devices else []
         self.devices[addr] = [session, up, down, waiting]
 
-    def queue(self, addr, port, payload):
+    def queue(self, addr: int, port: int, payload: bytes) -> None:
         if addr not in self.devices or len(self.devices[addr][3]) == 16:
             raise Malformed
         self.devices[addr][3].append((port, payload))
 
-    def taken(self, addr):
+    def taken(self, addr: int) -> None:
         if addr not in self.devices or not self.devices[addr][3]:
             raise Malformed
         del self.devices[addr][3][0]
 
-    def clock(self, number, high, floor):
+    def clock(self, number: int, high: int, floor: int) -> None:
         if number not in self.gateways:
             raise Malformed
         self.gateways[number][1] = high
         self.gateways[number][2].tick(floor)
 
-    def sent(self, number, start, frequency, rate, length):
+    def sent(self, number: int, start: int, frequency: int, rate: int, length: int) -> None:
         if number not in self.gateways or not self.gateways[number][2].ask(0, start, frequency, rate, length).startswith("ok"):
             raise Malformed
 
-    def rows(self):
+    def rows(self) -> dict[str, list[tuple[Value, ...]]]:
         """Of each table its rows."""
         waits = [(addr, *one) for addr, (*_, waiting) in self.devices.items() for one in waiting]
         air = [(number, start, *book.asks[start]) for number, (_, _, book) in self.gateways.items() for start, *_ in book.members]
@@ -72,53 +79,54 @@ class State:
         }
 
 
-def digits(word, count):
+def digits(word: bytes, count: int) -> bytes:
     """So many bytes, two digits in lower case for each."""
     if len(word) != 2 * count or word.strip(LOWER):
         raise Malformed
     return bytes.fromhex(word.decode())
 
 
-def address(word):
+def address(word: bytes) -> int:
     return int.from_bytes(digits(word, 4), "big")
 
 
-def up_of(word):
+def up_of(word: bytes) -> Optional[int]:
     return None if word == b"-" else plain(word, 32)
 
 
-def down_of(word):
+def down_of(word: bytes) -> int:
     down = plain(word, 33)
     if down > 1 << 32:
         raise Malformed
     return down
 
 
-def port_of(word):
+def port_of(word: bytes) -> int:
     port = plain(word, 8)
     if not 1 <= port <= 223:
         raise Malformed
     return port
 
 
-def payload_of(word):
+def payload_of(word: bytes) -> bytes:
     if not 1 <= len(word) <= 484:
         raise Malformed
     return b"" if word == b"-" else digits(word, len(word) // 2)
 
 
-def rate_of(word):
+def rate_of(word: bytes) -> int:
     rate = plain(word, 8)
     if rate > 6:
         raise Malformed
     return rate
 
 
-def bits(count):
+def bits(count: int) -> Callable[[bytes], int]:
     return lambda word: plain(word, count)
 
 
-FIELDS = {
+# By its first word a line's step, and how its fields are read.
+FIELDS: dict[bytes, tuple[Callable[..., None], list[Callable[[bytes], Any]]]] = {
     b"gateway": (State.gateway, [bits(16), lambda word: digits(word, 8), bits(32), bits(32)]),
     b"device": (State.device, [address, lambda word: digits(word, 4), up_of, down_of]),
     b"queue": (State.queue, [address, port_of, payload_of]),
@@ -128,7 +136,7 @@ FIELDS = {
 }
 
 
-def entry(line):
+def entry(line: bytes) -> tuple[Callable[..., None], list[Any]]:
     """What a line says: the step, and its fields."""
     name, *words = line.split(b" ")
     if name not in FIELDS or len(words) != len(FIELDS[name][1]):
@@ -137,7 +145,7 @@ def entry(line):
     return step, [field(word) for field, word in zip(fields, words)]
 
 
-def is_entry(line):
+def is_entry(line: bytes) -> bool:
     try:
         entry(line)
     except Malformed:
@@ -145,10 +153,11 @@ def is_entry(line):
     return True
 
 
-def batches_of(text):
+def batches_of(text: bytes) -> tuple[list[list[bytes]], int]:
     """The lines of each batch, and how many lines there are. What has no line `.` behind it is in none."""
     lines = text.split(b"\n")[:-1]
-    batches, batch = [], []
+    batches: list[list[bytes]] = []
+    batch: list[bytes] = []
     for line in lines:
         if line == b".":
             batches.append(batch)
@@ -158,7 +167,7 @@ def batches_of(text):
     return batches, len(lines)
 
 
-def head_of(line):
+def head_of(line: bytes) -> None:
     """Looks at the first line."""
     words = line.split(b" ")
     try:
@@ -171,7 +180,7 @@ def head_of(line):
         raise Fault("line 1 of the journal has another version than 1", "another version")
 
 
-def reader(text):
+def reader(text: bytes) -> tuple[State, bool]:
     """What a journal says, and whether its last batch is torn."""
     batches, count = batches_of(text)
     if not batches:
@@ -190,7 +199,7 @@ def reader(text):
     return state, False
 
 
-def take(state, place, line):
+def take(state: State, place: int, line: bytes) -> None:
     """Takes one line in."""
     try:
         step, fields = entry(line)
@@ -202,7 +211,7 @@ def take(state, place, line):
         raise Fault(f"line {place} of the journal {MALFORMED}", "a line that can't be there") from None
 
 
-def value(one):
+def value(one: Value) -> str:
     """A value, as SQL has it."""
     if one is None:
         return "NULL"
@@ -211,7 +220,7 @@ def value(one):
     return f"'{one}'" if isinstance(one, str) else str(one)
 
 
-def sql(state):
+def sql(state: State) -> list[str]:
     """All of it."""
     rows = [(table, row) for table, rows in state.rows().items() for row in rows]
     inserted = [f"INSERT INTO {table} VALUES({','.join(map(value, row))});" for table, row in rows]

@@ -2,17 +2,21 @@
 
 It goes line by line, and each transmission is asked of the plain list of plain_book.py, which holds those before it.
 """
+from __future__ import annotations
+
+from typing import Sequence
+
 from lib.plain_book import HOUR, PlainBook
 from lib.plain_server import DIGITS, Malformed
 
-def plain(word, bits):
+def plain(word: bytes, bits: int) -> int:
     """A number in its one spelling."""
     if word.strip(DIGITS) or not word or len(word) > 1 and word.startswith(b"0") or int(word) >> bits:
         raise Malformed
     return int(word)
 
 
-def numbers(line, first, bits):
+def numbers(line: bytes, first: bytes, bits: Sequence[int]) -> list[int]:
     """The numbers behind the first word, so many bits each, with one space before each."""
     words = line.split(b" ")
     if words[0] != first or len(words) != 1 + len(bits):
@@ -20,7 +24,7 @@ def numbers(line, first, bits):
     return [plain(word, size) for word, size in zip(words[1:], bits)]
 
 
-def kind_of(place, line):
+def kind_of(place: int, line: bytes) -> str:
     """What the line would be, for those who count."""
     return {1: "the version", 2: "the gateway"}.get(place, "the end" if line.startswith(b"e") else "a member")
 
@@ -29,7 +33,7 @@ class Fault(Exception):
     """A saved text that is none: the fault's name, and its line."""
 
 
-def reader(text):
+def reader(text: bytes) -> tuple[PlainBook, bytes]:
     """The book that the text begins with, and the bytes behind it."""
     book, floor, version, place = None, 0, 0, 0
     while True:
@@ -64,7 +68,7 @@ def reader(text):
             raise Fault("Unlawful", place, kind_of(place, line))
 
 
-def saved(book, version=2):
+def saved(book: PlainBook, version: int = 2) -> list[str]:
     """The text of a book."""
     gap = f" {book.gap}" if version > 1 else ""
     told = [f"airbook {version}", f"gateway {book.gateway} {book.cap} {book.floor}{gap}"]

@@ -2,9 +2,15 @@
 
 It is written from docs/FORMATS.md and docs/MODEL.md: lists that are gone over, and the frames of lorawan.py.
 """
+from __future__ import annotations
+
+from typing import Any, Iterator, Optional
+
 from lib import lorawan
 from lib.plain_book import PlainBook
 
+# A gateway or a device of the settings, a copy of an uplink or a gathering of copies, by their keys.
+Table = dict[str, Any]
 LAST_MOMENT = 1 << 60
 COUNTERS = 1 << 32
 JOINS, LATE = 200_000, 1_000_000
@@ -16,26 +22,26 @@ class Malformed(Exception):
     """A line that asks for nothing."""
 
 
-def unsigned(word, bits):
+def unsigned(word: bytes, bits: int) -> int:
     if not 1 <= len(word) <= 20 or word.strip(DIGITS) or int(word) >> bits:
         raise Malformed
     return int(word)
 
 
-def signed(word):
+def signed(word: bytes) -> int:
     digits = word[1:] if word.startswith(b"-") else word
     if not 1 <= len(digits) <= 5 or digits.strip(DIGITS) or not -(1 << 15) <= int(word) < 1 << 15:
         raise Malformed
     return int(word)
 
 
-def address(word):
+def address(word: bytes) -> int:
     if len(word) != 8 or word.strip(HEX):
         raise Malformed
     return int(word, 16)
 
 
-def data_of(word):
+def data_of(word: bytes) -> bytes:
     if word == b"-":
         return b""
     if len(word) % 2 or word.strip(HEX):
@@ -43,7 +49,7 @@ def data_of(word):
     return bytes.fromhex(word.decode())
 
 
-def lines_of(text):
+def lines_of(text: bytes) -> list[bytes]:
     """The lines: a carriage return is dropped where a line feed follows."""
     *ended, last = text.split(b"\n")
     return [line[:-1] if line.endswith(b"\r") else line for line in ended] + ([last] if last else [])
@@ -52,13 +58,15 @@ def lines_of(text):
 class Server:
     """What a run does and answers, over lists alone."""
 
-    def __init__(self, gateways, devices):
+    def __init__(self, gateways: list[Table], devices: list[Table]) -> None:
         self.books = {one["id"]: PlainBook(one["cap"], one["gap"]) for one in gateways}
         self.devices = {one["addr"]: dict(one, queue=[]) for one in devices}
-        self.gathered, self.booked = [], {}
+        self.gathered: list[Table] = []
+        # By its number the gateway and the start of an answer.
+        self.booked: dict[int, tuple[int, int]] = {}
         self.counts = {"send": 0, "unanswered": 0, "silent": 0}
 
-    def answers(self, line, place):
+    def answers(self, line: bytes, place: int) -> list[str]:
         """The lines that answer the line at this place."""
         words = [word for word in line.replace(b"\t", b" ").split(b" ") if word]
         if len(line) <= 1024 and (not words or line.startswith(b"#")):
@@ -70,16 +78,16 @@ class Server:
         except Malformed:
             return [f"bad {place} Syntax"]
 
-    def done(self, first, words):
+    def done(self, first: bytes, words: list[bytes]) -> list[str]:
         calls = {b"queue": (self.queue, 3), b"hear": (self.hear, 8), b"pass": (self.passes, 1)}
         calls |= {b"tick": (self.tick, 2), b"cancel": (self.cancel, 1)}
         call, count = calls.get(first, (None, 0))
         if call is None or len(words) != count:
             raise Malformed
-        return call(*words)
+        return call(words)
 
-    def queue(self, addr, port, payload):
-        addr, port, payload = address(addr), unsigned(port, 8), data_of(payload)
+    def queue(self, words: list[bytes]) -> list[str]:
+        addr, port, payload = address(words[0]), unsigned(words[1], 8), data_of(words[2])
         if addr not in self.devices:
             return ["no queue UnknownDevice"]
         if not 1 <= port <= 223:
@@ -92,7 +100,7 @@ class Server:
         waiting.append((port, payload))
         return [f"queued {addr:08x} {len(waiting)}"]
 
-    def uplink(self, word):
+    def uplink(self, word: bytes) -> bytes:
         """The bytes that a word gives, or asks to be made."""
         if not word.startswith(b"@"):
             return data_of(word)
@@ -105,9 +113,9 @@ class Server:
         made = lorawan.uplink(parts[0] == b"c", addr, counter, keys, adr_ack_req=parts[0] == b"a")
         return made if known else made[:-4] + bytes(4)
 
-    def hear(self, gateway, at, frequency, rate, snr, rssi, arrived, word):
-        gateway, at, frequency, rate = unsigned(gateway, 16), unsigned(at, 64), unsigned(frequency, 32), unsigned(rate, 8)
-        snr, rssi, arrived, data = signed(snr), signed(rssi), unsigned(arrived, 64), self.uplink(word)
+    def hear(self, words: list[bytes]) -> list[str]:
+        gateway, at, frequency, rate = (unsigned(word, bits) for word, bits in zip(words, (16, 64, 32, 8)))
+        snr, rssi, arrived, data = signed(words[4]), signed(words[5]), unsigned(words[6], 64), self.uplink(words[7])
         fault = lorawan.uplink_fault(data) or self.copy_fault(gateway, at, frequency, rate, arrived)
         if fault:
             return [f"no hear {fault}"]
@@ -122,7 +130,7 @@ class Server:
                 return ["no hear Late"]
         return [self.opened(data, copy, arrived)]
 
-    def copy_fault(self, gateway, at, frequency, rate, arrived):
+    def copy_fault(self, gateway: int, at: int, frequency: int, rate: int, arrived: int) -> Optional[str]:
         if gateway not in self.books:
             return "UnknownGateway"
         if rate > 6:
@@ -131,7 +139,7 @@ class Server:
             return "NoBand"
         return "Moment" if max(at, arrived) > LAST_MOMENT else None
 
-    def joined(self, number, copies, copy):
+    def joined(self, number: int, copies: list[Table], copy: Table) -> str:
         if any(one["gateway"] == copy["gateway"] for one in copies):
             return "no hear SameGateway"
         if len(copies) == COPIES_AT_MOST:
@@ -139,7 +147,7 @@ class Server:
         copies.append(copy)
         return f"joined {number} {len(copies)}"
 
-    def opened(self, data, copy, arrived):
+    def opened(self, data: bytes, copy: Table, arrived: int) -> str:
         device = self.devices.get(int.from_bytes(data[1:5], "little"))
         if device is None:
             return "no hear UnknownDevice"
@@ -153,15 +161,16 @@ class Server:
         self.gathered.append({"data": data, "opened": arrived, "copies": [copy], "closed": False, "device": device})
         return f"opened {len(self.gathered)}{repeat}"
 
-    def passes(self, now):
-        now, told = unsigned(now, 64), []
+    def passes(self, words: list[bytes]) -> list[str]:
+        now = unsigned(words[0], 64)
+        told: list[str] = []
         for number, one in enumerate(self.gathered, 1):
             if not one["closed"] and now > one["opened"] + JOINS:
                 one["closed"] = True
                 told += self.answered(number, one)
         return told
 
-    def answered(self, number, gathering):
+    def answered(self, number: int, gathering: Table) -> list[str]:
         device, data = gathering["device"], gathering["data"]
         confirmed, queue = data[0] >> 5 == lorawan.CONFIRMED_UP, device["queue"]
         if not confirmed and not data[5] & 0x40 and not queue:
@@ -186,23 +195,23 @@ class Server:
         self.counts["unanswered"] += 1
         return [f"unanswered {number} {refusal}"]
 
-    def tick(self, gateway, now):
-        gateway, now = unsigned(gateway, 16), unsigned(now, 64)
+    def tick(self, words: list[bytes]) -> list[str]:
+        gateway, now = unsigned(words[0], 16), unsigned(words[1], 64)
         if gateway not in self.books:
             return ["no tick UnknownGateway"]
         self.books[gateway].tick(now)
         return [f"floor {gateway} {self.books[gateway].floor}"]
 
-    def cancel(self, number):
-        number = unsigned(number, 64)
+    def cancel(self, words: list[bytes]) -> list[str]:
+        number = unsigned(words[0], 64)
         if number not in self.booked:
             return [f"no cancel {number} NotHere"]
         gateway, start = self.booked[number]
         told = self.books[gateway].cancel(number, start)
         return [told if told.startswith("cancelled") else told.replace("no", "no cancel", 1)]
 
-    def report(self):
-        told = []
+    def report(self) -> list[str]:
+        told: list[str] = []
         for gateway, book in sorted(self.books.items()):
             told.append(f"gateway {gateway} booked {book.booked} cancelled {book.cancelled} retired {book.retired}")
             told[-1] += f" kept {len(book.members)}"
@@ -210,8 +219,8 @@ class Server:
         return told + ["answered {send} unanswered {unanswered} silent {silent}".format(**self.counts)]
 
 
-def candidates(copies, device):
-    """RX1 of each copy, the best first, and then RX2 of each."""
+def candidates(copies: list[Table], device: Table) -> Iterator[tuple[str, Table, int, int, int]]:
+    """RX1 of each copy, the best first, and then RX2 of each: the window, copy, start, frequency and data rate."""
     ranked = sorted(copies, key=lambda copy: (-copy["snr"], -copy["rssi"], copy["gateway"]))
     for copy in ranked:
         start = copy["at"] + device["delay"] * 1_000_000
@@ -221,7 +230,7 @@ def candidates(copies, device):
         yield "RX2", copy, start, device["rx2_freq"], device["rx2_dr"]
 
 
-def played(gateways, devices, events):
+def played(gateways: list[Table], devices: list[Table], events: bytes) -> list[str]:
     """All that is written for these settings and events."""
     server = Server(gateways, devices)
     told = [answer for place, line in enumerate(lines_of(events), 1) for answer in server.answers(line, place)]

@@ -2,14 +2,23 @@
 
 For the scripts of this repository, on Linux. A C compiler makes them, `cc` or that of CC.
 """
-import collections
+from __future__ import annotations
+
 import contextlib
 import os
 import pathlib
 import subprocess
 import tempfile
+from typing import Any, Iterator, NamedTuple
 
-Calls = collections.namedtuple("Calls", "threads random")
+
+class Calls(NamedTuple):
+    """How many threads a program asked for, and how often it asked the system for random bytes."""
+
+    threads: int
+    random: int
+
+
 # Tells a call of the program by one letter.
 TELLING = r"""
 #define _GNU_SOURCE
@@ -91,7 +100,7 @@ int getentropy(void *bytes, size_t count) {
 """
 
 
-def library_of(text, folder):
+def library_of(text: str, folder: pathlib.Path) -> pathlib.Path:
     """The library of this text in C, in this folder."""
     source, library = folder / "shim.c", folder / "shim.so"
     source.write_text(text)
@@ -101,7 +110,7 @@ def library_of(text, folder):
 
 
 @contextlib.contextmanager
-def over(text):
+def over(text: str) -> Iterator[dict[str, Any]]:
     """How a program is started over the library of this text in C."""
     with tempfile.TemporaryDirectory() as folder:
         yield {"env": {**os.environ, "LD_PRELOAD": str(library_of(text, pathlib.Path(folder)))}}
@@ -112,12 +121,12 @@ class Counter:
     the options, over a library of COUNTING or of NO_THREADS, which tells no random bytes, and what it called is told once it has
     ended."""
 
-    def __init__(self, library):
+    def __init__(self, library: pathlib.Path) -> None:
         self.read, self.write = os.pipe()
         environment = {**os.environ, "LD_PRELOAD": str(library), "CALLS_TOLD": str(self.write)}
-        self.options = {"env": environment, "pass_fds": [self.write]}
+        self.options: dict[str, Any] = {"env": environment, "pass_fds": [self.write]}
 
-    def calls(self):
+    def calls(self) -> Calls:
         os.close(self.write)
         with open(self.read, "rb") as told:
             letters = told.read()

@@ -2,21 +2,35 @@
 
 A library that is loaded before the C library refuses what the program itself asks of `malloc`, `realloc` and `posix_memalign`.
 """
-import collections
+from __future__ import annotations
+
 import os
+import pathlib
 import socket
 import subprocess
 import time
+from typing import NamedTuple, Optional, Sequence, Union
 
 from lib.drawn_turns import UPLINK
 from lib.serving import LOOPBACK, is_bound
+
+# The arguments of a program, what it reads, opened, and the port that it listens to, if it does.
+Opened = tuple[Sequence[Union[str, bytes]], int, Optional[int]]
+
+
+class Ended(NamedTuple):
+    """How a program ended: its status, if it did in time, and what it wrote to standard output and error."""
+
+    status: Optional[int]
+    out: bytes
+    err: bytes
+
 
 # What is sent to a server that listens: two gateways hear an uplink, a payload is queued, and the uplink is answered.
 DATAGRAMS = [
     f"hear 1 5000000 868100000 5 55 -90 1000 {UPLINK}", f"hear 2 9000000 868100000 5 55 -80 1100 {UPLINK}",
     "queue 26011bda 9 0102", "pass 201001",
 ]
-Ended = collections.namedtuple("Ended", "status out err")
 SECONDS = 20
 MOST = 20_000
 ALL = 1 << 62
@@ -77,8 +91,8 @@ int posix_memalign(void **made, size_t align, size_t size) {
 """
 
 
-def ended(child, port):
-    """How a program ended: its status, and what it wrote to standard output and error; no status where it didn't in time."""
+def ended(child: subprocess.Popen, port: Optional[int]) -> Ended:
+    """Waits for the end of a program, to which the datagrams are sent where it listens."""
     ends = time.monotonic() + SECONDS
     if port is not None:
         while not is_bound(port, LOOPBACK) and child.poll() is None and time.monotonic() < ends:
@@ -94,7 +108,9 @@ def ended(child, port):
         return Ended(None, *child.communicate())
 
 
-def run_on(program, library, folder, opened, first, last):
+def run_on(
+    program: pathlib.Path, library: pathlib.Path, folder: pathlib.Path, opened: Opened, first: int, last: int
+) -> tuple[int, Ended]:
     """Runs the program on these words, standard input and port with these growths refused: how many were, and how it ended."""
     words, given, port = opened
     read, write = os.pipe()
