@@ -3,11 +3,11 @@
 
 Usage: tests/edit_trials.py
 
-The edits are in tests/edits. An edit that means the same must not be told as refused, also beside others that are; nor one
-whose caller or callee alone is refused, one that can't be read or applied, or one that is refused only since a name is gone.
-None may be passed over. Then it looks at what is kept of them for later runs (tests/kept_verdicts.py): what was refused, and of
-that nothing once the edit, a file of its crate or a script is another. The last line is 'N passed, M failed'; status 0 where none failed, 1 where one did, 2 where nothing
-could be run.
+The edits are in tests/edits. An edit that means the same must not be told as refused, also beside others that are; nor one whose
+caller or callee alone is refused, one that can't be read or applied, or one that is refused only since a name is gone. None may
+be passed over. Then it looks at what is kept of them for later runs (tests/kept_verdicts.py): what was refused, and of that
+nothing once the edit, a file of its crate or a script is another. The last line is 'N passed, M failed'; status 0 where none
+failed, 1 where one did, 2 where nothing could be run.
 """
 import dataclasses
 import pathlib

@@ -5,7 +5,8 @@ Usage: tests/examples.py
 
 The program behind "is `src/main.rt`" is that of crates/example_book. What stands behind "It writes:" is what the gate wants of
 that crate. The lines of crates.txt that the page shows are what the book's program needs, and no more. Of the station's program,
-crates/example_station, the page shows what it writes and its file of the proof. Prints what differs; the last line is 'N passed, M failed'. The status is 0 where none failed, else 1.
+crates/example_station, the page shows what it writes and its file of the proof. Prints what differs; the last line is 'N passed,
+M failed'. The status is 0 where none failed, else 1.
 """
 import difflib
 import re

@@ -3,10 +3,11 @@
 
 Usage: tests/model.py [--write | --bare]
 
-A row has a definition that a contract in src/ names by a `ghost use`, also of another crate, and the comment above it in its
-file of specs/. Above a file's rows stands the comment at the file's head. Crates without such definitions have no section, and
-crates of tests none. With --bare the definitions are listed that have no comment. Lemmas are left out. Other text of the page is written by hand.
-The last line is 'N passed, M failed'; status 0 where the page is that of the sources, 1 where it isn't, 2 where it can't be told.
+A row has a definition that a contract in src/ names by a `ghost use`, also of another crate, and the comment above it in its file
+of specs/. Above a file's rows stands the comment at the file's head. Crates without such definitions have no section, and crates
+of tests none. With --bare the definitions are listed that have no comment. Lemmas are left out. Other text of the page is written
+by hand. The last line is 'N passed, M failed'; status 0 where the page is that of the sources, 1 where it isn't, 2 where it can't
+be told.
 """
 import pathlib
 import re

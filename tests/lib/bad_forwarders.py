@@ -1,7 +1,7 @@
 """Packet forwarders that do harm to an `airbook serve --state`, beside one that is answered as ever, for tests/soak.py.
 
-One gateway floods it, or someone who is none; or two machines have one EUI, each with a counter of its own. Whatever comes of their
-own packets, the program runs on, and no counter is given twice. What is sent stands in the journal.
+One gateway floods it, or someone who is none; or two machines have one EUI, each with a counter of its own. Whatever comes of
+their own packets, the program runs on, and no counter is given twice. What is sent stands in the journal.
 """
 from __future__ import annotations
 
@@ -39,7 +39,7 @@ def started(program: str, folder: pathlib.Path) -> Server:
 
 
 def expect_answers(play: Asker, folder: pathlib.Path) -> None:
-    """All that the gateway was asked for is what the lines tell, under counters that rise one by one, and stands in the journal."""
+    """All that the gateway was asked for is what the lines tell, under counters that rise by one, and stands in the journal."""
     state = reader((folder / "journal").read_bytes())[0]
     starts = {start for start, *_ in state.gateways[1][2].members}
     last = -1
@@ -48,7 +48,8 @@ def expect_answers(play: Asker, folder: pathlib.Path) -> None:
         last, before = int.from_bytes(frame[6:8], "little"), last
         expect(lorawan.downlink(ADDR, last, KEYS, ack=True), frame, f"the frame under counter {last}")
         if last <= before or play.starts[str(token)] not in starts or state.devices[ADDR][2] <= last:
-            raise Failed(f"the journal has {sorted(starts)[-5:]} and {state.devices[ADDR]}, and {frame!r} was sent behind {before}")
+            has = f"{sorted(starts)[-5:]} and {state.devices[ADDR]}"
+            raise Failed(f"the journal has {has}, and {frame!r} was sent behind {before}")
     own = [one for one in play.failed if one.split()[1] == "1"]
     expect([], own, "what fails of the gateway that is answered as ever")
 
@@ -69,7 +70,9 @@ def flooded(program: str, folder: pathlib.Path, is_gateway: bool) -> str:
         play.take()
         rest, during = play.counter, len(play.asked)
         play.until(BEHIND, lambda: False)
-        awaited(lambda: play.take() or len(play.asked) >= during + play.counter - rest, "each answer behind the flood", server.child)
+        awaited(
+            lambda: play.take() or len(play.asked) >= during + play.counter - rest, "each answer behind the flood", server.child
+        )
         more = server.memory() - before
     share = (during - asked) / (rest - asked)
     told = f"{flood.sent} datagrams in {flood.seconds:.1f} s; {share:.0%} answered meanwhile; {more} KiB more"
@@ -115,13 +118,14 @@ def expect_sessions(lines: list[str], got: set[int]) -> int:
 
 
 def expect_counters(told: list[bytes], folder: pathlib.Path) -> int:
-    """What both machines were asked for is under counters that rise, by device, and has a place in the journal: how much it is."""
+    """What both machines were asked for is under counters that rise, by device, and stands in the journal: how much it is."""
     state, last = reader((folder / "journal").read_bytes())[0], {}
     for token, _, frequency, rate, frame in sorted(map(read_pull_resp, told)):
         addr, counter = int.from_bytes(frame[1:5], "little"), int.from_bytes(frame[6:8], "little")
         expect(lorawan.downlink(addr, counter, KEYS, ack=True), frame, f"the frame of uplink {token} under counter {counter}")
         if not last.get(addr, -1) < counter < state.devices[addr][2]:
-            raise Failed(f"counter {counter} of {addr:08x} comes behind {last}, and the journal goes on with {state.devices[addr]}")
+            goes_on = f"the journal goes on with {state.devices[addr]}"
+            raise Failed(f"counter {counter} of {addr:08x} comes behind {last}, and {goes_on}")
         last[addr] = counter
     booked = len(state.gateways[2][2].members)
     if len(told) > booked:

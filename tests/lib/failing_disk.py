@@ -1,9 +1,9 @@
 """An `airbook serve --state` whose journal can't be written for some time, for tests/restarts.py and
 tests/soak.py.
 
-Three disks fail here: one on which no file of the server may grow; and, by a library that is loaded before the C library, one that
-keeps nothing, and one that takes no byte for any length of time. While one fails nothing is sent, and the program runs on. A whole
-journal is tried every 10 s. Once one was written the program sends again.
+Three disks fail here: one on which no file of the server may grow; and, by a library that is loaded before the C library, one
+that keeps nothing, and one that takes no byte for any length of time. While one fails nothing is sent, and the program runs on. A
+whole journal is tried every 10 s. Once one was written the program sends again.
 """
 from __future__ import annotations
 

@@ -1,4 +1,4 @@
-"""A plain model of what packet forwarders tell `airbook serve`: datagrams, packets of `rxpk`, ghosts, TX_ACK, and gateways' clocks.
+"""A plain model of what packet forwarders tell `airbook serve`: datagrams, packets of `rxpk`, ghosts, TX_ACK, and clocks.
 
 It is written from docs/FORMATS.md ("airbook serve") and docs/MODEL.md, over Python's own readers of JSON and base64. Packet
 forwarders are those with Semtech's UDP protocol, version 2. All moments are in microseconds.

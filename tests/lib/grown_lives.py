@@ -1,7 +1,7 @@
 """A life of `airbook serve --state` in which the journal grows until a whole one is written in its place, for tests/soak.py.
 
-That comes once 1 MiB was added. Many gateways answer some 700 uplinks a second till then, and the program is killed just before or
-behind a call of that renewal. In the next life the devices are answered again. Moments are in microseconds.
+That comes once 1 MiB was added. Many gateways answer some 700 uplinks a second till then, and the program is killed just before
+or behind a call of that renewal. In the next life the devices are answered again. Moments are in microseconds.
 """
 from __future__ import annotations
 

@@ -14,8 +14,8 @@ from lib.plain_server import Malformed
 Value = Union[None, int, str, bytes]
 LOWER = b"0123456789abcdef"
 TABLES = """\
-CREATE TABLE gateway (id INTEGER PRIMARY KEY, eui TEXT NOT NULL, cap INTEGER NOT NULL, gap INTEGER NOT NULL, high INTEGER NOT NULL, \
-floor INTEGER NOT NULL) STRICT;
+CREATE TABLE gateway (id INTEGER PRIMARY KEY, eui TEXT NOT NULL, cap INTEGER NOT NULL, gap INTEGER NOT NULL, \
+high INTEGER NOT NULL, floor INTEGER NOT NULL) STRICT;
 CREATE TABLE device (addr INTEGER PRIMARY KEY, session INTEGER NOT NULL, up INTEGER, down INTEGER NOT NULL) STRICT;
 CREATE TABLE queued (id INTEGER PRIMARY KEY, addr INTEGER NOT NULL, port INTEGER NOT NULL, payload BLOB NOT NULL) STRICT;
 CREATE TABLE sent (id INTEGER PRIMARY KEY, gateway INTEGER NOT NULL, start INTEGER NOT NULL, freq INTEGER NOT NULL, \
@@ -28,8 +28,8 @@ class Fault(Exception):
 
 
 class State:
-    """What a journal says: of each gateway its EUI, what its clock shows and its book; of each device its session, its counters and
-    what waits for it."""
+    """What a journal says: of each gateway its EUI, what its clock shows and its book; of each device its session, its counters
+    and what waits for it."""
 
     def __init__(self) -> None:
         self.gateways: dict[int, list[Any]] = {}
@@ -70,9 +70,10 @@ class State:
     def rows(self) -> dict[str, list[tuple[Value, ...]]]:
         """Of each table its rows."""
         waits = [(addr, *one) for addr, (*_, waiting) in self.devices.items() for one in waiting]
-        air = [(number, start, *book.asks[start]) for number, (_, _, book) in self.gateways.items() for start, *_ in book.members]
+        known = [(number, *one) for number, one in self.gateways.items()]
+        air = [(number, start, *book.asks[start]) for number, _, _, book in known for start, *_ in book.members]
         return {
-            "gateway": [(number, eui.hex(), book.cap, book.gap, high, book.floor) for number, (eui, high, book) in self.gateways.items()],
+            "gateway": [(number, eui.hex(), book.cap, book.gap, high, book.floor) for number, eui, high, book in known],
             "device": [(addr, int.from_bytes(session, "big"), up, down) for addr, (session, up, down, _) in self.devices.items()],
             "queued": [(place, *row) for place, row in enumerate(waits, 1)],
             "sent": [(place, *row) for place, row in enumerate(air, 1)],

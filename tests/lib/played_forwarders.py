@@ -1,7 +1,7 @@
 """Packet forwarders that are played to `airbook serve --shadow`, beside the plain model, for tests/serve.py.
 
-What each datagram comes to is found by gateway_model.py before it is sent; acknowledgements, packets on their gateways' clocks and
-what is dropped are compared as they come.
+What each datagram comes to is found by gateway_model.py before it is sent; acknowledgements, packets on their gateways' clocks
+and what is dropped are compared as they come.
 """
 from __future__ import annotations
 
@@ -81,7 +81,7 @@ class Exchange:
         sender.send(datagram)
 
     def settle(self, sender: Sender, eui: bytes, token: bytes) -> None:
-        """Sends a PULL_DATA, and compares what came of all before it. It is acknowledged behind them, and their lines are told."""
+        """Sends a PULL_DATA, and compares what came of all before it. It is acknowledged behind them, their lines are told."""
         self.send(sender, b"\2" + token + b"\2" + eui)
         for one, wanted in self.acknowledgements.items():
             expect(wanted, [one.acknowledged() for _ in wanted], "acknowledgements")

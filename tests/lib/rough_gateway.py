@@ -1,5 +1,5 @@
-"""A packet forwarder that is played roughly, for tests/soak.py: its counter begins anew, its address changes, and it tells packets
-late or twice.
+"""A packet forwarder that is played roughly, for tests/soak.py: its counter begins anew, its address changes, and it tells
+packets late or twice.
 
 Moments are in microseconds.
 """

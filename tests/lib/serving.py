@@ -49,8 +49,8 @@ def is_bound(port: int, address: str = "") -> bool:
 
 
 def free_port() -> int:
-    """A port that nobody has, and that no socket gets which asks for any port. None is bound to try it: a process that another thread
-    starts at this moment would hold it too, until it is on its own."""
+    """A port that nobody has, and that no socket gets which asks for any port. None is bound to try it: a process that another
+    thread starts at this moment would hold it too, until it is on its own."""
     return next(port for port in PORTS if not is_bound(port))
 
 

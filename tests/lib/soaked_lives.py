@@ -89,8 +89,8 @@ class SoakedLives(Lives):
         self.status = status
 
     def lose_power(self) -> None:
-        """Behind half of all kills it looks as if the power had gone. Of what was added to the journal behind its last sync a front
-        is left, in which some bytes are 0. Where the folder wasn't synced, its first whole journal has the name no more."""
+        """Behind half of all kills it looks as if the power had gone. Of what was added to the journal behind its last sync a
+        front is left, in which some bytes are 0. Where the folder wasn't synced, its first whole journal has the name no more."""
         calls = self.calls.told()
         if self.chance.random() < 0.5:
             return

@@ -46,5 +46,5 @@ def over_uplinks(program: str, folder: pathlib.Path, count: int) -> str:
     if lines != count:
         raise Failed(f"of {count} uplinks {lines} were opened")
     grown = (seen[-1] - seen[1]) * 1024 / (count - count // TENTHS)
-    told = f"{seen[0]} KiB at first, then by tenths {' '.join(map(str, seen[1:]))} KiB; the last is {seen[-1] / seen[1]:.2f} times "
-    return told + f"the first, {grown:.0f} bytes for each uplink between them; {time.monotonic() - began:.0f} s"
+    told = f"{seen[0]} KiB at first, then by tenths {' '.join(map(str, seen[1:]))} KiB; the last is {seen[-1] / seen[1]:.2f}"
+    return told + f" times the first, {grown:.0f} bytes for each uplink between them; {time.monotonic() - began:.0f} s"

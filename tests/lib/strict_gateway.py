@@ -25,7 +25,7 @@ class StrictGateway(PlayedGateway):
 
     def __init__(self, number: int, port: int, begins: int, drift: int, delays: set[int]) -> None:
         self.queue, self.delay_of = DownlinkQueue(), {}
-        # By life and token what it can't send, and why; what it never sends, since it restarted or the counter was of before that.
+        # By life and token what it can't send, and why; what it never sends, since it restarted or the counter was older.
         self.errors: dict[tuple[int, int], str] = {}
         self.lost: set[tuple[int, int]] = set()
         # How often what happened; by life how often it restarted.

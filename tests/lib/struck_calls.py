@@ -30,8 +30,8 @@ LIBRARY = r"""
 #include <sys/syscall.h>
 #include <unistd.h>
 
-/* How a call is struck: the program is killed before it, behind it, or behind half of its bytes; it fails; or half of its bytes are
-   taken, and the next call for a file fails. */
+/* How a call is struck: the program is killed before it, behind it, or behind half of its bytes; it fails; or half of its bytes
+   are taken, and the next call for a file fails. */
 enum way { NOT = 0, BEFORE = 'b', BEHIND = 'a', HALF = 'h', FAILING = 'f', PART = 'p' };
 
 static int told = -1, kept = -1;
