@@ -12,5 +12,6 @@
 - Many lives of one server: served_lives, soaked_lives, struck_lives, grown_lives and soaked_memory; lawful_lives says what holds.
 - The program's own words: told_version and manual_page; written_pages has the parts of documents that scripts write.
 
-Those of the prover stay in tests/ (prover, machine, edit_files and what tests/edits.py imports): verdicts are kept by their sum.
+What tests/gate.py and tests/edits.py import (prover, machine, edit_files and others) stays in tests/: the verdicts on edits are
+kept with a sum of those files.
 """
