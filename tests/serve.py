@@ -5,14 +5,16 @@ Usage: serve.py PROGRAM [DATAGRAMS [SECONDS [SEED]]]     (3,000, 4, 1: how many 
 
 Trials: a worked run, each cut of its first datagram, and copies that are refused; drawn datagrams with every kind of slip, and
 counters that jump, beside the plain model in lib/gateway_model.py; four packet forwarders whose counters drift, wrap and begin
-anew. What stands behind `> ` in all but the drawn ones is then an input of `airbook run`, which has to answer the same lines.
-Then come faults of settings and arguments, a port that is taken, outputs that can't be written, and a kill. With 60 seconds or
-more a gateway is also played for a minute that sends one PULL_DATA. Datagrams are sent so many at a time that the socket has room
-for them. Every wait ends within a minute. A failing trial has a line; the last line is 'N passed, M failed'. The status is 0
-where none failed, 1 where one did, 2 where nothing could be run.
+anew. Where the machine has an address that is none of 127.x, some of the drawn ones come from there. What stands behind `> ` in
+all but the drawn ones is then an input of `airbook run`, which has to answer the same lines. Then come faults of settings and
+arguments, a port that is taken, outputs that can't be written, and a kill. With 60 seconds or more a gateway is also played for a
+minute that sends one PULL_DATA. Datagrams are sent so many at a time that the socket has room for them. Every wait ends within a
+minute. A failing trial has a line; the last line is 'N passed, M failed'. The status is 0 where none failed, 1 where one did, 2
+where nothing could be run.
 """
 from __future__ import annotations
 
+import contextlib
 import random
 import signal
 import subprocess
@@ -28,7 +30,7 @@ from lib.gateway_model import Clock, Known
 from lib.played_forwarders import LATE_BY, Copy, Devices, Exchange, Gateway, PlainDesk, copies_of, entries_of, entry, now
 from lib.played_forwarders import push_data
 from lib.serve_lines import Drops, Follower
-from lib.serving import EUIS, SECONDS, TOKEN, Sender, Server, device_table, free_port, gateway_table
+from lib.serving import EUIS, SECONDS, TOKEN, Sender, Server, device_table, free_port, gateway_table, outer_address
 from lib.trials import Failed, expect, tell
 from lib.worked_run import DEVICE, FIRST, OTHER, PACKET, SETTINGS, answered_alike, numbers_of
 
@@ -108,12 +110,15 @@ def some_devices(count: int) -> Devices:
 
 
 def drawn(program: str, datagrams: int, seed: int) -> None:
-    """Datagrams with every kind of slip. Gateway 2 may come from one address alone, and gateway 3 sends no PULL_DATA."""
+    """Datagrams with every kind of slip. Gateway 2 may come from one address alone, and gateway 3 sends no PULL_DATA. What begins
+    with another byte than 2 is a control datagram where it comes from 127.x, and is dropped where it comes from elsewhere."""
     chance, devices = random.Random(seed), some_devices(4)
     tables = [gateway_table(1), gateway_table(2, **{"from": '"127.0.0.2"'}), gateway_table(3)]
     settings = "".join(tables + [device_table(*device) for device in devices.items()])
     source, follower = Drawn(chance, EUIS[1:4], devices), Follower(dict.fromkeys((1, 2, 3), LEAD), is_all_told=False)
-    with Server(program, settings) as server, Sender(server) as one, Sender(server, "127.0.0.2") as two:
+    outer = outer_address()
+    with Server(program, settings) as server, contextlib.ExitStack() as ends:
+        one, two, three = [ends.enter_context(Sender(server, own)) for own in ("127.0.0.1", "127.0.0.2", outer or "127.0.0.3")]
         known = [Known(1, EUIS[1]), Known(2, EUIS[2], two.own), Known(3, EUIS[3])]
         play = Exchange(server, known, follower, PlainDesk(devices))
         play.send(two, b"\2\0\0\2" + EUIS[2])
@@ -128,14 +133,16 @@ def drawn(program: str, datagrams: int, seed: int) -> None:
                 play.settle(one, EUIS[1], place.to_bytes(4, "big")[2:])
                 waiting = 0
             waiting += len(datagram) + 1_000
-            play.send(one if datagram[4:12] != EUIS[2] or chance.random() < 0.1 else two, datagram)
+            usual = one if datagram[4:12] != EUIS[2] or chance.random() < 0.1 else two
+            play.send(three if chance.random() < 0.3 else usual, datagram)
         play.settle(one, EUIS[1], TOKEN)
         play.over()
-        one.is_quiet()
-        two.is_quiet()
+        for sender in (one, two, three):
+            sender.is_quiet()
     expect({"opened", "silent", "floor"}, {answer.split()[0] for answer in follower.answers}, "the kinds of answers")
     if datagrams >= ENOUGH:
-        expect(NAMES, set(play.drops.names), "the names of what is dropped")
+        expect(NAMES if outer else NAMES - {"Version"}, set(play.drops.names), "the names of what is dropped")
+        expect(True, play.controls > 0, "whether there was a control datagram")
 
 
 def jumps(program: str, seed: int) -> None:

@@ -1,4 +1,5 @@
-"""Floods of datagrams that `airbook serve` drops, for tests/soak.py and bench/serve.py."""
+"""Floods of datagrams of which nothing comes but drops, and answers that they ask for nothing, for tests/soak.py and
+bench/serve.py."""
 from __future__ import annotations
 
 import threading

@@ -1,7 +1,8 @@
 """A plain model of what packet forwarders tell `airbook serve`: datagrams, packets of `rxpk`, ghosts, TX_ACK, and clocks.
 
 It is written from docs/FORMATS.md ("airbook serve") and docs/MODEL.md, over Python's own readers of JSON and base64. Packet
-forwarders are those with Semtech's UDP protocol, version 2. All moments are in microseconds.
+forwarders are those with Semtech's UDP protocol, version 2. Each control datagram asks for nothing. All moments are in
+microseconds.
 """
 from __future__ import annotations
 
@@ -18,6 +19,9 @@ DEEPEST, MOST_PACKETS, PULL_HOLDS = 128, 32, 60_000_000
 # How far a gateway's clock may be above what it shows at least, and a packet of its session below that.
 LATEST, REACH = 2_000_000, 20_000_000
 PLAIN = re.compile(r"(-?)([0-9]{1,10})(?:\.([0-9]+))?")
+# How the addresses begin that control datagrams come from, and the answer to one that asks for nothing.
+OWN = "127."
+ASKS_NOTHING = b"bad 0 Syntax\n"
 ERROR_NAME = re.compile(r"[A-Z0-9_]{1,32}")
 # A packet's keys that have numbers, and those that have texts.
 NUMBERED, TEXTS = ("stat", "tmst", "freq", "lsnr", "rssi", "size"), ("modu", "datr", "data")
@@ -45,8 +49,8 @@ class Placed(NamedTuple):
 
 
 class Comes(NamedTuple):
-    """What a datagram comes to: its acknowledgement; each packet, or the name of why it is dropped; the line of a TX_ACK; and the
-    EUI that is told of what is dropped. Each may be missing."""
+    """What a datagram comes to: its acknowledgement, or its answer; each packet, or the name of why it is dropped; the line of a
+    TX_ACK; and the EUI that is told of what is dropped. Each may be missing."""
 
     acknowledgement: bytes | None
     read: list[Packet | str]
@@ -238,6 +242,11 @@ class Known:
         self.clock, self.pulled = Clock(), None
 
 
+def is_control(datagram: bytes, source: str) -> bool:
+    """Whether a datagram is of a client on the machine itself, and of no packet forwarder."""
+    return source.startswith(OWN) and datagram[:1] not in (b"", b"\2")
+
+
 class Gateways:
     """What datagrams come to, by what is known of the gateways."""
 
@@ -261,6 +270,8 @@ class Gateways:
 
     def received(self, datagram: bytes, source: str, now: int) -> Comes:
         """What a datagram comes to, with the name of its fault as if it were its one packet."""
+        if is_control(datagram, source):
+            return Comes(ASKS_NOTHING, [], None, None)
         fault = self.fault(datagram, source)
         if fault:
             return Comes(None, [fault[0]], None, fault[1])

@@ -13,9 +13,9 @@ from random import Random
 from typing import NamedTuple
 
 from lib import lorawan
-from lib.gateway_model import RATES, Gateways, Known, Packet
+from lib.gateway_model import ASKS_NOTHING, RATES, Gateways, Known, Packet
 from lib.serve_lines import Drops, Follower, Heard, Session
-from lib.serving import SECONDS, Sender, Server
+from lib.serving import SECONDS, TOKEN, Sender, Server
 from lib.trials import Failed, expect
 
 # How far a moment may be from the model's, where a packet that isn't told came at a moment that is only known so well.
@@ -69,6 +69,8 @@ class Exchange:
         self.sent, self.drops, self.told, self.acknowledgements = collections.deque(), Drops(), [], collections.defaultdict(list)
         # What has to be added to a moment here for one of the server's clock; and the gateways of which a packet wasn't told.
         self.zero, self.guessed = None, set()
+        # How many control datagrams were sent.
+        self.controls = 0
 
     def send(self, sender: Sender, datagram: bytes) -> None:
         moment = now()
@@ -78,6 +80,7 @@ class Exchange:
             self.told.append(comes.told)
         if comes.acknowledgement:
             self.acknowledgements[sender].append(comes.acknowledgement)
+            self.controls += comes.acknowledgement == ASKS_NOTHING
         sender.send(datagram)
 
     def settle(self, sender: Sender, eui: bytes, token: bytes) -> None:
@@ -160,6 +163,12 @@ def entry(data: bytes, tmst: int, **other: object) -> dict[str, object]:
 
 def push_data(eui: bytes, token: bytes, entries: list[dict[str, object]]) -> bytes:
     return b"\2" + token + b"\0" + eui + json.dumps({"rxpk": entries}).encode()
+
+
+def tell_uplink(sender: Sender, eui: bytes, data: bytes, tmst: int | None = None, **more: object) -> None:
+    """A gateway tells an uplink, by this counter, or else by one that goes on as time does here."""
+    counter = now() % (1 << 32) if tmst is None else tmst
+    sender.asked(push_data(eui, TOKEN, [entry(data, counter, **more)]), b"\2" + TOKEN + b"\1")
 
 
 class Gateway:

@@ -48,6 +48,17 @@ def is_bound(port: int, address: str = "") -> bool:
         return any(line.split()[1].endswith(f"{address}:{port:04X}") for line in list(sockets)[1:])
 
 
+def outer_address() -> str | None:
+    """An address of this machine that is none of 127.x, by which it would reach others; None where it has none."""
+    with socket.socket(type=socket.SOCK_DGRAM) as probe:
+        try:
+            probe.connect(("192.0.2.1", 9))
+        except OSError:
+            return None
+        found = probe.getsockname()[0]
+    return None if found.startswith("127.") else found
+
+
 def free_port() -> int:
     """A port that nobody has, and that no socket gets which asks for any port. None is bound to try it: a process that another
     thread starts at this moment would hold it too, until it is on its own."""
@@ -141,7 +152,7 @@ class Server:
 
 
 class Sender:
-    """A packet forwarder's socket, on an address of this machine."""
+    """A socket on an address of this machine: that of a packet forwarder, or of a client that sends control datagrams."""
 
     def __init__(self, server: Server, own: str = "127.0.0.1") -> None:
         self.server, self.own = server, own
@@ -180,6 +191,11 @@ class Sender:
 
     def push(self, eui: bytes, text: bytes) -> None:
         self.asked(b"\2" + TOKEN + b"\0" + eui + text, b"\2" + TOKEN + b"\1")
+
+    def answer(self, line: bytes) -> str:
+        """What a control datagram is answered."""
+        self.send(line)
+        return self.acknowledged().decode("ascii", "backslashreplace")
 
     def is_quiet(self) -> None:
         """Nothing more has come back: no downlink is sent."""
