@@ -1,4 +1,4 @@
-"""An `airbook serve --state` whose journal can't be written for some time, for tests/restarts.py and
+"""An `airbook serve --state` whose journal can't be written for some time, for tests/restarts.py, tests/control.py and
 tests/soak.py.
 
 Three disks fail here: one on which no file of the server may grow; and, by a library that is loaded before the C library, one
@@ -48,6 +48,10 @@ class FullDisk:
     def limit(self, server: Server, size: int) -> None:
         resource.prlimit(server.child.pid, resource.RLIMIT_FSIZE, (size, resource.RLIM_INFINITY))
 
+    def adds(self, batch: bytes) -> bytes:
+        """What the journal has of a batch with which the disk begins to fail."""
+        return batch[:PART]
+
     def calls(self) -> Optional[str]:
         return None
 
@@ -67,6 +71,9 @@ class ForgetfulDisk:
     def mends(self, server: Server) -> None:
         self.failing.unlink()
 
+    def adds(self, batch: bytes) -> bytes:
+        return batch
+
     def calls(self) -> Optional[str]:
         return re.sub("[^frFd]", "", self.struck.told())
 
@@ -75,6 +82,9 @@ class NoRoomDisk(ForgetfulDisk):
     """No file takes a byte, whatever the lines take."""
 
     fails = "WRITE_FAILS"
+
+    def adds(self, batch: bytes) -> bytes:
+        return b""
 
     def calls(self) -> Optional[str]:
         return None

@@ -211,12 +211,17 @@ class Server:
         return [told if told.startswith("cancelled") else told.replace("no", "no cancel", 1)]
 
     def report(self) -> list[str]:
-        told: list[str] = []
-        for gateway, book in sorted(self.books.items()):
-            told.append(f"gateway {gateway} booked {book.booked} cancelled {book.cancelled} retired {book.retired}")
-            told[-1] += f" kept {len(book.members)}"
-            told += [line.replace("busiest", f"busiest {gateway}") for band in "KLMNPQ" for line in book.busiest(band)]
-        return told + ["answered {send} unanswered {unanswered} silent {silent}".format(**self.counts)]
+        return report_of(self.books, **self.counts)
+
+
+def report_of(books: dict[int, PlainBook], send: int = 0, unanswered: int = 0, silent: int = 0) -> list[str]:
+    """The report of books, by their gateways, and of so many answers."""
+    told: list[str] = []
+    for gateway, book in sorted(books.items()):
+        told.append(f"gateway {gateway} booked {book.booked} cancelled {book.cancelled} retired {book.retired}")
+        told[-1] += f" kept {len(book.members)}"
+        told += [line.replace("busiest", f"busiest {gateway}") for band in "KLMNPQ" for line in book.busiest(band)]
+    return told + [f"answered {send} unanswered {unanswered} silent {silent}"]
 
 
 def candidates(copies: list[Table], device: Table) -> Iterator[tuple[str, Table, int, int, int]]:

@@ -1,4 +1,5 @@
-"""Follows the lines that `airbook serve --shadow` writes, for tests/serve.py: their order, and the numbers that go together.
+"""Follows the lines that `airbook serve --shadow` writes, for tests/serve.py and tests/control.py: their order, and the numbers
+that go together.
 
 It is written from docs/FORMATS.md ("airbook serve"). What is heard and what is dropped is compared by those who use this.
 """
@@ -111,7 +112,10 @@ class Follower:
     def event(self, line: str, first: str, *words: str) -> None:
         expect([], self.owed, f"what isn't answered before {line!r}")
         self.events.append(line)
-        {"hear": self.hear, "tick": self.tick, "pass": self.passes}[first](*words)
+        {"queue": self.queue, "hear": self.hear, "tick": self.tick, "pass": self.passes}[first](*words)
+
+    def queue(self, addr: str, *_: str) -> None:
+        self.owed = [("queue", addr)]
 
     def hear(self, *words: str) -> None:
         *numbers, data = words
@@ -145,6 +149,8 @@ class Follower:
         if kind == "pass" and first in ("silent", "send", "unanswered", "no") and int(words[0]) == what:
             del self.opened[what]
             self.owed[:1] = [("frame", what)] if first == "send" else []
+        elif kind == "queue" and (first, words[0]) in (("queued", what), ("no", "queue")):
+            self.owed = []
         elif kind == "hear" and first in ("opened", "joined"):
             if first == "opened":
                 self.opened[int(words[0])] = what

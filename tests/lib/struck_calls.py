@@ -3,8 +3,8 @@ just before or behind that call, or has the call fail.
 
 It is loaded before the C library, for tests/soak.py and tests/restarts.py, on Linux. A C compiler makes it (preloaded.py). The
 letters: `o` a file is opened, `j` a file is written, `l` and `e` standard output and standard error are, `f` a file, `F` a folder
-and `d` a file's bytes are synced, `r` a file is renamed, `v` a datagram was received, `p` a PULL_RESP and `a` another datagram is
-sent. Behind a call that it has fail stands `!`.
+and `d` a file's bytes are synced, `r` a file is renamed, `v` a datagram was received, and one is sent: `p` a PULL_RESP, `q` the
+answer that a payload is queued, `a` another one. Behind a call that it has fail stands `!`.
 """
 from __future__ import annotations
 
@@ -16,7 +16,7 @@ from typing import NamedTuple, Optional
 from lib.preloaded import library_of
 
 # All calls, and those that keep a journal.
-ALL, KEEPING = "ojlefFdrvpa", "jfFdr"
+ALL, KEEPING = "ojlefFdrvpqa", "jfFdr"
 LIBRARY = r"""
 #define _GNU_SOURCE
 #include <errno.h>
@@ -123,7 +123,8 @@ int open(const char *path, int flags, ...) {
 }
 
 ssize_t sendto(int to, const void *bytes, size_t size, int flags, const struct sockaddr *address, socklen_t length) {
-    char letter = size > 3 && ((const char *)bytes)[3] == 3 ? 'p' : 'a';
+    const char *text = bytes;
+    char letter = size > 3 && text[3] == 3 ? 'p' : size > 3 && !memcmp(text, "queu", 4) ? 'q' : 'a';
     STRIKE(letter, ENOBUFS, syscall(SYS_sendto, to, bytes, size, flags, address, length));
 }
 

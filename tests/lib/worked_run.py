@@ -2,6 +2,7 @@
 from __future__ import annotations
 
 import subprocess
+from typing import Iterable
 
 from lib.serve_lines import Follower
 from lib.serving import SECONDS, device_table, gateway_table
@@ -46,12 +47,19 @@ def numbers_of(lines: list[str]) -> dict[str, int]:
     return words_of(WORKED, "\n".join(lines), "the worked lines")
 
 
+def run_over(program: str, settings: str, events: Iterable[bytes]) -> list[str]:
+    """What `airbook run` writes for these settings and lines."""
+    text = b"".join(line + b"\n" for line in [settings.encode() + b"---", *events])
+    ran = subprocess.run([program, "run"], input=text, capture_output=True, timeout=SECONDS)
+    lines = ran.stdout.decode().splitlines()
+    wanted = int(any(line.startswith(("no ", "bad ")) for line in lines)), b""
+    expect(wanted, (ran.returncode, ran.stderr), "the status of run, and what it says on standard error")
+    return lines
+
+
 def answered_alike(program: str, settings: str, follower: Follower) -> None:
     """`airbook run` answers the lines behind `> ` as they were answered."""
-    text = "\n".join([settings + "---", *follower.events, ""])
-    ran = subprocess.run([program, "run"], input=text.encode(), capture_output=True, timeout=SECONDS)
-    lines = ran.stdout.decode().splitlines()
-    expect((0, b""), (ran.returncode, ran.stderr), "the status of run, and what it says on standard error")
+    lines = run_over(program, settings, [event.encode() for event in follower.events])
     for place, (own, other) in enumerate(zip(follower.answers, lines)):
         expect(other, own, f"answer {place} of serve, and of run")
     report = lines[len(follower.answers):]
