@@ -12,9 +12,10 @@ Trials, side by side (the files that are named stand in lib/):
 - of the worked journal every third cut of its last batch, and every third byte of it set to 0: some 60 starts in all. SEED tells
   which third. Each journal that is written anew says what it says behind the whole one, or behind that without the batch;
 - settings that were changed beside a journal, and what is told of that (plain_restarts.py);
-- KILLS lives on one journal (served_lives.py, lawful_lives.py). Three gateways go on through them, and forget no PULL_RESP. Every
-  third life ends 0.05 to 1.5 s behind its start. A gateway is silent for some 2 s behind a restart. So the others wait for a
-  PULL_RESP, up to 4.5 s, and end within 0.7 s behind it. In half of all the kill comes with a PULL_RESP, so while others are sent;
+- KILLS lives on one journal (served_lives.py, lawful_lives.py). Three gateways go on through them, and forget no PULL_RESP. A
+  client has payloads queued, each of which waits by the journal or went along, once (lawful_queues.py). Every third life ends
+  0.05 to 1.5 s behind its start. A gateway is silent for some 2 s behind a restart. So the others wait for a PULL_RESP, up to
+  4.5 s, and end within 0.7 s behind it. In half of all the kill comes with a PULL_RESP, so while others are sent;
 - disks that fail for some time (failing_disk.py): nothing is sent, the program runs on, and sends again once a whole journal was
   written. A disk is full for 2 s, and for 11 s, so that the first renewal fails too; another one keeps nothing for 2 s.
 
@@ -37,12 +38,12 @@ from lib.gateway_model import Clock
 from lib.lawful_lives import LEAD, kills
 from lib.plain_journal import batches_of, reader
 from lib.plain_restarts import GAP, SILENCE, SetDevice, SetGateway, Settings, expect_state, goes_on, within
-from lib.played_forwarders import entry, now, push_data
+from lib.played_forwarders import now, tell_uplink
 from lib.played_gateway import pull_resp, read_pull_resp
 from lib.refused_states import BATCH, GATEWAYS, NEW_JOURNAL, arguments_refused, files_in, folder_used, folder_with
 from lib.refused_states import folders_refused, journals_refused, state_words
 from lib.serve_lines import Follower
-from lib.serving import EUIS, SECONDS, TOKEN, Sender, Server, recovered
+from lib.serving import EUIS, SECONDS, Sender, Server, recovered
 from lib.trials import Failed, expect, tell_of_folders
 from lib.worked_run import FIRST, OTHER, SETTINGS, answered_alike, numbers_of, words_of
 
@@ -159,10 +160,6 @@ def clock_from(high: int) -> Clock:
     clock = Clock()
     clock.at = clock.top = high
     return clock
-
-
-def tell_uplink(sender: Sender, eui: bytes, data: bytes, tmst: int, **more: object) -> None:
-    sender.asked(push_data(eui, TOKEN, [entry(data, tmst, **more)]), b"\2" + TOKEN + b"\1")
 
 
 def second_answer(server: Server, one: Sender, two: Sender, kept: dict[str, int], raised: int) -> dict[str, int]:

@@ -9,10 +9,11 @@ Trials, of which the first three kinds are made side by side (the files that are
 - KILLS kills, on journals of up to 100 lives each (soaked_lives.py). The program is killed at a moment, or by a library just before
   or behind one of its calls, or behind half of a write; or one call fails, and it is killed later. Three gateways go on through all
   lives, whose counters wrap and begin anew, whose addresses change, and which tell packets late and twice (rough_gateway.py). They
-  keep their own rules about what they are asked to send. Over all lives no two transmissions of a gateway are nearer than its gap,
-  each hour of a sub-band keeps its limit by the gateway's own clock, each device's downlink counters rise, and whatever was
-  received stands in the journal behind that life. Each journal says what the one before and its batches come to, and
-  `airbook recover` tells it as the plain reader does;
+  keep their own rules about what they are asked to send. A client has payloads queued meanwhile (queueing_client.py). Over all
+  lives no two transmissions of a gateway are nearer than its gap, each hour of a sub-band keeps its limit by the gateway's own
+  clock, each device's downlink counters rise, and whatever was received stands in the journal behind that life. Each payload that
+  was answered as queued waits by the journal, or went along with a frame; none is sent twice, and all in order (lawful_queues.py).
+  Each journal says what the one before and its batches come to, and `airbook recover` tells it as the plain reader does;
 - a short life in which each call in turn is struck in each of these ways, and the life behind it (struck_lives.py);
 - a disk that takes no byte for SECONDS (failing_disk.py); two machines with one EUI (bad_forwarders.py); a payload whose downlink
   is held back (held_payloads.py);
@@ -80,7 +81,9 @@ class Soak:
         kills, struck, cuts = sum(self.shares), sum(one.letters.total() for one in self.done), sum(one.cuts for one in self.done)
         asked = [asked for one in self.done for asked in one.asked()]
         is_full = max((one.most["K"] for one in self.done), default=0) * 2 >= lorawan.LIMITS["K"]
-        if kills >= ENOUGH and (2 * len(asked) < kills or 4 * struck < kills or 50 * cuts < kills) or kills >= MOST and not is_full:
+        queued = sum(request.is_queued() for one in self.done for request in one.client.requests)
+        is_little = 2 * len(asked) < kills or 4 * struck < kills or 50 * cuts < kills or 8 * queued < kills
+        if kills >= ENOUGH and is_little or kills >= MOST and not is_full:
             raise Failed(f"too little to tell much: {told}")
         return told
 
@@ -100,6 +103,9 @@ def figures(done: Sequence[SoakedLives]) -> str:
     told += f"{asked} PULL_RESPs in {sending} lives, of which {counts['taken']} fit, {counts['TOO_LATE']} too late, "
     told += f"{counts['full']} without room, {counts['stale']} stale"
     told += f"; {counts['restart']} restarts and {counts['move']} moves of gateways, {overdue} first packets overdue"
+    requests = [request for one in done for request in one.client.requests]
+    queued, unknown = sum(one.is_queued() for one in requests), sum(one.may_wait() for one in requests)
+    told += f"; {queued} payloads queued, {len(requests) - queued - unknown} refused, and {unknown} that may be queued"
     return f"{told}; {cuts} times something was lost that wasn't synced; fullest hours {hours}"
 
 

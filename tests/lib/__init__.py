@@ -6,10 +6,11 @@
   plain_journal, plain_restarts, gateway_model and downlink_queue.
 - What is drawn: drawn_settings, drawn_traffic, drawn_turns, drawn_books and drawn_datagrams.
 - `airbook serve` at work: serving starts it, serve_lines reads its lines, worked_run is its worked run, refused_states what it
-  refuses.
+  refuses. control_lines has control datagrams, and kept_queues is a trial with payloads that wait over kills.
 - Forwarders that are played: played_forwarders, played_gateway, strict_gateway and rough_gateway; flooding, bad_forwarders,
   failing_disk and held_payloads are trials with them.
-- Many lives of one server: served_lives, soaked_lives, struck_lives, grown_lives and soaked_memory; lawful_lives says what holds.
+- Many lives of one server: served_lives, soaked_lives, struck_lives, grown_lives and soaked_memory; queueing_client has payloads
+  queued meanwhile; lawful_lives and lawful_queues say what holds.
 - The program's own words: told_version and manual_page; written_pages has the parts of documents that scripts write.
 
 What tests/gate.py and tests/edits.py import (prover, machine, edit_files and others) stays in tests/: the verdicts on edits are

@@ -7,11 +7,14 @@ from __future__ import annotations
 import collections
 import pathlib
 from random import Random
+from typing import Optional
 
 from lib import lorawan
+from lib.lawful_queues import expect_queues, waiting_in
 from lib.plain_journal import batches_of, reader
 from lib.plain_restarts import GAP, SetDevice, Settings, expect_state, goes_on
 from lib.played_gateway import Asked
+from lib.queueing_client import number_of
 from lib.serve_lines import Follower, Session
 from lib.served_lives import Life, Lives
 from lib.trials import Failed, expect
@@ -47,6 +50,13 @@ def expect_lawful_hours(asked: list[Asked]) -> collections.Counter:
     return most
 
 
+def payload_in(one: Asked, device: SetDevice, counter: int) -> Optional[int]:
+    """The number of the payload that a downlink of this device carries under a counter; None where it carries none."""
+    if len(one.data) <= 12:
+        return None
+    return number_of(lorawan.crypted(device.keys[1], lorawan.DOWN, device.addr, counter, one.data[9:-4]))
+
+
 def expect_rising(asked: list[Asked], device: SetDevice) -> dict[tuple[int, int], int]:
     """The downlink counters of a device, by life and token. In the order of sending each is above all before it, and the MIC is
     the one under it. Payloads come in their order, none twice."""
@@ -56,11 +66,11 @@ def expect_rising(asked: list[Asked], device: SetDevice) -> dict[tuple[int, int]
         mic = lorawan.mic(device.keys[0], lorawan.DOWN, device.addr, counter, one.data[:-4])
         expect(mic, one.data[-4:], f"behind counter {last} the MIC of {one} under {counter}")
         counters[one.life, one.token] = last = counter
-        if len(one.data) > 12:
-            text = lorawan.crypted(device.keys[1], lorawan.DOWN, device.addr, counter, one.data[9:-4])
-            if payload >= text[0]:
-                raise Failed(f"behind payload {payload} of {device.addr:08x} comes {text.hex()}")
-            payload = text[0]
+        number = payload_in(one, device, counter)
+        if number is not None:
+            if payload >= number:
+                raise Failed(f"behind payload {payload} of {device.addr:08x} comes {number}")
+            payload = number
     return counters
 
 
@@ -118,9 +128,13 @@ def offsets_of(lives: Lives, life: Life) -> dict[int, list[int]]:
 
 
 def expect_kept(asked: list[Asked], life: Life, lives: Lives, counters: dict[int, dict[tuple[int, int], int]]) -> None:
-    """What was asked for in a life stands in the journal behind it, and before it its device with a greater counter."""
-    kept, offsets = kept_in(appended(life, lives.settings)), offsets_of(lives, life)
+    """What was asked for in a life stands in the journal behind it, and before it its device with a greater counter. Its payload
+    waits no more, and all that was queued waits, or went along."""
+    batches, offsets = appended(life, lives.settings), offsets_of(lives, life)
+    kept = kept_in(batches)
+    expect_queues(life, batches, lives.settings, [one for one in lives.client.requests if one.life == life.number])
     state = reader(life.behind)[0]
+    waiting, devices = waiting_in(state), {one.addr: one for one in lives.settings.devices}
     renewed = set(kept_in(batches_of(life.behind)[0][:1])) if life.is_renewed else set()
     for one in asked:
         more = one.frequency, one.rate, len(one.data)
@@ -130,8 +144,11 @@ def expect_kept(asked: list[Asked], life: Life, lives: Lives, counters: dict[int
             # A whole journal has all counters before all transmissions.
             addr, down = one.addr(), state.devices[one.addr()][2]
         expect(one.addr(), addr, f"the device beside which the journal has {one}")
-        if down <= counters[one.addr()][one.life, one.token]:
+        counter = counters[one.addr()][one.life, one.token]
+        if down <= counter:
             raise Failed(f"the journal has counter {down} beside {one}")
+        if payload_in(one, devices[one.addr()], counter) in waiting[one.addr()]:
+            raise Failed(f"the payload of {one} waits behind life {life.number}")
 
 
 def expect_lawful(lives: Lives) -> collections.Counter:
@@ -164,7 +181,10 @@ def kills(program: str, folder: pathlib.Path, count: int, seed: int) -> None:
     # The lives in which something was sent, and those behind which something was still to begin.
     ends = {(life.number, one.number): one.at(life.killed) for life in lives.lives for one in lives.gateways}
     sending, ahead = {one.life for one in asked}, {one.life for one in asked if one.start > ends[one.life, one.gateway]}
+    queued = sum(one.is_queued() for one in lives.client.requests)
     if count >= 10:
         told = f"{len(asked)} downlinks in {len(sending)} of {count} lives, in {len(ahead)} some behind the kill; {dict(most)}"
-        if len(asked) < 2 * count or min(len(sending), len(ahead)) < count // 4 or 4 * most["K"] < lorawan.LIMITS["K"]:
+        told += f"; {queued} payloads queued"
+        is_little = min(len(sending), len(ahead), queued) < count // 4 or 4 * most["K"] < lorawan.LIMITS["K"]
+        if len(asked) < 2 * count or is_little:
             raise Failed(f"too few downlinks to tell much: {told}")

@@ -5,6 +5,7 @@ What has to hold of all lives is looked at when the last one is over (lawful_liv
 """
 from __future__ import annotations
 
+import collections
 import contextlib
 import pathlib
 import select
@@ -17,6 +18,7 @@ from lib.gateway_model import RATES
 from lib.plain_restarts import RX2, SetDevice, SetGateway, Settings
 from lib.played_forwarders import now
 from lib.played_gateway import Asked, PlayedGateway
+from lib.queueing_client import MOST, PORT, QueueingClient, payload_of
 from lib.serving import EUIS, free_port
 from lib.trials import Failed, expect, expect_going
 
@@ -29,7 +31,7 @@ LATE = 1_200_000
 
 class Life(NamedTuple):
     """A life of the server: its journal before and behind it, its lines, the counters of uplinks by gateway, when it was killed,
-    and whether it wrote a whole journal more than once."""
+    whether it wrote a whole journal more than once, and whether it was killed before it told the turn in which it did so last."""
 
     number: int
     before: bytes
@@ -38,6 +40,7 @@ class Life(NamedTuple):
     tmsts: dict[int, dict[bytes, int]]
     killed: int
     is_renewed: bool
+    is_untold: bool
 
     def sends(self) -> set[tuple[int, int]]:
         """The token and the gateway of each answer that it tells."""
@@ -51,7 +54,8 @@ class Life(NamedTuple):
 
 
 class Lives:
-    """A server that is killed and started again, three gateways, and devices, of which every third has payloads that wait."""
+    """A server that is killed and started again, three gateways, and devices, of which every third has payloads that wait; and a
+    client that has more of them queued."""
 
     # By so many microseconds uplinks are apart.
     every = 10_000
@@ -61,6 +65,8 @@ class Lives:
     ) -> None:
         self.program, self.folder, self.chance, self.port = program, folder, chance, free_port()
         self.settings, waiting = self.drawn()
+        counts = collections.Counter(line.split()[1] for line in waiting)
+        self.client = QueueingClient(self.port, {one.addr: counts[f"{one.addr:08x}"] for one in self.settings.devices}, chance)
         self.journal, self.before = folder / "journal", self.settings.journal(*waiting)
         self.journal.write_bytes(self.before)
         self.gateways = self.played(kind)
@@ -74,7 +80,7 @@ class Lives:
         for number in range(24):
             keys, rx2 = (bytes([number] * 16), bytes([number, 7] * 8)), NARROW if number % 3 else RX2
             devices.append(SetDevice(0x26011000 + number, keys, 65_500, 65_510, (1, 5)[number % 2], rx2))
-        waiting = [f"queue {one.addr:08x} 9 {place:02x}ff" for one in devices[::3] for place in range(16)]
+        waiting = [f"queue {one.addr:08x} {PORT} {payload_of(place)}" for one in devices[::3] for place in range(MOST)]
         return Settings([SetGateway(number, EUIS[number]) for number in (1, 2, 3)], devices), waiting
 
     def played(self, kind: Callable[..., PlayedGateway]) -> list[PlayedGateway]:
@@ -84,11 +90,17 @@ class Lives:
         return [kind(number, self.port, *more) for number, *more in rows]
 
     def close(self) -> None:
+        self.client.close()
         for one in self.gateways:
             one.close()
 
     def asked(self) -> list[Asked]:
         return [asked for one in self.gateways for asked in one.asked]
+
+    def payloads(self) -> list[tuple[int, int]]:
+        """When a payload is to be queued in this life, and for which device."""
+        moments = sorted(now() + self.chance.randrange(1_500_000) for _ in range(self.chance.choice([0, 0, 1, 2, 3])))
+        return [(moment, self.chance.choice(self.settings.devices).addr) for moment in moments]
 
     def uplink(self, moment: int) -> None:
         """Sends an uplink of a device by some of the gateways that hear it. To half of them an answer is owed, and to each of
@@ -119,6 +131,8 @@ class Lives:
                 return self.ended(child.returncode)
             for one in self.gateways:
                 one.pull(moment)
+            if any(one.is_open for one in self.gateways):
+                self.client.step(moment)
             if moment >= self.next:
                 self.next = max(self.next + self.every, moment - 5 * self.every)
                 self.uplink(moment)
@@ -139,6 +153,7 @@ class Lives:
         ends, more = (own, own) if is_short else (4_500_000, more if self.lives else more + 2_000_000)
         for one in self.gateways:
             one.begin(len(self.lives) + 1, self.chance.choice([0, 0, 0, 0, 0, LATE]))
+        self.client.begin(len(self.lives) + 1, self.payloads())
         words = [self.program, "serve", "--state", str(self.folder), "--bind", f"127.0.0.1:{self.port}"]
         with (self.folder / "lines").open("wb") as lines, (self.folder / "errors").open("wb") as errors:
             child = subprocess.Popen(words, stdin=subprocess.PIPE, stdout=lines, stderr=errors, **self.options())
@@ -153,16 +168,21 @@ class Lives:
 
     def over(self, killed: int) -> None:
         """A life is over. What came of it by now came before the kill."""
+        self.client.close()
         for one in self.gateways:
             one.take()
         number, before, self.before = len(self.lives) + 1, self.before, self.journal.read_bytes()
         lines = (self.folder / "lines").read_text().split("\n")[:-1]
         tmsts = {one.number: one.tmsts for one in self.gateways}
-        self.lives.append(Life(number, before, self.before, lines, tmsts, killed, self.is_renewed()))
+        self.lives.append(Life(number, before, self.before, lines, tmsts, killed, self.is_renewed(), self.is_untold()))
         self.expect_errors((self.folder / "errors").read_bytes().decode(), number)
 
     def is_renewed(self) -> bool:
         """Whether the life that is over wrote a whole journal more than once."""
+        return False
+
+    def is_untold(self) -> bool:
+        """Whether it was killed before it told the turn in which it wrote a whole journal last, if it was not the first."""
         return False
 
     def expect_errors(self, errors: str, number: int) -> None:

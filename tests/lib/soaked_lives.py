@@ -32,16 +32,17 @@ OWN_FAILURES = {"Journal", "Session", "Unsent"}
 
 
 def expect_order(calls: str) -> None:
-    """By the letters of its calls a PULL_RESP is sent only behind a batch that was written and synced, with nothing between but
-    others of its turn. None is before a whole journal is in place, nor where it can't be written, until one is again."""
-    if "p" in re.sub(r"j(?!!)d(?!!)(p!?)+", "", calls):
-        raise Failed(f"a PULL_RESP is sent that isn't behind a batch and its sync: {calls[-400:]}")
+    """By the letters of its calls a PULL_RESP is sent, and a payload answered as queued, only behind a batch that was written and
+    synced, with nothing between but other PULL_RESPs of the turn. Nor is either before a whole journal is in place, nor where it
+    can't be written, until one is again."""
+    if re.search("[pq]", re.sub(r"j(?!!)d(?!!)((p!?)+|q)", "", calls)):
+        raise Failed(f"what is sent isn't behind a batch and its sync: {calls[-400:]}")
     opened = re.search("ojfrF(?!!)", calls)
-    if "p" in calls and not opened:
-        raise Failed(f"a PULL_RESP is sent before a whole journal is in place: {calls[-400:]}")
+    if re.search("[pq]", calls) and not opened:
+        raise Failed(f"something is sent before a whole journal is in place: {calls[-400:]}")
     for failed in re.finditer("[jd]!", calls[opened.end():] if opened else ""):
-        if "p" in calls[opened.end() + failed.end():].partition("ojfrF")[0]:
-            raise Failed(f"a PULL_RESP is sent behind a journal that failed: {calls[-400:]}")
+        if re.search("[pq]", calls[opened.end() + failed.end():].partition("ojfrF")[0]):
+            raise Failed(f"something is sent behind a journal that failed: {calls[-400:]}")
 
 
 class SoakedLives(Lives):
@@ -74,7 +75,7 @@ class SoakedLives(Lives):
         kind, few, more = self.chance.random(), int(self.chance.expovariate(1 / 2)), int(self.chance.expovariate(1 / 5))
         way = self.chance.choice("ba")
         if kind < 0.3:
-            return Strike(way, 1 + more, KEEPING + "p")
+            return Strike(way, 1 + more, KEEPING + "pq")
         if kind < 0.4:
             return Strike("h", 1 + few, "j")
         if kind < 0.5:
@@ -82,7 +83,7 @@ class SoakedLives(Lives):
         if kind < 0.6:
             return Strike(way, self.chance.randrange(1, 400), ALL)
         if kind < 0.75:
-            return Strike(self.chance.choice("ffp"), 1 + more, self.chance.choice(["jdp", KEEPING, "vpajd"]))
+            return Strike(self.chance.choice("ffp"), 1 + more, self.chance.choice(["jdp", KEEPING, "vpqajd"]))
         return None
 
     def ended(self, status: int) -> None:
@@ -124,6 +125,9 @@ class SoakedLives(Lives):
 
     def is_renewed(self) -> bool:
         return len(re.findall("ojfr(?!!)", self.calls.told())) > 1
+
+    def is_untold(self) -> bool:
+        return self.is_renewed() and re.search("ojfr(?!!)[^l]*$", self.calls.told()) is not None
 
     def expect_errors(self, errors: str, number: int) -> None:
         if self.strike is None or self.strike.way in "bah":

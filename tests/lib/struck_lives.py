@@ -1,9 +1,9 @@
 """A short life of `airbook serve --state` in which each call in turn is struck, and the life behind it, for tests/soak.py.
 
-In the life a journal is written anew, and two uplinks of one device are answered, of which the first takes a payload along. By a
-library the program is killed before and behind each of its calls, and behind half of what it writes; or the call fails. Where the
-journal fails with it, a whole one is written some 10 s later, and only then something is sent. In the next life the device is
-answered again. Moments are in microseconds.
+In the life a journal is written anew, and two uplinks of one device are answered, each of which takes a payload along. Between
+them one more is queued for it. By a library the program is killed before and behind each of its calls, and behind half of what
+it writes; or the call fails. Where the journal fails with it, a whole one is written some 10 s later, and only then something is
+sent. In the next life the device is answered again. Moments are in microseconds.
 """
 from __future__ import annotations
 
@@ -32,7 +32,7 @@ BESIDE = 8
 # How long it takes until two are answered at most; how far apart uplinks are, and PULL_DATAs.
 ANSWERED, APART, PULLED = 10_000_000, 400_000, 1_000_000
 # The calls of the short life. There are more where it takes longer.
-WANTED = "oooojfrF" + "va" + "val" + "jdpl" + "vl" + "val" + "jdpl" + "vl"
+WANTED = "oooojfrF" + "va" + "val" + "jdpl" + "vl" + "vjdql" + "val" + "jdpl" + "vl"
 
 
 class ShortLives(SoakedLives):
@@ -43,6 +43,11 @@ class ShortLives(SoakedLives):
         self.calls, self.first, self.device = StruckCalls(folder, library), first, self.settings.devices[0]
         # What the first life called, and how it ended by itself.
         self.first_calls, self.first_status = "", None
+        # Whether the payload was asked for that is to be queued in the first life.
+        self.is_queueing = False
+
+    def payloads(self) -> list[tuple[int, int]]:
+        return []
 
     def options(self) -> dict[str, Any]:
         self.strike, self.status = None if self.lives else self.first, None
@@ -59,6 +64,10 @@ class ShortLives(SoakedLives):
                 return self.ended(child.returncode)
             if moment > ends:
                 raise Failed(f"in life {len(self.lives) + 1} {len(one.asked) - asked} uplinks are answered")
+            if not self.lives and len(one.asked) == 1 and not self.is_queueing:
+                self.is_queueing = True
+                self.client.begin(1, [(moment, self.device.addr)])
+            self.client.step(moment)
             self.step(one, moment, told)
             told = moment if one.is_open and moment - told >= APART else told
             time.sleep(0.002)
