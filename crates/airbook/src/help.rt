@@ -269,14 +269,20 @@ have been sent by these gateways";
 pub const AFTER_SERVE: &str = "\
 Each gateway of the settings needs an eui, and a gap of 45000 or more:
 examples/serve.toml has all its keys. Lines of standard output:
-  > LINE                   a line of run: hear, tick or pass; below it stand the
-                           lines that answer it
+  > LINE                   a line of run: queue, hear, tick or pass; below it
+                           stand the lines that answer it
   session GATEWAY AT       the gateway's clock begins anew, at AT
   acked N GATEWAY          the gateway took the downlink N
   failed N GATEWAY ERROR   it did not, or the downlink was not sent
   dropped NAME COUNT EUI   so many datagrams, packets or copies were passed over
                            since this was last told, for the reason NAME; EUI is
                            the gateway's of the last one, or -
+
+A program on the same machine, at 127.0.0.1, may send a line to the port:
+  queue ADDR PORT HEX      a payload waits, to go along with an answer; answered
+                           as by run, or no queue Journal
+  report                   answered by the report of run, as if its input ended
+The answer is a datagram of lines; that to anything else is bad 0 Syntax.
 
 Statuses: see airbook --help.
 
@@ -286,7 +292,12 @@ Examples:
   $ airbook serve --state state < examples/serve.toml > log.2
   $ airbook serve --shadow --bind 127.0.0.1:1700 < examples/serve.toml &
   $ printf '\\2\\0\\0\\1' > /dev/udp/127.0.0.1/1700
-  dropped Kind 1 -";
+  dropped Kind 1 -
+  $ exec 3<> /dev/udp/127.0.0.1/1700
+  $ printf 'queue 26011bda 1 c0ffee' >&3; timeout 1 head -n 1 <&3
+  > queue 26011bda 1 c0ffee
+  queued 26011bda 1
+  queued 26011bda 1";
 
 /// What is told where the value of `--bind` is no address.
 pub const NO_ADDRESS: &str =

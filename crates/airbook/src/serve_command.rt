@@ -9,7 +9,7 @@ use std::net::SocketAddrV4;
 pub struct ServeTask<'a> {
     /// Where datagrams come to.
     pub address: SocketAddrV4,
-    /// Where state is kept; None where none is, and nothing is sent but acknowledgements.
+    /// Where state is kept; None where none is, and no downlink is sent.
     pub state: Option<StatePlace<'a>>,
 }
 
@@ -56,7 +56,7 @@ fn new<'a>(alloc: Global) -> Result<Arg<'a>, AllocError> {
         .conflicts_with("shadow")
 }
 
-/// That nothing is sent but acknowledgements.
+/// That no downlink is sent.
 fn shadow<'a>(alloc: Global) -> Arg<'a> {
     Arg::new(alloc, "shadow")
         .help("Sends no downlink: what would be sent is only told")

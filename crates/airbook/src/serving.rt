@@ -63,7 +63,7 @@ fn go_on<
     Ok(make_turns(rt, &mut serving, &mut host))
 }
 
-/// Serves without a state, and sends nothing but acknowledgements: Err where it stopped before its first turn.
+/// Serves without a state, and sends no downlink: Err where it stopped before its first turn.
 fn shadow<R: AllocGlobal + RandomSource + Wait + Clock + Log + Files<File = File>, W: ByteOut>(
     rt: &R,
     read: &ServeSettings,

@@ -24,7 +24,7 @@ pub struct Surroundings<'a, R, W> {
     pub socket: UdpSocket,
     pub began: Instant,
     pub writer: &'a mut W,
-    /// None where a server keeps no state. Then it sends nothing but acknowledgements.
+    /// None where a server keeps no state. Then it sends acknowledgements alone, and answers to programs on the machine itself.
     pub state: Option<StateFolder>,
 }
 

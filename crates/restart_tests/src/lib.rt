@@ -3,6 +3,8 @@
 #![tactic(auto)]
 
 #[cfg(test)]
+mod control;
+#[cfg(test)]
 mod downlinks;
 #[cfg(test)]
 mod growths;

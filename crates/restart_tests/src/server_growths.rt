@@ -1,6 +1,7 @@
 // What a server opens with, its journal that is written anew, and an answer that it sends, with each growth refused in turn.
 ghost use Rattle.serve_turns.specs.Turn.{IsBetweenTurns};
 
+use crate::control::WAITS_LATER;
 use crate::hosts::{Deed, Noting};
 use crate::restarts::WAITING;
 use crate::servers::{SET, is_played, opened, resumed, settings, state_in};
@@ -145,7 +146,7 @@ fn growths_of_a_journal_that_is_put_in_place(rt: HostRuntime) -> Result<(), Fail
     same(growths_of(alloc, &mut Renews(&settings, rt.alloc()))?, 4)
 }
 
-/// The turns of a server with these settings in which it sends an answer; with growths refused as there.
+/// The turns of a server with these settings in which it sends an answer, and a payload waits; with growths refused as there.
 #[derive(Drop)]
 struct Sends<'r>(&'r Settings<Global>, Global);
 
@@ -164,7 +165,8 @@ impl Sends<'_> {
         Ok(
             is_played(self.1, serving, &HEARD_ONCE)?
                 && is_played(self.1, serving, &HEARD_TWICE)?
-                && is_played(self.1, serving, &ANSWERED)?,
+                && is_played(self.1, serving, &ANSWERED)?
+                && is_played(self.1, serving, &WAITS_LATER)?,
         )
     }
 }
@@ -179,10 +181,10 @@ impl Call for Sends<'_> {
 
 /// A server that keeps a journal stops too where a growth is refused, and has asked for nothing out of order.
 #[test]
-fn growths_of_an_answer(rt: HostRuntime) -> Result<(), Fail> {
+fn growths_of_an_answer_and_a_payload(rt: HostRuntime) -> Result<(), Fail> {
     let settings = settings(rt.alloc())?;
     let alloc = &Refusing::new(rt.alloc());
-    same(growths_of(alloc, &mut Sends(&settings, rt.alloc()))?, 82)
+    same(growths_of(alloc, &mut Sends(&settings, rt.alloc()))?, 94)
 }
 
 /// A line of a journal.

@@ -61,7 +61,7 @@ const ANSWER: &str =
     r#"{"txpk":{"imme":false,"tmst":32704,"freq":868.100000,"rfch":0,"powe":14,"modu":"LORA","datr":"SF7BW125","codr":"4/5","ipol":true,"size":12,"ncrc":true,"data":"YNobASYgAAAkA0fK"}}"#;
 
 /// What is told of the pass that answers it.
-const PASSED: &[u8] = b"> tick 1 601001
+pub(crate) const PASSED: &[u8] = b"> tick 1 601001
 floor 1 601001
 > tick 2 601001
 floor 2 601001

@@ -1,12 +1,12 @@
 -- All that is done in a turn, part by part.
 use Rattle.std.proofs.Common.{◌++◌, Bool, false, List, ℕ, Option, refl}
-use Rattle.std.specs.Prelude.{⊤}
 use Rattle.serve_turns.specs.declared.answerer.Answerer.{Answerer}
+use Rattle.serve_turns.specs.declared.sending.Written.{Written}
 use Rattle.serve_turns.specs.Effects.{Effect, Packet}
 use Rattle.serve_turns.specs.Life.{Life, Makes}
 use Rattle.serve_turns.specs.Renewing.{after_renewal, renewal_effects}
 use Rattle.serve_turns.specs.Sending.{Delivery}
-use Rattle.serve_turns.specs.Turn.{Answered, Did, Broke, HasActed, HasBroken, acts, after_pass, after_report, after_turn, came_in, came_in_effects, pass_effects}
+use Rattle.serve_turns.specs.Turn.{Answered, Did, Broke, HasActed, HasBroken, after_pass, after_report, came_in, came_in_effects, pass_effects, turned, turned_effects}
 use Rattle.serve_turns.proofs.Parts.{did_then, did_broke, broke_first, did_as, broke_as, whole_front}
 use Rattle.serve_turns.proofs.Sendings.{unasked}
 
@@ -35,11 +35,11 @@ did_and_broke h0 h1 on does a b did =
 
 module _ (A : Type 0) (now : ℕ) (came : Option Packet) where
   -- what came is taken in, and what is due is answered
-  abbrev first_on : ⊤ × Delivery → Life → Life
+  abbrev first_on : Written × Delivery → Life → Life
   first_on how l = after_pass A now how.1 (came_in A now came how.0 l)
 
-  abbrev first_does : ⊤ × Delivery → Life → List Effect
-  first_does how l = came_in_effects now came how.0 l ++ pass_effects A now how.1 (came_in A now came how.0 l)
+  abbrev first_does : Written × Delivery → Life → List Effect
+  first_does how l = came_in_effects A now came how.0 l ++ pass_effects A now how.1 (came_in A now came how.0 l)
 
   -- what was dropped is told, and the journal is written anew where that is due
   abbrev then_on : Bool → Life → Life
@@ -48,34 +48,34 @@ module _ (A : Type 0) (now : ℕ) (came : Option Packet) where
   abbrev then_does : Bool → Life → List Effect
   then_does done l = renewal_effects now done (after_report now l)
 
-  abbrev answered_by : (⊤ × Delivery) × Bool → Answered
-  answered_by how = record { delivery = how.0.1; renewed = how.1 }
+  abbrev answered_by : (Written × Delivery) × Bool → Written × Answered
+  answered_by how = (how.0.0, record { delivery = how.0.1; renewed = how.1 })
 
   module _ {S R : Type 0} {C : _} (h0 h1 h2 h3 : Option (List Effect)) (a b c d e : Answerer S A R C) where
     broken_by : (h : Option (List Effect))
-        → Broke h0 h (λ (how : (⊤ × Delivery) × Bool) l. first_does how.0 l ++ then_does how.1 (first_on how.0 l)) a
+        → Broke h0 h (λ (how : (Written × Delivery) × Bool) l. first_does how.0 l ++ then_does how.1 (first_on how.0 l)) a
         → HasBroken now came h0 h a
     broken_by h broke =
-        broke_as h0 h (λ (how : (⊤ × Delivery) × Bool) l. first_does how.0 l ++ then_does how.1 (first_on how.0 l)) (acts A now came) a
+        broke_as h0 h (λ (how : (Written × Delivery) × Bool) l. first_does how.0 l ++ then_does how.1 (first_on how.0 l)) (turned_effects A now came) a
         answered_by (λ x l. refl) broke
 
-    pub act_broke_first : Broke h0 h1 (came_in_effects now came) a → HasBroken now came h0 h1 a
+    pub act_broke_first : Broke h0 h1 (came_in_effects A now came) a → HasBroken now came h0 h1 a
     act_broke_first broke =
         broken_by h1
         (broke_first h0 h1 h1 first_on first_does then_on then_does a false
-        (broke_first h0 h1 h1 (came_in A now came) (came_in_effects now came) (after_pass A now) (pass_effects A now) a unasked broke))
+        (broke_first h0 h1 h1 (came_in A now came) (came_in_effects A now came) (after_pass A now) (pass_effects A now) a unasked broke))
 
-    module _ (took : Did h0 h1 (came_in A now came) (came_in_effects now came) a b) where
+    module _ (took : Did h0 h1 (came_in A now came) (came_in_effects A now came) a b) where
       pub act_broke_passing : Broke h1 h2 (pass_effects A now) b → HasBroken now came h0 h2 a
       act_broke_passing broke =
           broken_by h2
           (broke_first h0 h2 h2 first_on first_does then_on then_does a false
-          (did_broke h0 h1 h2 (came_in A now came) (came_in_effects now came) (after_pass A now) (pass_effects A now) a b took broke))
+          (did_broke h0 h1 h2 (came_in A now came) (came_in_effects A now came) (after_pass A now) (pass_effects A now) a b took broke))
 
       module _ (passed : Did h1 h2 (after_pass A now) (pass_effects A now) b c) where
         first_done : Did h0 h2 first_on first_does a c
         first_done =
-            did_then h0 h1 h2 (came_in A now came) (came_in_effects now came) (after_pass A now) (pass_effects A now) a b c took passed
+            did_then h0 h1 h2 (came_in A now came) (came_in_effects A now came) (after_pass A now) (pass_effects A now) a b c took passed
 
         pub act_broke_telling : HasBroken now came h0 h2 a
         act_broke_telling =
@@ -92,8 +92,8 @@ module _ (A : Type 0) (now : ℕ) (came : Option Packet) where
 
           pub act_done : Did h2 h3 (after_renewal now) (renewal_effects now) d e → HasActed now came h0 h3 a e
           act_done did =
-              did_as h0 h3 (λ (how : (⊤ × Delivery) × Bool) l. then_on how.1 (first_on how.0 l))
-              (λ (how : (⊤ × Delivery) × Bool) l. first_does how.0 l ++ then_does how.1 (first_on how.0 l)) (after_turn A now came)
-              (acts A now came) a e answered_by (λ x l. refl) (λ x l. refl)
+              did_as h0 h3 (λ (how : (Written × Delivery) × Bool) l. then_on how.1 (first_on how.0 l))
+              (λ (how : (Written × Delivery) × Bool) l. first_does how.0 l ++ then_does how.1 (first_on how.0 l)) (turned A now came)
+              (turned_effects A now came) a e answered_by (λ x l. refl) (λ x l. refl)
               (did_then h0 h2 h3 first_on first_does then_on then_does a c e first_done
               (did_behind h2 h3 (after_report now) (after_renewal now) (renewal_effects now) c d e told did))

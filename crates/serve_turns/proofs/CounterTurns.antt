@@ -1,7 +1,7 @@
 -- A turn's devices go on, and each downlink of a turn has a counter below its device's next one.
 use Rattle.std.proofs.Common.{◌∙◌, Bool, true, false, List, ℕ, All, Option, ap, cond, subst, sym}
 use Rattle.std.specs.Prelude.{is_some}
-use Rattle.server_core.specs.declared.event.Event.TheVariants.{Hear, Pass, Tick}
+use Rattle.server_core.specs.declared.event.Event.TheVariants.{Queue, Hear, Pass, Tick}
 use Rattle.server_core.specs.Entries.{event_lines}
 use Rattle.server_core.specs.Schedule.{due_numbers, event_steps, reached}
 use Rattle.server_desk.specs.Passing.{pass_answer}
@@ -9,7 +9,7 @@ use Rattle.server_desk.specs.Register.{Device}
 use Rattle.server_desk.specs.World.{World}
 use Rattle.serve_downlinks.specs.Downlinks.{downlinks}
 use Rattle.serve_turns.specs.CounterLaw.{DevicesGoOn, EachDownlinkIsCounted, HaveOwnAddresses, IsCounted, settings_of}
-use Rattle.serve_turns.specs.Effects.{Packet}
+use Rattle.serve_turns.specs.Control.{Arrival}
 use Rattle.serve_turns.specs.Life.{Life}
 use Rattle.serve_turns.specs.SendLaw.{before_pass, behind_pass}
 use Rattle.serve_turns.specs.Turn.{after_came, after_turn}
@@ -41,9 +41,10 @@ passed_steps A old w now keep own =
 
 -- a turn
 
-module _ (A : Type 0) (now : ℕ) (came : Option Packet) (l : Life) where
+module _ (A : Type 0) (now : ℕ) (came : Option Arrival) (l : Life) where
   came_keeps : Keeps l.world (after_came A now came l).world
-  came_keeps = came_on Keeps same both A (λ w bytes heard arrived. keep_steps w (event_steps {A = A} w (Hear bytes heard arrived))) now came l
+  came_keeps = came_on Keeps same both A (λ w bytes heard arrived. keep_steps w (event_steps {A = A} w (Hear bytes heard arrived)))
+      (λ w addr port payload. keep_steps w (event_steps {A = A} w (Queue addr port payload))) now came l
 
   ticked_keeps : Keeps l.world (before_pass A now came l).world
   ticked_keeps =

@@ -306,6 +306,12 @@ module _ (id : ℕ) (rules : Rules) (rested : rules.gap ≤ most_gap) (p : ℕ) 
   hear_follows A w bytes heard arrived s journal h =
       leads_same w (reached w (event_steps {A = A} w (events.Hear bytes heard arrived))) s journal refl h
 
+  pub queue_follows : (A : Type 0) (w : World) (addr port : ℕ) (payload : List ℕ)
+      → Follows w (reached w (event_steps {A = A} w (events.Queue addr port payload)))
+  unfolding event_steps run_from step
+  queue_follows A w addr port payload s journal h =
+      leads_same w (reached w (event_steps {A = A} w (events.Queue addr port payload))) s journal refl h
+
   pub tick_follows : (A : Type 0) (w : World) (number now : ℕ)
       → Follows w (reached w (event_steps {A = A} w (events.Tick number now)))
   unfolding event_steps run_from step

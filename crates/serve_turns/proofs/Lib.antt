@@ -12,6 +12,8 @@ mod Renewals
 mod Sendings
 mod Passes
 mod Acts
+mod Controls
+mod WorkedCommands
 mod SendLaws
 mod SendOnce
 mod WorkedSends

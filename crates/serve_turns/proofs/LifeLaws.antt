@@ -18,7 +18,7 @@ use Rattle.serve_turns.specs.Life.{Life}
 use Rattle.serve_turns.specs.LifeLaw.{EveryServedLifeKeepsDuty, OpenInTurn, OpensOn, ServedLife, Turn, after_life as after_served_life, after_served, after_turns, all_noted, behind, turn_downlinks}
 use Rattle.serve_turns.specs.SendLaw.{before_pass, behind_pass, pass_downlinks}
 use Rattle.serve_turns.specs.Turn.{after_came}
-use Rattle.serve_turns.proofs.GatewayDeeds.{Follows, Leads, Stands, follows_both, follows_same, hear_follows, leads_both, leads_same, pass_leads, tick_follows}
+use Rattle.serve_turns.proofs.GatewayDeeds.{Follows, Leads, Stands, follows_both, follows_same, hear_follows, leads_both, leads_same, pass_leads, queue_follows, tick_follows}
 use Rattle.serve_turns.proofs.TurnWorlds.{came_on, ticks_on, turn_world}
 use Rattle.serve_turns.proofs.Unnumbered.{bare, bare_state}
 
@@ -42,7 +42,7 @@ module _ (A : Type 0) (id : ℕ) (rules : Rules) (rested : rules.gap ≤ most_ga
 
     came_led : On l.world came.world
     came_led = came_on On (follows_same id rules rested p names differ) (follows_both id rules rested p names differ) A
-        (hear_follows id rules rested p names differ A) t.now t.came l
+        (hear_follows id rules rested p names differ A) (queue_follows id rules rested p names differ A) t.now t.came l
 
     before_led : On l.world before.world
     before_led = follows_both id rules rested p names differ l.world came.world before.world came_led

@@ -10,9 +10,11 @@ use Rattle.server_core.specs.Schedule.{reached, event_steps}
 use Rattle.server_core.specs.Server.{seen, Does, IsAt, IsBetweenCalls, Seen, without_lines}
 use Rattle.run_lines.specs.EntryLine.{line_text}
 use Rattle.run_lines.specs.ReplayText.{entry_lines}
+use Rattle.run_lines.specs.declared.uplink_counts.UplinkCounts.{UplinkCounts}
+use Rattle.run_lines.specs.UplinkCounts.{counts_of}
 use Rattle.serve_turns.specs.declared.answerer.Answerer.{Answerer}
 use Rattle.serve_turns.specs.Lines.{asked_line}
-use Rattle.serve_turns.specs.Life.{Life, AreAnswers, Makes, IsReady, IsAlive, after_event, after_copy, doing, joining, number_in, refusal_of, telling}
+use Rattle.serve_turns.specs.Life.{Life, AreAnswers, Makes, IsReady, IsAlive, after_event, after_copy, counts_with, doing, joining, number_in, refusal_of, telling}
 
 -- nothing happened
 pub stays : {S A R : Type 0} {C : _} (a : Answerer S A R C) → IsReady a → Makes (λ l. l) a a
@@ -40,12 +42,13 @@ lines_told : {A : Type 0} (told : List (Entry A)) (lines : List (Line A)) → to
     → map (λ e. e.line) told ≡ lines
 lines_told told lines is = ap (map (λ e. e.line)) is ∙ map-map (λ e. e.line) (entry_at 0) lines ∙ map-id lines
 
--- all but the server and the text is the same
-pub record IsSameBeside {S A R : Type 0} {C : _} (old new : Answerer S A R C) : Type 0 where
+-- all but the server, the text and these counts is the same
+pub record IsSameBeside {S A R : Type 0} {C : _} (counted : UplinkCounts) (old new : Answerer S A R C) : Type 0 where
   pub known : new.forwarders.sessions.items ≡ old.forwarders.sessions.items
   pub kept : new.keeping ≡ old.keeping
   pub drops : new.drops.items ≡ old.drops.items
   pub told_at : new.told_at ≡ old.told_at
+  pub counts : new.counts ≡ counted
 
 -- an event was done by the core, and its lines were taken out
 pub record IsDone {S A R : Type 0} {C : _} (e : Event A) (told : List (Entry A)) (middle : Seen A) (old : Answerer S A R C)
@@ -65,7 +68,7 @@ module _ {S A R : Type 0} {C : _} (e : Event A) (told : List (Entry A)) (middle 
   pub are_answers : AreAnswers e told old
   are_answers l alive = lines_told told (event_lines l.world e) (lines_of l alive)
 
-  module _ (new : Answerer S A R C) (rest : seen new.server ≡ without_lines middle) (same : IsSameBeside old new) where
+  module _ (new : Answerer S A R C) (rest : seen new.server ≡ without_lines middle) where
     ready_again : IsReady new
     ready_again =
         record {
@@ -77,9 +80,10 @@ module _ {S A R : Type 0} {C : _} (e : Event A) (told : List (Entry A)) (middle 
     world_after l alive =
         subst (λ s. IsAt (reached l.world (event_steps l.world e)) s) (sym rest) (done.does l.world alive.at).at
 
-    pub event_told : new.text.writer.items ≡ old.text.writer.items ++ text_of (asked_line e ∷ entry_lines told)
+    pub event_told : IsSameBeside (counts_with old.counts (counts_of told)) old new
+        → new.text.writer.items ≡ old.text.writer.items ++ text_of (asked_line e ∷ entry_lines told)
         → Makes (after_event e) old new
-    event_told text =
+    event_told same text =
         record {
           ready = ready_again;
           goes = λ l alive.
@@ -89,13 +93,16 @@ module _ {S A R : Type 0} {C : _} (e : Event A) (told : List (Entry A)) (middle 
                 kept = same.kept ∙ alive.kept;
                 drops = same.drops ∙ alive.drops;
                 told_at = same.told_at ∙ alive.told_at;
+                counts = same.counts
+                    ∙ ap (λ t. counts_with t (counts_of told)) alive.counts
+                    ∙ ap (λ t. counts_with l.counts (counts_of t)) (lines_of l alive);
                 text = rw (text, alive.text, texts_told told (event_lines l.world e) (lines_of l alive)) refl;
               };
         }
 
     -- nothing of it is told
-    pub event_done : new.text.writer.items ≡ old.text.writer.items → Makes (doing e) old new
-    event_done text =
+    pub event_done : IsSameBeside old.counts old new → new.text.writer.items ≡ old.text.writer.items → Makes (doing e) old new
+    event_done same text =
         record {
           ready = ready_again;
           goes = λ l alive.
@@ -105,13 +112,14 @@ module _ {S A R : Type 0} {C : _} (e : Event A) (told : List (Entry A)) (middle 
                 kept = same.kept ∙ alive.kept;
                 drops = same.drops ∙ alive.drops;
                 told_at = same.told_at ∙ alive.told_at;
+                counts = same.counts ∙ alive.counts;
                 text = text ∙ alive.text;
               };
         }
 
 -- lines more are told, and nothing else changed
 pub told_more : {S A R : Type 0} {C : _} (lines : List (List ℕ)) (old new : Answerer S A R C) → IsReady old
-    → new.server ≡ old.server → IsSameBeside old new → new.text.writer.items ≡ old.text.writer.items ++ text_of lines
+    → new.server ≡ old.server → IsSameBeside old.counts old new → new.text.writer.items ≡ old.text.writer.items ++ text_of lines
     → Makes (telling lines) old new
 told_more lines old new ready server same text =
     record {
@@ -126,6 +134,7 @@ told_more lines old new ready server same text =
             kept = same.kept ∙ alive.kept;
             drops = same.drops ∙ alive.drops;
             told_at = same.told_at ∙ alive.told_at;
+            counts = same.counts ∙ alive.counts;
             text = text ∙ ap (λ t. t ++ text_of lines) alive.text;
           };
     }

@@ -1,5 +1,5 @@
 -- What follows where a call succeeds, or something is there.
-use Rattle.std.proofs.Common.{◌≡◌, Option, Some, None, Result, Ok, Err, IfSome, subst}
+use Rattle.std.proofs.Common.{◌≡◌, Option, Some, None, Result, Ok, Err, IfSome, subst, sym}
 use Rattle.std.specs.Prelude.{OnOk, OnErr}
 
 pub if_ok : {T E : Type 0} (r : Result T E) (P Q : Type 0) → (P → Q) → OnOk r P → OnOk r Q
@@ -12,6 +12,9 @@ if_some (Some x) P Q f p = f x p
 
 pub some_at : {X : Type 0} (o : Option X) (x : X) (P : X → Type 0) → o ≡ Some x → IfSome o P → P x
 some_at o x P is p = subst (λ v. IfSome v P) is p
+
+pub some_in : {X : Type 0} (o : Option X) (x : X) (P : X → Type 0) → o ≡ Some x → P x → IfSome o P
+some_in o x P is p = subst (λ v. IfSome v P) (sym is) p
 
 pub on_err : {T E : Type 0} (r : Result T E) (P : Type 0) → P → OnErr r P
 on_err (Ok v) P p = tt

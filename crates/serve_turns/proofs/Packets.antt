@@ -15,6 +15,7 @@ use Rattle.serve_turns.specs.Taking.{after_packet, after_packet_of, hear_event, 
 pub record HasHeard {S A R : Type 0} {C : _} (now place tmst : ℕ) (k : Known) (old new : Answerer S A R C) : Type 0 where
   pub known : new.forwarders.sessions.items ≡ slice_set old.forwarders.sessions.items place (heard_by tmst now k)
   pub server : new.server ≡ old.server
+  pub counts : new.counts ≡ old.counts
   pub kept : new.keeping ≡ old.keeping
   pub drops : new.drops.items ≡ old.drops.items
   pub told_at : new.told_at ≡ old.told_at
@@ -31,6 +32,7 @@ module _ {S A R : Type 0} {C : _} (now place : ℕ) (p : Received) (f : Forwarde
         kept = h.kept ∙ alive.kept;
         drops = h.drops ∙ alive.drops;
         told_at = h.told_at ∙ alive.told_at;
+        counts = h.counts ∙ alive.counts;
         text = h.text ∙ alive.text;
       }
 

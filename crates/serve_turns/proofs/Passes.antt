@@ -1,21 +1,35 @@
 -- Passes, reports and datagrams.
-use Rattle.std.proofs.Common.{◌≡◌, ◌∙◌, ◌-◌, Bool, true, false, List, [], ℕ, Option, ap, cond, map, nat_lt, is_some, subst, sym}
+use Rattle.std.proofs.Common.{◌≡◌, ◌∙◌, ◌-◌, Bool, true, false, List, [], ℕ, Option, Some, ap, cond, map, nat_lt, is_some, subst, sym}
 use Rattle.forwarder_sessions.specs.Received.{Comes, known_after, received_of}
+use Rattle.forwarder_sessions.specs.Sessions.{Known, tick_of}
 use Rattle.server_core.specs.declared.entry.Entry.{Entry}
-use Rattle.server_core.specs.declared.event.Event.TheVariants.{Pass}
+use Rattle.server_core.specs.declared.event.Event.TheVariants.{Pass, Tick}
 use Rattle.server_core.specs.Entries.{event_lines}
 use Rattle.server_core.specs.Server.{seen, IsAt}
 use Rattle.server_desk.specs.Desk.{DeskView}
 use Rattle.server_desk.specs.Passing.{pass_answer}
 use Rattle.serve_turns.specs.declared.answerer.Answerer.{Answerer}
+use Rattle.serve_turns.specs.declared.sending.Written.TheVariants.{NotAppended}
 use Rattle.serve_turns.specs.Effects.{Effect, Packet, Adds, AddsFront}
 use Rattle.serve_turns.specs.Life.{Life, AreAnswers, IsAlive, IsReady, Makes, after_event, saying_drops}
 use Rattle.serve_turns.specs.Sending.{sending, sending_effects}
 use Rattle.serve_turns.specs.Taking.{after_news}
-use Rattle.serve_turns.specs.Turn.{Did, Broke, after_pass, after_report, answering, answering_effects, comes, knowing, pass_effects, sent_back, ticking, told_every, took, took_effects}
+use Rattle.serve_turns.specs.Turn.{Did, Broke, after_pass, after_report, after_tick, after_tick_at, answering, answering_effects, comes, knowing, pass_effects, sent_back, ticking, told_every, took, took_effects}
 use Rattle.serve_turns.proofs.Effects.{adds_none}
 use Rattle.serve_turns.proofs.Parts.{nothing_front, whole_front}
 use Rattle.serve_turns.proofs.Sendings.{unasked}
+
+-- a tick
+
+pub tick_made : {S A R : Type 0} {C : _} (now gateway at : ℕ) (k : Known) (a b : Answerer S A R C) → tick_of now k ≡ Some at
+    → k.forwarder.gateway ≡ gateway → Makes (after_event {A = A} (Tick gateway at)) a b → Makes (after_tick A now k) a b
+tick_made {A = A} now gateway at k a b ticks own made =
+    record {
+      ready = made.ready;
+      goes = λ l alive.
+          subst (λ o. IsAlive (after_tick_at A k.forwarder.gateway o l) b) (sym ticks)
+          (subst (λ g. IsAlive (after_event {A = A} (Tick g at) l) b) (sym own) (made.goes l alive));
+    }
 
 -- a pass
 
@@ -86,6 +100,7 @@ module _ {S A R : Type 0} {C : _} (now : ℕ) (a : Answerer S A R C) where
 -- only when it was told last is another
 pub record IsSameButTold {S A R : Type 0} {C : _} (old new : Answerer S A R C) : Type 0 where
   pub server : new.server ≡ old.server
+  pub counts : new.counts ≡ old.counts
   pub known : new.forwarders.sessions.items ≡ old.forwarders.sessions.items
   pub kept : new.keeping ≡ old.keeping
   pub drops : new.drops.items ≡ old.drops.items
@@ -100,6 +115,7 @@ told_then now a b same told l alive =
       kept = same.kept ∙ alive.kept;
       drops = same.drops ∙ alive.drops;
       told_at = told;
+      counts = same.counts ∙ alive.counts;
       text = same.text ∙ alive.text;
     }
 
@@ -130,6 +146,7 @@ report_said now a b c late at made =
 pub record HasPulled {S A R : Type 0} {C : _} (now : ℕ) (p : Packet) (old new : Answerer S A R C) : Type 0 where
   pub known : new.forwarders.sessions.items ≡ known_after old.forwarders.sessions.items p.source now p.bytes
   pub server : new.server ≡ old.server
+  pub counts : new.counts ≡ old.counts
   pub kept : new.keeping ≡ old.keeping
   pub drops : new.drops.items ≡ old.drops.items
   pub told_at : new.told_at ≡ old.told_at
@@ -149,17 +166,18 @@ module _ {S A R : Type 0} {C : _} (now : ℕ) (p : Packet) (came : Comes) (a b :
         kept = pulled.kept ∙ alive.kept;
         drops = pulled.drops ∙ alive.drops;
         told_at = pulled.told_at ∙ alive.told_at;
+        counts = pulled.counts ∙ alive.counts;
         text = pulled.text ∙ alive.text;
       }
 
-  acked : (l : Life) → IsAlive l a → Adds h0 h1 (took_effects now p tt l)
+  acked : (l : Life) → IsAlive l a → Adds h0 h1 (took_effects now p NotAppended l)
   acked l alive = subst (λ (c : Comes). Adds h0 h1 (sent_back p.source c.acknowledgement)) (came_is l alive) adds
 
   pub took_done : (c : Answerer S A R C) → Makes (after_news A now came.news) b c
       → Did h0 h1 (took A now p) (took_effects now p) a c
   took_done c made =
       record {
-        how = tt;
+        how = NotAppended;
         ready = made.ready;
         lives = λ l alive.
             subst (λ (x : Comes). IsAlive (after_news A now x.news (knowing now p l)) c) (came_is l alive)
@@ -168,8 +186,8 @@ module _ {S A R : Type 0} {C : _} (now : ℕ) (p : Packet) (came : Comes) (a b :
       }
 
   pub took_cut : Broke h0 h1 (took_effects now p) a
-  took_cut = record { how = tt; effects = λ l alive. whole_front h0 h1 (took_effects now p tt l) (acked l alive) }
+  took_cut = record { how = NotAppended; effects = λ l alive. whole_front h0 h1 (took_effects now p NotAppended l) (acked l alive) }
 
 pub took_broke : {S A R : Type 0} {C : _} (now : ℕ) (p : Packet) (a : Answerer S A R C) (h : Option (List Effect))
     → Broke h h (took_effects now p) a
-took_broke now p a h = record { how = tt; effects = λ l alive. nothing_front h (took_effects now p tt l) }
+took_broke now p a h = record { how = NotAppended; effects = λ l alive. nothing_front h (took_effects now p NotAppended l) }

@@ -17,6 +17,7 @@ use Rattle.serve_turns.proofs.Parts.{nothing_front}
 -- all but what is known of the journal is the same
 pub record IsSameButKept {S A R : Type 0} {C : _} (old new : Answerer S A R C) : Type 0 where
   pub server : new.server ≡ old.server
+  pub counts : new.counts ≡ old.counts
   pub known : new.forwarders.sessions.items ≡ old.forwarders.sessions.items
   pub drops : new.drops.items ≡ old.drops.items
   pub told_at : new.told_at ≡ old.told_at
@@ -48,6 +49,7 @@ module _ {S A R : Type 0} {C : _} (h0 h1 : Option (List Effect)) (now : ℕ) (ol
               kept = kept ∙ ap (λ b. Some (kept_after now done (length b) k)) text;
               drops = same.drops ∙ alive.drops;
               told_at = same.told_at ∙ alive.told_at;
+              counts = same.counts ∙ alive.counts;
               text = same.text ∙ alive.text;
             });
         effects = λ l alive.

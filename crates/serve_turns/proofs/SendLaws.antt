@@ -12,15 +12,19 @@ use Rattle.serve_downlinks.specs.Fates.{fate_of}
 use Rattle.serve_downlinks.specs.Datagram.{token_of, asked_for}
 use Rattle.serve_downlinks.specs.Batch.{batch_entries, batch_text}
 use Rattle.serve_downlinks.proofs.BatchLaw.{batches_tell_what_is_sent}
+use Rattle.serve_turns.specs.declared.command.Command.{Command}
+use Rattle.serve_turns.specs.declared.command.Command.TheVariants.{Queue, Report}
 use Rattle.serve_turns.specs.declared.sending.Written.{Written}
 use Rattle.serve_turns.specs.declared.sending.Written.TheVariants.{NotAppended, NotSynced, Synced}
+use Rattle.serve_turns.specs.Command.{command_of, is_control}
+use Rattle.serve_turns.specs.Control.{Arrival, Need, Nothing, Failing, Batch, command_effects, control_effects, meeting_effects, need_for}
 use Rattle.serve_turns.specs.Effects.{Effect, Packet, Receives, Shows, Acknowledges, Appends, Syncs, Replaces, Sends, Tells, Cuts}
 use Rattle.serve_turns.specs.Kept.{Kept, with_kept_back}
 use Rattle.serve_turns.specs.Life.{Life}
 use Rattle.serve_turns.specs.Sending.{Asked, Delivery, after_kept_back, asked, asked_by, asking_effects, asking_effects_at, asking_effects_with, is_sendable, known_then, sendable, sending_effects_if_kept, sending_if, sent_one, some_kept_back, writing}
 use Rattle.serve_turns.specs.Renewing.{is_to_be_renewed, renewal_effects, renewing_effects, renewing_effects_if_kept}
 use Rattle.serve_turns.specs.SendLaw.{EachSend, EverySendIsKept, IsBehindItsBatch, before_pass, behind_pass, pass_downlinks}
-use Rattle.serve_turns.specs.Turn.{Answered, acknowledged, acts, after_came, after_pass, after_report, answering_effects, pass_effects, sent_back}
+use Rattle.serve_turns.specs.Turn.{Answered, acts, answers_to, after_came, after_pass, after_report, answering_effects, pass_effects, replied, sent_back}
 
 -- members
 
@@ -67,9 +71,28 @@ module _ (P : List Effect → Endpoint → List ℕ → Type 0) where
   each_back done to None = tt
   each_back done to (Some b) = tt
 
-  each_acknowledged : (done : List Effect) (now : ℕ) (came : Option Packet) (l : Life) → EachSend P done (acknowledged now came l)
-  each_acknowledged done now None l = tt
-  each_acknowledged done now (Some p) l = each_back done _ _
+  each_met : (done : List Effect) (w : Written) (need : Need) (source : Endpoint) (reply : List ℕ)
+      → EachSend P done (meeting_effects w need ++ Acknowledges source reply ∷ [])
+  each_met done w Nothing source reply = tt
+  each_met done w Failing source reply = tt
+  each_met done NotAppended (Batch batch) source reply = tt
+  each_met done NotSynced (Batch batch) source reply = tt
+  each_met done Synced (Batch batch) source reply = tt
+
+  each_commanded : {A : Type 0} (done : List Effect) (now : ℕ) (source : Endpoint) (o : Option (Command A)) (w : Written) (l : Life)
+      → EachSend P done (command_effects now source o w l)
+  each_commanded done now source None w l = tt
+  each_commanded done now source (Some Report) w l = tt
+  each_commanded done now source (Some (Queue q)) w l = each_met done w (need_for q l) source _
+
+  each_arrived : (A : Type 0) (done : List Effect) (now : ℕ) (p : Packet) (w : Written) (l : Life) (t : Bool)
+      → EachSend P done (cond t (control_effects A now p w l) (answers_to now p l))
+  each_arrived A done now p w l true = each_commanded {A = A} done now p.source (command_of p.bytes) w l
+  each_arrived A done now p w l false = each_back done _ _
+
+  each_replied : (A : Type 0) (done : List Effect) (now : ℕ) (came : Option Arrival) (l : Life) → EachSend P done (replied A now came l)
+  each_replied A done now None l = tt
+  each_replied A done now (Some a) l = each_arrived A done now a.packet a.written l (is_control a.packet)
 
   each_renewing : (done : List Effect) (now : ℕ) (is : Bool) (o : Option Kept) (l : Life)
       → EachSend P done (renewing_effects_if_kept now is o l)
@@ -108,6 +131,7 @@ module _ (now : ℕ) (all : List ToSend) (l : Life) (k : Kept) (keeps : l.kept �
         keeps = keeps;
         well = well;
         batch = entries;
+        whole = refl;
         told = λ f addr found session.
             batches_tell_what_is_sent (known_then k now l) (sendable l.known all) d f addr found session
             (filter_in (λ e. is_sendable (fate_of e l.known)) all d (ap is_sendable may) among);
@@ -184,7 +208,7 @@ module _ (now : ℕ) (all : List ToSend) (l : Life) (done : List Effect) (d : De
 
 -- of a turn
 
-module _ (A : Type 0) (now : ℕ) (came : Option Packet) (r : Answered) (l : Life) where
+module _ (A : Type 0) (now : ℕ) (came : Option Arrival) (r : Answered) (l : Life) where
   abbrev holds_in : List Effect → Endpoint → List ℕ → Type 0
   holds_in done to bytes = IsBehindItsBatch now (pass_downlinks A now came l) (behind_pass A now came l) done to bytes
 
@@ -202,10 +226,10 @@ module _ (A : Type 0) (now : ℕ) (came : Option Packet) (r : Answered) (l : Lif
 
   each_acted : EachSend holds_in [] (acts A now came r l)
   each_acted =
-      let acks = acknowledged now came l in
+      let acks = replied A now came l in
       let passed = pass_effects A now r.delivery (after_came A now came l) in
       each_append holds_in [] (acks ++ passed) _
-      (each_append holds_in [] acks passed (each_acknowledged holds_in [] now came l) (each_passed acks))
+      (each_append holds_in [] acks passed (each_replied holds_in A [] now came l) (each_passed acks))
       (each_renewal holds_in (acks ++ passed) now r.renewed
       (after_report now (after_pass A now r.delivery (after_came A now came l))))
 

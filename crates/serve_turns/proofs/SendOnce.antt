@@ -9,15 +9,19 @@ use Rattle.serve_downlinks.specs.declared.fate.Fate.TheVariants.{Barred, Unreach
 use Rattle.serve_downlinks.specs.Downlinks.{ToSend}
 use Rattle.serve_downlinks.specs.Fates.{fate_of}
 use Rattle.serve_downlinks.specs.Datagram.{token_of, asked_for}
+use Rattle.serve_turns.specs.declared.command.Command.{Command}
+use Rattle.serve_turns.specs.declared.command.Command.TheVariants.{Queue, Report}
 use Rattle.serve_turns.specs.declared.sending.Written.{Written}
 use Rattle.serve_turns.specs.declared.sending.Written.TheVariants.{NotAppended, NotSynced, Synced}
+use Rattle.serve_turns.specs.Command.{command_of, is_control}
+use Rattle.serve_turns.specs.Control.{Arrival, Need, Nothing, Failing, Batch, command_effects, control_effects, meeting_effects, need_for}
 use Rattle.serve_turns.specs.Effects.{Effect, Packet, Receives, Shows, Acknowledges, Appends, Syncs, Replaces, Sends, Tells, Cuts}
 use Rattle.serve_turns.specs.Kept.{Kept}
 use Rattle.serve_turns.specs.Life.{Life}
 use Rattle.serve_turns.specs.Sending.{Asked, Delivery, asked, asked_by, asking_effects, asking_effects_at, asking_effects_with, sending_effects_if_kept, sending_if, sent_one, writing}
 use Rattle.serve_turns.specs.Renewing.{is_to_be_renewed, renewal_effects, renewing_effects, renewing_effects_if_kept}
 use Rattle.serve_turns.specs.SendLaw.{EachIsSentOnce, IsFrontOf, before_pass, behind_pass, pass_downlinks, resp_by, resps_in, resps_of}
-use Rattle.serve_turns.specs.Turn.{Answered, acknowledged, acts, after_came, after_pass, after_report, answering_effects, pass_effects, sent_back}
+use Rattle.serve_turns.specs.Turn.{Answered, acts, answers_to, after_came, after_pass, after_report, answering_effects, pass_effects, replied, sent_back}
 
 -- one part of the effects behind another
 
@@ -44,9 +48,28 @@ none_back : (to : Endpoint) (o : Option (List ℕ)) → resps_in (sent_back to o
 none_back to None = refl
 none_back to (Some b) = refl
 
-none_acknowledged : (now : ℕ) (came : Option Packet) (l : Life) → resps_in (acknowledged now came l) ≡ []
-none_acknowledged now None l = refl
-none_acknowledged now (Some p) l = none_back _ _
+none_met : (w : Written) (need : Need) (source : Endpoint) (reply : List ℕ)
+    → resps_in (meeting_effects w need ++ Acknowledges source reply ∷ []) ≡ []
+none_met w Nothing source reply = refl
+none_met w Failing source reply = refl
+none_met NotAppended (Batch batch) source reply = refl
+none_met NotSynced (Batch batch) source reply = refl
+none_met Synced (Batch batch) source reply = refl
+
+none_commanded : {A : Type 0} (now : ℕ) (source : Endpoint) (o : Option (Command A)) (w : Written) (l : Life)
+    → resps_in (command_effects now source o w l) ≡ []
+none_commanded now source None w l = refl
+none_commanded now source (Some Report) w l = refl
+none_commanded now source (Some (Queue q)) w l = none_met w (need_for q l) source _
+
+none_arrived : (A : Type 0) (now : ℕ) (p : Packet) (w : Written) (l : Life) (t : Bool)
+    → resps_in (cond t (control_effects A now p w l) (answers_to now p l)) ≡ []
+none_arrived A now p w l true = none_commanded {A = A} now p.source (command_of p.bytes) w l
+none_arrived A now p w l false = none_back _ _
+
+none_replied : (A : Type 0) (now : ℕ) (came : Option Arrival) (l : Life) → resps_in (replied A now came l) ≡ []
+none_replied A now None l = refl
+none_replied A now (Some a) l = none_arrived A now a.packet a.written l (is_control a.packet)
 
 none_renewing : (now : ℕ) (is : Bool) (o : Option Kept) (l : Life) → resps_in (renewing_effects_if_kept now is o l) ≡ []
 none_renewing now is None l = refl
@@ -115,7 +138,7 @@ front_if_kept now d ds (Some k) l =
 
 -- of a turn
 
-module _ (A : Type 0) (now : ℕ) (came : Option Packet) (r : Answered) (l : Life) where
+module _ (A : Type 0) (now : ℕ) (came : Option Arrival) (r : Answered) (l : Life) where
   abbrev whole : List (Endpoint × List ℕ)
   whole = resps_of (behind_pass A now came l).known (pass_downlinks A now came l)
 
@@ -133,7 +156,7 @@ module _ (A : Type 0) (now : ℕ) (came : Option Packet) (r : Answered) (l : Lif
       let passed = pass_effects A now r.delivery (after_came A now came l) in
       let behind = after_report now (after_pass A now r.delivery (after_came A now came l)) in
       subst (λ resps. IsFrontOf whole resps)
-      (sym (between (acknowledged now came l) passed (renewal_effects now r.renewed behind) (none_acknowledged now came l)
+      (sym (between (replied A now came l) passed (renewal_effects now r.renewed behind) (none_replied A now came l)
       (none_renewal now r.renewed behind)))
       front_passed
 

@@ -1,5 +1,5 @@
 -- What a turn does to the world: the events of what came, ticks, and a pass; all else leaves it.
-use Rattle.std.proofs.Common.{◌≡◌, ◌∙◌, Bool, true, false, List, [], ◌∷◌, ℕ, Option, Some, None, Result, Ok, Err, cond, refl}
+use Rattle.std.proofs.Common.{◌≡◌, ◌∙◌, Bool, true, false, List, [], ◌∷◌, ℕ, Option, Some, None, Result, Ok, Err, cond, refl, subst}
 use Rattle.std.specs.Prelude.{◌-◌, is_some, nat_lt, slice_get}
 use Rattle.forwarder_packets.specs.Entries.{Read}
 use Rattle.forwarder_packets.specs.Entry.{Received}
@@ -7,7 +7,7 @@ use Rattle.forwarder_sessions.specs.declared.received.PushDropped.{PushDropped}
 use Rattle.forwarder_sessions.specs.Received.{Tells, Dropped, Pulled_from, Pushed, Answered as Acknowledged}
 use Rattle.forwarder_sessions.specs.Sessions.{Known, tick_of}
 use Rattle.server_core.specs.declared.event.Event.{Event}
-use Rattle.server_core.specs.declared.event.Event.TheVariants.{Hear, Tick}
+use Rattle.server_core.specs.declared.event.Event.TheVariants.{Queue, Hear, Tick}
 use Rattle.server_core.specs.Entries.{event_lines}
 use Rattle.server_core.specs.Schedule.{event_steps, reached}
 use Rattle.server_desk.specs.declared.faults.DeskFault.{DeskFault}
@@ -15,8 +15,14 @@ use Rattle.server_desk.specs.declared.heard.Heard1.{Heard1}
 use Rattle.server_desk.specs.Passing.{pass_answer}
 use Rattle.server_desk.specs.World.{World}
 use Rattle.serve_downlinks.specs.Downlinks.{ToSend}
+use Rattle.serve_turns.specs.declared.command.Command.{Command}
+use Rattle.serve_turns.specs.declared.command.Command.TheVariants as asks
+use Rattle.serve_turns.specs.declared.command.Command.TheVariants.{Report}
+use Rattle.serve_turns.specs.declared.command.ToQueue.{ToQueue}
 use Rattle.serve_turns.specs.declared.sending.Written.{Written}
 use Rattle.serve_turns.specs.declared.sending.Written.TheVariants.{NotAppended, NotSynced, Synced}
+use Rattle.serve_turns.specs.Command.{command_of, is_control}
+use Rattle.serve_turns.specs.Control.{Arrival, Need, Nothing, Failing, Batch, after_command, after_control, is_met, meeting, need_for, queueing}
 use Rattle.serve_turns.specs.Effects.{Packet}
 use Rattle.serve_turns.specs.Kept.{Kept}
 use Rattle.serve_turns.specs.Life.{Life, after_copy_as, after_event, joining, number_in, saying_drops}
@@ -24,7 +30,7 @@ use Rattle.serve_turns.specs.Renewing.{after_renewal, is_to_be_renewed, renewing
 use Rattle.serve_turns.specs.SendLaw.{behind_pass, pass_downlinks}
 use Rattle.serve_turns.specs.Sending.{Asked, Delivery, after_kept_back, asked, asking, asking_at, asking_with, delivered_as, sendable, sending_if_kept}
 use Rattle.serve_turns.specs.Taking.{after_ack_of, after_entries, after_entry, after_news, after_packet_of, after_packets}
-use Rattle.serve_turns.specs.Turn.{Answered, after_came, after_pass, after_report, after_tick, after_tick_at, after_ticks, after_turn, answering, comes, knowing, ticking, told_every}
+use Rattle.serve_turns.specs.Turn.{Answered, after_came, after_datagram, after_pass, after_report, after_tick, after_tick_at, after_ticks, after_turn, answering, comes, knowing, ticking, told_every}
 
 -- what is so of a world and itself, and of one world after another
 module _ (R : World → World → Type 0) (same : (w : World) → R w w) (both : (u v w : World) → R u v → R v w → R u w) (A : Type 0) where
@@ -68,17 +74,45 @@ module _ (R : World → World → Type 0) (same : (w : World) → R w w) (both :
   ack_on token failed None l = same l.world
   ack_on token failed (Some k) l = same l.world
 
+  -- what a program on the machine itself asks for
+
+  met_world : (now : ℕ) (w : Written) (need : Need) (l : Life) → (meeting now w need l).world ≡ l.world
+  met_world now w Nothing l = refl
+  met_world now w Failing l = refl
+  met_world now w (Batch batch) l = refl
+
+  module _ (queues : (w : World) (addr port : ℕ) (payload : List ℕ)
+      → R w (reached w (event_steps {A = A} w (Queue addr port payload)))) (now : ℕ) where
+    queued_on : (q : ToQueue A) (l : Life) (t : Bool) → After l (queueing t q l)
+    queued_on q l true = queues l.world q.addr q.port q.payload
+    queued_on q l false = same l.world
+
+    commanded_on : (o : Option (Command A)) (w : Written) (l : Life) → After l (after_command now o w l)
+    commanded_on None w l = same l.world
+    commanded_on (Some Report) w l = same l.world
+    commanded_on (Some (asks.Queue q)) w l =
+        let need = need_for q l in
+        let m = meeting now w need l in
+        subst (λ v. R v (queueing (is_met w need) q m).world) (met_world now w need l) (queued_on q m (is_met w need))
+
   module _ (hears : (w : World) (bytes : List ℕ) (heard : Heard1) (arrived : ℕ)
-      → R w (reached w (event_steps {A = A} w (Hear bytes heard arrived)))) (now : ℕ) where
+      → R w (reached w (event_steps {A = A} w (Hear bytes heard arrived))))
+      (queues : (w : World) (addr port : ℕ) (payload : List ℕ)
+      → R w (reached w (event_steps {A = A} w (Queue addr port payload)))) (now : ℕ) where
     news_on : (news : Tells) (l : Life) → After l (after_news A now news l)
     news_on (Dropped fault eui) l = same l.world
     news_on (Pulled_from place) l = same l.world
     news_on (Pushed place packets) l = packets_on hears now place packets l
     news_on (Acknowledged place token failed) l = ack_on token failed (slice_get l.known place) l
 
-    pub came_on : (came : Option Packet) (l : Life) → After l (after_came A now came l)
+    arrived_on : (p : Packet) (w : Written) (l : Life) (t : Bool)
+        → After l (cond t (after_control A now p w l) (after_datagram A now p l))
+    arrived_on p w l true = commanded_on queues now (command_of p.bytes) w l
+    arrived_on p w l false = news_on (comes now p l.known).news (knowing now p l)
+
+    pub came_on : (came : Option Arrival) (l : Life) → After l (after_came A now came l)
     came_on None l = same l.world
-    came_on (Some p) l = news_on (comes now p l.known).news (knowing now p l)
+    came_on (Some a) l = arrived_on a.packet a.written l (is_control a.packet)
 
   -- ticks
 
@@ -138,7 +172,7 @@ renewed_world now done l = world_if (is_to_be_renewed now l.kept)
     world_if true = renewing_world now done l.kept l
     world_if false = refl
 
-module _ (A : Type 0) (now : ℕ) (came : Option Packet) (r : Answered) (l : Life) where
+module _ (A : Type 0) (now : ℕ) (came : Option Arrival) (r : Answered) (l : Life) where
   abbrev then : Life
   then = after_came A now came l
 

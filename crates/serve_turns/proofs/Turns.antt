@@ -1,10 +1,12 @@
 -- A turn.
-use Rattle.std.proofs.Common.{◌≡◌, ◌≤◌, ◌++◌, ◌∙◌, ◌^◌, List, [], ◌∷◌, ℕ, Option, Some, ap, subst, sym}
+use Rattle.std.proofs.Common.{◌≡◌, ◌≤◌, ◌++◌, ◌∙◌, ◌^◌, List, [], ◌∷◌, ℕ, Option, Some, None, ap, refl, subst, sym}
 use Rattle.server_core.specs.Server.{seen, IsAt, IsBetweenCalls}
 use Rattle.serve_turns.specs.declared.serving.Serving.{Serving}
-use Rattle.serve_turns.specs.Effects.{Effect, Packet, Receives, Shows, Cuts, Adds}
+use Rattle.serve_turns.specs.declared.sending.Written.{Written}
+use Rattle.serve_turns.specs.Control.{arrival, packet_of_arrival}
+use Rattle.serve_turns.specs.Effects.{Effect, Packet, Receives, Shows, Cuts, Adds, AddsFront}
 use Rattle.serve_turns.specs.Life.{Life, IsAlive, IsReady}
-use Rattle.serve_turns.specs.Turn.{HasActed, HasBroken, IsBroken, IsCut, IsTold, IsTurn, IsUntold, acts, after_turn, begun, told_text, without_text}
+use Rattle.serve_turns.specs.Turn.{HasActed, HasBroken, IsBroken, IsCut, IsTold, IsTurn, IsUntold, begun, told_text, turned, turned_effects, without_text}
 use Rattle.serve_turns.proofs.Effects.{adds_then}
 use Rattle.serve_turns.proofs.Parts.{front_then}
 
@@ -14,6 +16,11 @@ begun_then : (h0 h1 h2 h3 : Option (List Effect)) (now : ℕ) (came : Option Pac
 begun_then h0 h1 h2 h3 now came more seen_first shown rest =
     adds_then h0 h1 h3 (Receives came ∷ []) (Shows (Some now) ∷ more) seen_first
     (adds_then h1 h2 h3 (Shows (Some now) ∷ []) more shown rest)
+
+-- the datagram of an arrival is the one that came
+came_back : (came : Option Packet) (w : Written) → packet_of_arrival (arrival came w) ≡ came
+came_back None w = refl
+came_back (Some p) w = refl
 
 module _ {S A R : Type 0} {C : _} (came : Option Packet) (now : ℕ) (old middle new : Serving S A R C)
     (h0 h1 h2 h3 h4 : Option (List Effect)) (told : IsTold h3 h4 middle.answerer new.answerer) where
@@ -32,6 +39,7 @@ module _ {S A R : Type 0} {C : _} (came : Option Packet) (now : ℕ) (old middle
         kept = told.kept ∙ alive.kept;
         drops = ap (λ d. d.items) told.drops ∙ alive.drops;
         told_at = told.told_at ∙ alive.told_at;
+        counts = told.counts ∙ alive.counts;
         text = told.none;
       }
 
@@ -39,17 +47,18 @@ module _ {S A R : Type 0} {C : _} (came : Option Packet) (now : ℕ) (old middle
       → HasActed now came h2 h3 old.answerer middle.answerer → IsTurn h0 h4 old new
   turn_made seen_first shown early acted =
       record {
-        came = came;
+        came = arrival came acted.how.0;
         now = now;
         early = early;
-        answered = acted.how;
+        answered = acted.how.1;
         between = record { ready = ready_still acted.ready; told = told.none };
-        lives = λ l alive. alive_still (after_turn A now came acted.how l) (acted.lives l alive);
+        lives = λ l alive. alive_still (turned A now came acted.how l) (acted.lives l alive);
         effects = λ l alive.
-            begun_then h0 h1 h2 h4 now came (acts A now came acted.how l ++ told_text (after_turn A now came acted.how l).text)
-            seen_first shown
-            (adds_then h2 h3 h4 (acts A now came acted.how l) (told_text (after_turn A now came acted.how l).text)
-            (acted.effects l alive) (subst (λ t. Adds h3 h4 (told_text t)) (acted.lives l alive).text told.told));
+            let more = turned_effects A now came acted.how l ++ told_text (turned A now came acted.how l).text in
+            subst (λ c. Adds h0 h4 (begun now c more)) (sym (came_back came acted.how.0))
+            (begun_then h0 h1 h2 h4 now came more seen_first shown
+            (adds_then h2 h3 h4 (turned_effects A now came acted.how l) (told_text (turned A now came acted.how l).text)
+            (acted.effects l alive) (subst (λ t. Adds h3 h4 (told_text t)) (acted.lives l alive).text told.told)));
       }
 
 -- a turn whose lines were not told whole
@@ -58,18 +67,19 @@ pub turn_cut : {S A R : Type 0} {C : _} (came : Option Packet) (now : ℕ) (old 
     → Adds h1 h2 (Shows (Some now) ∷ []) → now ≤ 2 ^ 60 → HasActed now came h2 h3 old.answerer middle.answerer → IsUntold h0 h4 old
 turn_cut {A = A} came now old middle h0 h1 h2 h3 h4 cut seen_first shown early acted =
     record {
-      came = came;
+      came = arrival came acted.how.0;
       now = now;
       early = early;
-      answered = acted.how;
+      answered = acted.how.1;
       untold = λ l alive.
           let text = (acted.lives l alive).text in
+          let more = turned_effects A now came acted.how l ++ Cuts (turned A now came acted.how l).text ∷ [] in
           record {
             some = λ none. cut.some (text ∙ none);
-            effects = begun_then h0 h1 h2 h4 now came
-                (acts A now came acted.how l ++ Cuts (after_turn A now came acted.how l).text ∷ []) seen_first shown
-                (adds_then h2 h3 h4 (acts A now came acted.how l) (Cuts (after_turn A now came acted.how l).text ∷ [])
-                (acted.effects l alive) (subst (λ t. Adds h3 h4 (Cuts t ∷ [])) text cut.cut));
+            effects = subst (λ c. Adds h0 h4 (begun now c more)) (sym (came_back came acted.how.0))
+                (begun_then h0 h1 h2 h4 now came more seen_first shown
+                (adds_then h2 h3 h4 (turned_effects A now came acted.how l) (Cuts (turned A now came acted.how l).text ∷ [])
+                (acted.effects l alive) (subst (λ t. Adds h3 h4 (Cuts t ∷ [])) text cut.cut)));
           };
     }
 
@@ -79,11 +89,13 @@ pub turn_broken : {S A R : Type 0} {C : _} (came : Option Packet) (now : ℕ) (o
     → HasBroken now came h2 h3 old.answerer → IsBroken h0 h3 old
 turn_broken {A = A} came now old h0 h1 h2 h3 seen_first shown early broken =
     record {
-      came = came;
+      came = arrival came broken.how.0;
       now = now;
       early = early;
-      answered = broken.how;
+      answered = broken.how.1;
       effects = λ l alive.
-          front_then h0 h1 h3 (Receives came ∷ []) (Shows (Some now) ∷ acts A now came broken.how l) seen_first
-          (front_then h1 h2 h3 (Shows (Some now) ∷ []) (acts A now came broken.how l) shown (broken.effects l alive));
+          let does = turned_effects A now came broken.how l in
+          subst (λ c. AddsFront h0 h3 (begun now c does)) (sym (came_back came broken.how.0))
+          (front_then h0 h1 h3 (Receives came ∷ []) (Shows (Some now) ∷ does) seen_first
+          (front_then h1 h2 h3 (Shows (Some now) ∷ []) does shown (broken.effects l alive)));
     }

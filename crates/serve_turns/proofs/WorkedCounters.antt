@@ -18,7 +18,8 @@ use Rattle.serve_downlinks.specs.BatchLaw.{AreInOrder}
 use Rattle.serve_downlinks.specs.Downlinks.{ToSend}
 use Rattle.serve_downlinks.specs.Fates.{forwarder_of}
 use Rattle.serve_turns.specs.CounterLaw.{DevicesGoOn, EachDownlinkIsCounted, HaveOwnAddresses, IsCounted, settings_of}
-use Rattle.serve_turns.specs.Effects.{Packet, Appends, Syncs, Sends}
+use Rattle.serve_turns.specs.Control.{Arrival}
+use Rattle.serve_turns.specs.Effects.{Appends, Syncs, Sends}
 use Rattle.serve_turns.specs.Kept.{Kept}
 use Rattle.serve_turns.specs.Life.{Life}
 use Rattle.serve_turns.specs.SendLaw.{EachSend, EverySendIsKept, IsBehindItsBatch, behind_pass, pass_downlinks}
@@ -28,7 +29,7 @@ use Rattle.server_core.proofs.Members.{apart_once}
 
 -- What the laws say together of a turn that sends, from the laws alone.
 
-module _ (A : Type 0) (keeps : EverySendIsKept A) (counts : EachDownlinkIsCounted A) (now : ℕ) (came : Option Packet) (r : Answered)
+module _ (A : Type 0) (keeps : EverySendIsKept A) (counts : EachDownlinkIsCounted A) (now : ℕ) (came : Option Arrival) (r : Answered)
     (l : Life) (own : HaveOwnAddresses (settings_of l.world.reg.devices)) where
   abbrev after : Life
   after = behind_pass A now came l
@@ -69,7 +70,7 @@ module _ (A : Type 0) (keeps : EverySendIsKept A) (counts : EachDownlinkIsCounte
 
 -- Of two turns one after the other.
 
-module _ (A : Type 0) (counts : EachDownlinkIsCounted A) (goes : DevicesGoOn A) (now : ℕ) (came : Option Packet) (r : Answered)
+module _ (A : Type 0) (counts : EachDownlinkIsCounted A) (goes : DevicesGoOn A) (now : ℕ) (came : Option Arrival) (r : Answered)
     (l : Life) (own : HaveOwnAddresses (settings_of l.world.reg.devices)) where
   abbrev next : Life
   next = after_turn A now came r l
@@ -88,7 +89,7 @@ module _ (A : Type 0) (counts : EachDownlinkIsCounted A) (goes : DevicesGoOn A) 
 
   -- a downlink of the next turn has a greater counter than one of this turn to the same device
   pub next_counter_is_greater : is_some (pass_answer (after_came A now came l).world.reg now) ≡ true → (then : ℕ)
-      (comes : Option Packet) (d e : ToSend) → Contains (pass_downlinks A now came l) d → Contains (pass_downlinks A then comes next) e
+      (comes : Option Arrival) (d e : ToSend) → Contains (pass_downlinks A now came l) d → Contains (pass_downlinks A then comes next) e
       → (first : Job) × (second : Job) × (d.frame ≡ frame_for first d.candidate) × (e.frame ≡ frame_for second e.candidate)
       × (first.addr ≡ second.addr → first.counter < second.counter)
   next_counter_is_greater due then comes d e among also =

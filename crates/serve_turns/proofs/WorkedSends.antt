@@ -1,4 +1,4 @@
-use Rattle.std.proofs.Common.{ℕ, ◌≡◌, true, false, Bool, List, [], ◌∷◌, ◌++◌, Contains, Option, Some, None, ap, subst, sym, ◌∙◌}
+use Rattle.std.proofs.Common.{ℕ, ◌≡◌, true, Bool, List, [], ◌∷◌, ◌++◌, Contains, Option, Some, None, ap, subst, sym, ◌∙◌}
 use Rattle.forwarder_packets.specs.PullResp.{pull_resp_of}
 use Rattle.forwarder_sessions.specs.declared.session.Endpoint.{Endpoint}
 use Rattle.forwarder_sessions.specs.Sessions.{Known}
@@ -8,7 +8,8 @@ use Rattle.serve_downlinks.specs.Downlinks.{ToSend}
 use Rattle.serve_downlinks.specs.Fates.{fate_of}
 use Rattle.serve_downlinks.specs.Datagram.{token_of, asked_for}
 use Rattle.serve_downlinks.specs.Batch.{batch_text}
-use Rattle.serve_turns.specs.Effects.{Effect, Packet, Appends, Syncs, Sends}
+use Rattle.serve_turns.specs.Control.{Arrival}
+use Rattle.serve_turns.specs.Effects.{Effect, Appends, Syncs, Sends}
 use Rattle.serve_turns.specs.Kept.{Kept}
 use Rattle.serve_turns.specs.Life.{Life}
 use Rattle.serve_turns.specs.SendLaw.{EachIsSentOnce, EachSend, EverySendIsKept, IsBehindItsBatch, IsFrontOf, IsTold, behind_pass, pass_downlinks, resp_by, resps_in, resps_of}
@@ -16,7 +17,7 @@ use Rattle.serve_turns.specs.Turn.{Answered, acts}
 
 -- What the law says of a turn, from the law alone.
 
-module _ (A : Type 0) (law : EverySendIsKept A) (now : ℕ) (came : Option Packet) (r : Answered) (l : Life) where
+module _ (A : Type 0) (law : EverySendIsKept A) (now : ℕ) (came : Option Arrival) (r : Answered) (l : Life) where
   abbrev after : Life
   after = behind_pass A now came l
 
@@ -82,7 +83,7 @@ module _ (A : Type 0) (law : EverySendIsKept A) (now : ℕ) (came : Option Packe
 
 -- What the other law says, from the law alone.
 
-module _ (A : Type 0) (law : EachIsSentOnce A) (now : ℕ) (came : Option Packet) (r : Answered) (l : Life) where
+module _ (A : Type 0) (law : EachIsSentOnce A) (now : ℕ) (came : Option Arrival) (r : Answered) (l : Life) where
   front_of : (effects : List Effect) → acts A now came r l ≡ effects
       → IsFrontOf (resps_of (behind_pass A now came l).known (pass_downlinks A now came l)) (resps_in effects)
   front_of effects does =

@@ -6,7 +6,7 @@ use Rattle.server_desk.specs.Register.{Device, device_with}
 use Rattle.server_desk.specs.Taking.{keys_of}
 use Rattle.serve_downlinks.specs.Downlinks.{ToSend}
 use Rattle.serve_downlinks.specs.Batch.{addr_in}
-use Rattle.serve_turns.specs.Effects.{Packet}
+use Rattle.serve_turns.specs.Control.{Arrival}
 use Rattle.serve_turns.specs.Life.{Life}
 use Rattle.serve_turns.specs.SendLaw.{behind_pass, pass_downlinks}
 use Rattle.serve_turns.specs.Turn.{Answered, after_came, after_turn}
@@ -40,7 +40,7 @@ pub record IsCounted (old new : List Device) (d : ToSend) : Type 0 where
 -- no less than the next one that its device had before the turn, and less than the next one that it has after the pass
 abbrev pub EachDownlinkIsCounted : Type 0 → Type 0
 EachDownlinkIsCounted A =
-    (now : ℕ) (came : Option Packet) (l : Life) → HaveOwnAddresses (settings_of l.world.reg.devices)
+    (now : ℕ) (came : Option Arrival) (l : Life) → HaveOwnAddresses (settings_of l.world.reg.devices)
     → All (IsCounted l.world.reg.devices (behind_pass A now came l).world.reg.devices) (pass_downlinks A now came l)
 
 -- the same devices later on, set alike, none of them with a lower next downlink counter
@@ -50,7 +50,7 @@ pub record GoOn (old new : List Device) : Type 0 where
       → before.down ≤ after.down
 
 -- in a turn the devices go on, and where an uplink is due, from the pass on they do
-pub record HasDevicesOn (A : Type 0) (now : ℕ) (came : Option Packet) (r : Answered) (l : Life) : Type 0 where
+pub record HasDevicesOn (A : Type 0) (now : ℕ) (came : Option Arrival) (r : Answered) (l : Life) : Type 0 where
   pub turn : GoOn l.world.reg.devices (after_turn A now came r l).world.reg.devices
   pub pass : is_some (pass_answer (after_came A now came l).world.reg now) ≡ true
       → GoOn (behind_pass A now came l).world.reg.devices (after_turn A now came r l).world.reg.devices
@@ -58,4 +58,4 @@ pub record HasDevicesOn (A : Type 0) (now : ℕ) (came : Option Packet) (r : Ans
 -- the law: no turn changes which devices there are, nor how one is set, and no next downlink counter falls, in a turn as a whole and
 -- from its pass on
 abbrev pub DevicesGoOn : Type 0 → Type 0
-DevicesGoOn A = (now : ℕ) (came : Option Packet) (r : Answered) (l : Life) → HasDevicesOn A now came r l
+DevicesGoOn A = (now : ℕ) (came : Option Arrival) (r : Answered) (l : Life) → HasDevicesOn A now came r l

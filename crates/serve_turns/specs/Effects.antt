@@ -14,7 +14,7 @@ pub data Effect : Type 0 where
   -- a datagram came, or none did; the clock showed a moment, or none
   Receives : Option Packet → Effect
   Shows : Option ℕ → Effect
-  -- it was to send an acknowledgement
+  -- it was to send an acknowledgement, or an answer
   Acknowledges : Endpoint → List ℕ → Effect
   -- it was to add bytes to the journal's file, to have the disk keep that file, and to put a whole journal in its place; and each
   -- time whether that was done

@@ -7,6 +7,9 @@ pub mod Life
 pub mod Taking
 pub mod Sending
 pub mod Renewing
+pub mod Command
+pub mod Control
+pub mod Controlled
 pub mod Turn
 pub mod SendLaw
 pub mod CounterLaw

@@ -1,4 +1,4 @@
-use Rattle.std.specs.Prelude.{ℕ, ◌≡◌, List, [], ◌∷◌, ◌++◌, map, slice_get, slice_set, Option, Some, None}
+use Rattle.std.specs.Prelude.{ℕ, ◌≡◌, ◌+◌, ◌-◌, ◌^◌, min, List, [], ◌∷◌, ◌++◌, map, slice_get, slice_set, Option, Some, None}
 use Rattle.text_lines.specs.Line.{text_of}
 use Rattle.forwarder_sessions.specs.Sessions.{Known, joined_by}
 use Rattle.server_core.specs.declared.event.Event.{Event}
@@ -6,13 +6,15 @@ use Rattle.server_core.specs.declared.entry.Entry.{Entry}
 use Rattle.server_core.specs.declared.entry.Line.{Line}
 use Rattle.server_core.specs.declared.entry.Line.TheVariants.{Heard, NotHeard}
 use Rattle.server_core.specs.Schedule.{reached, event_steps}
-use Rattle.server_core.specs.Entries.{event_lines}
+use Rattle.server_core.specs.Entries.{entry_at, event_lines}
 use Rattle.server_core.specs.Server.{seen, IsAt, IsBetweenCalls}
 use Rattle.server_desk.specs.declared.faults.DeskFault.{DeskFault}
 use Rattle.server_desk.specs.declared.heard.DeskHeard.TheVariants.{Opened, Joined}
 use Rattle.server_desk.specs.World.{World}
 use Rattle.run_lines.specs.EntryLine.{line_text}
 use Rattle.run_lines.specs.EntryName.{hear_name}
+use Rattle.run_lines.specs.declared.uplink_counts.UplinkCounts.{UplinkCounts}
+use Rattle.run_lines.specs.UplinkCounts.{counts_of}
 use Rattle.serve_turns.specs.declared.answerer.Answerer.{Answerer}
 use Rattle.serve_turns.specs.Kept.{Kept}
 use Rattle.serve_turns.specs.Tallies.{Count, dropped_by}
@@ -21,13 +23,14 @@ use Rattle.serve_turns.specs.Lines.{asked_line, drop_line}
 -- What a server knows, answers, tells and counts.
 
 -- the world; the packet forwarders; the journal, where one is kept; what was dropped and not told yet, and when that was told last;
--- and the lines of this turn so far
+-- how many uplinks were answered, by the lines that answer events; and the lines of this turn so far
 pub record Life : Type 0 where
   pub world : World
   pub known : List Known
   pub kept : Option Kept
   pub drops : List Count
   pub told_at : ℕ
+  pub counts : UplinkCounts
   pub text : List ℕ
 
 -- these lines are told
@@ -50,9 +53,25 @@ doing e l = record l { world = reached l.world (event_steps l.world e) }
 abbrev pub told_event : {A : Type 0} → World → Event A → List (List ℕ)
 told_event w e = asked_line e ∷ map line_text (event_lines w e)
 
+-- a count goes no further than 2^128 - 1
+abbrev pub counted : ℕ → ℕ → ℕ
+counted count more = min (count + more) (2 ^ 128 - 1)
+
+-- the uplinks of lines that answer an event are counted
+abbrev pub counts_with : UplinkCounts → UplinkCounts → UplinkCounts
+counts_with t u =
+    record {
+      sent = counted t.sent u.sent;
+      unanswered = counted t.unanswered u.unanswered;
+      silent = counted t.silent u.silent;
+    }
+
+abbrev pub counting : {A : Type 0} → List (Line A) → Life → Life
+counting lines l = record l { counts = counts_with l.counts (counts_of (map (entry_at 0) lines)) }
+
 -- an event is answered, and told
 abbrev pub after_event : {A : Type 0} → Event A → Life → Life
-after_event e l = telling (told_event l.world e) (doing e l)
+after_event e l = counting (event_lines l.world e) (telling (told_event l.world e) (doing e l))
 
 -- why a copy was refused, by the lines that answer it
 abbrev pub refusal_of : {A : Type 0} → List (Line A) → Option DeskFault
@@ -92,6 +111,7 @@ pub record IsAlive {S A R : Type 0} {C : _} (l : Life) (a : Answerer S A R C) : 
   pub kept : a.keeping ≡ l.kept
   pub drops : a.drops.items ≡ l.drops
   pub told_at : a.told_at ≡ l.told_at
+  pub counts : a.counts ≡ l.counts
   pub text : a.text.writer.items ≡ l.text
 
 -- it is ready for an event, and all lines of earlier ones were taken out

@@ -10,18 +10,18 @@ use Rattle.server_desk.specs.Passing.{pass_answer}
 use Rattle.server_desk.specs.World.{Gateway, ids}
 use Rattle.serve_journal.specs.RenewalLaw.{unnumbered}
 use Rattle.serve_downlinks.specs.Downlinks.{ToSend}
-use Rattle.serve_turns.specs.Effects.{Packet}
+use Rattle.serve_turns.specs.Control.{Arrival}
 use Rattle.serve_turns.specs.Life.{Life}
 use Rattle.serve_turns.specs.SendLaw.{pass_downlinks}
 use Rattle.serve_turns.specs.Turn.{Answered, after_came, after_turn, without_text}
 
 -- What gets into a gateway's journal over all lives of a server, each of which makes turn after turn, and may end at any moment.
 
--- a turn: what the server's clock shows, what comes, what the world around answers; and which of its downlinks ever get into the
+-- a turn: what the server's clock shows, what comes and how far its batch gets, what the world around answers; and which of its downlinks ever get into the
 -- journal, by their batch or in a whole one: if the life ends first, or the disk fails, some never do
 pub record Turn : Type 0 where
   pub now : ℕ
-  pub came : Option Packet
+  pub came : Option Arrival
   pub answered : Answered
   pub is_kept : ToSend → Bool
 

@@ -2,6 +2,7 @@ use Rattle.std.specs.Prelude.{ℕ, ◌≡◌, List, [], ◌∷◌, map, Some, No
 use Rattle.forwarder_sessions.specs.declared.session.Forwarder.{Forwarder}
 use Rattle.forwarder_sessions.specs.Sessions.{opened_session, resumed_session}
 use Rattle.gateway_book.specs.Book.{Book}
+use Rattle.run_lines.specs.declared.uplink_counts.UplinkCounts.{UplinkCounts}
 use Rattle.serve_journal.specs.Payload.{Waiting}
 use Rattle.serve_settings.specs.declared.forwarder as set
 use Rattle.server_core.specs.declared.event.Event.{Event}
@@ -18,6 +19,10 @@ use Rattle.serve_turns.specs.Life.{Life, doing, IsAlive, IsReady}
 
 -- What a server opens with.
 
+-- no uplink was answered yet
+abbrev pub no_counts : UplinkCounts
+no_counts = record { sent = 0; unanswered = 0; silent = 0 }
+
 -- the life of a server that has heard nothing, on empty books, which keeps no journal
 abbrev pub opened_life : SettingLists → List Forwarder → Life
 opened_life settings forwarders =
@@ -27,6 +32,7 @@ opened_life settings forwarders =
       kept = None;
       drops = [];
       told_at = 0;
+      counts = no_counts;
       text = [];
     }
 
@@ -69,6 +75,7 @@ resumed_life settings books forwarders sessions =
       kept = Some (unwritten sessions);
       drops = [];
       told_at = 0;
+      counts = no_counts;
       text = [];
     }
 

@@ -14,12 +14,13 @@ use Rattle.serve_downlinks.specs.declared.fate.Fate.TheVariants.{Barred, Unreach
 use Rattle.serve_downlinks.specs.Downlinks.{ToSend, downlinks}
 use Rattle.serve_downlinks.specs.Fates.{fate_of, forwarder_of}
 use Rattle.serve_downlinks.specs.Datagram.{token_of, asked_for}
-use Rattle.serve_downlinks.specs.Batch.{addr_in, batch_text, floor_of, sent_of, session_at, taken_entries}
+use Rattle.serve_downlinks.specs.Batch.{addr_in, batch_entries, batch_text, floor_of, sent_of, session_at, taken_entries}
 use Rattle.serve_downlinks.specs.BatchLaw.{AreInOrder}
-use Rattle.serve_turns.specs.Effects.{Effect, Packet, Appends, Syncs, Sends}
+use Rattle.serve_turns.specs.Control.{Arrival}
+use Rattle.serve_turns.specs.Effects.{Effect, Appends, Syncs, Sends}
 use Rattle.serve_turns.specs.Kept.{Kept}
 use Rattle.serve_turns.specs.Life.{Life, after_event}
-use Rattle.serve_turns.specs.Sending.{known_then}
+use Rattle.serve_turns.specs.Sending.{known_then, sendable}
 use Rattle.serve_turns.specs.Turn.{Answered, acts, after_came, ticking}
 
 -- What holds of each PULL_RESP that a server sends.
@@ -39,8 +40,8 @@ IsTold now k l d batch =
     → AreInOrder (says.Clock d.candidate.gateway (line f.clock now) (floor_of d.candidate.gateway (known_then k now l).books))
     (says.Device addr session found.1.up found.1.down) (taken_entries addr d.frame) (sent_of d.candidate) batch
 
--- a PULL_RESP of a downlink that is among these goes to its gateway's peer; before it a batch that tells it was added to the journal's
--- file, and the disk kept that
+-- a PULL_RESP of a downlink that is among these goes to its gateway's peer; before it the batch of all that may be sent, which tells
+-- it, was added to the journal's file, and the disk kept that
 pub record IsBehindItsBatch (now : ℕ) (ds : List ToSend) (l : Life) (done : List Effect) (to : Endpoint) (bytes : List ℕ) : Type 0 where
   pub downlink : ToSend
   pub among : Contains ds downlink
@@ -52,21 +53,22 @@ pub record IsBehindItsBatch (now : ℕ) (ds : List ToSend) (l : Life) (done : Li
   pub keeps : l.kept ≡ Some kept
   pub well : kept.failed_at ≡ None
   pub batch : List Entry
+  pub whole : batch ≡ batch_entries (known_then kept now l) (sendable l.known ds)
   pub told : IsTold now kept l downlink batch
   pub before : List Effect
   pub behind : List Effect
   pub written : done ≡ before ++ (Appends (batch_text batch) true ∷ Syncs true ∷ behind)
 
 -- a server's life in a turn in which this came, once the gateways were ticked where an uplink is due
-abbrev pub before_pass : (A : Type 0) → ℕ → Option Packet → Life → Life
+abbrev pub before_pass : (A : Type 0) → ℕ → Option Arrival → Life → Life
 before_pass A now came l = ticking A now (after_came A now came l)
 
 -- and once all that are due were answered
-abbrev pub behind_pass : (A : Type 0) → ℕ → Option Packet → Life → Life
+abbrev pub behind_pass : (A : Type 0) → ℕ → Option Arrival → Life → Life
 behind_pass A now came l = after_event {A = A} (Pass now) (before_pass A now came l)
 
 -- the downlinks among the lines that answer them
-abbrev pub pass_downlinks : (A : Type 0) → ℕ → Option Packet → Life → List ToSend
+abbrev pub pass_downlinks : (A : Type 0) → ℕ → Option Arrival → Life → List ToSend
 pass_downlinks A now came l = downlinks (event_lines {A = A} (before_pass A now came l).world (Pass now))
 
 -- the law: whatever a server knows, whatever comes and whatever the world around answers, each PULL_RESP of a turn is that of a
@@ -74,7 +76,7 @@ pass_downlinks A now came l = downlinks (event_lines {A = A} (before_pass A now 
 -- sent where a write has failed before
 abbrev pub EverySendIsKept : Type 0 → Type 0
 EverySendIsKept A =
-    (now : ℕ) (came : Option Packet) (r : Answered) (l : Life)
+    (now : ℕ) (came : Option Arrival) (r : Answered) (l : Life)
     → EachSend (λ done to bytes. IsBehindItsBatch now (pass_downlinks A now came l) (behind_pass A now came l) done to bytes) []
     (acts A now came r l)
 
@@ -102,5 +104,5 @@ pub record IsFrontOf {X : Type 0} (whole front : List X) : Type 0 where
 -- order, those of the first of its downlinks that may be sent: so of no downlink there are two
 abbrev pub EachIsSentOnce : Type 0 → Type 0
 EachIsSentOnce A =
-    (now : ℕ) (came : Option Packet) (r : Answered) (l : Life)
+    (now : ℕ) (came : Option Arrival) (r : Answered) (l : Life)
     → IsFrontOf (resps_of (behind_pass A now came l).known (pass_downlinks A now came l)) (resps_in (acts A now came r l))

@@ -1,4 +1,4 @@
-use Rattle.std.specs.Prelude.{ℕ, ◌≡◌, ◌≢◌, ◌≤◌, ◌<◌, ◌-◌, ◌^◌, Bool, ⊤, nat_lt, IfSome, is_some, if◌then◌else◌, List, [], ◌∷◌, ◌++◌, Option, Some, None}
+use Rattle.std.specs.Prelude.{ℕ, ◌≡◌, ◌≢◌, ◌≤◌, ◌<◌, ◌-◌, ◌^◌, Bool, nat_lt, IfSome, is_some, if◌then◌else◌, List, [], ◌∷◌, ◌++◌, Option, Some, None}
 use Rattle.forwarder_sessions.specs.declared.forwarders.Datagram.{Datagram}
 use Rattle.forwarder_sessions.specs.declared.session.Endpoint.{Endpoint}
 use Rattle.forwarder_sessions.specs.Sessions.{Known, tick_of}
@@ -7,7 +7,10 @@ use Rattle.server_core.specs.declared.event.Event.TheVariants.{Pass, Tick}
 use Rattle.server_core.specs.Entries.{event_lines}
 use Rattle.server_desk.specs.Passing.{pass_answer}
 use Rattle.serve_turns.specs.declared.answerer.Answerer.{Answerer}
+use Rattle.serve_turns.specs.declared.sending.Written.{Written}
 use Rattle.serve_turns.specs.declared.serving.Serving.{Serving}
+use Rattle.serve_turns.specs.Command.{is_control}
+use Rattle.serve_turns.specs.Control.{Arrival, after_control, arrival, control_effects, packet_of_arrival}
 use Rattle.serve_turns.specs.Effects.{Effect, Packet, Receives, Shows, Acknowledges, Tells as TellsLines, Cuts, Adds, AddsFront}
 use Rattle.serve_turns.specs.Life.{Life, after_event, saying_drops, IsAlive, IsReady}
 use Rattle.serve_turns.specs.Taking.{after_news}
@@ -53,27 +56,35 @@ answers_to now p l = sent_back p.source (comes now p l.known).acknowledgement
 abbrev pub after_datagram : (A : Type 0) → ℕ → Packet → Life → Life
 after_datagram A now p l = after_news A now (comes now p l.known).news (knowing now p l)
 
--- the same of what came, which may be nothing
-abbrev pub acknowledged : ℕ → Option Packet → Life → List Effect
-acknowledged now None l = []
-acknowledged now (Some p) l = answers_to now p l
+-- the same of a packet forwarder's datagram, whatever the world around answers, which is nothing
+abbrev pub took : (A : Type 0) → ℕ → Packet → Written → Life → Life
+took A now p written l = after_datagram A now p l
 
-abbrev pub after_came : (A : Type 0) → ℕ → Option Packet → Life → Life
+abbrev pub took_effects : ℕ → Packet → Written → Life → List Effect
+took_effects now p written l = answers_to now p l
+
+-- of a datagram, which may be that of a program on the machine itself
+abbrev pub after_arrival : (A : Type 0) → ℕ → Packet → Written → Life → Life
+after_arrival A now p written l = if is_control p then after_control A now p written l else after_datagram A now p l
+
+abbrev pub arrival_effects : (A : Type 0) → ℕ → Packet → Written → Life → List Effect
+arrival_effects A now p written l = if is_control p then control_effects A now p written l else answers_to now p l
+
+-- of what came, which may be nothing
+abbrev pub after_came : (A : Type 0) → ℕ → Option Arrival → Life → Life
 after_came A now None l = l
-after_came A now (Some p) l = after_datagram A now p l
+after_came A now (Some a) l = after_arrival A now a.packet a.written l
 
--- the same whatever the world around answers, which is nothing
-abbrev pub took : (A : Type 0) → ℕ → Packet → ⊤ → Life → Life
-took A now p answered l = after_datagram A now p l
+abbrev pub replied : (A : Type 0) → ℕ → Option Arrival → Life → List Effect
+replied A now None l = []
+replied A now (Some a) l = arrival_effects A now a.packet a.written l
 
-abbrev pub took_effects : ℕ → Packet → ⊤ → Life → List Effect
-took_effects now p answered l = answers_to now p l
+-- the same by how far the batch got that it asked for, if it asked for one
+abbrev pub came_in : (A : Type 0) → ℕ → Option Packet → Written → Life → Life
+came_in A now came written l = after_came A now (arrival came written) l
 
-abbrev pub came_in : (A : Type 0) → ℕ → Option Packet → ⊤ → Life → Life
-came_in A now came answered l = after_came A now came l
-
-abbrev pub came_in_effects : ℕ → Option Packet → ⊤ → Life → List Effect
-came_in_effects now came answered l = acknowledged now came l
+abbrev pub came_in_effects : (A : Type 0) → ℕ → Option Packet → Written → Life → List Effect
+came_in_effects A now came written l = replied A now (arrival came written) l
 
 -- a gateway is ticked, where its clock can be told
 abbrev pub after_tick_at : (A : Type 0) → ℕ → Option ℕ → Life → Life
@@ -122,24 +133,31 @@ pub record Answered : Type 0 where
 
 -- a turn: what came is taken in, what is due is answered and sent, what was dropped is told, and the journal is written anew where
 -- that is due
-abbrev pub after_turn : (A : Type 0) → ℕ → Option Packet → Answered → Life → Life
+abbrev pub after_turn : (A : Type 0) → ℕ → Option Arrival → Answered → Life → Life
 after_turn A now came r l =
     after_renewal now r.renewed (after_report now (after_pass A now r.delivery (after_came A now came l)))
 
 -- what happens in it behind its moment, but for the telling of its lines
-abbrev pub acts : (A : Type 0) → ℕ → Option Packet → Answered → Life → List Effect
+abbrev pub acts : (A : Type 0) → ℕ → Option Arrival → Answered → Life → List Effect
 acts A now came r l =
-    acknowledged now came l ++ pass_effects A now r.delivery (after_came A now came l)
+    replied A now came l ++ pass_effects A now r.delivery (after_came A now came l)
     ++ renewal_effects now r.renewed (after_report now (after_pass A now r.delivery (after_came A now came l)))
+
+-- the same by what the world around answered to what came, too
+abbrev pub turned : (A : Type 0) → ℕ → Option Packet → Written × Answered → Life → Life
+turned A now came how l = after_turn A now (arrival came how.0) how.1 l
+
+abbrev pub turned_effects : (A : Type 0) → ℕ → Option Packet → Written × Answered → Life → List Effect
+turned_effects A now came how l = acts A now (arrival came how.0) how.1 l
 
 -- all of this was done, or it was cut short for want of memory
 abbrev pub HasActed : {S A R : Type 0} → {C : _} → ℕ → Option Packet → Option (List Effect) → Option (List Effect)
     → Answerer S A R C → Answerer S A R C → Type 0
-HasActed {A = A} now came before after old new = Did before after (after_turn A now came) (acts A now came) old new
+HasActed {A = A} now came before after old new = Did before after (turned A now came) (turned_effects A now came) old new
 
 abbrev pub HasBroken : {S A R : Type 0} → {C : _} → ℕ → Option Packet → Option (List Effect) → Option (List Effect)
     → Answerer S A R C → Type 0
-HasBroken {A = A} now came before after old = Broke before after (acts A now came) old
+HasBroken {A = A} now came before after old = Broke before after (turned_effects A now came) old
 
 -- lines are told at once, if there are any
 abbrev pub told_text : List ℕ → List Effect
@@ -155,6 +173,7 @@ pub record IsTold {S A R : Type 0} {C : _} (before after : Option (List Effect))
   pub told_at : new.told_at ≡ old.told_at
   pub server : new.server ≡ old.server
   pub drops : new.drops ≡ old.drops
+  pub counts : new.counts ≡ old.counts
 
 -- there were lines to be told, which were not told whole
 pub record IsCut {S A R : Type 0} {C : _} (before after : Option (List Effect)) (old : Answerer S A R C) : Type 0 where
@@ -174,16 +193,16 @@ without_text l = record l { text = [] }
 abbrev pub begun : ℕ → Option Packet → List Effect → List Effect
 begun now came more = Receives came ∷ Shows (Some now) ∷ more
 
--- a turn was made, in which this came, when the clock showed that moment
+-- a turn was made, in which this came, when the clock showed that moment; with it stands how far the batch got that it asked for
 pub record IsTurn {S A R : Type 0} {C : _} (before after : Option (List Effect)) (old new : Serving S A R C) : Type 0 where
-  pub came : Option Packet
+  pub came : Option Arrival
   pub now : ℕ
   pub early : now ≤ 2 ^ 60
   pub answered : Answered
   pub between : IsBetweenTurns new
   pub lives : (l : Life) → IsAlive l old.answerer → IsAlive (without_text (after_turn A now came answered l)) new.answerer
   pub effects : (l : Life) → IsAlive l old.answerer
-      → Adds before after (begun now came (acts A now came answered l ++ told_text (after_turn A now came answered l).text))
+      → Adds before after (begun now (packet_of_arrival came) (acts A now came answered l ++ told_text (after_turn A now came answered l).text))
 
 -- a turn was cut short, since the clock showed no moment, or one that is too late
 pub record HasNoMoment (before after : Option (List Effect)) : Type 0 where
@@ -199,18 +218,18 @@ pub record IsLeftUntold (before after : Option (List Effect)) (shows : List ℕ 
 
 -- a turn was made, in which this came, when the clock showed that moment, but for the telling of its lines
 pub record IsUntold {S A R : Type 0} {C : _} (before after : Option (List Effect)) (old : Serving S A R C) : Type 0 where
-  pub came : Option Packet
+  pub came : Option Arrival
   pub now : ℕ
   pub early : now ≤ 2 ^ 60
   pub answered : Answered
   pub untold : (l : Life) → IsAlive l old.answerer
-      → IsLeftUntold before after (λ text. begun now came (acts A now came answered l ++ Cuts text ∷ []))
+      → IsLeftUntold before after (λ text. begun now (packet_of_arrival came) (acts A now came answered l ++ Cuts text ∷ []))
       (after_turn A now came answered l).text
 
 -- a turn was cut short for want of memory: a front of what it does was done to the world around the server
 pub record IsBroken {S A R : Type 0} {C : _} (before after : Option (List Effect)) (old : Serving S A R C) : Type 0 where
-  pub came : Option Packet
+  pub came : Option Arrival
   pub now : ℕ
   pub early : now ≤ 2 ^ 60
   pub answered : Answered
-  pub effects : (l : Life) → IsAlive l old.answerer → AddsFront before after (begun now came (acts A now came answered l))
+  pub effects : (l : Life) → IsAlive l old.answerer → AddsFront before after (begun now (packet_of_arrival came) (acts A now came answered l))

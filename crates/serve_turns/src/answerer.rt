@@ -5,11 +5,12 @@ ghost use Rattle.serve_turns.specs.Life.{AreAnswers, Makes, IsReady, after_event
 ghost use Rattle.serve_turns.specs.Taking.{eui_at, session_lines};
 ghost use Rattle.serve_turns.specs.Turn.{after_tick, ticking};
 
+use crate::counts::count_more;
 use crate::keeping::Keeping;
 use crate::tally::{Tally, count_drop};
 use crate::telling::{Text, put_drops, put_event, put_session};
 use forwarder_sessions::{Forwarder, Forwarders, NoMemory, Placed};
-use run_lines::hear_name;
+use run_lines::{UplinkCounts, hear_name};
 use server_core::{DeskFault, DeskHeard, Entry, Event, Line, Server};
 use std::alloc::Allocator;
 use std::hash::BuildHasher;
@@ -26,6 +27,8 @@ pub(crate) struct Answerer<S: BuildHasher, A: Allocator + Copy> {
     pub(crate) drops: Vec<Tally, A>,
     /// When it was last told what was dropped, in microseconds of the server's clock.
     pub(crate) told_at: u64,
+    /// How many uplinks were answered.
+    pub(crate) counts: UplinkCounts,
     pub(crate) text: Text<A>,
 }
 
@@ -40,6 +43,7 @@ impl<S: BuildHasher, A: Allocator + Copy> Answerer<S, A> {
         self.server.event(0, event)?;
         let entries = self.server.take_lines(self.alloc);
         put_event(self.alloc, &mut self.text, event, &entries)?;
+        count_more(&mut self.counts, &UplinkCounts::of(&entries));
         Ok(entries)
     }
 
@@ -61,6 +65,7 @@ impl<S: BuildHasher, A: Allocator + Copy> Answerer<S, A> {
             Some(fault) => count_drop(&mut self.drops, hear_name(fault), Some(eui)),
             None => {
                 put_event(self.alloc, &mut self.text, event, &entries)?;
+                count_more(&mut self.counts, &UplinkCounts::of(&entries));
                 self.join(place, number_in(&entries));
                 Ok(())
             }

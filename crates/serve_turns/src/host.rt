@@ -30,7 +30,8 @@ pub trait Host {
     fn now(&mut self) -> Option<u64>
         ensures { Adds (effects self.old) (effects self.new) (Shows result ∷ []) };
 
-    /// Sends an acknowledgement. A packet forwarder that gets none sends its datagram once more, or counts it as lost.
+    /// Sends an acknowledgement, or the answer to a program on the machine itself. A packet forwarder that gets none sends its
+    /// datagram once more, or counts it as lost.
     fn acknowledge(&mut self, to: Endpoint, bytes: &[u8])
         ensures { Adds (effects self.old) (effects self.new) (Acknowledges to bytes.now ∷ []) };
 

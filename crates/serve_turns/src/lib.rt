@@ -6,11 +6,15 @@
 mod answerer;
 mod asking;
 mod by_gateway;
+mod command;
+mod control;
+mod counts;
 mod host;
 mod keeping;
 mod life_law;
 mod names;
 mod renewing;
+mod replies;
 mod send_law;
 mod sending;
 mod serving;

@@ -160,7 +160,7 @@ fn deliver<H: Host, A: Allocator>(
     ensures done { Adds (H.effects host.old) (H.effects host.new)
         (delivering (record { written = result; went = went.new }) batch.now asks.now) }
 {
-    let written = write(host, batch);
+    let written = write_batch(host, batch);
     if written == Written::Synced {
         send_all(host, asks, went);
     }
@@ -168,7 +168,7 @@ fn deliver<H: Host, A: Allocator>(
 }
 
 /// Adds a batch to the journal's file, and has the disk keep it.
-fn write<H: Host>(host: &mut H, batch: &[u8]) -> Written
+pub(crate) fn write_batch<H: Host>(host: &mut H, batch: &[u8]) -> Written
     ensures { Adds (H.effects host.old) (H.effects host.new) (writing result batch.now) }
 {
     if !host.append(batch) {

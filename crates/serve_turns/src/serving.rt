@@ -3,7 +3,7 @@ ghost use Rattle.std.specs.Prelude.{◌≡◌, ◌≤◌, ◌^◌, [], All, IfOk
 ghost use Rattle.server_core.specs.Opened.{AreBooksFor};
 ghost use Rattle.serve_turns.specs.Life.{Makes, IsReady};
 ghost use Rattle.serve_turns.specs.Turn.{IsBetweenTurns};
-ghost use Rattle.serve_turns.specs.Opening.{IsOpened, IsOpenedBy, IsResumed, after_queue, after_queues, queue_event};
+ghost use Rattle.serve_turns.specs.Opening.{IsOpened, IsOpenedBy, IsResumed, after_queue, after_queues, no_counts, queue_event};
 
 use crate::answerer::Answerer;
 use crate::by_gateway::forwarders_of;
@@ -11,6 +11,7 @@ use crate::keeping::Keeping;
 use answer_ticket::Bytes;
 use forwarder_sessions::{Forwarder, Forwarders, NoMemory};
 use json::Scratch;
+use run_lines::UplinkCounts;
 use serve_journal::Payload;
 use serve_settings::ServeSettings;
 use server_core::{Book, Event, Server, Settings, USUAL_LIMITS, empty_books};
@@ -35,7 +36,8 @@ pub struct Resumed<A: Allocator + Copy> {
     /// The packet forwarders, each with what its gateway's clock shows at least, in microseconds and at most 2^60. The gateways are
     /// ticked in this order.
     pub forwarders: Vec<(Forwarder, u64), A>,
-    /// What tells each device's session from others of the same address, by DevAddr.
+    /// What tells each device's session from others of the same address, by DevAddr: one for each device of the settings. A device
+    /// without one has no line in the journal.
     pub sessions: Vec<(u32, [u8; 4]), A>,
     /// What waits, in order, each payload with the DevAddr of its device.
     pub waiting: Vec<(u32, Payload), A>,
@@ -104,6 +106,7 @@ impl<S: BuildHasher + Clone, A: Allocator + Copy> Serving<S, A> {
         ensures keeping { result.answerer.keeping ≡ keeping }
         ensures drops { result.answerer.drops.items ≡ [] }
         ensures told_at { result.answerer.told_at ≡ 0 }
+        ensures counts { result.answerer.counts ≡ no_counts }
         ensures text { result.answerer.text.writer.items ≡ [] }
     {
         Serving {
@@ -114,6 +117,11 @@ impl<S: BuildHasher + Clone, A: Allocator + Copy> Serving<S, A> {
                 keeping,
                 drops: Vec::new(alloc),
                 told_at: 0,
+                counts: UplinkCounts {
+                    sent: 0,
+                    unanswered: 0,
+                    silent: 0,
+                },
                 text: StdOut::new(Vec::new(alloc)),
             },
             scratch: Scratch::new(alloc),

@@ -4,9 +4,10 @@ ghost use Rattle.serve_turns.specs.Effects.{Adds, given};
 ghost use Rattle.serve_turns.specs.Life.{Makes, IsReady};
 ghost use Rattle.serve_turns.specs.Renewing.{is_in_place, renewing, renewing_effects};
 ghost use Rattle.serve_turns.specs.Turn.{Did, Broke, HasActed, HasBroken, IsBetweenTurns, IsTurn, IsTold, IsCut, IsUntold, IsBroken, HasNoMoment};
-ghost use Rattle.serve_turns.specs.Turn.{after_report, after_pass, pass_effects, packet_of, sent_back, took, took_effects, came_in, came_in_effects};
+ghost use Rattle.serve_turns.specs.Turn.{after_arrival, after_report, after_pass, arrival_effects, pass_effects, packet_of, sent_back, took, took_effects, came_in, came_in_effects};
 
 use crate::answerer::Answerer;
+use crate::command::is_control;
 use crate::host::{Came, Host};
 use crate::serving::Serving;
 use forwarder_sessions::{Datagram, Endpoint, NoMemory};
@@ -109,13 +110,13 @@ impl<S: BuildHasher, A: Allocator + Copy> Serving<S, A> {
         requires within { IfSome came (λ c. c.len ≤ length room.now) }
         requires ready { IsReady self.old.answerer }
         ensures done { OnOk result (Did (H.effects host.old) (H.effects host.new) (came_in A now (given came room.now))
-            (came_in_effects now (given came room.now)) self.old.answerer self.new.answerer) }
+            (came_in_effects A now (given came room.now)) self.old.answerer self.new.answerer) }
         ensures broken { OnErr result (Broke (H.effects host.old) (H.effects host.new)
-            (came_in_effects now (given came room.now)) self.old.answerer) }
+            (came_in_effects A now (given came room.now)) self.old.answerer) }
     {
         match came {
             None => Ok(()),
-            Some(came) => self.take_datagram(
+            Some(came) => self.take_arrival(
                 host,
                 &Datagram {
                     source: came.source,
@@ -126,7 +127,27 @@ impl<S: BuildHasher, A: Allocator + Copy> Serving<S, A> {
         }
     }
 
-    /// Acknowledges a datagram, where it is to be, and does what it tells.
+    /// Takes in a datagram: that of a program on the machine itself is answered, and each other one is a packet forwarder's.
+    fn take_arrival<H: Host>(
+        &mut self,
+        host: &mut H,
+        datagram: &Datagram<'_>,
+    ) -> Result<(), NoMemory>
+        requires early { datagram.now.at ≤ 2 ^ 60 }
+        requires ready { IsReady self.old.answerer }
+        ensures done { OnOk result (Did (H.effects host.old) (H.effects host.new)
+            (after_arrival A datagram.now.at (packet_of datagram.now))
+            (arrival_effects A datagram.now.at (packet_of datagram.now)) self.old.answerer self.new.answerer) }
+        ensures broken { OnErr result (Broke (H.effects host.old) (H.effects host.new)
+            (arrival_effects A datagram.now.at (packet_of datagram.now)) self.old.answerer) }
+    {
+        if is_control(datagram.source, datagram.bytes) {
+            return self.answerer.take_control(host, datagram);
+        }
+        self.take_datagram(host, datagram)
+    }
+
+    /// Acknowledges a packet forwarder's datagram, where it is to be, and does what it tells.
     fn take_datagram<H: Host>(
         &mut self,
         host: &mut H,

@@ -1,8 +1,9 @@
 use Rattle.std.proofs.Common.{◌∙◌, ◌++◌, ◌∷◌, ap, map, refl, sym}
 use Rattle.text_lines.specs.Line.{text_of}
 use Rattle.run_lines.specs.ReplayText.{entry_lines}
+use Rattle.run_lines.specs.UplinkCounts.{counts_of}
 use Rattle.server_core.specs.Server.{seen}
-use Rattle.serve_turns.specs.Life.{number_in, refusal_of}
+use Rattle.serve_turns.specs.Life.{counts_with, number_in, refusal_of}
 use Rattle.serve_turns.specs.Lines.{asked_line}
 use Rattle.serve_turns.proofs.Lives.{IsDone, are_answers, copy_joined, event_told}
 use Rattle.serve_turns.proofs.answerer.Answerer.copy.Goals as goal
@@ -21,8 +22,15 @@ returns g c =
     copy_joined e told c.args.eui c.args.place c.number_in.result c.args.self.now _ _
     (are_answers e told (seen c.event.new.self) c.args.self.now done)
     (ap (λ t. refusal_of (map (λ x. x.line) t)) (sym c.deref.ensures.value) ∙ sym c.refusal_of.ensures ∙ c.in-None.is)
-    (c.number_in.ensures ∙ ap (λ t. number_in (map (λ x. x.line) t)) c.deref-in-None-2.ensures.value)
+    (c.number_in.ensures ∙ ap (λ t. number_in (map (λ x. x.line) t)) c.deref-in-None-3.ensures.value)
     (event_told e told (seen c.event.new.self) c.args.self.now done _ c.take_lines-entries.ensures.rest
-    (record { known = refl; kept = refl; drops = refl; told_at = refl })
+    (record {
+      known = refl;
+      kept = refl;
+      drops = refl;
+      told_at = refl;
+      counts = c.count_more.ensures
+          ∙ ap (counts_with c.args.self.now.counts) (c.of.ensures.counts ∙ ap counts_of c.deref-in-None-2.ensures.value);
+    })
     (c.in_ok-put_event-in-None.ensures ∙ ap (λ t. before ++ text_of (asked_line e ∷ entry_lines t)) c.deref-in-None.ensures.value))
     c.join.ensures

@@ -18,6 +18,7 @@ returns g c =
         kept = made.keeping;
         drops = made.drops;
         told_at = made.told_at;
+        counts = made.counts;
         text = made.text;
       };
       ready = record {

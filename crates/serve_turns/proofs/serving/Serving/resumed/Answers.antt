@@ -32,6 +32,7 @@ returns-clause-resumed g c =
             kept = made.keeping ∙ ap Some c.new.ensures;
             drops = made.drops;
             told_at = made.told_at;
+            counts = made.counts;
             text = made.text;
           });
       ready = c.in_ok-queue_all.ensures.ready;
@@ -50,6 +51,7 @@ returns-clause-between g c =
       kept = made.keeping ∙ ap Some c.new.ensures;
       drops = made.drops;
       told_at = made.told_at;
+      counts = made.counts;
       text = made.text;
     }) in
     record { ready = c.in_ok-queue_all.ensures.ready; told = alive.text ∙ queues_untold g.row.A.Denot r.waiting.items life }
