@@ -148,7 +148,7 @@ def flooded(program: str) -> None:
         after = server.memory()
     heard = sum(text.startswith("> hear ") for text in lines)
     dropped = sum(int(text.split()[2]) for text in lines if text.startswith("dropped "))
-    print(f"{SECONDS * 1_000 * BAD_EACH_MS} malformed in {took:.1f} s, {dropped} dropped; {heard} of {sent} copies heard")
+    print(f"{SECONDS * 1_000 * BAD_EACH_MS} malformed in {took:.1f} s, {dropped} dropped, others answered; {heard} of {sent} copies heard")
     print(f"resident memory {before} KiB before, {after} KiB after")
 
 
