@@ -1,1 +1,2 @@
 mod Early
+mod Renumbering

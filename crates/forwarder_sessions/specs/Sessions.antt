@@ -71,6 +71,10 @@ heard_by tmst now s =
 abbrev pub joined_by : ℕ → Known → Known
 joined_by number s = record s { joined = max s.joined number }
 
+-- numbers of uplinks begin at 1 again
+abbrev pub renumbered : Known → Known
+renumbered s = record s { joined = 0; barred = 0 }
+
 -- whether the gateway may answer the uplink with this number: no copy of that or of a later one is of an earlier session, in which
 -- its counter stood for other moments
 abbrev pub may_answer : ℕ → Known → Bool

@@ -1,7 +1,7 @@
 // The packet forwarders of all gateways.
 ghost use Rattle.std.specs.Prelude.{◌≡◌, ◌≤◌, ◌<◌, ◌^◌, map, drop, length, slice_get, slice_set, Some, IfOk, IfSome, OnOk, OnErr, All};
 ghost use Rattle.gateway_clock.specs.Clock.{heard};
-ghost use Rattle.forwarder_sessions.specs.Sessions.{opened_session, resumed_session, place_of, heard_by, joined_by};
+ghost use Rattle.forwarder_sessions.specs.Sessions.{opened_session, resumed_session, place_of, heard_by, joined_by, renumbered};
 ghost use Rattle.forwarder_sessions.specs.Received.{shown, shown_news, shown_packets, received_of, known_after, head_bytes, dropped};
 ghost use Rattle.forwarder_sessions.specs.Received.{packets_for, tells, after_news};
 
@@ -118,6 +118,16 @@ impl<A: Allocator + Copy> Forwarders<A> {
             (λ s. self.new.sessions.items ≡ slice_set self.old.sessions.items place (joined_by number s)) }
     {
         self.sessions[place].join(number);
+    }
+
+    /// Numbers of uplinks begin at 1 again: which ones each gateway told is forgotten. All else stays: where downlinks go, and what the
+    /// gateways' clocks show. No uplink of an earlier number may be left to answer. Takes no memory.
+    pub fn renumber(&mut self)
+        ensures { self.new.sessions.items ≡ map renumbered self.old.sessions.items }
+    {
+        for place in 0..self.sessions.len() {
+            self.sessions[place].renumber();
+        }
     }
 
     /// The place of the gateway with this EUI.

@@ -1,7 +1,7 @@
 // One gateway's packet forwarder, and what is known of it.
 ghost use Rattle.std.specs.Prelude.{◌≡◌, ◌≤◌, ◌^◌};
 ghost use Rattle.gateway_clock.specs.Clock.{heard, line, tmst_of};
-ghost use Rattle.forwarder_sessions.specs.Sessions.{resumed_session, has_eui, may_come, is_recent, heard_by, joined_by, may_answer, pulled_by, tick_of};
+ghost use Rattle.forwarder_sessions.specs.Sessions.{resumed_session, has_eui, may_come, is_recent, heard_by, joined_by, may_answer, pulled_by, renumbered, tick_of};
 
 use gateway_clock::{GatewayClock, Placed};
 use std::marker::Model;
@@ -191,6 +191,21 @@ impl Session {
         ensures { self.new ≡ joined_by number self.old }
     {
         self.joined = self.joined.max(number);
+    }
+
+    /// The greatest number of an uplink of which the gateway told a copy, 0 for none.
+    pub fn joined(&self) -> u64
+        ensures { result ≡ self.now.joined }
+    {
+        self.joined
+    }
+
+    /// Numbers of uplinks begin at 1 again: which ones the gateway told is forgotten.
+    pub(crate) fn renumber(&mut self)
+        ensures { self.new ≡ renumbered self.old }
+    {
+        self.joined = 0;
+        self.barred = 0;
     }
 
     /// Whether the gateway may answer the uplink with this number: no copy of that one or of a later one is of an earlier session, in
