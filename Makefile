@@ -27,8 +27,9 @@ demo:
 # on the program that the gate has proved and built, the cases, settings with every kind of slip, random runs, saved books,
 # pictures and journals beside plain models, torn journals and such at fault, allocations that are refused, workers beside one
 # thread, inputs of as many bytes and uplinks as there may be, the commands of the pages, talks line by line, the example of a
-# converter, a server that listens, one that packet forwarders are pointed at, what programs on its machine ask it for, the same
-# killed and started again, killed and failed at any of its calls beside rough packet forwarders, and what is installed. Where one fails, what comes after it is not run.
+# converter, a server that listens, one that packet forwarders are pointed at, what programs on its machine ask it for, more uplinks
+# than a desk takes, the same server killed and started again, killed and failed at any of its calls beside rough packet forwarders,
+# and what is installed. Where one fails, what comes after it is not run.
 test: documents
 	python3 tests/gate.py
 	python3 tests/edit_trials.py
@@ -52,6 +53,7 @@ test: documents
 	python3 tests/listen.py $(PROGRAM)
 	python3 tests/serve.py $(PROGRAM)
 	python3 tests/control.py $(PROGRAM)
+	python3 tests/desks.py $(PROGRAM)
 	python3 tests/restarts.py $(PROGRAM)
 	python3 tests/soak.py $(PROGRAM)
 	python3 tests/installed.py

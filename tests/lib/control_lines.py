@@ -1,4 +1,4 @@
-"""Control datagrams of each kind and spelling, for tests/control.py.
+"""Control datagrams of each kind and spelling.
 
 They are written from docs/FORMATS.md ("airbook serve", "Lines, words, numbers").
 """

@@ -1,4 +1,4 @@
-"""What has to hold of all that was sent over many lives of one `airbook serve --state`, for tests/restarts.py and tests/soak.py.
+"""What has to hold of all that was sent over many lives of one `airbook serve --state`.
 
 It is written from docs/FORMATS.md and docs/SERVE.md. Moments are in microseconds.
 """

@@ -1,4 +1,4 @@
-"""A plain model of what `airbook serve --state` goes on with behind a restart, for tests/restarts.py.
+"""A plain model of what `airbook serve --state` goes on with behind a restart.
 
 It is written from docs/FORMATS.md ("Journal") and docs/SERVE.md: the settings, and what the journal says by the reader of
 plain_journal.py, come to a state, which is compared with that of the journal that the server wrote anew. Moments are in

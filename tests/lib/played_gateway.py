@@ -1,4 +1,4 @@
-"""Packet forwarders that are played to `airbook serve --state` over many lives of it, for tests/restarts.py and tests/soak.py.
+"""Packet forwarders that are played to `airbook serve --state` over many lives of it, for the scripts that try it.
 
 They count microseconds by themselves, on through all lives and beyond 32 bits. They keep each PULL_RESP that they ever got, since
 no kill withdraws one. All is written from docs/FORMATS.md and docs/SERVE.md. Moments are in microseconds.

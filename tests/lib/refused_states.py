@@ -1,4 +1,4 @@
-"""Folders, journals and arguments with which `airbook serve` doesn't begin to serve, for tests/restarts.py; and worked journals.
+"""Folders, journals and arguments with which `airbook serve` doesn't begin to serve; and worked journals.
 
 It is written from docs/FORMATS.md ("airbook serve", "Journal") and docs/SERVE.md.
 """

@@ -1,5 +1,5 @@
-"""Follows the lines that `airbook serve --shadow` writes, for tests/serve.py and tests/control.py: their order, and the numbers
-that go together.
+"""Follows the lines that `airbook serve --shadow` writes, for the scripts that start it: their order, and the numbers that go
+together.
 
 It is written from docs/FORMATS.md ("airbook serve"). What is heard and what is dropped is compared by those who use this.
 """

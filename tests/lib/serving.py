@@ -1,5 +1,4 @@
-"""Starts `airbook serve` for tests/serve.py, tests/restarts.py, tests/soak.py and bench/serve.py, and reads what it writes; and a
-packet forwarder's socket.
+"""Starts `airbook serve` for the scripts that play packet forwarders to it, and reads what it writes; and a packet forwarder's socket.
 
 What the program writes goes to a file, so that it never waits for a reader. Each wait ends within a minute.
 """

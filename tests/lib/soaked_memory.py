@@ -1,50 +1,53 @@
-"""The resident memory of `airbook serve --state` over many uplinks, for tests/soak.py."""
+"""The resident memory of `airbook serve --state` over many uplinks, for tests/soak.py and tests/desks.py."""
 from __future__ import annotations
 
 import pathlib
 import time
+from typing import Sequence
 
-from lib import lorawan
+from lib.many_uplinks import DESK, Load, uplinks
 from lib.plain_restarts import SetDevice, SetGateway, Settings
-from lib.played_forwarders import entry, now, push_data
-from lib.serving import EUIS, TOKEN, Sender, Server
-from lib.trials import Failed
+from lib.serving import EUIS, Sender, Server
+from lib.trials import Failed, expect_all
 
-# So many are sent and awaited at a time, of so many devices in turn.
-AT_A_TIME, DEVICES = 64, 16
-TENTHS = 10
-
-
-def heard(sender: Sender, devices: list[SetDevice], first: int, count: int) -> None:
-    """Tells so many uplinks that want no answer, from this one on."""
-    for place in range(first, first + count, AT_A_TIME):
-        some = range(place, min(place + AT_A_TIME, first + count))
-        for number in some:
-            device = devices[number % DEVICES]
-            data = lorawan.uplink(False, device.addr, number // DEVICES + 1, device.keys)
-            sender.send(push_data(EUIS[1], TOKEN, [entry(data, now() % (1 << 32))]))
-        for _ in some:
-            sender.acknowledged()
+DEVICES, TENTHS = 16, 10
+# Behind the last desk it may be so many times what it is behind the first one.
+AT_MOST = 1.1
 
 
 def over_uplinks(program: str, folder: pathlib.Path, count: int) -> str:
-    """What it is behind each tenth of so many uplinks."""
+    """What it is behind each tenth of so many uplinks that want no answer, and where each desk has just been made anew."""
     devices = [SetDevice(0x26011000 + number, (bytes([number] * 16), bytes(16))) for number in range(DEVICES)]
-    settings, seen, began = Settings([SetGateway(1, EUIS[1])], devices), [], time.monotonic()
-    words = ["--state", str(folder), "--new"]
-    with Server(program, settings.text(), words=words) as server, Sender(server) as sender:
-        sender.pull(EUIS[1])
-        seen.append(server.memory())
-        lines = 0
-        for tenth in range(TENTHS):
-            heard(sender, devices, count * tenth // TENTHS, count * (tenth + 1) // TENTHS - count * tenth // TENTHS)
-            sender.pull(EUIS[1])
-            seen.append(server.memory())
-            lines += sum(line.startswith("opened ") for line in server.lines())
-        time.sleep(1)
-        lines += sum(line.startswith("opened ") for line in server.lines())
-    if lines != count:
-        raise Failed(f"of {count} uplinks {lines} were opened")
-    grown = (seen[-1] - seen[1]) * 1024 / (count - count // TENTHS)
-    told = f"{seen[0]} KiB at first, then by tenths {' '.join(map(str, seen[1:]))} KiB; the last is {seen[-1] / seen[1]:.2f}"
-    return told + f" times the first, {grown:.0f} bytes for each uplink between them; {time.monotonic() - began:.0f} s"
+    settings, began, numbers = Settings([SetGateway(1, EUIS[1])], devices), time.monotonic(), []
+    tenths, ends = [count * place // TENTHS for place in range(TENTHS + 1)], list(range(DESK, count + 1, DESK))
+    words, made, seen = ["--state", str(folder), "--new"], uplinks(devices, count), {}
+    with Server(program, settings.text(), words=words) as server, Sender(server) as puller, Sender(server) as sender:
+        load, place = Load(sender, [EUIS[1]], puller), 0
+        for end in sorted({*tenths, *ends}):
+            load.send_all(made[place:end])
+            # Behind the last uplink of a desk this is acknowledged once there is a new one.
+            load.pull()
+            seen[end], place = server.memory(), end
+            numbers += opened_in(server.lines())
+        time.sleep(0.5)
+        numbers += opened_in(server.lines())
+    expect_all([place % DESK + 1 for place in range(count)], numbers, "numbers of uplinks")
+    return told([seen[end] for end in tenths], [seen[end] for end in ends], count) + f"; {time.monotonic() - began:.0f} s"
+
+
+def opened_in(lines: Sequence[str]) -> list[int]:
+    """The numbers of the uplinks that these lines open."""
+    return [int(line.split()[1]) for line in lines if line.startswith("opened ")]
+
+
+def told(tenths: Sequence[int], desks: Sequence[int], count: int) -> str:
+    """The figures, where memory stays flat from one desk to another."""
+    grown = (tenths[-1] - tenths[1]) * 1024 / (count - count // TENTHS)
+    found = f"{tenths[0]} KiB at first, then by tenths {' '.join(map(str, tenths[1:]))} KiB; the last is "
+    found += f"{tenths[-1] / tenths[1]:.2f} times the first, {grown:.0f} bytes for each uplink between them"
+    if len(desks) < 2:
+        return found
+    found += f"; behind desks {' '.join(map(str, desks))} KiB, the last is {desks[-1] / desks[0]:.2f} times the first"
+    if desks[-1] > AT_MOST * desks[0]:
+        raise Failed(f"more than {AT_MOST} times: {found}")
+    return found

@@ -32,6 +32,13 @@ def expect(wanted: object, got: object, what: str) -> None:
         raise Failed(f"{what}: wanted {wanted!r}, got {got!r}"[:2000])
 
 
+def expect_all(wanted: Sequence[object], got: Sequence[object], what: str) -> None:
+    """Two long lists are the same. Else the first place is told at which they aren't."""
+    for place, (one, other) in enumerate(zip(wanted, got)):
+        expect(one, other, f"{what}, at place {place} of {len(wanted)}")
+    expect(len(wanted), len(got), f"how many there are of {what}")
+
+
 def expect_going() -> None:
     if STOPPED.is_set():
         raise Failed("the script was ended")
