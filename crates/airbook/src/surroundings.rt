@@ -46,6 +46,10 @@ impl<R: Clock + Log + Files<File = File>, W: ByteOut> Host for Surroundings<'_, 
         }
     }
 
+    fn rest(&mut self) {
+        sleep(self.rt, Duration::from_millis(WAIT_MS));
+    }
+
     fn now(&mut self) -> Option<u64> {
         let elapsed = self.began.elapsed(self.rt).ok()?;
         u64::try_from(elapsed.as_micros()).ok()

@@ -149,6 +149,8 @@ impl Host for Played {
         Some(Came { source, len })
     }
 
+    fn rest(&mut self) {}
+
     fn now(&mut self) -> Option<u64> {
         Some(self.turn.0)
     }
@@ -274,6 +276,8 @@ impl Host for Failing {
         Some(Came { source, len: 0 })
     }
 
+    fn rest(&mut self) {}
+
     fn now(&mut self) -> Option<u64> {
         self.now
     }
@@ -355,7 +359,9 @@ impl<'r, A: Allocator + Copy> Call for Run<'r, A> {
     }
 }
 
-// Refuses `serve_turns` `Serving::turn`: by size: as `Forwarders::receive` and `Server::event`, and for its lines; 120 for 18 turns.
+// Refuses `serve_turns` `Serving::turn`: by size: as `Forwarders::receive` and `Server::event`, and for its lines; 122 for 18 turns.
+// A desk that is made anew takes those of `Server::resumed` twice, and those of what waits: it comes behind 32,768 uplinks, and no
+// test refuses them.
 /// A growth that is refused stops the server, whichever it is.
 #[test]
 fn growths_of_turns(rt: HostRuntime) -> Result<(), Fail> {
@@ -368,7 +374,7 @@ fn growths_of_turns(rt: HostRuntime) -> Result<(), Fail> {
         memory: rt.alloc(),
         own: alloc,
     };
-    same(growths_of(alloc, &mut run)?, 120)
+    same(growths_of(alloc, &mut run)?, 122)
 }
 
 /// No gateway needs no memory; with one there is an answer or none.

@@ -10,6 +10,7 @@ use text_lines::CallFailed;
 /// What a host is asked to do.
 #[derive(Clone, Copy, Debug, PartialEq, Eq)]
 pub(crate) enum Deed {
+    Rest,
     Acknowledge,
     Append,
     Sync,
@@ -97,6 +98,10 @@ impl Host for Noting {
             port,
         };
         Some(Came { source, len })
+    }
+
+    fn rest(&mut self) {
+        let _ = self.ask(Deed::Rest, 0, b"");
     }
 
     fn now(&mut self) -> Option<u64> {

@@ -97,12 +97,12 @@ impl Call for Resumes<'_> {
 }
 
 // Refuses `serve_turns` `Serving::resumed`: those of `Server::resumed` and `Forwarders::resumed`, and those of `Server::event` for
-// what waits; 12 for one payload.
+// what waits; 14 for one payload.
 #[test]
 fn growths_of_a_resumed_server(rt: HostRuntime) -> Result<(), Fail> {
     let settings = settings(rt.alloc())?;
     let alloc = &Refusing::new(rt.alloc());
-    same(growths_of(alloc, &mut Resumes(&settings))?, 12)
+    same(growths_of(alloc, &mut Resumes(&settings))?, 14)
 }
 
 /// The journal of a server with these settings, in its place.

@@ -2,11 +2,13 @@
 use Rattle.std.proofs.Common.{◌++◌, Bool, false, List, ℕ, Option, refl}
 use Rattle.serve_turns.specs.declared.answerer.Answerer.{Answerer}
 use Rattle.serve_turns.specs.declared.sending.Written.{Written}
+use Rattle.serve_turns.specs.Control.{arrival}
 use Rattle.serve_turns.specs.Effects.{Effect, Packet}
 use Rattle.serve_turns.specs.Life.{Life, Makes}
+use Rattle.serve_turns.specs.NewDesk.{after_desk}
 use Rattle.serve_turns.specs.Renewing.{after_renewal, renewal_effects}
 use Rattle.serve_turns.specs.Sending.{Delivery}
-use Rattle.serve_turns.specs.Turn.{Answered, Did, Broke, HasActed, HasBroken, after_pass, after_report, came_in, came_in_effects, pass_effects, turned, turned_effects}
+use Rattle.serve_turns.specs.Turn.{Answered, Did, Broke, HasActed, HasBroken, after_pass, after_report, came_in, came_in_effects, pass_effects, turned_effects, until_desk}
 use Rattle.serve_turns.proofs.Parts.{did_then, did_broke, broke_first, did_as, broke_as, whole_front}
 use Rattle.serve_turns.proofs.Sendings.{unasked}
 
@@ -47,6 +49,10 @@ module _ (A : Type 0) (now : ℕ) (came : Option Packet) where
 
   abbrev then_does : Bool → Life → List Effect
   then_does done l = renewal_effects now done (after_report now l)
+
+  -- all but a new desk
+  abbrev until_on : Written × Answered → Life → Life
+  until_on how l = until_desk A now (arrival came how.0) how.1 l
 
   abbrev answered_by : (Written × Delivery) × Bool → Written × Answered
   answered_by how = (how.0.0, record { delivery = how.0.1; renewed = how.1 })
@@ -90,10 +96,23 @@ module _ (A : Type 0) (now : ℕ) (came : Option Packet) where
               (did_broke h0 h2 h3 first_on first_does then_on then_does a c first_done
               (broke_behind h2 h3 (after_report now) (renewal_effects now) c d told broke))
 
-          pub act_done : Did h2 h3 (after_renewal now) (renewal_effects now) d e → HasActed now came h0 h3 a e
-          act_done did =
-              did_as h0 h3 (λ (how : (Written × Delivery) × Bool) l. then_on how.1 (first_on how.0 l))
-              (λ (how : (Written × Delivery) × Bool) l. first_does how.0 l ++ then_does how.1 (first_on how.0 l)) (turned A now came)
-              (turned_effects A now came) a e answered_by (λ x l. refl) (λ x l. refl)
-              (did_then h0 h2 h3 first_on first_does then_on then_does a c e first_done
-              (did_behind h2 h3 (after_report now) (after_renewal now) (renewal_effects now) c d e told did))
+          module _ (did : Did h2 h3 (after_renewal now) (renewal_effects now) d e) where
+            all_but_desk : Did h0 h3 until_on (turned_effects A now came) a e
+            all_but_desk =
+                did_as h0 h3 (λ (how : (Written × Delivery) × Bool) l. then_on how.1 (first_on how.0 l))
+                (λ (how : (Written × Delivery) × Bool) l. first_does how.0 l ++ then_does how.1 (first_on how.0 l)) until_on
+                (turned_effects A now came) a e answered_by (λ x l. refl) (λ x l. refl)
+                (did_then h0 h2 h3 first_on first_does then_on then_does a c e first_done
+                (did_behind h2 h3 (after_report now) (after_renewal now) (renewal_effects now) c d e told did))
+
+            pub act_broke_desk : HasBroken now came h0 h3 a
+            act_broke_desk = did_and_broke h0 h3 until_on (turned_effects A now came) a e all_but_desk
+
+            pub act_done : (f : Answerer S A R C) → Makes (after_desk A) e f → HasActed now came h0 h3 a f
+            act_done f made =
+                record {
+                  how = all_but_desk.how;
+                  ready = made.ready;
+                  lives = λ l alive. made.goes (until_on all_but_desk.how l) (all_but_desk.lives l alive);
+                  effects = all_but_desk.effects;
+                }

@@ -10,7 +10,8 @@ use Rattle.server_desk.specs.Register.{Device, device_with}
 use Rattle.server_desk.proofs.Places.{found_there, from_map, map_there}
 use Rattle.serve_downlinks.specs.Batch.{addr_in}
 use Rattle.serve_downlinks.specs.Downlinks.{ToSend}
-use Rattle.serve_turns.specs.CounterLaw.{GoOn, HaveOwnAddresses, IsCounted, settings_of}
+use Rattle.serve_turns.specs.CounterLaw.{GoOn, HaveOwnAddresses, IsCounted}
+use Rattle.serve_turns.specs.Devices.{settings_of, without_counters}
 use Rattle.serve_turns.specs.CounterLives.{AreFresh, EveryServedLifeRaisesCounters, HasCounterWithin, LivesAreFresh, TurnsAreFresh, down_at, is_for, is_noted_for, told_after, told_behind}
 use Rattle.serve_turns.specs.Life.{Life}
 use Rattle.serve_turns.specs.LifeLaw.{ServedLife, Turn, behind}
@@ -41,9 +42,10 @@ down_later : (addr : ℕ) (old new : List Device) → HaveOwnAddresses (settings
 down_later addr old new own on None e = rw e (omega arith)
 down_later addr old new own on (Some (k, x)) e =
     let f = found_there (λ (d : Device). d.setting.addr == addr) old (k, x) e in
-    let at : slice_get (settings_of new) k ≡ Some x.setting =
-    subst (λ s. slice_get s k ≡ Some x.setting) (sym on.settings) (map_there (λ d. d.setting) old k x f.0) in
-    let y = from_map (λ (d : Device). d.setting) new k x.setting at in
+    let at : slice_get (settings_of new) k ≡ Some (without_counters x.setting) =
+    subst (λ s. slice_get s k ≡ Some (without_counters x.setting)) (sym on.settings)
+    (map_there (λ d. without_counters d.setting) old k x f.0) in
+    let y = from_map (λ (d : Device). without_counters d.setting) new k (without_counters x.setting) at in
     let same : y.0.setting.addr ≡ addr = ap (λ (s : DeviceSetting). s.addr) y.2 ∙ eqb-true x.setting.addr addr f.1 in
     let there = subst (λ a. device_with a new ≡ Some (k, y.0)) same (device_found new own k y.0 y.1) in
     omega (arith, down_found addr old (k, x) e, down_found addr new (k, y.0) there, on.counters k x y.0 f.0 y.1)

@@ -32,7 +32,8 @@ use Rattle.server_core.specs.Schedule.{answer_steps, closing_steps, given_steps,
 use Rattle.server_core.specs.Steps.{After, Reply, Step, Queue, Hear, Pass, Take, Settle, Try, Cancel, Tick, Queued, Heard, Passed, Given, Ended, Tried, Cancelled, Ticked, refused, run_from, sent_by, step, take_by, tried_by, try}
 use Rattle.serve_downlinks.specs.Downlinks.{ToSend, downlinks}
 use Rattle.serve_downlinks.specs.Batch.{addr_in}
-use Rattle.serve_turns.specs.CounterLaw.{HaveOwnAddresses, IsCounted, settings_of}
+use Rattle.serve_turns.specs.CounterLaw.{HaveOwnAddresses, IsCounted}
+use Rattle.serve_turns.specs.Devices.{settings_of, without_counters}
 use Rattle.serve_turns.proofs.DeviceSteps.{Keep, keep_both, keep_step, keep_steps, stood}
 
 -- a job is for one of these devices, with its keys and a counter that was given to it, and not before
@@ -42,7 +43,7 @@ pub record IsGiven (old devices : List Device) (job : Job) : Type 0 where
   device : Device
   was : slice_get old place ≡ Some before
   there : slice_get devices place ≡ Some device
-  set : before.setting ≡ device.setting
+  set : without_counters before.setting ≡ without_counters device.setting
   addr : device.setting.addr ≡ job.addr
   keys : job.keys ≡ keys_of device.setting
   not_below : before.down ≤ job.counter
@@ -297,9 +298,10 @@ module _ {X : Type 0} (test : X → Bool) where
   none_passes [] k x none there passes = absurd (cc)
   none_passes (y ∷ xs) k x none there passes = grind (arith, none_passes xs)
 
-module _ (devices : List Device) (own : HaveOwnAddresses (settings_of devices)) where
-  pub device_found : (place : ℕ) (d : Device) → slice_get devices place ≡ Some d → device_with d.setting.addr devices ≡ Some (place, d)
-  device_found place d there = by_option (λ o. device_with d.setting.addr devices ≡ o → o ≡ Some (place, d)) _
+module _ (devices : List Device) (once : (i j : ℕ) (c d : Device) → slice_get devices i ≡ Some c → slice_get devices j ≡ Some d
+    → c.setting.addr ≡ d.setting.addr → i ≡ j) where
+  pub found_once : (place : ℕ) (d : Device) → slice_get devices place ≡ Some d → device_with d.setting.addr devices ≡ Some (place, d)
+  found_once place d there = by_option (λ o. device_with d.setting.addr devices ≡ o → o ≡ Some (place, d)) _
       (λ none is. absurd (none_passes test devices place d none there (eq-eqb _ _ refl)))
       (λ found is e.
       let f = found_there test devices found is in
@@ -312,10 +314,15 @@ module _ (devices : List Device) (own : HaveOwnAddresses (settings_of devices)) 
       found_is : (found : ℕ × Device) → slice_get devices found.0 ≡ Some found.1 → found.1.setting.addr ≡ d.setting.addr
           → Some found ≡ Some (place, d)
       found_is (k, x) at same =
-          let places = apart_once (λ (y : Device). y.setting) (λ s. s.addr) devices (settings_of devices) refl own.differ k place
-          x d at there same in
+          let places = once k place x d at there same in
           let is : x ≡ d = same_Some _ _ (sym at ∙ subst (λ j. slice_get devices j ≡ Some d) (sym places) there) in
           cc (places, is)
+
+pub device_found : (devices : List Device) → HaveOwnAddresses (settings_of devices) → (place : ℕ) (d : Device)
+    → slice_get devices place ≡ Some d → device_with d.setting.addr devices ≡ Some (place, d)
+device_found devices own = found_once devices (λ i j c d at there same.
+    apart_once (λ (y : Device). without_counters y.setting) (λ s. s.addr) devices (settings_of devices) refl own.differ i j c d at
+    there same)
 
 -- DevAddr of a PHYPayload
 
@@ -334,8 +341,8 @@ module _ (old new : List Device) (own : HaveOwnAddresses (settings_of old)) (als
   counted_of_job : (d : ToSend) → IsOfJob old new d → IsCounted old new d
   counted_of_job d o =
       let g = o.given in
-      let fits = all_get (λ s. s.addr < 2 ^ 32) (settings_of new) g.place g.device.setting also.fit
-      (map_there (λ x. x.setting) new g.place g.device g.there) in
+      let fits = all_get (λ s. s.addr < 2 ^ 32) (settings_of new) g.place (without_counters g.device.setting) also.fit
+      (map_there (λ x. without_counters x.setting) new g.place g.device g.there) in
       let first : g.before.setting.addr ≡ o.job.addr = ap (λ (s : DeviceSetting). s.addr) g.set ∙ g.addr in
       record {
         job = o.job;

@@ -9,7 +9,7 @@ use Rattle.forwarder_sessions.specs.Sessions.{Known}
 use Rattle.serve_turns.specs.declared.answerer.Answerer.{Answerer}
 use Rattle.serve_journal.specs.Payload.{Waiting}
 use Rattle.serve_turns.specs.Life.{Life, Makes}
-use Rattle.serve_turns.specs.Opening.{after_queue, after_queues}
+use Rattle.serve_turns.specs.Queues.{after_queue, after_queues}
 use Rattle.serve_turns.specs.Taking.{after_entry, after_entries}
 use Rattle.serve_turns.specs.Turn.{after_tick, after_ticks}
 use Rattle.serve_turns.proofs.Lives.{makes_then, makes_same}

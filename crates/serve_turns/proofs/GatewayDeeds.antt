@@ -3,6 +3,7 @@ use Rattle.std.proofs.Common.{◌≡◌, ◌∙◌, ◌≤◌, ◌++◌, Bool, t
 use Rattle.std.specs.Prelude.{◌==◌, ◌≢◌, ◌&&◌, AllPairs, slice_get, slice_set}
 use Rattle.std.proofs.lemmas.Bool.{eqb-true, eq-eqb}
 use Rattle.std.proofs.lemmas.Option.{same_Some}
+use Rattle.std.proofs.lemmas.Simd.{map-map}
 use Rattle.resv_list.specs.declared.reservation.Reservation.{Reservation}
 use Rattle.resv_list.specs.Reservations.{IsByStart, place, start_of}
 use Rattle.resv_list.proofs.SortedLaws.{RisesFrom-place_by}
@@ -11,8 +12,10 @@ use Rattle.gateway_book.specs.declared.refusal.Refusal.{Refusal}
 use Rattle.gateway_book.specs.Answer.{Rules, refusal_of}
 use Rattle.gateway_book.specs.Disjoint.{most_gap}
 use Rattle.gateway_book.specs.Forgetting.{Answered, Book, IsUnseen, Tick as Ticked_to, forgetful}
+use Rattle.gateway_book.specs.Kept.{kept}
 use Rattle.gateway_book.specs.Step.{State, book_step, placed, reservation_of, terms_at, tick_step}
 use Rattle.gateway_book.proofs.ForgottenSteps.{forgetting_is_unseen}
+use Rattle.gateway_book.proofs.KeptLaws.{kept-by_start, kept-twice}
 use Rattle.gateway_book.proofs.OrderlyLaws.{free_where_clear, may_join}
 use Rattle.rx_windows.specs.declared.candidate.Candidate.{Candidate}
 use Rattle.answer_ticket.specs.Job.{Job, ask_for, candidate_at, frame_for}
@@ -23,21 +26,22 @@ use Rattle.server_desk.specs.Answers.{Open as Tried_at}
 use Rattle.server_desk.specs.Register.{Device}
 use Rattle.server_desk.specs.Taking.{take_answer}
 use Rattle.server_desk.specs.World.{Gateway, World, known}
-use Rattle.server_desk.proofs.Places.{get_set_after, get_set_same, map_set}
+use Rattle.server_desk.proofs.Places.{get_set_after, get_set_same, map_set, map_there}
 use Rattle.server_core.proofs.DeskSteps.{settle_walk, tick_walk, try_walk}
 use Rattle.server_core.proofs.GatewaySteps.{booking}
 use Rattle.server_core.proofs.Members.{apart_once, rises_once}
 use Rattle.server_core.specs.declared.entry.Line.{Line}
 use Rattle.server_core.specs.declared.event.Event.TheVariants as events
-use Rattle.server_core.specs.Entries.{event_lines, lines_for, step_lines}
+use Rattle.server_core.specs.Entries.{event_lines, kept_gateway, lines_for, step_lines}
 use Rattle.server_core.specs.Schedule.{due_numbers, event_steps, reached}
 use Rattle.server_core.specs.Steps.{After, Step, Queue, Hear, Pass, Take, Settle, Try, Cancel, Tick, run_from, step, take_by, terms, tick, tick_at, tried_by, try}
 use Rattle.serve_journal.specs.Lives.{Asks, Deed, Recorded, Ticks, after_deed, after_deeds, noted as noted_by}
 use Rattle.serve_downlinks.specs.Downlinks.{ToSend, downlinks}
 use Rattle.serve_turns.specs.LifeLaw.{all_noted, noted}
+use Rattle.serve_turns.specs.NewDesk.{reopened}
 use Rattle.serve_turns.proofs.Counters.{ArePassing, passes, settled_none, taken_none}
 use Rattle.serve_turns.proofs.DeviceSteps.{keep_same}
-use Rattle.serve_turns.proofs.Unnumbered.{bare, bare_ask, bare_state, refusal_bare, rises_bare, step_bare}
+use Rattle.serve_turns.proofs.Unnumbered.{bare, bare_ask, bare_state, kept_bare, refusal_bare, rises_bare, step_bare}
 
 deeds_append : (rules : Rules) (ds es : List Deed) (r : Recorded)
     → after_deeds rules (ds ++ es) r ≡ after_deeds rules es (after_deeds rules ds r)
@@ -305,6 +309,23 @@ module _ (id : ℕ) (rules : Rules) (rested : rules.gap ≤ most_gap) (p : ℕ) 
   unfolding event_steps run_from step
   hear_follows A w bytes heard arrived s journal h =
       leads_same w (reached w (event_steps {A = A} w (events.Hear bytes heard arrived))) s journal refl h
+
+  -- a new desk on the same books
+  pub reopen_follows : (w : World) → Follows w (reopened w)
+  reopen_follows w s journal h =
+      let rises = kept-by_start s.list s.floor h.by_start in
+      record {
+        state = forgetful s;
+        stands = record {
+          there = map_there kept_gateway w.gateways p (gateway s) h.there;
+          named = map-map (λ (g : Gateway). g.id) kept_gateway w.gateways ∙ h.named;
+          by_start = rises;
+        };
+        deeds = [];
+        leads = ap (λ l. record { journal = journal; book = record s { list = l } })
+            (kept_bare s.list s.floor h.by_start ∙ ap bare (sym (kept-twice s.list s.floor h.by_start))
+            ∙ sym (kept_bare (kept s.list s.floor) s.floor rises));
+      }
 
   pub queue_follows : (A : Type 0) (w : World) (addr port : ℕ) (payload : List ℕ)
       → Follows w (reached w (event_steps {A = A} w (events.Queue addr port payload)))

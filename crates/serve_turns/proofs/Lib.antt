@@ -29,3 +29,6 @@ mod WorkedCounters
 mod WorkedServed
 mod WorkedLives
 mod Paired
+mod NewDesks
+mod SettingsStay
+mod WorkedDesks

@@ -17,9 +17,9 @@ use Rattle.serve_journal.proofs.LivesLaws.{every_life_keeps_duty}
 use Rattle.serve_turns.specs.Life.{Life}
 use Rattle.serve_turns.specs.LifeLaw.{EveryServedLifeKeepsDuty, OpenInTurn, OpensOn, ServedLife, Turn, after_life as after_served_life, after_served, after_turns, all_noted, behind, turn_downlinks}
 use Rattle.serve_turns.specs.SendLaw.{before_pass, behind_pass, pass_downlinks}
-use Rattle.serve_turns.specs.Turn.{after_came}
-use Rattle.serve_turns.proofs.GatewayDeeds.{Follows, Leads, Stands, follows_both, follows_same, hear_follows, leads_both, leads_same, pass_leads, queue_follows, tick_follows}
-use Rattle.serve_turns.proofs.TurnWorlds.{came_on, ticks_on, turn_world}
+use Rattle.serve_turns.specs.Turn.{after_came, until_desk}
+use Rattle.serve_turns.proofs.GatewayDeeds.{Follows, Leads, Stands, follows_both, follows_same, hear_follows, leads_both, leads_same, pass_leads, queue_follows, reopen_follows, tick_follows}
+use Rattle.serve_turns.proofs.TurnWorlds.{came_on, desk_on, ticks_on, turn_world}
 use Rattle.serve_turns.proofs.Unnumbered.{bare, bare_state}
 
 module _ (A : Type 0) (id : ℕ) (rules : Rules) (rested : rules.gap ≤ most_gap) (p : ℕ) (names : List ℕ)
@@ -59,8 +59,14 @@ module _ (A : Type 0) (id : ℕ) (rules : Rules) (rested : rules.gap ≤ most_ga
 
     pub turn_led : (s : State) (journal : List Reservation) → Stood l.world s
         → Led (behind A t l).world s journal (all_noted t.is_kept id (turn_downlinks A t l) journal)
-    turn_led s journal h = subst (λ w. Led w s journal (all_noted t.is_kept id (turn_downlinks A t l) journal))
-        (sym (turn_world A t.now t.came t.answered l)) (turn_by (is_some (pass_answer came.world.reg t.now)) s journal h)
+    turn_led s journal h =
+        let u = until_desk A t.now t.came t.answered l in
+        let after = all_noted t.is_kept id (turn_downlinks A t l) journal in
+        leads_both id rules rested p names differ u.world (behind A t l).world s journal after after
+        (subst (λ w. Led w s journal after) (sym (turn_world A t.now t.came t.answered l))
+        (turn_by (is_some (pass_answer came.world.reg t.now)) s journal h))
+        (λ v stands. desk_on On (follows_same id rules rested p names differ) (follows_both id rules rested p names differ) A
+        (reopen_follows id rules rested p names differ) (queue_follows id rules rested p names differ A) u v after stands)
 
   -- turn after turn
   abbrev pub behind_all : List Turn → Life → Life

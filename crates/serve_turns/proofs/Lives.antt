@@ -1,5 +1,5 @@
 -- How a server's life goes on.
-use Rattle.std.proofs.Common.{◌≡◌, ◌++◌, ◌∙◌, List, [], ◌∷◌, map, Option, None, ℕ, refl, ap, subst, sym}
+use Rattle.std.proofs.Common.{◌≡◌, ◌++◌, ◌∙◌, List, [], ◌∷◌, map, Option, Some, None, ℕ, refl, ap, subst, sym}
 use Rattle.std.proofs.lemmas.{List.map-id, Simd.map-map}
 use Rattle.text_lines.specs.Line.{text_of}
 use Rattle.server_core.specs.declared.entry.Entry.{Entry}
@@ -7,14 +7,19 @@ use Rattle.server_core.specs.declared.entry.Line.{Line}
 use Rattle.server_core.specs.declared.event.Event.{Event}
 use Rattle.server_core.specs.Entries.{entry_at, event_lines}
 use Rattle.server_core.specs.Schedule.{reached, event_steps}
+use Rattle.server_desk.specs.declared.faults.DeskFault.{DeskFault}
 use Rattle.server_core.specs.Server.{seen, Does, IsAt, IsBetweenCalls, Seen, without_lines}
 use Rattle.run_lines.specs.EntryLine.{line_text}
+use Rattle.run_lines.specs.EntryName.{hear_name}
 use Rattle.run_lines.specs.ReplayText.{entry_lines}
 use Rattle.run_lines.specs.declared.uplink_counts.UplinkCounts.{UplinkCounts}
 use Rattle.run_lines.specs.UplinkCounts.{counts_of}
 use Rattle.serve_turns.specs.declared.answerer.Answerer.{Answerer}
+use Rattle.serve_turns.specs.Devices.{settings_of, without_counters}
 use Rattle.serve_turns.specs.Lines.{asked_line}
 use Rattle.serve_turns.specs.Life.{Life, AreAnswers, Makes, IsReady, IsAlive, after_event, after_copy, counts_with, doing, joining, number_in, refusal_of, telling}
+use Rattle.serve_turns.specs.Tallies.{dropped_by}
+use Rattle.serve_turns.proofs.DeviceSteps.{keep_steps}
 
 -- nothing happened
 pub stays : {S A R : Type 0} {C : _} (a : Answerer S A R C) → IsReady a → Makes (λ l. l) a a
@@ -44,6 +49,7 @@ lines_told told lines is = ap (map (λ e. e.line)) is ∙ map-map (λ e. e.line)
 
 -- all but the server, the text and these counts is the same
 pub record IsSameBeside {S A R : Type 0} {C : _} (counted : UplinkCounts) (old new : Answerer S A R C) : Type 0 where
+  pub set : new.settings ≡ old.settings
   pub known : new.forwarders.sessions.items ≡ old.forwarders.sessions.items
   pub kept : new.keeping ≡ old.keeping
   pub drops : new.drops.items ≡ old.drops.items
@@ -68,6 +74,12 @@ module _ {S A R : Type 0} {C : _} (e : Event A) (told : List (Entry A)) (middle 
   pub are_answers : AreAnswers e told old
   are_answers l alive = lines_told told (event_lines l.world e) (lines_of l alive)
 
+  -- steps leave how devices are set
+  set_after : (new : Answerer S A R C) (l : Life) → new.settings ≡ old.settings → IsAlive l old
+      → map without_counters new.settings.devices ≡ settings_of (doing e l).world.reg.devices
+  set_after new l same alive =
+      ap (λ s. map without_counters s.devices) same ∙ alive.set ∙ sym (keep_steps l.world (event_steps l.world e)).settings
+
   module _ (new : Answerer S A R C) (rest : seen new.server ≡ without_lines middle) where
     ready_again : IsReady new
     ready_again =
@@ -89,6 +101,7 @@ module _ {S A R : Type 0} {C : _} (e : Event A) (told : List (Entry A)) (middle 
           goes = λ l alive.
               record {
                 at = world_after l alive;
+                set = set_after new l same.set alive;
                 known = same.known ∙ alive.known;
                 kept = same.kept ∙ alive.kept;
                 drops = same.drops ∙ alive.drops;
@@ -108,6 +121,7 @@ module _ {S A R : Type 0} {C : _} (e : Event A) (told : List (Entry A)) (middle 
           goes = λ l alive.
               record {
                 at = world_after l alive;
+                set = set_after new l same.set alive;
                 known = same.known ∙ alive.known;
                 kept = same.kept ∙ alive.kept;
                 drops = same.drops ∙ alive.drops;
@@ -130,6 +144,7 @@ told_more lines old new ready server same text =
       goes = λ l alive.
           record {
             at = subst (λ s. IsAt l.world (seen s)) (sym server) alive.at;
+            set = ap (λ s. map without_counters s.devices) same.set ∙ alive.set;
             known = same.known ∙ alive.known;
             kept = same.kept ∙ alive.kept;
             drops = same.drops ∙ alive.drops;
@@ -152,4 +167,40 @@ copy_joined e told eui place n old middle new answers none number first next =
           rw (ap refusal_of (sym lines) ∙ none)
           (subst (λ x. IsAlive (joining place x (after_event e l)) new) (number ∙ ap number_in lines)
           (next.goes (after_event e l) (first.goes l alive)));
+    }
+
+-- a copy that was refused is counted
+pub record IsSameButDrops {S A R : Type 0} {C : _} (name : List ℕ) (eui : Option (List ℕ)) (old new : Answerer S A R C) : Type 0 where
+  pub server : new.server ≡ old.server
+  pub set : new.settings ≡ old.settings
+  pub known : new.forwarders.sessions.items ≡ old.forwarders.sessions.items
+  pub kept : new.keeping ≡ old.keeping
+  pub drops : new.drops.items ≡ dropped_by name eui old.drops.items
+  pub told_at : new.told_at ≡ old.told_at
+  pub counts : new.counts ≡ old.counts
+  pub text : new.text.writer.items ≡ old.text.writer.items
+
+pub copy_dropped : {S A R : Type 0} {C : _} (e : Event A) (told : List (Entry A)) (eui : List ℕ) (place : ℕ) (fault : DeskFault)
+    (old middle new : Answerer S A R C) → AreAnswers e told old → refusal_of (map (λ x. x.line) told) ≡ Some fault
+    → Makes (doing e) old middle → IsSameButDrops (hear_name fault) (Some eui) middle new → Makes (after_copy eui place e) old new
+copy_dropped e told eui place fault old middle new answers refused first same =
+    record {
+      ready = record {
+        between = subst (λ s. IsBetweenCalls (seen s)) (sym same.server) first.ready.between;
+        taken = subst (λ s. (seen s).outcomes ≡ []) (sym same.server) first.ready.taken;
+      };
+      goes = λ l alive.
+          let lines = answers l alive in
+          let there = first.goes l alive in
+          rw (ap refusal_of (sym lines) ∙ refused)
+          (record {
+            at = subst (λ s. IsAt (doing e l).world (seen s)) (sym same.server) there.at;
+            set = ap (λ s. map without_counters s.devices) same.set ∙ there.set;
+            known = same.known ∙ there.known;
+            kept = same.kept ∙ there.kept;
+            drops = same.drops ∙ ap (dropped_by (hear_name fault) (Some eui)) there.drops;
+            told_at = same.told_at ∙ there.told_at;
+            counts = same.counts ∙ there.counts;
+            text = same.text ∙ there.text;
+          });
     }

@@ -1,5 +1,5 @@
 -- A packet that a gateway heard.
-use Rattle.std.proofs.Common.{◌≡◌, ◌∙◌, Bool, ℕ, Option, Some, None, IfSome, ap, slice_get, slice_set, subst, sym}
+use Rattle.std.proofs.Common.{◌≡◌, ◌∙◌, Bool, ℕ, Option, Some, None, IfSome, ap, slice_get, slice_set, subst, sym, map}
 use Rattle.std.proofs.lemmas.Option.{same_Some}
 use Rattle.std.specs.Option.{option_map}
 use Rattle.gateway_clock.specs.Clock.{heard}
@@ -8,6 +8,7 @@ use Rattle.forwarder_sessions.specs.declared.session.Forwarder.{Forwarder}
 use Rattle.forwarder_sessions.specs.Sessions.{Known, heard_by}
 use Rattle.server_core.specs.Server.{seen, IsAt}
 use Rattle.serve_turns.specs.declared.answerer.Answerer.{Answerer}
+use Rattle.serve_turns.specs.Devices.{without_counters}
 use Rattle.serve_turns.specs.Life.{Life, IsAlive, Makes, after_copy, telling}
 use Rattle.serve_turns.specs.Taking.{after_packet, after_packet_of, hear_event, hearing_by, session_lines}
 
@@ -15,6 +16,7 @@ use Rattle.serve_turns.specs.Taking.{after_packet, after_packet_of, hear_event, 
 pub record HasHeard {S A R : Type 0} {C : _} (now place tmst : ℕ) (k : Known) (old new : Answerer S A R C) : Type 0 where
   pub known : new.forwarders.sessions.items ≡ slice_set old.forwarders.sessions.items place (heard_by tmst now k)
   pub server : new.server ≡ old.server
+  pub set : new.settings ≡ old.settings
   pub counts : new.counts ≡ old.counts
   pub kept : new.keeping ≡ old.keeping
   pub drops : new.drops.items ≡ old.drops.items
@@ -28,6 +30,7 @@ module _ {S A R : Type 0} {C : _} (now place : ℕ) (p : Received) (f : Forwarde
   alive_then l k alive h =
       record {
         at = subst (λ s. IsAt l.world (seen s)) (sym h.server) alive.at;
+        set = ap (λ s. map without_counters s.devices) h.set ∙ alive.set;
         known = h.known ∙ ap (λ ks. slice_set ks place (heard_by p.tmst now k)) alive.known;
         kept = h.kept ∙ alive.kept;
         drops = h.drops ∙ alive.drops;

@@ -10,6 +10,7 @@ use Rattle.server_desk.specs.Desk.{DeskView}
 use Rattle.server_desk.specs.Passing.{pass_answer}
 use Rattle.serve_turns.specs.declared.answerer.Answerer.{Answerer}
 use Rattle.serve_turns.specs.declared.sending.Written.TheVariants.{NotAppended}
+use Rattle.serve_turns.specs.Devices.{without_counters}
 use Rattle.serve_turns.specs.Effects.{Effect, Packet, Adds, AddsFront}
 use Rattle.serve_turns.specs.Life.{Life, AreAnswers, IsAlive, IsReady, Makes, after_event, saying_drops}
 use Rattle.serve_turns.specs.Sending.{sending, sending_effects}
@@ -100,6 +101,7 @@ module _ {S A R : Type 0} {C : _} (now : ℕ) (a : Answerer S A R C) where
 -- only when it was told last is another
 pub record IsSameButTold {S A R : Type 0} {C : _} (old new : Answerer S A R C) : Type 0 where
   pub server : new.server ≡ old.server
+  pub set : new.settings ≡ old.settings
   pub counts : new.counts ≡ old.counts
   pub known : new.forwarders.sessions.items ≡ old.forwarders.sessions.items
   pub kept : new.keeping ≡ old.keeping
@@ -111,6 +113,7 @@ pub told_then : {S A R : Type 0} {C : _} (now : ℕ) (a b : Answerer S A R C) �
 told_then now a b same told l alive =
     record {
       at = subst (λ s. IsAt l.world (seen s)) (sym same.server) alive.at;
+      set = ap (λ s. map without_counters s.devices) same.set ∙ alive.set;
       known = same.known ∙ alive.known;
       kept = same.kept ∙ alive.kept;
       drops = same.drops ∙ alive.drops;
@@ -146,6 +149,7 @@ report_said now a b c late at made =
 pub record HasPulled {S A R : Type 0} {C : _} (now : ℕ) (p : Packet) (old new : Answerer S A R C) : Type 0 where
   pub known : new.forwarders.sessions.items ≡ known_after old.forwarders.sessions.items p.source now p.bytes
   pub server : new.server ≡ old.server
+  pub set : new.settings ≡ old.settings
   pub counts : new.counts ≡ old.counts
   pub kept : new.keeping ≡ old.keeping
   pub drops : new.drops.items ≡ old.drops.items
@@ -162,6 +166,7 @@ module _ {S A R : Type 0} {C : _} (now : ℕ) (p : Packet) (came : Comes) (a b :
   known_alive l alive =
       record {
         at = subst (λ s. IsAt l.world (seen s)) (sym pulled.server) alive.at;
+        set = ap (λ s. map without_counters s.devices) pulled.set ∙ alive.set;
         known = pulled.known ∙ ap (λ ks. known_after ks p.source now p.bytes) alive.known;
         kept = pulled.kept ∙ alive.kept;
         drops = pulled.drops ∙ alive.drops;

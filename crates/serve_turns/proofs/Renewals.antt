@@ -1,10 +1,11 @@
 -- A journal that is written anew.
-use Rattle.std.proofs.Common.{◌≡◌, ◌∙◌, Bool, true, false, List, [], ◌∷◌, ℕ, Option, Some, ap, cond, length, subst, sym}
+use Rattle.std.proofs.Common.{◌≡◌, ◌∙◌, Bool, true, false, List, [], ◌∷◌, ℕ, Option, Some, ap, cond, length, subst, sym, map}
 use Rattle.server_core.specs.Server.{seen, IsAt, IsBetweenCalls}
 use Rattle.serve_journal.specs.Renewal.{renewal_text}
 use Rattle.serve_downlinks.specs.Batch.{knows}
 use Rattle.serve_renewal.specs.State.{state_of}
 use Rattle.serve_turns.specs.declared.answerer.Answerer.{Answerer}
+use Rattle.serve_turns.specs.Devices.{without_counters}
 use Rattle.serve_turns.specs.Effects.{Effect, Adds, AddsFront, Replaces}
 use Rattle.serve_turns.specs.Kept.{Kept, kept_after}
 use Rattle.serve_turns.specs.Life.{IsAlive, IsReady}
@@ -17,6 +18,7 @@ use Rattle.serve_turns.proofs.Parts.{nothing_front}
 -- all but what is known of the journal is the same
 pub record IsSameButKept {S A R : Type 0} {C : _} (old new : Answerer S A R C) : Type 0 where
   pub server : new.server ≡ old.server
+  pub set : new.settings ≡ old.settings
   pub counts : new.counts ≡ old.counts
   pub known : new.forwarders.sessions.items ≡ old.forwarders.sessions.items
   pub drops : new.drops.items ≡ old.drops.items
@@ -45,6 +47,7 @@ module _ {S A R : Type 0} {C : _} (h0 h1 : Option (List Effect)) (now : ℕ) (ol
             subst (λ o. IsAlive (renewing_if_kept now done o l) new) (sym has)
             (record {
               at = subst (λ s. IsAt l.world (seen s)) (sym same.server) alive.at;
+              set = ap (λ s. map without_counters s.devices) same.set ∙ alive.set;
               known = same.known ∙ alive.known;
               kept = kept ∙ ap (λ b. Some (kept_after now done (length b) k)) text;
               drops = same.drops ∙ alive.drops;

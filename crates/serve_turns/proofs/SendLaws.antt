@@ -18,7 +18,7 @@ use Rattle.serve_turns.specs.declared.sending.Written.{Written}
 use Rattle.serve_turns.specs.declared.sending.Written.TheVariants.{NotAppended, NotSynced, Synced}
 use Rattle.serve_turns.specs.Command.{command_of, is_control}
 use Rattle.serve_turns.specs.Control.{Arrival, Need, Nothing, Failing, Batch, command_effects, control_effects, meeting_effects, need_for}
-use Rattle.serve_turns.specs.Effects.{Effect, Packet, Receives, Shows, Acknowledges, Appends, Syncs, Replaces, Sends, Tells, Cuts}
+use Rattle.serve_turns.specs.Effects.{Effect, Packet, Receives, Rests, Shows, Acknowledges, Appends, Syncs, Replaces, Sends, Tells, Cuts}
 use Rattle.serve_turns.specs.Kept.{Kept, with_kept_back}
 use Rattle.serve_turns.specs.Life.{Life}
 use Rattle.serve_turns.specs.Sending.{Asked, Delivery, after_kept_back, asked, asked_by, asking_effects, asking_effects_at, asking_effects_with, is_sendable, known_then, sendable, sending_effects_if_kept, sending_if, sent_one, some_kept_back, writing}
@@ -58,6 +58,7 @@ module _ (P : List Effect → Endpoint → List ℕ → Type 0) where
   each_append done (Sends to b w ∷ xs) ys h t =
       (h.0, each_append (done ++ Sends to b w ∷ []) xs ys h.1 (moved done (Sends to b w) xs ys t))
   each_append done (Receives c ∷ xs) ys h t = each_append (done ++ Receives c ∷ []) xs ys h (moved done (Receives c) xs ys t)
+  each_append done (Rests ∷ xs) ys h t = each_append (done ++ Rests ∷ []) xs ys h (moved done Rests xs ys t)
   each_append done (Shows c ∷ xs) ys h t = each_append (done ++ Shows c ∷ []) xs ys h (moved done (Shows c) xs ys t)
   each_append done (Acknowledges to b ∷ xs) ys h t =
       each_append (done ++ Acknowledges to b ∷ []) xs ys h (moved done (Acknowledges to b) xs ys t)

@@ -15,7 +15,7 @@ use Rattle.serve_turns.specs.declared.sending.Written.{Written}
 use Rattle.serve_turns.specs.declared.sending.Written.TheVariants.{NotAppended, NotSynced, Synced}
 use Rattle.serve_turns.specs.Command.{command_of, is_control}
 use Rattle.serve_turns.specs.Control.{Arrival, Need, Nothing, Failing, Batch, command_effects, control_effects, meeting_effects, need_for}
-use Rattle.serve_turns.specs.Effects.{Effect, Packet, Receives, Shows, Acknowledges, Appends, Syncs, Replaces, Sends, Tells, Cuts}
+use Rattle.serve_turns.specs.Effects.{Effect, Packet, Receives, Rests, Shows, Acknowledges, Appends, Syncs, Replaces, Sends, Tells, Cuts}
 use Rattle.serve_turns.specs.Kept.{Kept}
 use Rattle.serve_turns.specs.Life.{Life}
 use Rattle.serve_turns.specs.Sending.{Asked, Delivery, asked, asked_by, asking_effects, asking_effects_at, asking_effects_with, sending_effects_if_kept, sending_if, sent_one, writing}
@@ -29,6 +29,7 @@ resps_append : (xs ys : List Effect) → resps_in (xs ++ ys) ≡ resps_in xs ++ 
 resps_append [] ys = refl
 resps_append (Sends to b w ∷ xs) ys = ap (λ t. (to, b) ∷ t) (resps_append xs ys)
 resps_append (Receives c ∷ xs) ys = resps_append xs ys
+resps_append (Rests ∷ xs) ys = resps_append xs ys
 resps_append (Shows c ∷ xs) ys = resps_append xs ys
 resps_append (Acknowledges to b ∷ xs) ys = resps_append xs ys
 resps_append (Appends b w ∷ xs) ys = resps_append xs ys

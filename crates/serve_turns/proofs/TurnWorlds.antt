@@ -1,11 +1,11 @@
 -- What a turn does to the world: the events of what came, ticks, and a pass; all else leaves it.
-use Rattle.std.proofs.Common.{◌≡◌, ◌∙◌, Bool, true, false, List, [], ◌∷◌, ℕ, Option, Some, None, Result, Ok, Err, cond, refl, subst}
+use Rattle.std.proofs.Common.{◌≡◌, ◌∙◌, Bool, true, false, List, [], ◌∷◌, ℕ, Option, Some, None, Result, Ok, Err, cond, map, refl, subst}
 use Rattle.std.specs.Prelude.{◌-◌, is_some, nat_lt, slice_get}
 use Rattle.forwarder_packets.specs.Entries.{Read}
 use Rattle.forwarder_packets.specs.Entry.{Received}
 use Rattle.forwarder_sessions.specs.declared.received.PushDropped.{PushDropped}
 use Rattle.forwarder_sessions.specs.Received.{Tells, Dropped, Pulled_from, Pushed, Answered as Acknowledged}
-use Rattle.forwarder_sessions.specs.Sessions.{Known, tick_of}
+use Rattle.forwarder_sessions.specs.Sessions.{Known, renumbered, tick_of}
 use Rattle.server_core.specs.declared.event.Event.{Event}
 use Rattle.server_core.specs.declared.event.Event.TheVariants.{Queue, Hear, Tick}
 use Rattle.server_core.specs.Entries.{event_lines}
@@ -15,6 +15,7 @@ use Rattle.server_desk.specs.declared.heard.Heard1.{Heard1}
 use Rattle.server_desk.specs.Passing.{pass_answer}
 use Rattle.server_desk.specs.World.{World}
 use Rattle.serve_downlinks.specs.Downlinks.{ToSend}
+use Rattle.serve_journal.specs.Payload.{Waiting}
 use Rattle.serve_turns.specs.declared.command.Command.{Command}
 use Rattle.serve_turns.specs.declared.command.Command.TheVariants as asks
 use Rattle.serve_turns.specs.declared.command.Command.TheVariants.{Report}
@@ -26,11 +27,13 @@ use Rattle.serve_turns.specs.Control.{Arrival, Need, Nothing, Failing, Batch, af
 use Rattle.serve_turns.specs.Effects.{Packet}
 use Rattle.serve_turns.specs.Kept.{Kept}
 use Rattle.serve_turns.specs.Life.{Life, after_copy_as, after_event, joining, number_in, saying_drops}
+use Rattle.serve_turns.specs.NewDesk.{after_desk, all_waiting, is_desk_due, reopened, with_new_desk}
+use Rattle.serve_turns.specs.Queues.{after_queue, after_queues}
 use Rattle.serve_turns.specs.Renewing.{after_renewal, is_to_be_renewed, renewing, renewing_if_kept}
 use Rattle.serve_turns.specs.SendLaw.{behind_pass, pass_downlinks}
 use Rattle.serve_turns.specs.Sending.{Asked, Delivery, after_kept_back, asked, asking, asking_at, asking_with, delivered_as, sendable, sending_if_kept}
 use Rattle.serve_turns.specs.Taking.{after_ack_of, after_entries, after_entry, after_news, after_packet_of, after_packets}
-use Rattle.serve_turns.specs.Turn.{Answered, after_came, after_datagram, after_pass, after_report, after_tick, after_tick_at, after_ticks, after_turn, answering, comes, knowing, ticking, told_every}
+use Rattle.serve_turns.specs.Turn.{Answered, after_came, after_datagram, after_pass, after_report, after_tick, after_tick_at, after_ticks, answering, comes, knowing, ticking, told_every, until_desk}
 
 -- what is so of a world and itself, and of one world after another
 module _ (R : World → World → Type 0) (same : (w : World) → R w w) (both : (u v w : World) → R u v → R v w → R u w) (A : Type 0) where
@@ -127,7 +130,26 @@ module _ (R : World → World → Type 0) (same : (w : World) → R w w) (both :
         let m = after_tick A now k l in
         both l.world m.world (after_ticks A now ks m).world (tick_on k.forwarder.gateway (tick_of now k) l) (ticks_on ks m)
 
--- The world behind a turn is that behind its pass, or where none is made, that of what came.
+  -- a new desk
+
+  module _ (reopens : (w : World) → R w (reopened w)) (queues : (w : World) (addr port : ℕ) (payload : List ℕ)
+      → R w (reached w (event_steps {A = A} w (Queue addr port payload)))) where
+    pub waits_on : (qs : List (ℕ × Waiting)) (l : Life) → After l (after_queues A qs l)
+    waits_on [] l = same l.world
+    waits_on (q ∷ qs) l =
+        let m = after_queue A q l in
+        both l.world m.world (after_queues A qs m).world (queues l.world q.0 q.1.port q.1.bytes) (waits_on qs m)
+
+    desk_by : (l : Life) (t : Bool) → After l (cond t (with_new_desk A l) l)
+    desk_by l true =
+        let m : Life = record l { world = reopened l.world; known = map renumbered l.known } in
+        both l.world m.world (with_new_desk A l).world (reopens l.world) (waits_on (all_waiting l.world.reg.devices) m)
+    desk_by l false = same l.world
+
+    pub desk_on : (l : Life) → After l (after_desk A l)
+    desk_on l = desk_by l (is_desk_due l)
+
+-- The world behind a turn, but for a new desk, is that behind its pass, or where none is made, that of what came.
 
 module _ (now : ℕ) (d : Delivery) (ds : List ToSend) where
   delivered_world : (written : Written) (len : ℕ) (asks : List Asked) (k : Kept) (l : Life)
@@ -186,7 +208,7 @@ module _ (A : Type 0) (now : ℕ) (came : Option Arrival) (r : Answered) (l : Li
       sending_world now r.delivery (pass_downlinks A now came l) m.kept m
   passed_world false = refl
 
-  pub turn_world : (after_turn A now came r l).world ≡ cond is_due (behind_pass A now came l).world then.world
+  pub turn_world : (until_desk A now came r l).world ≡ cond is_due (behind_pass A now came l).world then.world
   turn_world =
       let p = after_pass A now r.delivery then in
       renewed_world now r.renewed (after_report now p) ∙ reported_world now p ∙ passed_world is_due

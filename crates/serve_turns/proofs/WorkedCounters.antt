@@ -17,7 +17,8 @@ use Rattle.serve_downlinks.specs.Batch.{floor_of, sent_of, session_at, taken_ent
 use Rattle.serve_downlinks.specs.BatchLaw.{AreInOrder}
 use Rattle.serve_downlinks.specs.Downlinks.{ToSend}
 use Rattle.serve_downlinks.specs.Fates.{forwarder_of}
-use Rattle.serve_turns.specs.CounterLaw.{DevicesGoOn, EachDownlinkIsCounted, HaveOwnAddresses, IsCounted, settings_of}
+use Rattle.serve_turns.specs.CounterLaw.{DevicesGoOn, EachDownlinkIsCounted, HaveOwnAddresses, IsCounted}
+use Rattle.serve_turns.specs.Devices.{settings_of, without_counters}
 use Rattle.serve_turns.specs.Control.{Arrival}
 use Rattle.serve_turns.specs.Effects.{Appends, Syncs, Sends}
 use Rattle.serve_turns.specs.Kept.{Kept}
@@ -81,11 +82,11 @@ module _ (A : Type 0) (counts : EachDownlinkIsCounted A) (goes : DevicesGoOn A) 
 
   -- what was found by an address stands at its place
   found_at : (addr : ℕ) (devices : List Device) (found : ℕ × Device) → device_with addr devices ≡ Some found
-      → (slice_get (settings_of devices) found.0 ≡ Some found.1.setting) × (slice_get devices found.0 ≡ Some found.1)
+      → (slice_get (settings_of devices) found.0 ≡ Some (without_counters found.1.setting)) × (slice_get devices found.0 ≡ Some found.1)
       × (found.1.setting.addr ≡ addr)
   found_at addr devices found is =
       let f = found_there (λ (x : Device). x.setting.addr == addr) devices found is in
-      (map_there (λ x. x.setting) devices found.0 found.1 f.0, f.0, eqb-true found.1.setting.addr addr f.1)
+      (map_there (λ x. without_counters x.setting) devices found.0 found.1 f.0, f.0, eqb-true found.1.setting.addr addr f.1)
 
   -- a downlink of the next turn has a greater counter than one of this turn to the same device
   pub next_counter_is_greater : is_some (pass_answer (after_came A now came l).world.reg now) ≡ true → (then : ℕ)
@@ -100,8 +101,8 @@ module _ (A : Type 0) (counts : EachDownlinkIsCounted A) (goes : DevicesGoOn A) 
       let on = (goes now came r l).pass due in
       let f = found_at p.job.addr (behind_pass A now came l).world.reg.devices p.after p.is in
       let g = found_at q.job.addr next.world.reg.devices q.before q.was in
-      let at : slice_get (settings_of next.world.reg.devices) p.after.0 ≡ Some p.after.1.setting =
-      subst (λ s. slice_get s p.after.0 ≡ Some p.after.1.setting) (sym on.settings) f.0 in (
+      let at : slice_get (settings_of next.world.reg.devices) p.after.0 ≡ Some (without_counters p.after.1.setting) =
+      subst (λ s. slice_get s p.after.0 ≡ Some (without_counters p.after.1.setting)) (sym on.settings) f.0 in (
         p.job,
         q.job,
         p.frame,
@@ -109,7 +110,7 @@ module _ (A : Type 0) (counts : EachDownlinkIsCounted A) (goes : DevicesGoOn A) 
         λ same.
             let place : p.after.0 ≡ q.before.0 = apart_once (λ s. s) (λ s. s.addr) (settings_of next.world.reg.devices)
             (settings_of next.world.reg.devices) (map-id (settings_of next.world.reg.devices)) addresses_stay_own.differ p.after.0
-            q.before.0 p.after.1.setting q.before.1.setting at g.0 (f.2 ∙ same ∙ sym g.2) in
+            q.before.0 (without_counters p.after.1.setting) (without_counters q.before.1.setting) at g.0 (f.2 ∙ same ∙ sym g.2) in
             let there = subst (λ k. slice_get next.world.reg.devices k ≡ Some q.before.1) (sym place) g.1 in
             omega (arith, p.below, q.not_below, on.counters p.after.0 p.after.1 q.before.1 f.1 there),
       )

@@ -4,7 +4,8 @@ use Rattle.answer_ticket.specs.Job.{Job, frame_for}
 use Rattle.server_desk.specs.Register.{Device, device_with}
 use Rattle.server_desk.specs.Taking.{keys_of}
 use Rattle.serve_downlinks.specs.Downlinks.{ToSend}
-use Rattle.serve_turns.specs.CounterLaw.{HaveOwnAddresses, settings_of}
+use Rattle.serve_turns.specs.CounterLaw.{HaveOwnAddresses}
+use Rattle.serve_turns.specs.Devices.{settings_of}
 use Rattle.serve_turns.specs.CounterLives.{EveryServedLifeRaisesCounters, HasCounterWithin, down_at, is_noted_for, told_behind}
 use Rattle.serve_turns.specs.Life.{Life}
 use Rattle.serve_turns.specs.LifeLaw.{Turn, behind, turn_downlinks}

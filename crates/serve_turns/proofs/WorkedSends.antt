@@ -7,12 +7,13 @@ use Rattle.serve_downlinks.specs.declared.fate.Fate.TheVariants.{Sendable}
 use Rattle.serve_downlinks.specs.Downlinks.{ToSend}
 use Rattle.serve_downlinks.specs.Fates.{fate_of}
 use Rattle.serve_downlinks.specs.Datagram.{token_of, asked_for}
-use Rattle.serve_downlinks.specs.Batch.{batch_text}
+use Rattle.serve_downlinks.specs.Batch.{batch_entries, batch_text}
 use Rattle.serve_turns.specs.Control.{Arrival}
 use Rattle.serve_turns.specs.Effects.{Effect, Appends, Syncs, Sends}
 use Rattle.serve_turns.specs.Kept.{Kept}
 use Rattle.serve_turns.specs.Life.{Life}
 use Rattle.serve_turns.specs.SendLaw.{EachIsSentOnce, EachSend, EverySendIsKept, IsBehindItsBatch, IsFrontOf, IsTold, behind_pass, pass_downlinks, resp_by, resps_in, resps_of}
+use Rattle.serve_turns.specs.Sending.{known_then, sendable}
 use Rattle.serve_turns.specs.Turn.{Answered, acts}
 
 -- What the law says of a turn, from the law alone.
@@ -40,6 +41,20 @@ module _ (A : Type 0) (law : EverySendIsKept A) (now : ℕ) (came : Option Arriv
     both =
         let all = of_effects _ does in
         (all.0, all.1.0)
+
+    -- the batch tells all that may be sent
+    pub the_batch_tells_all : (k : Kept) × (before behind : List Effect) × (after.kept ≡ Some k)
+        × (front ≡ before ++ (Appends (batch_text (batch_entries (known_then k now after) (sendable after.known answered))) true
+        ∷ Syncs true ∷ behind))
+    the_batch_tells_all =
+        let it = both.0 in (
+          it.kept,
+          it.before,
+          it.behind,
+          it.keeps,
+          it.written
+              ∙ ap (λ es. it.before ++ (Appends (batch_text es) true ∷ Syncs true ∷ it.behind)) it.whole,
+        )
 
     -- each is a PULL_RESP of a downlink of the pass, to the peer of its gateway
     pub first_is_asked_for : (d : ToSend) × (tmst : ℕ) × (power : ℕ) × Contains answered d

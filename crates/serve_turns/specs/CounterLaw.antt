@@ -1,4 +1,4 @@
-use Rattle.std.specs.Prelude.{ℕ, ◌≡◌, ◌≢◌, ◌≤◌, ◌<◌, ◌^◌, true, List, map, slice_get, All, AllPairs, Option, Some, is_some}
+use Rattle.std.specs.Prelude.{ℕ, ◌≡◌, ◌≢◌, ◌≤◌, ◌<◌, ◌^◌, true, List, slice_get, All, AllPairs, Option, Some, is_some}
 use Rattle.answer_ticket.specs.Job.{Job, frame_for}
 use Rattle.server_desk.specs.declared.setting.DeviceSetting.{DeviceSetting}
 use Rattle.server_desk.specs.Passing.{pass_answer}
@@ -7,15 +7,12 @@ use Rattle.server_desk.specs.Taking.{keys_of}
 use Rattle.serve_downlinks.specs.Downlinks.{ToSend}
 use Rattle.serve_downlinks.specs.Batch.{addr_in}
 use Rattle.serve_turns.specs.Control.{Arrival}
+use Rattle.serve_turns.specs.Devices.{settings_of}
 use Rattle.serve_turns.specs.Life.{Life}
 use Rattle.serve_turns.specs.SendLaw.{behind_pass, pass_downlinks}
 use Rattle.serve_turns.specs.Turn.{Answered, after_came, after_turn}
 
 -- The downlink counters of what a turn sends, and what a turn leaves of the devices.
-
--- how devices are set
-abbrev pub settings_of : List Device → List DeviceSetting
-settings_of devices = map (λ d. d.setting) devices
 
 -- no two have the same DevAddr, which has 32 bits (LoRaWAN L2 1.0.4, section 6.1.2.1)
 pub record HaveOwnAddresses (settings : List DeviceSetting) : Type 0 where
@@ -43,7 +40,7 @@ EachDownlinkIsCounted A =
     (now : ℕ) (came : Option Arrival) (l : Life) → HaveOwnAddresses (settings_of l.world.reg.devices)
     → All (IsCounted l.world.reg.devices (behind_pass A now came l).world.reg.devices) (pass_downlinks A now came l)
 
--- the same devices later on, set alike, none of them with a lower next downlink counter
+-- the same devices later on, set alike but for the counters with which their desk opened, none of them with a lower next downlink counter
 pub record GoOn (old new : List Device) : Type 0 where
   pub settings : settings_of new ≡ settings_of old
   pub counters : (place : ℕ) (before after : Device) → slice_get old place ≡ Some before → slice_get new place ≡ Some after
@@ -55,7 +52,8 @@ pub record HasDevicesOn (A : Type 0) (now : ℕ) (came : Option Arrival) (r : An
   pub pass : is_some (pass_answer (after_came A now came l).world.reg now) ≡ true
       → GoOn (behind_pass A now came l).world.reg.devices (after_turn A now came r l).world.reg.devices
 
--- the law: no turn changes which devices there are, nor how one is set, and no next downlink counter falls, in a turn as a whole and
+-- the law: no turn changes which devices there are, nor how one is set but for the counters with which its desk opened, and no next
+-- downlink counter falls, in a turn as a whole and
 -- from its pass on
 abbrev pub DevicesGoOn : Type 0 → Type 0
 DevicesGoOn A = (now : ℕ) (came : Option Arrival) (r : Answered) (l : Life) → HasDevicesOn A now came r l

@@ -6,7 +6,8 @@ use Rattle.server_desk.specs.Register.{Device, device_with}
 use Rattle.server_desk.specs.Taking.{keys_of}
 use Rattle.serve_downlinks.specs.Batch.{addr_in}
 use Rattle.serve_downlinks.specs.Downlinks.{ToSend}
-use Rattle.serve_turns.specs.CounterLaw.{HaveOwnAddresses, settings_of}
+use Rattle.serve_turns.specs.CounterLaw.{HaveOwnAddresses}
+use Rattle.serve_turns.specs.Devices.{settings_of}
 use Rattle.serve_turns.specs.Life.{Life}
 use Rattle.serve_turns.specs.LifeLaw.{ServedLife, Turn, behind, turn_downlinks}
 use Rattle.serve_turns.specs.SendLaw.{behind_pass}

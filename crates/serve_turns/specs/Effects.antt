@@ -11,8 +11,9 @@ pub record Packet : Type 0 where
   pub bytes : List ℕ
 
 pub data Effect : Type 0 where
-  -- a datagram came, or none did; the clock showed a moment, or none
+  -- it received: a datagram came, or none did; it rested, and did not receive; the clock showed a moment, or none
   Receives : Option Packet → Effect
+  Rests : Effect
   Shows : Option ℕ → Effect
   -- it was to send an acknowledgement, or an answer
   Acknowledges : Endpoint → List ℕ → Effect

@@ -3,7 +3,10 @@ pub mod Names
 pub mod Tallies
 pub mod Lines
 pub mod Kept
+pub mod Devices
 pub mod Life
+pub mod Queues
+pub mod NewDesk
 pub mod Taking
 pub mod Sending
 pub mod Renewing
@@ -13,6 +16,7 @@ pub mod Controlled
 pub mod Turn
 pub mod SendLaw
 pub mod CounterLaw
+pub mod SettingsLaw
 pub mod LifeLaw
 pub mod CounterLives
 pub mod Forwarders

@@ -16,6 +16,7 @@ use Rattle.run_lines.specs.EntryName.{hear_name}
 use Rattle.run_lines.specs.declared.uplink_counts.UplinkCounts.{UplinkCounts}
 use Rattle.run_lines.specs.UplinkCounts.{counts_of}
 use Rattle.serve_turns.specs.declared.answerer.Answerer.{Answerer}
+use Rattle.serve_turns.specs.Devices.{settings_of, without_counters}
 use Rattle.serve_turns.specs.Kept.{Kept}
 use Rattle.serve_turns.specs.Tallies.{Count, dropped_by}
 use Rattle.serve_turns.specs.Lines.{asked_line, drop_line}
@@ -107,6 +108,7 @@ after_copy eui place e l =
 -- it lives this life
 pub record IsAlive {S A R : Type 0} {C : _} (l : Life) (a : Answerer S A R C) : Type 0 where
   pub at : IsAt l.world (seen a.server)
+  pub set : map without_counters a.settings.devices ≡ settings_of l.world.reg.devices
   pub known : a.forwarders.sessions.items ≡ l.known
   pub kept : a.keeping ≡ l.kept
   pub drops : a.drops.items ≡ l.drops

@@ -17,8 +17,8 @@ use Rattle.serve_turns.specs.Turn.{Answered, after_came, after_turn, without_tex
 
 -- What gets into a gateway's journal over all lives of a server, each of which makes turn after turn, and may end at any moment.
 
--- a turn: what the server's clock shows, what comes and how far its batch gets, what the world around answers; and which of its downlinks ever get into the
--- journal, by their batch or in a whole one: if the life ends first, or the disk fails, some never do
+-- a turn: what the server's clock shows, what comes and how far its batch gets, what the world around answers; and which of its
+-- downlinks ever get into the journal, by their batch or in a whole one: if the life ends first, or the disk fails, some never do
 pub record Turn : Type 0 where
   pub now : ℕ
   pub came : Option Arrival

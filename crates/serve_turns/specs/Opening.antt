@@ -1,21 +1,20 @@
-use Rattle.std.specs.Prelude.{ℕ, ◌≡◌, List, [], ◌∷◌, map, Some, None}
+use Rattle.std.specs.Prelude.{ℕ, ◌≡◌, List, [], map, Some, None}
 use Rattle.forwarder_sessions.specs.declared.session.Forwarder.{Forwarder}
 use Rattle.forwarder_sessions.specs.Sessions.{opened_session, resumed_session}
 use Rattle.gateway_book.specs.Book.{Book}
 use Rattle.run_lines.specs.declared.uplink_counts.UplinkCounts.{UplinkCounts}
 use Rattle.serve_journal.specs.Payload.{Waiting}
 use Rattle.serve_settings.specs.declared.forwarder as set
-use Rattle.server_core.specs.declared.event.Event.{Event}
-use Rattle.server_core.specs.declared.event.Event.TheVariants.{Queue}
 use Rattle.server_core.specs.Opened.{resuming}
 use Rattle.server_core.specs.Server.{seen}
 use Rattle.server_desk.specs.Settings.{SettingLists}
-use Rattle.server_desk.specs.UsualLimits.{usual_limits}
 use Rattle.server_desk.specs.World.{opening}
 use Rattle.serve_turns.specs.declared.serving.Serving.{Serving}
 use Rattle.serve_turns.specs.Forwarders.{AreByGateway}
 use Rattle.serve_turns.specs.Kept.{Kept}
-use Rattle.serve_turns.specs.Life.{Life, doing, IsAlive, IsReady}
+use Rattle.serve_turns.specs.Life.{Life, IsAlive, IsReady}
+use Rattle.serve_turns.specs.NewDesk.{serve_limits}
+use Rattle.serve_turns.specs.Queues.{after_queues}
 
 -- What a server opens with.
 
@@ -27,7 +26,7 @@ no_counts = record { sent = 0; unanswered = 0; silent = 0 }
 abbrev pub opened_life : SettingLists → List Forwarder → Life
 opened_life settings forwarders =
     record {
-      world = opening settings usual_limits;
+      world = opening settings serve_limits;
       known = map opened_session forwarders;
       kept = None;
       drops = [];
@@ -54,23 +53,11 @@ pub record IsOpenedBy {S A R : Type 0} {C : _} (settings : SettingLists) (are_se
 abbrev pub unwritten : List (ℕ × List ℕ) → Kept
 unwritten sessions = record { sessions = sessions; left = 0; failed_at = Some 0 }
 
--- that a payload is queued for the device with an address
-abbrev pub queue_event : {A : Type 0} → ℕ × Waiting → Event A
-queue_event q = Queue q.0 q.1.port q.1.bytes
-
-abbrev pub after_queue : (A : Type 0) → ℕ × Waiting → Life → Life
-after_queue A q l = doing {A = A} (queue_event q) l
-
--- one after another
-abbrev pub after_queues : (A : Type 0) → List (ℕ × Waiting) → Life → Life
-after_queues A [] l = l
-after_queues A (q ∷ qs) l = after_queues A qs (after_queue A q l)
-
 -- the life of a server that opens on books which hold transmissions already
 abbrev pub resumed_life : SettingLists → List Book → List (Forwarder × ℕ) → List (ℕ × List ℕ) → Life
 resumed_life settings books forwarders sessions =
     record {
-      world = resuming settings usual_limits books;
+      world = resuming settings serve_limits books;
       known = map resumed_session forwarders;
       kept = Some (unwritten sessions);
       drops = [];

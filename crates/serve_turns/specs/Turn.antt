@@ -1,4 +1,4 @@
-use Rattle.std.specs.Prelude.{ℕ, ◌≡◌, ◌≢◌, ◌≤◌, ◌<◌, ◌-◌, ◌^◌, Bool, nat_lt, IfSome, is_some, if◌then◌else◌, List, [], ◌∷◌, ◌++◌, Option, Some, None}
+use Rattle.std.specs.Prelude.{ℕ, ◌≡◌, ◌≢◌, ◌≤◌, ◌<◌, ◌-◌, ◌^◌, Bool, true, false, nat_lt, IfSome, is_some, if◌then◌else◌, List, [], ◌∷◌, ◌++◌, Option, Some, None}
 use Rattle.forwarder_sessions.specs.declared.forwarders.Datagram.{Datagram}
 use Rattle.forwarder_sessions.specs.declared.session.Endpoint.{Endpoint}
 use Rattle.forwarder_sessions.specs.Sessions.{Known, tick_of}
@@ -11,8 +11,9 @@ use Rattle.serve_turns.specs.declared.sending.Written.{Written}
 use Rattle.serve_turns.specs.declared.serving.Serving.{Serving}
 use Rattle.serve_turns.specs.Command.{is_control}
 use Rattle.serve_turns.specs.Control.{Arrival, after_control, arrival, control_effects, packet_of_arrival}
-use Rattle.serve_turns.specs.Effects.{Effect, Packet, Receives, Shows, Acknowledges, Tells as TellsLines, Cuts, Adds, AddsFront}
+use Rattle.serve_turns.specs.Effects.{Effect, Packet, Receives, Rests, Shows, Acknowledges, Tells as TellsLines, Cuts, Adds, AddsFront}
 use Rattle.serve_turns.specs.Life.{Life, after_event, saying_drops, IsAlive, IsReady}
+use Rattle.serve_turns.specs.NewDesk.{after_desk, is_spent}
 use Rattle.serve_turns.specs.Taking.{after_news}
 use Rattle.serve_turns.specs.Sending.{Delivery, sending, sending_effects}
 use Rattle.serve_turns.specs.Renewing.{after_renewal, renewal_effects}
@@ -131,11 +132,15 @@ pub record Answered : Type 0 where
   pub delivery : Delivery
   pub renewed : Bool
 
--- a turn: what came is taken in, what is due is answered and sent, what was dropped is told, and the journal is written anew where
--- that is due
-abbrev pub after_turn : (A : Type 0) → ℕ → Option Arrival → Answered → Life → Life
-after_turn A now came r l =
+-- a turn up to its new desk: what came is taken in, what is due is answered and sent, what was dropped is told, and the journal is
+-- written anew where that is due
+abbrev pub until_desk : (A : Type 0) → ℕ → Option Arrival → Answered → Life → Life
+until_desk A now came r l =
     after_renewal now r.renewed (after_report now (after_pass A now r.delivery (after_came A now came l)))
+
+-- a turn: last the desk is made anew where that is due
+abbrev pub after_turn : (A : Type 0) → ℕ → Option Arrival → Answered → Life → Life
+after_turn A now came r l = after_desk A (until_desk A now came r l)
 
 -- what happens in it behind its moment, but for the telling of its lines
 abbrev pub acts : (A : Type 0) → ℕ → Option Arrival → Answered → Life → List Effect
@@ -172,6 +177,7 @@ pub record IsTold {S A R : Type 0} {C : _} (before after : Option (List Effect))
   pub kept : new.keeping ≡ old.keeping
   pub told_at : new.told_at ≡ old.told_at
   pub server : new.server ≡ old.server
+  pub settings : new.settings ≡ old.settings
   pub drops : new.drops ≡ old.drops
   pub counts : new.counts ≡ old.counts
 
@@ -189,27 +195,38 @@ pub record IsBetweenTurns {S A R : Type 0} {C : _} (s : Serving S A R C) : Type 
 abbrev pub without_text : Life → Life
 without_text l = record l { text = [] }
 
--- what a turn does first: something is received, and the clock is looked at
-abbrev pub begun : ℕ → Option Packet → List Effect → List Effect
-begun now came more = Receives came ∷ Shows (Some now) ∷ more
+-- whether a turn receives nothing: its desk is to be made anew, once nothing is left to be answered
+abbrev pub rests : {S A R : Type 0} → {C : _} → Serving S A R C → Bool
+rests s = is_spent s.answerer.forwarders.sessions.items
+
+-- what a turn waits for first
+abbrev pub waits : Bool → Option Packet → Effect
+waits true came = Rests
+waits false came = Receives came
+
+-- then the clock is looked at
+abbrev pub begun : Bool → ℕ → Option Packet → List Effect → List Effect
+begun resting now came more = waits resting came ∷ Shows (Some now) ∷ more
 
 -- a turn was made, in which this came, when the clock showed that moment; with it stands how far the batch got that it asked for
 pub record IsTurn {S A R : Type 0} {C : _} (before after : Option (List Effect)) (old new : Serving S A R C) : Type 0 where
   pub came : Option Arrival
   pub now : ℕ
   pub early : now ≤ 2 ^ 60
+  pub silent : rests old ≡ true → came ≡ None
   pub answered : Answered
   pub between : IsBetweenTurns new
   pub lives : (l : Life) → IsAlive l old.answerer → IsAlive (without_text (after_turn A now came answered l)) new.answerer
   pub effects : (l : Life) → IsAlive l old.answerer
-      → Adds before after (begun now (packet_of_arrival came) (acts A now came answered l ++ told_text (after_turn A now came answered l).text))
+      → Adds before after (begun (rests old) now (packet_of_arrival came)
+      (acts A now came answered l ++ told_text (after_turn A now came answered l).text))
 
 -- a turn was cut short, since the clock showed no moment, or one that is too late
-pub record HasNoMoment (before after : Option (List Effect)) : Type 0 where
+pub record HasNoMoment {S A R : Type 0} {C : _} (before after : Option (List Effect)) (old : Serving S A R C) : Type 0 where
   pub came : Option Packet
   pub shown : Option ℕ
   pub late : IfSome shown (λ now. 2 ^ 60 < now)
-  pub seen : Adds before after (Receives came ∷ Shows shown ∷ [])
+  pub seen : Adds before after (waits (rests old) came ∷ Shows shown ∷ [])
 
 -- there were lines to be told of a turn, which were not told whole
 pub record IsLeftUntold (before after : Option (List Effect)) (shows : List ℕ → List Effect) (text : List ℕ) : Type 0 where
@@ -221,15 +238,18 @@ pub record IsUntold {S A R : Type 0} {C : _} (before after : Option (List Effect
   pub came : Option Arrival
   pub now : ℕ
   pub early : now ≤ 2 ^ 60
+  pub silent : rests old ≡ true → came ≡ None
   pub answered : Answered
   pub untold : (l : Life) → IsAlive l old.answerer
-      → IsLeftUntold before after (λ text. begun now (packet_of_arrival came) (acts A now came answered l ++ Cuts text ∷ []))
-      (after_turn A now came answered l).text
+      → IsLeftUntold before after
+      (λ text. begun (rests old) now (packet_of_arrival came) (acts A now came answered l ++ Cuts text ∷ [])) (after_turn A now came answered l).text
 
 -- a turn was cut short for want of memory: a front of what it does was done to the world around the server
 pub record IsBroken {S A R : Type 0} {C : _} (before after : Option (List Effect)) (old : Serving S A R C) : Type 0 where
   pub came : Option Arrival
   pub now : ℕ
   pub early : now ≤ 2 ^ 60
+  pub silent : rests old ≡ true → came ≡ None
   pub answered : Answered
-  pub effects : (l : Life) → IsAlive l old.answerer → AddsFront before after (begun now (packet_of_arrival came) (acts A now came answered l))
+  pub effects : (l : Life) → IsAlive l old.answerer
+      → AddsFront before after (begun (rests old) now (packet_of_arrival came) (acts A now came answered l))

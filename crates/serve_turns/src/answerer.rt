@@ -11,7 +11,7 @@ use crate::tally::{Tally, count_drop};
 use crate::telling::{Text, put_drops, put_event, put_session};
 use forwarder_sessions::{Forwarder, Forwarders, NoMemory, Placed};
 use run_lines::{UplinkCounts, hear_name};
-use server_core::{DeskFault, DeskHeard, Entry, Event, Line, Server};
+use server_core::{DeskFault, DeskHeard, Entry, Event, Line, Server, Settings};
 use std::alloc::Allocator;
 use std::hash::BuildHasher;
 
@@ -21,6 +21,8 @@ use std::hash::BuildHasher;
 pub(crate) struct Answerer<S: BuildHasher, A: Allocator + Copy> {
     pub(crate) alloc: A,
     pub(crate) server: Server<S, A>,
+    /// The settings of its first desk: those of a later one differ in the devices' counters alone.
+    pub(crate) settings: Settings<A>,
     pub(crate) forwarders: Forwarders<A>,
     /// None where no journal is kept: then no downlink is sent.
     pub(crate) keeping: Option<Keeping<A>>,

@@ -1,6 +1,6 @@
 // What a server has of the world around it.
 ghost use Rattle.std.specs.Prelude.{◌≤◌, [], ◌∷◌, List, Option, None, length, IfSome, OnErr, OnOk};
-ghost use Rattle.serve_turns.specs.Effects.{Effect, Receives, Shows, Acknowledges, Appends, Syncs, Replaces, Sends, Tells, Cuts, Adds, given};
+ghost use Rattle.serve_turns.specs.Effects.{Effect, Receives, Rests, Shows, Acknowledges, Appends, Syncs, Replaces, Sends, Tells, Cuts, Adds, given};
 
 use forwarder_sessions::Endpoint;
 use text_lines::CallFailed;
@@ -25,6 +25,10 @@ pub trait Host {
     fn receive(&mut self, into: &mut [u8]) -> Option<Came>
         ensures bound { IfSome result (λ came. came.len ≤ length into.new) }
         ensures seen { Adds (effects self.old) (effects self.new) (Receives (given result into.new) ∷ []) };
+
+    /// Waits as long as `receive` does where no datagram comes, and receives none: what comes meanwhile may be received later.
+    fn rest(&mut self)
+        ensures { Adds (effects self.old) (effects self.new) (Rests ∷ []) };
 
     /// What the server's clock shows, in microseconds since it began; None where it can't be read.
     fn now(&mut self) -> Option<u64>

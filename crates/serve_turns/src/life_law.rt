@@ -12,8 +12,8 @@ pub fn law_each_downlink_is_counted<A: Allocator>()
     ensures { EachDownlinkIsCounted A }
 {}
 
-/// No turn changes which devices a server has, nor how one is set, and no device's next downlink counter falls in it, nor from its pass
-/// on. So devices that have DevAddrs of their own have them in each turn. A call does nothing.
+/// No turn changes which devices a server has, nor how one is set but for the counters with which its desk opened, and no device's next
+/// downlink counter falls in it, nor from its pass on. So devices that have DevAddrs of their own have them in each turn. A call does nothing.
 pub fn law_devices_go_on<A: Allocator>()
     ensures { DevicesGoOn A }
 {}

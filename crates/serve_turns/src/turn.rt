@@ -1,9 +1,9 @@
 // One turn of a server.
-ghost use Rattle.std.specs.Prelude.{◌≡◌, ◌≤◌, ◌^◌, length, Err, IfErr, IfOk, IfSome, OnErr, OnOk};
+ghost use Rattle.std.specs.Prelude.{◌≡◌, ◌≤◌, ◌^◌, [], ◌∷◌, length, true, None, Err, IfErr, IfOk, IfSome, OnErr, OnOk};
 ghost use Rattle.serve_turns.specs.Effects.{Adds, given};
 ghost use Rattle.serve_turns.specs.Life.{Makes, IsReady};
 ghost use Rattle.serve_turns.specs.Renewing.{is_in_place, renewing, renewing_effects};
-ghost use Rattle.serve_turns.specs.Turn.{Did, Broke, HasActed, HasBroken, IsBetweenTurns, IsTurn, IsTold, IsCut, IsUntold, IsBroken, HasNoMoment};
+ghost use Rattle.serve_turns.specs.Turn.{Did, Broke, HasActed, HasBroken, IsBetweenTurns, IsTurn, IsTold, IsCut, IsUntold, IsBroken, HasNoMoment, rests, waits};
 ghost use Rattle.serve_turns.specs.Turn.{after_arrival, after_report, after_pass, arrival_effects, pass_effects, packet_of, sent_back, took, took_effects, came_in, came_in_effects};
 
 use crate::answerer::Answerer;
@@ -36,20 +36,23 @@ pub enum Stopped {
     NoMemory,
 }
 
-impl<S: BuildHasher, A: Allocator + Copy> Serving<S, A> {
+impl<S: BuildHasher + Clone + Drop, A: Allocator + Copy> Serving<S, A> {
     /// Waits a short time for a datagram, for which there should be room for 65,536 bytes, and takes it in. Then, where an uplink is
     /// due to be answered, ticks each gateway of which a packet was heard in the last 2 s, and answers all that are due; a server that
     /// keeps a journal has the disk keep what it books, and sends it. Where a second has passed since that was last told, tells
     /// what was dropped. The journal is written anew where that is due. All lines of the turn are told at its end. After an Err no
     /// further turn may be made.
+    ///
+    /// Once 32,768 uplinks were gathered, turns take in nothing until the last of them is answered. Then the desk is made anew, so
+    /// that memory stays flat, and numbers of uplinks begin at 1 again.
     pub fn turn<H: Host>(&mut self, host: &mut H, room: &mut [u8]) -> Result<(), Stopped>
         requires { IsBetweenTurns self.old }
         ensures done { OnOk result (IsTurn (H.effects host.old) (H.effects host.new) self.old self.new) }
-        ensures clock { result ≡ Err Stopped.Clock → HasNoMoment (H.effects host.old) (H.effects host.new) }
+        ensures clock { result ≡ Err Stopped.Clock → HasNoMoment (H.effects host.old) (H.effects host.new) self.old }
         ensures write { result ≡ Err Stopped.Write → IsUntold (H.effects host.old) (H.effects host.new) self.old }
         ensures memory { result ≡ Err Stopped.NoMemory → IsBroken (H.effects host.old) (H.effects host.new) self.old }
     {
-        let came = host.receive(room);
+        let came = self.wait(host, room);
         let Some(now) = host.now() else {
             return Err(Stopped::Clock);
         };
@@ -75,8 +78,21 @@ impl<S: BuildHasher, A: Allocator + Copy> Serving<S, A> {
         self.answerer.renew(host, now)
     }
 
+    /// Waits a short time for a datagram; while the desk is to be made anew, waits as long and receives nothing.
+    fn wait<H: Host>(&self, host: &mut H, room: &mut [u8]) -> Option<Came>
+        ensures bound { IfSome result (λ came. came.len ≤ length room.new) }
+        ensures none { rests self.now ≡ true → result ≡ None }
+        ensures waited { Adds (H.effects host.old) (H.effects host.new) (waits (rests self.now) (given result room.new) ∷ []) }
+    {
+        if self.answerer.is_spent() {
+            host.rest();
+            return None;
+        }
+        host.receive(room)
+    }
+
     /// Takes in the datagram that came, if one did, answers and sends what is due, says what was dropped, and writes the journal anew
-    /// where that is due.
+    /// and makes a new desk where that is due.
     fn act<H: Host>(
         &mut self,
         host: &mut H,
@@ -95,7 +111,8 @@ impl<S: BuildHasher, A: Allocator + Copy> Serving<S, A> {
         self.take(host, now, came, room)?;
         self.answerer.pass(host, now)?;
         self.answerer.report(now)?;
-        self.answerer.renew_if_due(host, now)
+        self.answerer.renew_if_due(host, now)?;
+        self.answerer.renew_desk_if_due(&self.hasher)
     }
 
     /// Takes in the datagram that came, if one did.

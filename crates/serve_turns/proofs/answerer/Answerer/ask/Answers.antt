@@ -28,7 +28,7 @@ returns-then-is_some-clause-done g c =
     (λ text. asks_failed c.args.now (map to_send c.args.ready.now) c.args.asks.now c.args.self.now _ c.in-Some.keeping failed.0 _
     (some_asked c.args.asks.now c.if-is_empty.ensures) c.in-Some.is failed.1
     (told_more (unwritten c.args.asks.now) c.args.self.now _ c.requires.ready refl
-    (record { known = refl; kept = refl; drops = refl; told_at = refl; counts = refl }) text))
+    (record { set = refl; known = refl; kept = refl; drops = refl; told_at = refl; counts = refl }) text))
     c.put_unwritten.ensures
 
 pub returns-then-is_some-clause-broken : goal.returns-then-is_some-clause-broken

@@ -21,6 +21,7 @@ returns-clause-makes g c =
     })
     _ c.take_lines-entries.ensures.rest
     (record {
+      set = refl;
       known = refl;
       kept = refl;
       drops = refl;

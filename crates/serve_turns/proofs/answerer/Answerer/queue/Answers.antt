@@ -16,4 +16,4 @@ returns g c =
       does = c.in_ok-event.ensures.done;
       taken = c.take_lines.ensures.taken;
     })
-    new c.take_lines.ensures.rest (record { known = refl; kept = refl; drops = refl; told_at = refl; counts = refl }) refl)
+    new c.take_lines.ensures.rest (record { set = refl; known = refl; kept = refl; drops = refl; told_at = refl; counts = refl }) refl)

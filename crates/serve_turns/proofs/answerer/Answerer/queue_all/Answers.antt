@@ -1,7 +1,7 @@
 use Rattle.std.proofs.Common.{append_assoc, ap, arith, subst, sym, ◌++◌, ◌∙◌}
 use Rattle.server_core.proofs.Replays.{none_left}
 use Rattle.serve_turns.specs.Life.{Makes}
-use Rattle.serve_turns.specs.Opening.{after_queues}
+use Rattle.serve_turns.specs.Queues.{after_queues}
 use Rattle.serve_turns.proofs.Lives.{stays}
 use Rattle.serve_turns.proofs.Entries.{queues_next}
 use Rattle.serve_turns.proofs.answerer.Answerer.queue_all.Goals as goal

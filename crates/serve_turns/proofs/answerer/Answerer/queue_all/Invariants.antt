@@ -1,6 +1,6 @@
 use Rattle.std.proofs.Common.{◌≡◌, ◌++◌}
 use Rattle.serve_turns.specs.Life.{Makes}
-use Rattle.serve_turns.specs.Opening.{after_queues}
+use Rattle.serve_turns.specs.Queues.{after_queues}
 use Rattle.serve_turns.proofs.answerer.Answerer.queue_all.Given as goal
 
 abbrev pub invariant-loop-queued : goal.invariant-loop-queued

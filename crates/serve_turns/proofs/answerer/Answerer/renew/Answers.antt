@@ -21,4 +21,4 @@ returns-clause-done g c =
     (subst (λ b. Adds (g.H.Host.effects c.args.host.now) (g.H.Host.effects c.replace-is_done.new.self)
     (Replaces b c.replace-is_done.result ∷ [])) c.deref.ensures.value c.replace-is_done.ensures)
     (ap Some (c.renew.ensures ∙ ap (λ j. kept_after now c.replace-is_done.result (length j) c.in-Some.keeping) c.deref-2.ensures.value))
-    (record { server = refl; counts = refl; known = refl; drops = refl; told_at = refl; text = refl })
+    (record { server = refl; set = refl; counts = refl; known = refl; drops = refl; told_at = refl; text = refl })

@@ -10,5 +10,5 @@ returns g c =
     if_ok c.say_drops.result _ _
     (λ made. report_said c.args.now c.args.self.now _ c.say_drops.new.self
     (ap (λ n. nat_lt n told_every) (sym c.saturating_sub.ensures) ∙ le-ltb _ _ c.if-saturating_sub-lt-TOLD_EVERY.false)
-    (told_then c.args.now c.args.self.now _ (record { server = refl; counts = refl; known = refl; kept = refl; drops = refl; text = refl }) refl) made)
+    (told_then c.args.now c.args.self.now _ (record { server = refl; set = refl; counts = refl; known = refl; kept = refl; drops = refl; text = refl }) refl) made)
     c.say_drops.ensures

@@ -47,7 +47,7 @@ returns-clause-done g c =
     let are = c.in_ok-asks.ensures ∙ ap (λ fs. asked fs (map to_send c.deref-2.result.now)) c.sessions-2.ensures
     ∙ ap (λ ds. asked ks (map to_send ds)) c.deref-2.ensures.value in
     let told = told_more (kept_back ks found) old middle c.requires.ready refl
-    (record { known = refl; kept = refl; drops = refl; told_at = refl; counts = refl })
+    (record { set = refl; known = refl; kept = refl; drops = refl; told_at = refl; counts = refl })
     (c.in_ok-put_kept_back.ensures
     ∙ ap (λ fs. old.text.writer.items ++ text_of (kept_back fs (map to_send c.deref-3.result.now))) c.sessions-3.ensures
     ∙ ap (λ ds. old.text.writer.items ++ text_of (kept_back ks (map to_send ds))) c.deref-3.ensures.value) in
@@ -81,7 +81,7 @@ returns-clause-broken g c =
     let are = c.in_ok-asks.ensures ∙ ap (λ fs. asked fs (map to_send c.deref-2.result.now)) c.sessions-2.ensures
     ∙ ap (λ ds. asked ks (map to_send ds)) c.deref-2.ensures.value in
     let told = told_more (kept_back ks found) old middle c.requires.ready refl
-    (record { known = refl; kept = refl; drops = refl; told_at = refl; counts = refl })
+    (record { set = refl; known = refl; kept = refl; drops = refl; told_at = refl; counts = refl })
     (c.in_ok-put_kept_back.ensures
     ∙ ap (λ fs. old.text.writer.items ++ text_of (kept_back fs (map to_send c.deref-3.result.now))) c.sessions-3.ensures
     ∙ ap (λ ds. old.text.writer.items ++ text_of (kept_back ks (map to_send ds))) c.deref-3.ensures.value) in

@@ -14,7 +14,7 @@ returns g c =
     (λ copied. packet_made c.args.now c.args.place p f placed.at placed.is_new c.args.self.now _ c.tell_session.new.self c.copy.new.self
     (sym c.in-Some.is ∙ c.forwarder_at.ensures.found) c.hear-placed.ensures.at c.hear-placed.ensures.session
     (if_some (slice_get c.args.self.now.forwarders.sessions.items c.args.place) _ _
-    (λ k known. record { known = known; server = refl; counts = refl; kept = refl; drops = refl; told_at = refl; text = refl })
+    (λ k known. record { known = known; server = refl; set = refl; counts = refl; kept = refl; drops = refl; told_at = refl; text = refl })
     c.hear-placed.ensures.known)
     c.in_ok-tell_session.ensures.makes
     (subst (λ e. Makes (after_copy f.eui c.args.place e) c.tell_session.new.self c.copy.new.self) c.hear_event-event.ensures copied))

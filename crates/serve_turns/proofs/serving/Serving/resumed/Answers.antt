@@ -2,9 +2,10 @@ use Rattle.std.proofs.Common.{◌≡◌, ◌∙◌, [], Some, ap, map, subst, sy
 use Rattle.forwarder_sessions.specs.Sessions.{resumed_session}
 use Rattle.server_core.specs.Opened.{resuming}
 use Rattle.server_core.specs.Server.{seen, IsAt, IsBetweenCalls}
-use Rattle.server_desk.specs.UsualLimits.{usual_limits}
+use Rattle.serve_turns.specs.NewDesk.{serve_limits}
 use Rattle.serve_turns.specs.Opening.{resumed_life}
 use Rattle.serve_turns.proofs.Entries.{queues_untold}
+use Rattle.serve_turns.proofs.NewDesks.{set_opened}
 use Rattle.serve_turns.proofs.serving.Serving.resumed.Goals as goal
 
 pub queue_all-requires : goal.queue_all-requires
@@ -26,7 +27,8 @@ returns-clause-resumed g c =
       alive =
           c.in_ok-queue_all.ensures.goes (resumed_life settings r.books.items r.forwarders.items r.sessions.items)
           (record {
-            at = subst (λ s. IsAt (resuming settings usual_limits r.books.items) (seen s)) (sym made.server) opens.at;
+            at = subst (λ s. IsAt (resuming settings serve_limits r.books.items) (seen s)) (sym made.server) opens.at;
+            set = set_opened settings _ (made.settings ∙ c.in_ok-set.ensures);
             known = ap (λ f. f.sessions.items) made.forwarders ∙ c.in_ok-forwarders.ensures
                 ∙ ap (map resumed_session) c.deref.ensures.value;
             kept = made.keeping ∙ ap Some c.new.ensures;
@@ -46,7 +48,8 @@ returns-clause-between g c =
     let life = resumed_life c.args.settings.now r.books.items r.forwarders.items r.sessions.items in
     let alive = c.in_ok-queue_all.ensures.goes life
     (record {
-      at = subst (λ s. IsAt (resuming c.args.settings.now usual_limits r.books.items) (seen s)) (sym made.server) opens.at;
+      at = subst (λ s. IsAt (resuming c.args.settings.now serve_limits r.books.items) (seen s)) (sym made.server) opens.at;
+      set = set_opened c.args.settings.now _ (made.settings ∙ c.in_ok-set.ensures);
       known = ap (λ f. f.sessions.items) made.forwarders ∙ c.in_ok-forwarders.ensures ∙ ap (map resumed_session) c.deref.ensures.value;
       kept = made.keeping ∙ ap Some c.new.ensures;
       drops = made.drops;
