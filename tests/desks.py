@@ -15,10 +15,11 @@ while it makes a new desk:
   the new desk would be in the way; and its floor, as a late packet shows. No session begins, and no PULL_DATA is sent anew. The
   report goes on;
 - a kill right behind a new desk: what waits and the counters that were given go on;
-- the resident memory behind DESKS desks, of which the last is about that of the first (lib/soaked_memory.py).
+- the resident memory behind DESKS desks, of which the last is about that of the first (lib/soaked_memory.py);
+- behind these, with nothing beside it: how long a new desk of 1,024 devices takes, where one uplink alone is still to be answered.
 
 What stands behind `> ` in all but the last two is an input of `airbook run`, over all desks. It has to answer the same lines, but
-that its numbers go on. So up to the first new desk the lines are the same, and `run` tells of what is kept. It takes some 15 s.
+that its numbers go on. So up to the first new desk the lines are the same, and `run` tells of what is kept. It takes some 30 s.
 Every wait ends within a minute. Each trial that passed may tell its figures on a line, one that failed why. The last line is
 'N passed, M failed'. The status is 0 where none failed, 1 where one did, 2 where nothing could be run.
 """
@@ -347,6 +348,25 @@ def killed(program: str, folder: pathlib.Path) -> None:
         expect([2], lasts(play.follower), "the last number of the desk behind a kill")
 
 
+# How long it takes.
+
+
+def alone(program: str) -> str:
+    """The microseconds from the pass that closes the last uplink, and that one alone, to the first packet of a new desk."""
+    settings = settings_of(1, 1_024)
+    made = uplinks(settings.devices, DESK + 1)
+    with contextlib.ExitStack() as ends:
+        play = Played(program, settings, ["--shadow"], ends)
+        play.load.send_all(made[:DESK - 1])
+        awaited(play.is_closed, "the answer to each uplink", play.server.child)
+        play.load.send(made[DESK - 1:DESK])
+        play.load.send(made[DESK:])
+        play.load.settle()
+        play.over()
+    took, = pauses(play.follower)
+    return f"it took {took} us"
+
+
 def main() -> int:
     program, (desks, seed) = asked_by(__doc__, 2, 1)
     lorawan.checked()
@@ -358,7 +378,7 @@ def main() -> int:
         ("a kill", lambda folder: killed(program, folder)),
         ("memory", lambda folder: over_uplinks(program, folder, desks * DESK)),
     ]
-    return tell_of_folders([trials])
+    return tell_of_folders([trials, [("a new desk of 1,024 devices", lambda _: alone(program))]])
 
 
 if __name__ == "__main__":
