@@ -5,6 +5,8 @@ Usage: bench/checks.py PROGRAM [TURNS]      (20 turns)
 
 Each turn runs both, one after the other. Prints the median of each in milliseconds, and their ratio.
 """
+from __future__ import annotations
+
 import statistics
 import subprocess
 import sys
@@ -13,7 +15,7 @@ import time
 GATEWAYS, DEVICES = 64, 1_024
 
 
-def settings():
+def settings() -> bytes:
     gateways = (f"[[gateway]]\nid = {n}\ncap = 4096\ngap = 45000\n" for n in range(1, GATEWAYS + 1))
     devices = (
         f'[[device]]\naddr = "{n:08x}"\nnwkskey = "{n:032x}"\nappskey = "{n:032X}"\ndelay = 1\noffset = 0\n'
@@ -23,14 +25,15 @@ def settings():
     return "".join([*gateways, *devices]).encode()
 
 
-def seconds(program, command, text):
+def seconds(program: str, command: str, text: bytes) -> float:
     start = time.perf_counter()
     subprocess.run([program, command], input=text, stdout=subprocess.DEVNULL, check=True)
     return time.perf_counter() - start
 
 
-def main():
+def main() -> None:
     program, turns = sys.argv[1], int(sys.argv[2]) if sys.argv[2:] else 20
+    taken: dict[str, list[float]]
     text, taken = settings(), {"check": [], "run": []}
     for _ in range(turns):
         for command, times in taken.items():

@@ -12,11 +12,14 @@ It changes nothing; the status is 0 where all that was checked is proved.
 
 It needs python3, Linux's /proc and the toolchain's command rt.
 """
+from __future__ import annotations
+
 import argparse
 import os
 import pathlib
 import subprocess
 import sys
+from typing import Sequence
 
 TOP = pathlib.Path(__file__).resolve().parent.parent
 TICKS = os.sysconf("SC_CLK_TCK")
@@ -26,7 +29,7 @@ sys.dont_write_bytecode = True
 import prover
 
 
-def command(crate, more):
+def command(crate: str, more: Sequence[str]) -> list[str]:
     uses = prover.crates()
     if crate not in uses:
         raise SystemExit(f"crates.txt has no crate {crate}")
@@ -34,12 +37,12 @@ def command(crate, more):
     return [*prover.check(crate, root, uses[crate]), "--progress", *more]
 
 
-def processor_seconds(pid):
+def processor_seconds(pid: int) -> float:
     fields = pathlib.Path(f"/proc/{pid}/stat").read_text().rpartition(")")[2].split()
     return sum(map(int, fields[11:15])) / TICKS
 
 
-def timed(words, folder):
+def timed(words: Sequence[str], folder: pathlib.Path) -> tuple[list[str], list[tuple[float, str]], int]:
     """What a check says beside its progress, the seconds of each function, and the status."""
     costs, said, before = [], [], 0.0
     with subprocess.Popen(words, cwd=folder, stdout=subprocess.PIPE, stderr=subprocess.STDOUT, text=True) as check:
@@ -53,7 +56,7 @@ def timed(words, folder):
     return said, costs, check.returncode
 
 
-def main():
+def main() -> int:
     words = argparse.ArgumentParser(description=__doc__, formatter_class=argparse.RawDescriptionHelpFormatter)
     words.add_argument("crate", metavar="CRATE")
     words.add_argument("--test", action="store_true")

@@ -15,6 +15,8 @@ What an earlier gate passed on this machine is kept beside the toolchain, and th
 the folder rattle-kept aside that lies beside the toolchain's. Nothing else should run on the machine meanwhile. It needs git,
 python3, Linux's /proc and the toolchain's command rt.
 """
+from __future__ import annotations
+
 import argparse
 import collections
 import datetime
@@ -26,6 +28,7 @@ import subprocess
 import sys
 import tempfile
 import time
+from typing import Any, Mapping, Optional, Sequence
 
 TOP = pathlib.Path(__file__).resolve().parent.parent
 RESULT = TOP / "bench" / "results" / "gate.md"
@@ -33,6 +36,14 @@ TICKS = os.sysconf("SC_CLK_TCK")
 POLL_SECONDS = 0.2
 PARTS = ("proof", "tests", "edits")
 GROUPS = pathlib.Path("/sys/fs/cgroup")
+# Of each process by its number: its parent, its processor seconds with those of its children that have ended, and when it began.
+Processes = dict[int, tuple[int, float, int]]
+# A process by its number, and when it began.
+Run = tuple[int, int]
+# What a run works on: a crate, and a part of the gate.
+Task = tuple[str, str]
+# Processor seconds of each task.
+Sums = Mapping[Task, float]
 
 sys.path.insert(0, str(TOP / "tests"))
 sys.dont_write_bytecode = True
@@ -43,14 +54,16 @@ import prover
 class Limits:
     """Control groups that keep processors and memory from whoever goes into them; none where nothing is to be kept."""
 
-    def __init__(self, processors, gigabytes):
+    def __init__(self, processors: Optional[int], gigabytes: Optional[int]) -> None:
+        self.groups: list[pathlib.Path]
+        self.words: list[str]
         self.groups, self.words = [], []
         if processors:
             self.limit("cpuset", "cpuset.cpus", f"0-{processors - 1}", f"{processors} processors")
         if gigabytes:
             self.limit("memory", "memory.limit_in_bytes", str(gigabytes * 10**9), f"{gigabytes} GB")
 
-    def limit(self, controller, name, value, word):
+    def limit(self, controller: str, name: str, value: str, word: str) -> None:
         group = GROUPS / controller / "airbook-gate"
         group.mkdir(exist_ok=True)
         if controller == "cpuset":
@@ -59,16 +72,16 @@ class Limits:
         self.groups.append(group)
         self.words.append(word)
 
-    def enter(self):
+    def enter(self) -> None:
         """For the process that is to be limited, before it runs anything."""
         for group in self.groups:
             (group / "tasks").write_text(str(os.getpid()))
 
-    def told(self):
+    def told(self) -> str:
         return f" It was kept to {' and '.join(self.words)}." if self.words else ""
 
 
-def processes():
+def processes() -> Processes:
     """Each process: its parent, its processor seconds with those of its children that have ended, and when it began."""
     found = {}
     for pid in filter(str.isdigit, os.listdir("/proc")):
@@ -80,7 +93,7 @@ def processes():
     return found
 
 
-def task_of(pid):
+def task_of(pid: int) -> Optional[Task]:
     """Which crate a process of the prover works on, and for which part of the gate; None for any other process."""
     try:
         words = pathlib.Path(f"/proc/{pid}/cmdline").read_bytes().decode(errors="replace").split("\0")
@@ -92,7 +105,7 @@ def task_of(pid):
     return words[words.index("--crate-name") + 1], part_of(words, folder)
 
 
-def part_of(words, folder):
+def part_of(words: Sequence[str], folder: str) -> str:
     """Which part of the gate a run of the prover is, by its words and the folder that it runs in."""
     if folder.startswith("edits-"):
         return "edits"
@@ -101,7 +114,7 @@ def part_of(words, folder):
     return "pace" if words[1] == "check" and gate_run.PACE_CRATE in words else "proof"
 
 
-def peak_of(pid):
+def peak_of(pid: int) -> int:
     """The most memory that a process has held, in MiB."""
     try:
         found = re.search(r"VmHWM:\s+(\d+)", pathlib.Path(f"/proc/{pid}/status").read_text())
@@ -113,12 +126,12 @@ def peak_of(pid):
 class Meter:
     """The processor seconds and the memory of each run of the prover below one process, by what it worked on."""
 
-    def __init__(self, top):
+    def __init__(self, top: int) -> None:
         self.top = top
-        self.runs = {}
-        self.peaks = collections.Counter()
+        self.runs: dict[Run, tuple[Task, float]] = {}
+        self.peaks: collections.Counter[str] = collections.Counter()
 
-    def look(self):
+    def look(self) -> None:
         found = processes()
         below = collections.defaultdict(list)
         for pid, (parent, _, _) in found.items():
@@ -134,7 +147,8 @@ class Meter:
                 else:
                     self.note(run, task, found, below)
 
-    def note(self, run, task, found, below):
+    def note(self, run: Run, task: Task, found: Processes, below: dict[int, list[int]]) -> None:
+        seconds: float
         seconds, waiting = 0, [run[0]]
         while waiting:
             one = waiting.pop()
@@ -143,31 +157,33 @@ class Meter:
             self.peaks[task[0]] = max(self.peaks[task[0]], peak_of(one))
         self.runs[run] = task, max(seconds, self.runs.get(run, (task, 0))[1])
 
-    def sums(self):
-        sums = collections.Counter()
+    def sums(self) -> Sums:
+        sums: collections.Counter[Task] = collections.Counter()
         for task, seconds in self.runs.values():
             sums[task] += seconds
         return sums
 
 
-def chain_of_proofs(crate, below, sums):
+def chain_of_proofs(crate: str, below: prover.Uses, sums: Sums) -> float:
     return sums[crate, "proof"] + max([chain_of_proofs(it, below, sums) for it in below[crate]], default=0)
 
 
-def chain(crate, below, sums):
+def chain(crate: str, below: prover.Uses, sums: Sums) -> float:
     first = max((chain_of_proofs(it, below, sums) for it in below[crate]), default=0)
     return first + max(sums[crate, part] for part in ("proof", "tests"))
 
 
-def count_of_edits(folder, crate):
+def count_of_edits(folder: pathlib.Path, crate: str) -> int:
     return len(list((folder / "edits" / crate).glob("*.edit")))
 
 
-def side_by_side(lanes, below, sums):
+def side_by_side(lanes: int, below: prover.Uses, sums: Sums) -> float:
     """How long so many lanes take for all proofs and tests, those first that others wait for longest."""
     tasks = {(crate, part): sums[crate, part] for crate in below for part in ("proof", "tests")}
     behind = {crate: longest_behind(crate, below, sums) for crate in below}
     order = sorted(tasks, key=lambda it: (it[1] == "tests", -behind[it[0]]))
+    ended: dict[Task, float]
+    running: list[tuple[float, Task]]
     ended, running, now = {}, [], 0.0
     while order or running:
         for task in [it for it in order if all((low, "proof") in ended for low in below[it[0]])][: lanes - len(running)]:
@@ -179,13 +195,13 @@ def side_by_side(lanes, below, sums):
     return now
 
 
-def longest_behind(crate, below, sums):
+def longest_behind(crate: str, below: prover.Uses, sums: Sums) -> float:
     above = [it for it in below if crate in below[it]]
     own = max(sums[crate, part] for part in ("proof", "tests"))
     return own + max([longest_behind(it, below, sums) for it in above], default=0)
 
 
-def table(folder, sums, peaks):
+def table(folder: pathlib.Path, sums: Sums, peaks: collections.Counter[str]) -> tuple[list[str], float, str]:
     """The rows of the table, and its longest chain in seconds with the crate that it ends in."""
     below = prover.stands_on(folder)
     chains = {it: chain(it, below, sums) for it in below}
@@ -203,13 +219,13 @@ def table(folder, sums, peaks):
     return lines, max(chains.values()), max(chains, key=chains.get)
 
 
-def machine():
+def machine() -> str:
     model = re.search(r"model name\s*: (.*)", pathlib.Path("/proc/cpuinfo").read_text())
     memory = re.search(r"MemTotal:\s+(\d+)", pathlib.Path("/proc/meminfo").read_text())
     return f"{len(os.sched_getaffinity(0))} processors ({model[1] if model else 'unknown'}), {int(memory[1]) / 2**20:.0f} GiB"
 
 
-def result(folder, commit, meter, minutes, said, kept_to=""):
+def result(folder: pathlib.Path, commit: str, meter: Meter, minutes: float, said: Sequence[str], kept_to: str = "") -> str:
     """The text of bench/results/gate.md."""
     sums = meter.sums()
     lines, longest, crate = table(folder, sums, meter.peaks)
@@ -236,11 +252,11 @@ def result(folder, commit, meter, minutes, said, kept_to=""):
     ])
 
 
-def run_gate(folder, room, limits):
+def run_gate(folder: pathlib.Path, room: str, limits: Limits) -> tuple[int, Meter, float, list[str]]:
     """Runs the gate in a clone: its status, the meter, the minutes that went by, and what it said."""
     started = time.monotonic()
     with open(pathlib.Path(room, "said"), "w+") as said:
-        words = {"cwd": folder, "stdin": subprocess.DEVNULL, "stdout": said, "stderr": subprocess.STDOUT}
+        words: dict[str, Any] = {"cwd": folder, "stdin": subprocess.DEVNULL, "stdout": said, "stderr": subprocess.STDOUT}
         gate = subprocess.Popen(["bash", ".ci/run"], preexec_fn=limits.enter, **words)
         meter = Meter(gate.pid)
         while gate.poll() is None:
@@ -250,7 +266,7 @@ def run_gate(folder, room, limits):
         return gate.returncode, meter, (time.monotonic() - started) / 60, said.read().splitlines()
 
 
-def main():
+def main() -> int:
     words = argparse.ArgumentParser(description=__doc__, formatter_class=argparse.RawDescriptionHelpFormatter)
     words.add_argument("--processors", type=int, metavar="N")
     words.add_argument("--gigabytes", type=int, metavar="G")

@@ -10,6 +10,8 @@ all that was checked is proved.
 
 It needs python3, four processors with little else to do, and the toolchain's command rt.
 """
+from __future__ import annotations
+
 import argparse
 import os
 import pathlib
@@ -26,16 +28,16 @@ sys.dont_write_bytecode = True
 import prover
 
 
-def root_of(crate):
+def root_of(crate: str) -> pathlib.Path:
     return TOP / "crates" / crate / "src" / "lib.rt"
 
 
-def with_growth():
+def with_growth() -> list[str]:
     """The crates of tests that have such a module."""
     return [crate for crate in prover.crates() if root_of(crate).exists() and MODULE in root_of(crate).read_text()]
 
 
-def begun(crate, folder, is_whole):
+def begun(crate: str, folder: pathlib.Path, is_whole: bool) -> subprocess.Popen[str]:
     """A check of a copy of the crate with its tests, with the module or without it."""
     shutil.copytree(TOP / "crates" / crate, folder, ignore=shutil.ignore_patterns("out"))
     if not is_whole:
@@ -48,7 +50,7 @@ def begun(crate, folder, is_whole):
     return subprocess.Popen([*words, "--test"], cwd=folder, stdout=subprocess.PIPE, stderr=subprocess.STDOUT, text=True)
 
 
-def seconds(check):
+def seconds(check: subprocess.Popen[str]) -> float:
     """The processor seconds of a check, once it has ended; SystemExit where it is not proved."""
     said = check.stdout.read()
     _, status, used = os.wait4(check.pid, 0)
@@ -59,7 +61,7 @@ def seconds(check):
     return used.ru_utime + used.ru_stime
 
 
-def cost(crate):
+def cost(crate: str) -> list[float]:
     """The processor seconds of a crate with its tests, and of the same without the module."""
     with tempfile.TemporaryDirectory() as work:
         checks = [begun(crate, pathlib.Path(work) / name, name == "whole") for name in ("whole", "rest")]
@@ -71,7 +73,7 @@ def cost(crate):
                     check.kill()
 
 
-def main():
+def main() -> None:
     words = argparse.ArgumentParser(description=__doc__, formatter_class=argparse.RawDescriptionHelpFormatter)
     words.add_argument("crates", metavar="CRATE", nargs="*")
     asked = words.parse_args().crates

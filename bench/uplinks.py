@@ -6,13 +6,16 @@ Uplink i is of device i modulo DEVICES, 400 ms after the one before, on one of t
 neighbouring gateways hear it. After every EACH uplinks, 10 where it isn't given, time passes, so that gatherings are
 closed. Every hundredth device has a payload queued once.
 """
+from __future__ import annotations
+
 import sys
+from typing import Iterator
 
 GAP_US = 400_000
 CHANNELS_HZ = (868_100_000, 868_300_000, 868_500_000)
 
 
-def settings_of(devices, gateways):
+def settings_of(devices: int, gateways: int) -> Iterator[str]:
     """The settings: the gateways, and the devices with keys of their own."""
     yield from (f"[[gateway]]\nid = {gateway}" for gateway in range(1, gateways + 1))
     for device in range(devices):
@@ -23,7 +26,7 @@ def settings_of(devices, gateways):
     yield "---"
 
 
-def heard(i, devices, gateways):
+def heard(i: int, devices: int, gateways: int) -> Iterator[str]:
     """Uplink i as two neighbouring gateways hear it, or the only one."""
     moment = 1_000_000 + i * GAP_US
     word = f"@c:{0x26000000 + i % devices:08x}:{i // devices}"
@@ -35,7 +38,7 @@ def heard(i, devices, gateways):
         )
 
 
-def main(uplinks, devices, gateways, each=10):
+def main(uplinks: int, devices: int, gateways: int, each: int = 10) -> None:
     lines = list(settings_of(devices, gateways))
     lines += [f"queue {0x26000000 + device:08x} 9 00112233445566778899" for device in range(0, devices, 100)]
     for i in range(uplinks):

@@ -9,22 +9,27 @@ lines are laid out. A definition of specs/ is compared in the same way. Prints a
 that only NEW has ('+'). The status is 0 where no clause differs, 1 where one does, 2 where there is no such commit; definitions,
 among them the lemmas of specs/, don't change it.
 """
+from __future__ import annotations
+
 import collections
 import pathlib
 import re
 import subprocess
 import sys
+from typing import Iterator, Optional
 
 TOP = pathlib.Path(__file__).resolve().parent.parent
+# How often each clause or definition stands in the sources.
+Counts = collections.Counter[str]
 
 
-def git(*words):
+def git(*words: str) -> str:
     return subprocess.run(["git", "-C", TOP, *words], stdout=subprocess.PIPE, text=True, check=True).stdout
 
 
-def texts_of(commit):
+def texts_of(commit: Optional[str]) -> dict[str, str]:
     """Each source and each file of specs/, by its path."""
-    def is_read(path):
+    def is_read(path: str) -> object:
         return re.fullmatch(r"crates/\w+/(src/.*\.rt|specs/.*\.antt)", path) and not re.search(r"tests", path)
 
     if commit is None:
@@ -34,12 +39,12 @@ def texts_of(commit):
     return {path: git("show", f"{commit}:{path}") for path in paths if is_read(path)}
 
 
-def plain(text):
+def plain(text: str) -> str:
     """The text with its layout folded."""
     return re.sub(r"[;,]? ([})])", r" \1", re.sub(r"\s+", " ", text)).strip()
 
 
-def after_braces(text, at):
+def after_braces(text: str, at: int) -> int:
     """The place behind the brace that closes the one at `at`."""
     depth = 0
     for place in range(at, len(text)):
@@ -49,8 +54,9 @@ def after_braces(text, at):
     return len(text)
 
 
-def clauses_behind(text, at):
+def clauses_behind(text: str, at: int) -> list[str]:
     """The signature of the function that begins at `at`, and its clauses."""
+    found: list[str]
     found, place = [], at
     while True:
         opened = re.compile(r"[{;]").search(text, place)
@@ -64,11 +70,11 @@ def clauses_behind(text, at):
         found.append(f"{clause[1]}{clause[2]}{clause[3] or ''} {plain(text[opened.start():place])}")
 
 
-def without_comments(text):
+def without_comments(text: str) -> str:
     return re.sub(r"//[^\n]*", "", text)
 
 
-def clauses_of(text):
+def clauses_of(text: str) -> Iterator[str]:
     """Each clause of a source, with what it belongs to."""
     text, owner = without_comments(text), ""
     for line in re.finditer(r"(?m)^([ \t]*)(.*)$", text):
@@ -87,7 +93,7 @@ def clauses_of(text):
             yield from (f"{place}fn {named[2]} {clause}" for clause in clauses_behind(text, line.start(2)))
 
 
-def definitions_of(text):
+def definitions_of(text: str) -> Iterator[str]:
     """Each top item of a file of specs/."""
     text = re.sub(r"(?m)--.*$", "", text)
     for item in re.split(r"(?m)^(?=\S)", text):
@@ -96,7 +102,9 @@ def definitions_of(text):
         yield plain(item)
 
 
-def listed(texts):
+def listed(texts: dict[str, str]) -> tuple[Counts, Counts]:
+    clauses: Counts
+    definitions: Counts
     clauses, definitions = collections.Counter(), collections.Counter()
     for path, text in texts.items():
         if path.endswith(".rt"):
@@ -106,7 +114,7 @@ def listed(texts):
     return clauses, definitions
 
 
-def told(title, old, new):
+def told(title: str, old: Counts, new: Counts) -> bool:
     gone, come = old - new, new - old
     print(f"{title}: {sum(old.values())} before, {sum(new.values())} now, {sum(gone.values())} gone, {sum(come.values())} new")
     for sign, lines in (("-", gone), ("+", come)):
@@ -115,7 +123,7 @@ def told(title, old, new):
     return bool(gone or come)
 
 
-def main():
+def main() -> int:
     if len(sys.argv) not in (2, 3):
         print(__doc__.strip(), file=sys.stderr)
         return 2

@@ -10,11 +10,15 @@ An edit is a file NAME.edit in a folder that has its crate's name, with lines
     new: TEXT            what takes its place, in one line; further pairs apply to what the earlier ones made
 A line of another kind is an error: a misspelt one would change what is tried.
 """
+from __future__ import annotations
+
 import dataclasses
 import pathlib
 import re
+from typing import Iterable
 
 from prover import PARTS
+
 
 class BadEdit(Exception):
     """Why an edit can't be tried."""
@@ -30,14 +34,14 @@ class Edit:
     pairs: tuple[tuple[str, str, str], ...]
 
     @property
-    def label(self):
+    def label(self) -> str:
         return f"{self.crate}/{self.name}"
 
-    def files(self):
+    def files(self) -> set[str]:
         return {path for path, _, _ in self.pairs}
 
 
-def read(path):
+def read(path: pathlib.Path) -> Edit:
     """The edit that a file holds."""
     only, fact, law, file, old, pairs = None, None, None, None, None, []
     for number, line in enumerate(path.read_text(encoding="utf-8").splitlines(), 1):
@@ -67,22 +71,22 @@ def read(path):
     return Edit(path.parent.name, path.stem, only, fact, law or only.rsplit("::", 1)[-1], tuple(pairs))
 
 
-def fact_of(text, number):
+def fact_of(text: str, number: int) -> tuple[str, str]:
     words = text.split()
     if len(words) != 2:
         raise BadEdit(f"line {number}: 'fact:' wants the name of a file of proofs/ and that of a lemma")
     return words[0], words[1]
 
 
-def file_of(text, number):
+def file_of(text: str, number: int) -> str:
     if not re.fullmatch(rf"({'|'.join(PARTS)})(/[\w+.-]+)+", text) or ".." in text.split("/"):
         raise BadEdit(f"line {number}: {text} is no file below src/, specs/ or proofs/")
     return text
 
 
-def applied(edits, folder):
+def applied(edits: Iterable[Edit], folder: pathlib.Path) -> dict[str, str]:
     """The texts of the files of a crate that these edits change, by their paths in it."""
-    texts = {}
+    texts: dict[str, str] = {}
     for edit in edits:
         before = dict(texts)
         for path, old, new in edit.pairs:
@@ -97,7 +101,7 @@ def applied(edits, folder):
     return texts
 
 
-def text_of(folder, path):
+def text_of(folder: pathlib.Path, path: str) -> str:
     try:
         return pathlib.Path(folder, path).read_text(encoding="utf-8")
     except OSError as fault:

@@ -7,6 +7,8 @@ A row has a law, and each edit in edits/ or mutants/ that changes its statement 
 refuses it; where there is none, the law's own proof does. That each is refused shows tests/edits.py. The last line is 'N passed,
 M failed'; status 0 where the table is that of the edits, 1 where it isn't, 2 where it can't be told.
 """
+from __future__ import annotations
+
 import sys
 
 sys.dont_write_bytecode = True
@@ -16,11 +18,13 @@ from lib.written_pages import WrittenPart
 
 PAGE = prover.TOP / "docs" / "PROOFS.md"
 BEGIN = "<!-- changes of statements: written by tests/edit_table.py -->"
+# By its crate and its name the edits of a law.
+Changes = dict[tuple[str, str], list[str]]
 
 
-def changes():
+def changes() -> Changes:
     """For each law the edits of its statement, with the facts that refuse them."""
-    found = {}
+    found: Changes = {}
     for folder in ("edits", "mutants"):
         for path in sorted((prover.TOP / folder).glob("*/*.edit")):
             edit = edit_files.read(path)
@@ -30,12 +34,12 @@ def changes():
     return found
 
 
-def table():
+def table() -> list[str]:
     rows = [f"| `{crate}` | `{law}` | {'; '.join(told)} |" for (crate, law), told in sorted(changes().items())]
     return ["", "| Crate | Law | Changes that are refused |", "|---|---|---|", *rows]
 
 
-def main():
+def main() -> int:
     if sys.argv[1:] not in ([], ["--write"]):
         print(__doc__.strip(), file=sys.stderr)
         return 2

@@ -9,6 +9,8 @@ be passed over. Then it looks at what is kept of them for later runs (tests/kept
 nothing once the edit, a file of its crate or a script is another. The last line is 'N passed, M failed'; status 0 where none
 failed, 1 where one did, 2 where nothing could be run.
 """
+from __future__ import annotations
+
 import dataclasses
 import pathlib
 import sys
@@ -40,14 +42,14 @@ WANTED = {
 KEPT = 4
 
 
-def kept_wrongly(folder, found):
+def kept_wrongly(folder: pathlib.Path, found: edits.EditsOfCrates) -> list[str]:
     """What is kept of these edits and shouldn't be, or the other way round."""
     every = [edit for edits in found.values() for edit in edits]
     refused = {edit.label for edit in every if WANTED.get(edit.label) is Kind.REFUSED}
     known, unread, of_other_files = KeptVerdicts(folder), KeptVerdicts(folder, is_read=False), KeptVerdicts(folder)
     of_other_files.sum_of_crate = lambda crate: "other files"
     others = [dataclasses.replace(edit, only=f"{edit.only}_2") for edit in every]
-    kept = {
+    kept: dict[str, tuple[set[str], set[str]]] = {
         "what was refused, and no other edit": ({edit.label for edit in every if known.of(edit)}, refused),
         "other edits of the same name": ({edit.label for edit in others if known.of(edit)}, set()),
         "edits of files that have changed": ({edit.label for edit in every if of_other_files.of(edit)}, set()),
@@ -56,7 +58,7 @@ def kept_wrongly(folder, found):
     return [f"{what}: {sorted(told)} kept, and not {sorted(wanted)}" for what, (told, wanted) in kept.items() if told != wanted]
 
 
-def main():
+def main() -> int:
     crates = {label.split("/")[0] for label in WANTED}
     unproved = sorted(crate for crate in crates if not prover.is_proved(crate))
     if unproved or len(sys.argv) > 1:

@@ -1,7 +1,12 @@
 """What a check of the prover says of an edit: whether the function that it names is refused, and for which goal of its own."""
+from __future__ import annotations
+
 import dataclasses
 import enum
 import re
+from typing import Optional, Sequence
+
+from edit_files import Edit
 
 FUNCTION = re.compile(r"^fn (\S+): (.*)")
 PLACED = re.compile(r"^(?:note: )?(?:\./)?((?:src|specs|proofs)/\S+?):(\d+):\d+: error: (?:`([^`]*)`: )?(.*)")
@@ -38,25 +43,25 @@ class Verdict:
 class Said:
     """The lines of one check."""
 
-    def __init__(self, lines, status, changed):
+    def __init__(self, lines: Sequence[str], status: int, changed: set[str]) -> None:
         self.lines, self.status = lines, status
-        self.functions = dict(found.groups() for found in map(FUNCTION.match, lines) if found)
+        self.functions: dict[str, str] = dict(found.groups() for found in map(FUNCTION.match, lines) if found)
         self.errors = [found.groups() for found in map(PLACED.match, lines) if found]
         self.is_whole = any(line.startswith("only=") for line in lines)
         self.unread = next((line for line in lines if self.is_unread(line, changed)), None)
 
     @staticmethod
-    def is_unread(line, changed):
+    def is_unread(line: str, changed: set[str]) -> bool:
         """Whether the prover could not read a source, a statement or a changed file; one that is false reads well."""
         found = PLACED.match(line)
         if not found or found[1] not in changed and not found[1].startswith(("src/", "specs/")):
             return False
         return not found[3] or bool(UNREAD.search(re.sub(r"`[^`]*`", "", found[4])))
 
-    def first(self, pattern):
+    def first(self, pattern: re.Pattern[str]) -> Optional[str]:
         return next((line.strip() for line in self.lines if pattern.search(line)), None)
 
-    def fault(self):
+    def fault(self) -> Optional[Verdict]:
         """Why the check as a whole says nothing of any function, if that is so."""
         compiler = self.first(FRONT_END)
         if compiler:
@@ -68,18 +73,18 @@ class Said:
             return Verdict(Kind.UNTOLD, f"status {self.status}: {self.first(LIMIT) or last}")
         return None
 
-    def of(self, edit):
+    def of(self, edit: Edit) -> Verdict:
         """What becomes of an edit by the function, or the fact, that it names."""
         return self.fault() or (self.of_fact(edit) if edit.fact else self.of_function(edit))
 
-    def of_fact(self, edit):
+    def of_fact(self, edit: Edit) -> Verdict:
         file, name = edit.fact
         own = [text for path, _, of, text in self.errors if path == f"proofs/{file}.antt" and of == name]
         if not own:
             return Verdict(Kind.PROVED, f"proofs/{file}.antt: {name}")
         return named(own, f"{file}.{name}", NAMES_BESIDE_FIELDS)
 
-    def of_function(self, edit):
+    def of_function(self, edit: Edit) -> Verdict:
         told = self.functions.get(f"{edit.crate}::{edit.only}")
         if told is None:
             return Verdict(Kind.BAD, f"the check says nothing of {edit.only}")
@@ -100,7 +105,7 @@ class Said:
         return named([text for _, text in own], goal)
 
 
-def is_own(edit, path):
+def is_own(edit: Edit, path: str) -> bool:
     """Whether an error there is one of the function's own proof, which functions that call one another share; of a law whose
     statement is changed also one of its lemmas."""
     module = edit.only.rpartition("::")[0]
@@ -109,7 +114,7 @@ def is_own(edit, path):
     return LEMMAS.fullmatch(path) is not None and all(file.startswith("specs/") for file in edit.files())
 
 
-def named(texts, goal, names=NAMES):
+def named(texts: Sequence[str], goal: str, names: re.Pattern[str] = NAMES) -> Verdict:
     """A refusal by these errors: for a goal of its own, or only since names are gone."""
     own = [text for text in texts if not DEPENDS.search(text)]
     if not own:

@@ -14,6 +14,8 @@ of one crate, each within a function of its own, none of which may call another.
 not refused in company. Each edit has a line with the function and the goal that stays open; the last line is 'N passed, M
 failed'. The status is 0 where none failed, 1 where one did, 2 where nothing could be run.
 """
+from __future__ import annotations
+
 import concurrent.futures
 import pathlib
 import resource
@@ -22,6 +24,7 @@ import subprocess
 import sys
 import tempfile
 import time
+from typing import Callable, Collection, Iterable, Optional, Sequence
 
 sys.dont_write_bytecode = True
 import antt_source
@@ -29,20 +32,22 @@ import edit_files
 import machine
 import prover
 import rattle_source
-from edit_files import BadEdit
+from edit_files import BadEdit, Edit
 from edit_verdicts import Kind, Said, Verdict
 from kept_verdicts import KeptVerdicts, cache_folder
 
 MOST_AT_A_TIME = 12
 BYTES_OF_A_CHECK = 2_200_000_000
 SECONDS = 1_200
+# Edits by their crates.
+EditsOfCrates = dict[str, list[Edit]]
 
 
-def folder_of(crate):
+def folder_of(crate: str) -> pathlib.Path:
     return prover.TOP / "crates" / crate
 
 
-def stays_within(edit, functions):
+def stays_within(edit: Edit, functions: dict[str, rattle_source.Function]) -> bool:
     """Whether an edit changes nothing outside of the function that it names."""
     place = functions.get(edit.only)
     if place is None or edit.fact or edit.files() != {place.file}:
@@ -56,37 +61,37 @@ def stays_within(edit, functions):
 class Batches:
     """Which edits of a crate go into one check."""
 
-    def __init__(self, crate):
+    def __init__(self, crate: str) -> None:
         self.functions = rattle_source.functions_of(folder_of(crate))
         self.reached = rattle_source.reached_from(self.functions)
         self.words = antt_source.all_of(folder_of(crate))
 
-    def may_meet(self, one, other):
+    def may_meet(self, one: Edit, other: Edit) -> bool:
         """Whether neither of two edits within functions turns what the other's function calls."""
         reached = self.reached
         return one.only != other.only and other.only not in reached[one.only] and one.only not in reached[other.only]
 
-    def may_be_told_apart(self, one, other):
+    def may_be_told_apart(self, one: Edit, other: Edit) -> bool:
         """Whether neither of two changes of statements turns what the other's fact rests on."""
         pairs = ((one, other), (other, one))
         return not any(turned(changed) & antt_source.rests_on(told.fact[1], self.words) for changed, told in pairs)
 
-    def of(self, edits):
+    def of(self, edits: Sequence[Edit]) -> list[list[Edit]]:
         within = [it for it in edits if stays_within(it, self.functions)]
         told = [it for it in edits if it.fact and None not in turned(it)]
         alone = [[it] for it in edits if it not in within and it not in told]
         return batched(within, self.may_meet) + batched(told, self.may_be_told_apart) + alone
 
 
-def turned(edit):
+def turned(edit: Edit) -> set[Optional[str]]:
     """The definitions that an edit changes in specs/; None among them where one can't be told."""
     texts = {path: edit_files.text_of(folder_of(edit.crate), path) for path in edit.files() if path.startswith("specs/")}
     return {antt_source.defined_at(texts[path], old) for path, old, _ in edit.pairs if path in texts} - {""}
 
 
-def batched(edits, may_meet):
+def batched(edits: Iterable[Edit], may_meet: Callable[[Edit, Edit], bool]) -> list[list[Edit]]:
     """These edits in as few groups as come of it that any two of a group may meet."""
-    batches = []
+    batches: list[list[Edit]] = []
     for edit in edits:
         fits = (it for it in batches if len(it) < MOST_AT_A_TIME and all(may_meet(edit, other) for other in it))
         batch = next(fits, None)
@@ -97,7 +102,7 @@ def batched(edits, may_meet):
     return batches
 
 
-def check(crate, edits, kept):
+def check(crate: str, edits: Sequence[Edit], kept: str) -> Said:
     """What the prover says of a copy of a crate with these edits in it, over what earlier checks of the crate kept."""
     texts = edit_files.applied(edits, folder_of(crate))
     with tempfile.TemporaryDirectory(prefix="edits-") as room:
@@ -119,7 +124,7 @@ def check(crate, edits, kept):
     return Said(ran.stdout.splitlines(), ran.returncode, set(texts))
 
 
-def read_with(edit, room):
+def read_with(edit: Edit, room: str) -> None:
     """Has the lemma file of an edit's fact read with the proof of the function that it names."""
     file, name = edit.fact
     path = pathlib.Path(room, "proofs", *edit.only.split("::"), "Answers.antt")
@@ -129,7 +134,7 @@ def read_with(edit, room):
     path.write_text(line + path.read_text(encoding="utf-8"), encoding="utf-8")
 
 
-def verdicts(crate, edits, kept):
+def verdicts(crate: str, edits: Sequence[Edit], kept: str) -> dict[Edit, Verdict]:
     """What becomes of edits that go into one check, and of each alone where that check refuses it not."""
     try:
         said = check(crate, edits, kept)
@@ -147,8 +152,10 @@ def verdicts(crate, edits, kept):
     return told
 
 
-def gathered(folder, crates):
+def gathered(folder: pathlib.Path, crates: Collection[str]) -> tuple[EditsOfCrates, dict[str, Verdict]]:
     """The edits of these crates, by crate, and what is said of those that can't be read."""
+    found: EditsOfCrates
+    bad: dict[str, Verdict]
     found, bad = {}, {}
     for path in sorted(folder.glob("*/*")):
         if path.parent.name in crates:
@@ -161,7 +168,7 @@ def gathered(folder, crates):
     return found, bad
 
 
-def lanes():
+def lanes() -> int:
     """How many checks go on side by side: one a processor, as far as memory holds them."""
     return max(1, min(machine.processors(), machine.free_memory() // BYTES_OF_A_CHECK))
 
@@ -169,23 +176,24 @@ def lanes():
 class Progress:
     """Tells what became of each edit as it is known."""
 
-    def __init__(self, count):
+    def __init__(self, count: int) -> None:
+        self.told: dict[str, Verdict]
         self.count, self.told, self.kept, self.started = count, {}, 0, time.monotonic()
 
-    def tell(self, label, verdict, of=""):
+    def tell(self, label: str, verdict: Verdict, of: str = "") -> None:
         self.told[label] = verdict
         minutes = (time.monotonic() - self.started) / 60
         print(f"[{len(self.told)} of {self.count}, {minutes:.1f} min] {label}: {verdict.kind.value}{of}: {verdict.goal}", flush=True)
 
-    def tell_kept(self, label, verdict):
+    def tell_kept(self, label: str, verdict: Verdict) -> None:
         self.kept += 1
         self.tell(label, verdict, " by an earlier run")
 
-    def failed(self):
+    def failed(self) -> dict[str, Verdict]:
         return {label: it for label, it in self.told.items() if it.kind is not Kind.REFUSED}
 
 
-def tried_of(crate, edits, progress, known):
+def tried_of(crate: str, edits: Sequence[Edit], progress: Progress, known: KeptVerdicts) -> None:
     """Tries the edits of a crate, one check after another: what is proved for one need not be proved for the next, nor what the
     crate's own checks (rt check) have left."""
     with tempfile.TemporaryDirectory(prefix="edits-kept-") as kept:
@@ -198,9 +206,9 @@ def tried_of(crate, edits, progress, known):
                 progress.tell(edit.label, verdict)
 
 
-def new_ones(found, known, progress):
+def new_ones(found: EditsOfCrates, known: KeptVerdicts, progress: Progress) -> EditsOfCrates:
     """The edits of which no earlier run has said that they are refused, by crate; the others are told."""
-    new = {}
+    new: EditsOfCrates = {}
     for crate, edits in found.items():
         for edit in edits:
             verdict = known.of(edit)
@@ -211,7 +219,7 @@ def new_ones(found, known, progress):
     return new
 
 
-def tried(found, bad, known):
+def tried(found: EditsOfCrates, bad: dict[str, Verdict], known: KeptVerdicts) -> Progress:
     """Tries all edits of which nothing is known, crates side by side, first those that take longest."""
     progress = Progress(sum(map(len, found.values())) + len(bad))
     for label, verdict in bad.items():
@@ -224,11 +232,11 @@ def tried(found, bad, known):
     return progress
 
 
-def size_of(crate):
+def size_of(crate: str) -> int:
     return sum(path.stat().st_size for part in prover.PARTS for path in (folder_of(crate) / part).rglob("*"))
 
 
-def report(progress):
+def report(progress: Progress) -> int:
     used = resource.getrusage(resource.RUSAGE_CHILDREN)
     minutes = (time.monotonic() - progress.started) / 60
     failed = progress.failed()
@@ -239,7 +247,7 @@ def report(progress):
     return 1 if failed or not progress.told else 0
 
 
-def main(words):
+def main(words: list[str]) -> int:
     is_anew = words[:1] == ["--anew"]
     words = words[is_anew:]
     if not words or any(word.startswith("-") for word in words):

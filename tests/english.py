@@ -9,9 +9,12 @@ comments are left out, and a paragraph that is in italics from end to end: that 
 ends by `.`, `?` or `!` before a blank, or with its paragraph or item of a list. A span of code counts as one word. The last line
 is 'N passed, M failed', over the pages; status 0 where none failed, 1 where one did, 2 where a page can't be read.
 """
+from __future__ import annotations
+
 import pathlib
 import re
 import sys
+from typing import Iterator, Union
 
 sys.dont_write_bytecode = True
 from lib.trials import last_line
@@ -22,9 +25,11 @@ LEFT_OUT = re.compile(r"\||#|    |\t|<!--")
 ITEM = re.compile(r"\s*(?:[-*]|\d+\.) +")
 PROMISE = re.compile(r"\*[^*]+\*\s*")
 END = re.compile(r"(?<=[.?!])[)*_\"']*(?=\s|$)")
+# Lines with their numbers.
+Lines = list[tuple[int, str]]
 
 
-def paragraphs(text):
+def paragraphs(text: str) -> list[Lines]:
     """Each paragraph or item of a list: its lines, with their numbers."""
     found, fenced, after_blank = [], False, True
     for number, line in enumerate(text.splitlines(), 1):
@@ -40,8 +45,9 @@ def paragraphs(text):
     return found
 
 
-def sentences(lines):
+def sentences(lines: Lines) -> Iterator[tuple[int, int, str]]:
     """The sentences of a paragraph: the number of the line on which each begins, how many words it has, and the first of them."""
+    line: Union[int, str]
     text, starts = "", []
     for number, line in lines:
         starts.append((len(text), number))
@@ -59,7 +65,7 @@ def sentences(lines):
             begin = end
 
 
-def main():
+def main() -> int:
     own = [TOP / "README.md", TOP / "CHANGELOG.md", *sorted((TOP / "docs").glob("*.md"))]
     pages = [pathlib.Path(name) for name in sys.argv[1:]] or own
     failed = 0

@@ -8,9 +8,12 @@ that crate. The lines of crates.txt that the page shows are what the book's prog
 crates/example_station, the page shows what it writes and its file of the proof. Prints what differs; the last line is 'N passed,
 M failed'. The status is 0 where none failed, else 1.
 """
+from __future__ import annotations
+
 import difflib
 import re
 import sys
+from typing import Iterator
 
 sys.dont_write_bytecode = True
 import prover
@@ -20,20 +23,20 @@ PAGE = prover.TOP / "docs" / "BUILDING.md"
 BOOK, STATION = "example_book", "example_station"
 
 
-def code_behind(text, words):
+def code_behind(text: str, words: str) -> str:
     """The first lines behind these words that are set off by four blanks."""
     block = re.search(r"\n\n((?:    .*\n|\n(?=    ))+)", text[text.index(words):])[1]
     return "".join(line[4:] if line.strip() else line for line in block.splitlines(keepends=True)).rstrip("\n") + "\n"
 
 
-def wanted_lines():
+def wanted_lines() -> str:
     """The lines of crates.txt for the book's program and the crates below it, in the order of that file."""
     named = set(prover.below([BOOK], prover.crates()))
     lines = (prover.TOP / "crates.txt").read_text().splitlines(keepends=True)
     return "".join(line for line in lines if line.split(":")[0] in named)
 
 
-def pairs():
+def pairs() -> Iterator[tuple[str, str, str]]:
     """What is compared: a name, the page's text, and the file's."""
     whole = PAGE.read_text(encoding="utf-8")
     book, station = whole[whole.index("## A book alone"):].split("## A station with workers")
@@ -46,7 +49,7 @@ def pairs():
     yield "lines of crates.txt", code_behind(whole, "these are the lines of `crates.txt`"), wanted_lines()
 
 
-def main():
+def main() -> int:
     if len(sys.argv) > 1:
         print(__doc__.strip(), file=sys.stderr)
         return 2

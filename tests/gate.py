@@ -9,6 +9,8 @@ take; so it is told how many to run, by its variable RT_JOBS, unless that is set
 holds them. Once all is proved, the sums of the crates' files are kept in crates/*/out/proved, by which tests/edits.py knows
 that the gate speaks of them, and the sum of a program in crates/*/out/program_sum, by which tests/install.py does.
 """
+from __future__ import annotations
+
 import os
 import re
 import resource
@@ -16,6 +18,7 @@ import shutil
 import subprocess
 import sys
 import time
+from typing import Any
 
 sys.dont_write_bytecode = True
 import machine
@@ -31,7 +34,7 @@ LEAST_BYTES_OF_DISK = 3_000_000_000
 PROVED = re.compile(r"^rt: (\w+)(: its tests are)? (proved|NOT PROVED)|^rt: (\w+) is kept")
 
 
-def pace():
+def pace() -> float:
     """How many times slower than the machine of the table this one is; SystemExit with 2 where the toolchain proves nothing."""
     words = prover.check(PACE_CRATE, "src/lib.rt", prover.crates()[PACE_CRATE])
     before = resource.getrusage(resource.RUSAGE_CHILDREN)
@@ -43,13 +46,13 @@ def pace():
     return (after.ru_utime + after.ru_stime - before.ru_utime - before.ru_stime) / PACE
 
 
-def lanes(processors, memory):
+def lanes(processors: int, memory: int) -> int:
     """How many proofs to have the toolchain run side by side."""
     given = os.environ.get("RT_JOBS", "")
     return int(given) if given.isdigit() and int(given) else max(1, min(processors, memory // BYTES_OF_A_PROOF))
 
 
-def tell_plan(processors, memory, side_by_side, slower):
+def tell_plan(processors: int, memory: int, side_by_side: int, slower: float) -> None:
     minutes = max(WHOLE / side_by_side, CHAIN) * slower / 60
     print(
         f"gate: {len(prover.crates())} crates are proved and their tests run, {side_by_side} proofs at a time, on {processors}"
@@ -62,10 +65,11 @@ def tell_plan(processors, memory, side_by_side, slower):
 class Progress:
     """How many crates are done, told as each is."""
 
-    def __init__(self, crates):
+    def __init__(self, crates: set[str]) -> None:
+        self.done: set[str]
         self.crates, self.done, self.started = crates, set(), time.monotonic()
 
-    def look(self, line):
+    def look(self, line: str) -> None:
         found = PROVED.match(line)
         crate = found and (found[1] if found[1] and not found[2] else found[4])
         if crate in self.crates and crate not in self.done:
@@ -74,11 +78,11 @@ class Progress:
             print(f"gate: {len(self.done)} of {len(self.crates)} crates, {minutes:.0f} min", flush=True)
 
 
-def run_gate(side_by_side):
+def run_gate(side_by_side: int) -> int:
     """The status of `rt ci`, whose lines are passed on."""
     told = {**os.environ, "RT_JOBS": str(side_by_side)}
     progress = Progress(set(prover.crates()))
-    words = {"cwd": prover.TOP, "stdin": subprocess.DEVNULL, "stdout": subprocess.PIPE, "stderr": subprocess.STDOUT}
+    words: dict[str, Any] = {"cwd": prover.TOP, "stdin": subprocess.DEVNULL, "stdout": subprocess.PIPE, "stderr": subprocess.STDOUT}
     with subprocess.Popen(["rt", "ci"], env=told, text=True, errors="replace", **words) as gate:
         for line in gate.stdout:
             print(line, end="", flush=True)
@@ -86,7 +90,7 @@ def run_gate(side_by_side):
     return gate.returncode
 
 
-def main():
+def main() -> int:
     if len(sys.argv) > 1:
         print(__doc__.strip(), file=sys.stderr)
         return 2

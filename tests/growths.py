@@ -12,9 +12,12 @@ in a crate of tests or in a script of tests/; of a call that takes nothing it st
 and nothing else. The last line is 'N passed, M failed', over the calls and the table; status 0 where none failed, 1 where one did,
 2 where the page can't be read or written.
 """
+from __future__ import annotations
+
 import pathlib
 import re
 import sys
+from typing import Iterable, Iterator, Sequence
 
 sys.dont_write_bytecode = True
 from lib.trials import last_line
@@ -27,6 +30,10 @@ WANT = r"\b(NoMemory|AllocError)\b"
 BEGIN = "<!-- allocations: written by tests/growths.py -->"
 TOLD = re.compile(r"Refuses `(\w+)` `([\w:]+)`(?: \((.+?)\))?: (.+)\.$")
 COMMENT = re.compile(r"^(?://|#) ")
+# A call: its crate, and its name.
+Call = tuple[str, str]
+# What is told of each call: its allocations, and what refuses them.
+Told = dict[Call, tuple[str, str]]
 # They answer out of memory by handing back what was given, within what another call's fault is told in, or go on without it.
 UNNAMED = {
     ("server_workers", "Worked::new"), ("server_station", "Station::answer"), ("server_workers", "work"),
@@ -43,7 +50,7 @@ NOTHING = {
 }
 
 
-def braced(text, at):
+def braced(text: str, at: int) -> str:
     """What stands between the next brace and the one that closes it."""
     start = text.index("{", at)
     depth = 0
@@ -54,7 +61,7 @@ def braced(text, at):
     return text[start + 1:]
 
 
-def sources():
+def sources() -> Iterator[tuple[str, str]]:
     """Each source of a library that is no crate of tests, by its crate, without comments."""
     for root in sorted(TOP.glob("crates/*/src/lib.rt")):
         crate = root.parent.parent.name
@@ -63,7 +70,7 @@ def sources():
                 yield crate, re.sub(r"//[^\n]*", "", path.read_text())
 
 
-def naming_types(texts):
+def naming_types(texts: Iterable[str]) -> set[str]:
     """The public types that name out of memory."""
     bodies = {}
     for text in texts:
@@ -74,12 +81,12 @@ def naming_types(texts):
     return named | {name for name in faults if named & set(re.findall(r"\w+", bodies[name]))}
 
 
-def passed_on(text):
+def passed_on(text: str) -> set[str]:
     """The names that a library's root passes on."""
     return set(re.findall(r"\w+", " ".join(re.findall(r"(?s)\bpub use (.*?);", text))))
 
 
-def result_of(signature):
+def result_of(signature: str) -> str:
     """What a function answers; nothing where it answers nothing."""
     for rest in reversed(re.split(r"\) ->", signature)[1:]):
         if rest.count("(") == rest.count(")"):
@@ -87,7 +94,7 @@ def result_of(signature):
     return ""
 
 
-def functions_in(text):
+def functions_in(text: str) -> Iterator[tuple[str, str]]:
     """The public functions of a source: the name of each, with its type's or trait's, and what it answers."""
     owner, is_trait = "", False
     for found in re.finditer(r"(?m)^(?:unsafe )?(impl|(?:pub )?trait)\b([^{;]*)\{|^( *)(pub )?(?:const )?fn (\w+)", text):
@@ -102,7 +109,7 @@ def functions_in(text):
             yield name, result_of(re.sub(r"\s+", " ", signature))
 
 
-def calls():
+def calls() -> Iterator[Call]:
     """The crate and the name of each call that has to have a row."""
     texts = list(sources())
     named = naming_types([text for _, text in texts])
@@ -114,7 +121,7 @@ def calls():
                 yield crate, name
 
 
-def paragraphs(lines):
+def paragraphs(lines: Sequence[str]) -> Iterator[tuple[int, str]]:
     """What is told of a call in comments, each as one text, with the number of the line behind it."""
     text = None
     for number, line in enumerate([*lines, ""]):
@@ -129,7 +136,7 @@ def paragraphs(lines):
             text += " " + line[is_comment.end() :]
 
 
-def told_in(path):
+def told_in(path: pathlib.Path) -> Iterator[tuple[Call, str, str]]:
     """What a file tells of calls: of each its allocations, and what refuses them."""
     lines = path.read_text(encoding="utf-8").splitlines()
     is_script = path.suffix == ".py"
@@ -146,8 +153,9 @@ def told_in(path):
         yield (crate, call), allocations, by + (f" ({note})" if note else "")
 
 
-def all_told():
+def all_told() -> tuple[Told, list[Call]]:
     """What is told of each call, and what is told of twice."""
+    twice: list[Call]
     found, twice = {call: (told, "") for call, told in NOTHING.items()}, []
     for path in [*sorted(TOP.glob("crates/*_tests/src/**/*.rt")), *sorted(TOP.glob("tests/*.py"))]:
         if path.name != pathlib.Path(__file__).name:
@@ -157,14 +165,14 @@ def all_told():
     return found, twice
 
 
-def table(told):
+def table(told: Told) -> list[str]:
     crates = [line.split(":")[0] for line in (TOP / "crates.txt").read_text(encoding="utf-8").splitlines()]
     rows = sorted(told.items(), key=lambda row: (crates.index(row[0][0]), row[0][1]))
     lines = [f"| `{crate}` | `{call}` | {allocations} | {by} |" for (crate, call), (allocations, by) in rows]
     return ["", "| Crate | Call | Allocations | Refused by |", "|---|---|---|---|", *lines]
 
 
-def main():
+def main() -> int:
     if sys.argv[1:] not in ([], ["--write"]):
         print(__doc__.strip(), file=sys.stderr)
         return 2

@@ -9,9 +9,12 @@ names, or else in any; one without a slash, as FORMATS.md, anywhere in the tree.
 are what the build makes (crates/*/out), and code that is set off by four blanks. Prints a line for each path that isn't there;
 the last line is 'N passed, M failed'. The status is 0 where none failed, 1 where one did.
 """
+from __future__ import annotations
+
 import pathlib
 import re
 import sys
+from typing import Iterator, Optional
 
 sys.dont_write_bytecode = True
 from lib.trials import Tally
@@ -25,7 +28,7 @@ OTHERS = {"book.txt", "book.new", "lines.txt", "out.txt", "settings.toml", "proo
 PARTS = {"src", "specs", "proofs"}
 
 
-def is_there(word, crate, names):
+def is_there(word: str, crate: Optional[str], names: set[str]) -> bool:
     word = word.rstrip("/.")
     if "/" not in word:
         return word in names
@@ -34,7 +37,7 @@ def is_there(word, crate, names):
     return any(True for _ in TOP.glob(re.sub(r"\bNAME\b|(?<=_)NAME\b", "*", word)))
 
 
-def crate_of(line, last):
+def crate_of(line: str, last: Optional[str]) -> Optional[str]:
     """The crate that a row of a table names; that of the row before where its first part is empty."""
     if not line.startswith("|"):
         return None
@@ -45,7 +48,7 @@ def crate_of(line, last):
     return named[1] if named and (TOP / "crates" / named[1]).is_dir() else None
 
 
-def paths(text):
+def paths(text: str) -> Iterator[tuple[int, str, Optional[str]]]:
     """The line, the word and the crate of each path that is named."""
     crate = None
     for number, line in enumerate(text.splitlines(), 1):
@@ -58,7 +61,7 @@ def paths(text):
                 yield number, word, crate
 
 
-def main():
+def main() -> int:
     names = {path.name for path in TOP.rglob("*") if ".git" not in path.parts}
     tally = Tally()
     for page in [TOP / "README.md", TOP / "CHANGELOG.md", *sorted((TOP / "docs").glob("*.md"))]:

@@ -3,14 +3,17 @@
 For the scripts of this repository. A container, a service or a job that is limited sees all of the machine's memory in
 /proc/meminfo; what it may use stands with its control groups, whose files of both versions are looked at here.
 """
+from __future__ import annotations
+
 import os
 import pathlib
 import re
+from typing import Optional
 
 ROOT = pathlib.Path("/sys/fs/cgroup")
 
 
-def number_in(path, pattern):
+def number_in(path: pathlib.Path, pattern: str) -> Optional[int]:
     """The number that a pattern finds in a file; None where the file isn't there or has no such number."""
     try:
         found = re.search(pattern, path.read_text(), re.MULTILINE)
@@ -19,7 +22,7 @@ def number_in(path, pattern):
     return int(found[1]) if found else None
 
 
-def groups(controller):
+def groups(controller: str) -> list[pathlib.Path]:
     """The folders of the control groups that limit this process, its own first; of version 2 for an empty name."""
     try:
         lines = pathlib.Path("/proc/self/cgroup").read_text().splitlines()
@@ -31,7 +34,7 @@ def groups(controller):
     return [top / part for path in own for part in [path.lstrip("/"), *map(str, pathlib.PurePosixPath(path.lstrip("/")).parents)]]
 
 
-def processors():
+def processors() -> int:
     """How many processors it may use at a time, at least one."""
     found = len(os.sched_getaffinity(0))
     for group in groups("cpu"):
@@ -41,11 +44,11 @@ def processors():
     return found
 
 
-def at_most(found, quota, period):
+def at_most(found: int, quota: Optional[int], period: Optional[int]) -> int:
     return min(found, max(quota // period, 1)) if quota and period else found
 
 
-def free_memory():
+def free_memory() -> int:
     """How many bytes of memory are free for it."""
     free = [1024 * number_in(pathlib.Path("/proc/meminfo"), r"MemAvailable:\s+(\d+)")]
     for group in groups("memory"):

@@ -5,6 +5,8 @@ Usage: tests/manual.py PROGRAM      (the page, for man, on standard output)
 
 The status is 0, or 2 where the program can't be run or has no such help.
 """
+from __future__ import annotations
+
 import subprocess
 import sys
 
@@ -12,7 +14,7 @@ sys.dont_write_bytecode = True
 from lib.manual_page import page
 
 
-def main():
+def main() -> int:
     if len(sys.argv) != 2:
         print(__doc__.strip(), file=sys.stderr)
         return 2

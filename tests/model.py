@@ -9,9 +9,12 @@ of tests none. With --bare the definitions are listed that have no comment. Lemm
 by hand. The last line is 'N passed, M failed'; status 0 where the page is that of the sources, 1 where it isn't, 2 where it can't
 be told.
 """
+from __future__ import annotations
+
 import pathlib
 import re
 import sys
+from typing import Iterable, Sequence
 
 sys.dont_write_bytecode = True
 from lib.written_pages import WrittenPart
@@ -24,18 +27,20 @@ KIND = "(?:abbrev|unfoldable|opaque|record|data) "
 MADE = re.compile(rf"(?:{KIND}pub |pub {KIND})([^\s(){{}},.;:]+)(?=[\s:({{])")
 NAMED = re.compile(r"ghost use Rattle\.(\w+)\.specs\.(\w+)(?:\.\{([^}]*)\}| as (\w+))")
 OF_TESTS = re.compile(r"_tests$|^example_|^worked_|^test_|^refusing_")
+# By its crate and its name the definitions of a file of specs/ that contracts name.
+Named = dict[tuple[str, str], set[str]]
 
 
-def product():
+def product() -> list[str]:
     """The crates in the order of crates.txt, but for those of tests."""
     lines = (TOP / "crates.txt").read_text(encoding="utf-8").splitlines()
     crates = [line.split(":")[0] for line in lines if ":" in line and not line.startswith("#")]
     return [crate for crate in crates if not OF_TESTS.search(crate)]
 
 
-def named_by_contracts():
+def named_by_contracts() -> Named:
     """For each file of specs/, as its crate and its name, the definitions that a contract names."""
-    found = {}
+    found: Named = {}
     for path in (path for crate in product() for path in (TOP / "crates" / crate / "src").rglob("*.rt")):
         text = path.read_text(encoding="utf-8")
         for crate, file, names, other in NAMED.findall(text):
@@ -44,19 +49,19 @@ def named_by_contracts():
     return found
 
 
-def sentence(lines):
+def sentence(lines: Iterable[str]) -> str:
     """A comment as a cell of a table."""
     return " ".join(line.lstrip("- ").strip() for line in lines).replace("|", "\\|")
 
 
-def comment_above(lines, at):
+def comment_above(lines: Sequence[str], at: int) -> str:
     first = at
     while first and lines[first - 1].startswith("--"):
         first -= 1
     return sentence(lines[first:at])
 
 
-def definitions(path):
+def definitions(path: pathlib.Path) -> tuple[str, list[tuple[str, str]]]:
     """The comment at the head of a file, and each public definition with its comment, in order."""
     lines = path.read_text(encoding="utf-8").splitlines()
     begins = next((at for at, line in enumerate(lines) if line and not line.startswith("use ")), len(lines))
@@ -66,7 +71,7 @@ def definitions(path):
     return head, made
 
 
-def sections(named):
+def sections(named: Named) -> tuple[list[str], list[str]]:
     """The lines of each crate's section, and the definitions without a comment."""
     lines, bare = [], []
     for crate in product():
@@ -83,7 +88,7 @@ def sections(named):
     return lines, bare
 
 
-def main():
+def main() -> int:
     if sys.argv[1:] not in ([], ["--write"], ["--bare"]):
         print(__doc__.strip(), file=sys.stderr)
         return 2

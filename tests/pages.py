@@ -10,6 +10,8 @@ is another one here. What names `forwarder.py` is left to tests/forwarder.py. Ea
 failing one has a line; the last line is 'N passed, M failed'. The status is 0 where none failed, 1 where one did, 2 where
 nothing could be run.
 """
+from __future__ import annotations
+
 import os
 import pathlib
 import re
@@ -17,6 +19,7 @@ import signal
 import subprocess
 import sys
 import tempfile
+from typing import Any, Iterable, Iterator, Optional
 
 sys.dont_write_bytecode = True
 from lib.arguments import asked_by
@@ -44,9 +47,11 @@ LINES = "book 1 10000000 868100000 5 12\nbook 2 10000000 868100000 5 12\n"
 AWAIT = "for i in $(seq 200); do grep -q ':{:04X} ' /proc/net/udp && break; sleep 0.05; done"
 
 
-def blocks(text):
+def blocks(text: str) -> Iterator[tuple[list[str], list[str]]]:
     """The commands that stand together, and all that they are to write."""
     for block in re.split(r"\n(?!    )", text):
+        commands: list[str]
+        wanted: list[str]
         commands, wanted = [], []
         for line in block.split("\n"):
             if line.startswith("    $ "):
@@ -59,7 +64,7 @@ def blocks(text):
             yield commands, wanted
 
 
-def script(commands, port):
+def script(commands: Iterable[str], port: int) -> Iterator[str]:
     for command in commands:
         yield command.replace("1700", str(port))
         if command.endswith(" &"):
@@ -67,9 +72,9 @@ def script(commands, port):
     yield "status=$?; wait; exit $status"
 
 
-def ran(text, folder, path):
+def ran(text: str, folder: pathlib.Path, path: str) -> tuple[Optional[list[str]], Optional[int]]:
     """What a bash writes, and its status; None where it didn't end."""
-    pipes = {"stdin": subprocess.DEVNULL, "stdout": subprocess.PIPE, "stderr": subprocess.DEVNULL, "text": True}
+    pipes: dict[str, Any] = {"stdin": subprocess.DEVNULL, "stdout": subprocess.PIPE, "stderr": subprocess.DEVNULL, "text": True}
     child = subprocess.Popen(["bash", "-c", text], cwd=folder, env=os.environ | {"PATH": path}, start_new_session=True, **pipes)
     try:
         return child.communicate(timeout=SECONDS)[0].splitlines(), child.returncode
@@ -79,7 +84,7 @@ def ran(text, folder, path):
         return None, None
 
 
-def main():
+def main() -> int:
     program, _ = asked_by("usage: pages.py PROGRAM")
     tally = Tally()
     with tempfile.TemporaryDirectory(prefix="pages-") as room:

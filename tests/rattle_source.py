@@ -1,7 +1,10 @@
 """Which functions a crate's sources have, where each stands, and which of them may call which, by reading the text."""
+from __future__ import annotations
+
 import dataclasses
 import pathlib
 import re
+from typing import Optional, Sequence
 
 HEAD = re.compile(r"^(\s*)(?:pub(?:\([^)]*\))? )?(?:const |unsafe |extern \"C\" )*fn (\w+)")
 IMPL = re.compile(r"^(?:unsafe )?impl\b(?:<.*?>)? (?:(?P<trait>.+?) for )?(?P<type>.+?)(?: \{|$)")
@@ -28,22 +31,22 @@ class Function:
     code: str
 
     @property
-    def name(self):
+    def name(self) -> str:
         return self.path.rsplit("::", 1)[-1]
 
 
-def name_of(text):
+def name_of(text: str) -> str:
     """The name of a type or a trait without its path and its parameters."""
     found = WORD.findall(re.sub(r"<.*", "", text))
     return found[-1] if found else ""
 
 
-def module_of(file):
+def module_of(file: str) -> list[str]:
     parts = file.removeprefix("src/").removesuffix(".rt").split("/")
     return [] if parts[-1] in ("lib", "main") and len(parts) == 1 else parts
 
 
-def end_of(lines, at, indent):
+def end_of(lines: Sequence[str], at: int, indent: str) -> int:
     """The last line of an item that begins at a line, where the file is laid out as the toolchain lays it out."""
     for number in range(at, len(lines)):
         code = TEXT_OR_COMMENT.sub("", lines[number]).rstrip()
@@ -54,7 +57,7 @@ def end_of(lines, at, indent):
     return len(lines) - 1
 
 
-def functions_in(folder, file, homes):
+def functions_in(folder: pathlib.Path, file: str, homes: dict[str, list[str]]) -> list[Function]:
     """The functions of a file, in the order of their lines. A method's path begins with the module of its type, a trait's with
     that of the `impl`."""
     lines = pathlib.Path(folder, file).read_text(encoding="utf-8").splitlines()
@@ -77,7 +80,7 @@ def functions_in(folder, file, homes):
     return found
 
 
-def functions_of(folder):
+def functions_of(folder: pathlib.Path) -> dict[str, Function]:
     """The functions of a crate by their paths."""
     files = [it.relative_to(folder).as_posix() for it in sorted(pathlib.Path(folder, "src").rglob("*.rt"))]
     texts = {file: pathlib.Path(folder, file).read_text(encoding="utf-8") for file in files}
@@ -85,9 +88,9 @@ def functions_of(folder):
     return {it.path: it for file in files for it in functions_in(folder, file, homes)}
 
 
-def reached_from(functions):
+def reached_from(functions: dict[str, Function]) -> dict[str, set[str]]:
     """For each function those of the crate that it may call, itself or through others: by name, so that it may be too many."""
-    by_name = {}
+    by_name: dict[str, list[Function]] = {}
     for it in functions.values():
         by_name.setdefault(it.name, []).append(it)
     unnamed = {it.path for name in UNNAMED for it in by_name.get(name, ()) if it.is_of_trait}
@@ -95,7 +98,7 @@ def reached_from(functions):
     return {path: closure(path, calls) for path in calls}
 
 
-def called_in(code, by_name):
+def called_in(code: str, by_name: dict[str, list[Function]]) -> set[str]:
     """The paths of the functions that code may name: behind a dot those of a type or a trait, behind nothing the others."""
     found = set()
     for before, name in CALL.findall(code):
@@ -105,7 +108,7 @@ def called_in(code, by_name):
     return found
 
 
-def closure(path, calls):
+def closure(path: str, calls: dict[str, set[str]]) -> set[str]:
     found, waiting = set(), [path]
     while waiting:
         for it in calls[waiting.pop()]:
@@ -115,7 +118,7 @@ def closure(path, calls):
     return found
 
 
-def function_at(functions, file, line):
+def function_at(functions: dict[str, Function], file: str, line: int) -> Optional[Function]:
     """The innermost function whose lines hold this one."""
     holding = [it for it in functions.values() if it.file == file and it.first <= line <= it.last]
     return max(holding, key=lambda it: it.first, default=None)

@@ -10,10 +10,13 @@ proofs of functions, whose names the checker fixes, are left out, and so are pro
 StandardFacts.antt, whose lemmas are worked examples and what a standard says in numbers. The status is 0 where nothing is found,
 1 where something is, 2 where there are no crates.
 """
+from __future__ import annotations
+
 import collections
 import pathlib
 import re
 import sys
+from typing import Iterator
 
 TOP = pathlib.Path(sys.argv[1] if len(sys.argv) > 1 else pathlib.Path(__file__).resolve().parent.parent)
 FIXED = {"Answers.antt", "Invariants.antt", "Proof.antt", "Lib.antt"}
@@ -23,11 +26,11 @@ SIGNED = re.compile(r"( *)(?:(?:pub|abbrev|unfoldable|opaque) )*([^\s(){},.;:]+)
 MADE = re.compile(r"( *)(?:(?:pub|abbrev) )*(data|record|ruleset) ([^\s(){},.;:]+)")
 
 
-def read(path):
+def read(path: pathlib.Path) -> str:
     return re.sub(r"(?m)(//|--).*$", "", path.read_text())
 
 
-def items_of(text):
+def items_of(text: str) -> Iterator[tuple[str, int]]:
     """Each item at the top of a file or right in one of its modules: its name, and how often it names itself."""
     lines, starts, fields = text.splitlines(), [], None
     depths = {0} | {len(indent) + 2 for indent in re.findall(r"(?m)^( *)module ", text)}
@@ -45,15 +48,15 @@ def items_of(text):
         yield name, own[name]
 
 
-def main():
+def main() -> int:
     texts = {path: read(path) for kind in ("rt", "antt") for path in sorted((TOP / "crates").glob(f"*/*/**/*.{kind}"))}
     texts = {path: text for path, text in texts.items() if path.relative_to(TOP).parts[2] in ("src", "specs", "proofs")}
     if not texts:
         print(f"unused.py: no crates in {TOP}", file=sys.stderr)
         return 2
     words = {path: collections.Counter(NAME.findall(text)) for path, text in texts.items()}
-    everywhere = sum(words.values(), collections.Counter())
-    in_proofs = collections.Counter()
+    everywhere: collections.Counter[str] = sum(words.values(), collections.Counter())
+    in_proofs: collections.Counter[tuple[str, str]] = collections.Counter()
     for path, counted in words.items():
         _, crate, part, *_ = path.relative_to(TOP).parts
         if part == "proofs":

@@ -8,9 +8,12 @@ toolchain's line that README.md ends with. The case clap_version wants both. Whe
 the same logic; its kit may be another. Prints a line for each that differs; the last line is 'N passed, M failed'. The status is
 0 where none failed, else 1.
 """
+from __future__ import annotations
+
 import shutil
 import subprocess
 import sys
+from typing import Iterator
 
 sys.dont_write_bytecode = True
 from lib.places import TOP
@@ -18,11 +21,11 @@ from lib.told_version import LINE, found, told
 from lib.trials import last_line
 
 
-def logic_of(line):
+def logic_of(line: str) -> str:
     return line.split()[-1]
 
 
-def faults():
+def faults() -> Iterator[str]:
     version, line = told()
     newest = found("CHANGELOG.md", r"(?m)^## (\d\S*) - ")[0]
     if version != newest:
@@ -39,7 +42,7 @@ def faults():
             yield f"the toolchain here is {here or 'silent'}, the sources are proved with {line}"
 
 
-def main():
+def main() -> int:
     if len(sys.argv) > 1:
         print(__doc__.strip(), file=sys.stderr)
         return 2
