@@ -19,6 +19,8 @@ A case is a folder cases/NAME with
 A failing case has a line, and under it what differs ('-' is wanted, '+' was written). The last line is
 'N passed, M failed'. The status is 0 where none failed, 1 where one did, 2 where nothing could be run.
 """
+from __future__ import annotations
+
 import difflib
 import functools
 import os
@@ -26,6 +28,7 @@ import pathlib
 import subprocess
 import sys
 import tempfile
+from typing import Optional, Sequence
 
 sys.dont_write_bytecode = True
 from lib.case_files import input_of, words_in
@@ -36,16 +39,16 @@ SECONDS = 120
 FILES = {"args", "stdin", "from", "stdout", "stderr", "status", "also", "broken"}
 
 
-def wanted(case, name):
+def wanted(case: pathlib.Path, name: str) -> Optional[bytes]:
     path = case / name
     return path.read_bytes() if path.is_file() else None
 
 
-def lines_of(data):
+def lines_of(data: bytes) -> list[str]:
     return data.decode("utf-8", "backslashreplace").splitlines()
 
 
-def differences(name, want, got):
+def differences(name: str, want: Optional[bytes], got: bytes) -> list[str]:
     """The lines in which a stream differs; none where it is not compared or the same."""
     if want is None or want == got:
         return []
@@ -53,7 +56,7 @@ def differences(name, want, got):
     return shown or [f"{name} differs in its line ends: wanted {want[-40:]!r}, written {got[-40:]!r}"]
 
 
-def unasked(status, errors):
+def unasked(status: int, errors: bytes) -> list[str]:
     """What is wrong with a standard error that no file of the case has."""
     if status != 2:
         return [] if not errors else ["standard error, where nothing is wanted:"] + lines_of(errors)
@@ -62,13 +65,13 @@ def unasked(status, errors):
     return ["standard error, where the library's words are wanted alone:"] + lines_of(errors)
 
 
-def runs_of(name):
+def runs_of(name: str) -> list[tuple[str, list[bytes]]]:
     """The runs of a case: a name, and the arguments that come after the case's own."""
     more = words_in(CASES / name / "also")
     return [(name, [])] + [(f"{name} {words.decode()}", words.split()) for words in more]
 
 
-def output_of(broken):
+def output_of(broken: Sequence[bytes]) -> int:
     """What the program writes to."""
     if b"output" in broken:
         return os.open("/dev/full", os.O_WRONLY)
@@ -79,7 +82,7 @@ def output_of(broken):
     return subprocess.PIPE
 
 
-def run(program, case, more, folder):
+def run(program: pathlib.Path, case: pathlib.Path, more: list[bytes], folder: str) -> subprocess.CompletedProcess[bytes]:
     """Runs the program on a case."""
     args = words_in(case / "args") + more
     broken = words_in(case / "broken")
@@ -94,7 +97,7 @@ def run(program, case, more, folder):
                 os.close(stream)
 
 
-def faults_of(program, case, more, folder):
+def faults_of(program: pathlib.Path, case: pathlib.Path, more: list[bytes], folder: str) -> list[str]:
     """What is wrong with a case; nothing where it passes."""
     strange = sorted(path.name for path in case.iterdir() if path.name not in FILES)
     if strange:
@@ -119,7 +122,7 @@ def faults_of(program, case, more, folder):
     return faults
 
 
-def main():
+def main() -> int:
     if len(sys.argv) < 2:
         print(__doc__.strip(), file=sys.stderr)
         return 2

@@ -6,21 +6,28 @@ Usage: tests/dialogue.py PROGRAM
 Input and output are pipes, as of a program that asks a book and goes by its answer. A failing talk has a line; the last line is
 'N passed, M failed'. The status is 0 where none failed, 1 where one did, 2 where there is no program.
 """
+from __future__ import annotations
+
 import functools
 import os
 import select
 import subprocess
 import sys
+from typing import Optional, Sequence
 
 sys.dont_write_bytecode = True
 from lib.arguments import asked_by
 from lib.trials import tell
 
 SECONDS = 20
+# What is sent, and what is awaited then.
+Turn = tuple[str, str]
+# The arguments of a talk, and its turns.
+Talk = tuple[list[str], list[Turn]]
 
 BOOK = "868100000 5 12"
 # Of each talk the arguments, and what is sent and awaited in turn. A text that ends in no line feed is a part of a line.
-TALKS = {
+TALKS: dict[str, Talk] = {
     "book": (["book"], [
         (f"book 1 10000000 {BOOK}\n", "ok 1 10000000 10041216\n"),
         (f"book 2 10041215 {BOOK}\n", "no 2 Taken 10000000\n"),
@@ -42,7 +49,7 @@ TALKS = {
 }
 
 
-def heard(program, wanted):
+def heard(program: subprocess.Popen[bytes], wanted: str) -> str:
     """What the program writes next, once there is as much as is wanted, it has ended, or the time is over."""
     said = b""
     while len(said) < len(wanted) and select.select([program.stdout], [], [], SECONDS)[0]:
@@ -53,7 +60,7 @@ def heard(program, wanted):
     return said.decode(errors="replace")
 
 
-def fault_of(path, words, turns):
+def fault_of(path: str, words: Sequence[str], turns: Sequence[Turn]) -> Optional[str]:
     """What went wrong in a talk; None where nothing did."""
     with subprocess.Popen([path, *words], stdin=subprocess.PIPE, stdout=subprocess.PIPE, bufsize=0) as program:
         try:
@@ -68,7 +75,7 @@ def fault_of(path, words, turns):
     return None if b"\nbooked " in b"\n" + rest else f"its report is {rest!r}"
 
 
-def main():
+def main() -> int:
     path, _ = asked_by(__doc__)
     return tell([(name, functools.partial(fault_of, path, *talk)) for name, talk in TALKS.items()])
 

@@ -6,6 +6,8 @@ Usage: forwarder.py PROGRAM
 Each trial starts a converter with a program of its own, and ends both. Every wait ends within ten seconds. A failing trial has a
 line; the last line is 'N passed, M failed'. The status is 0 where none failed, 1 where one did, 2 where nothing could be run.
 """
+from __future__ import annotations
+
 import base64
 import functools
 import json
@@ -17,6 +19,7 @@ import sys
 import tempfile
 import threading
 import time
+from typing import Any, Sequence
 
 sys.dont_write_bytecode = True
 from lib import lorawan
@@ -42,21 +45,23 @@ appskey = "{KEYS[1].hex()}"
 """
 EUIS = {1: bytes.fromhex("aa555a0000000001"), 2: bytes.fromhex("aa555a0000000002")}
 PUSH_DATA, PUSH_ACK, PULL_DATA, PULL_RESP, PULL_ACK, TX_ACK = range(6)
+# A packet, as a packet forwarder tells it.
+Entry = dict[str, object]
 
 
 class Forwarder:
     """A gateway's packet forwarder."""
 
-    def __init__(self, number, address):
+    def __init__(self, number: int, address: tuple[str, int]) -> None:
         self.eui, self.address = EUIS[number], address
         self.socket = socket.socket(type=socket.SOCK_DGRAM)
         self.socket.bind(("127.0.0.1", 0))
         self.socket.settimeout(SECONDS)
 
-    def send(self, kind, rest=b"", token=b"\x12\x34"):
+    def send(self, kind: int, rest: bytes = b"", token: bytes = b"\x12\x34") -> None:
         self.socket.sendto(b"\2" + token + bytes([kind]) + self.eui + rest, self.address)
 
-    def wanted(self, kind):
+    def wanted(self, kind: int) -> bytes:
         """The next datagram, which has to be of this kind."""
         try:
             datagram = self.socket.recv(65536)
@@ -65,15 +70,15 @@ class Forwarder:
         expect((2, kind), (datagram[0], datagram[3]), "the version and the kind of a datagram")
         return datagram
 
-    def pull(self):
+    def pull(self) -> None:
         self.send(PULL_DATA)
         expect(b"\2\x12\x34\4", self.wanted(PULL_ACK), "the PULL_ACK")
 
-    def push(self, *entries):
+    def push(self, *entries: Entry) -> None:
         self.send(PUSH_DATA, json.dumps({"rxpk": entries}).encode())
         expect(b"\2\x12\x34\1", self.wanted(PUSH_ACK), "the PUSH_ACK")
 
-    def is_quiet(self):
+    def is_quiet(self) -> None:
         self.socket.settimeout(0.6)
         try:
             raise Failed(f"{self.socket.recv(65536)!r} came")
@@ -84,7 +89,7 @@ class Forwarder:
 class Converter:
     """The example at work, over a program of its own."""
 
-    def __init__(self, program, more=("--fresh",), settings=SETTINGS):
+    def __init__(self, program: str, more: Sequence[str] = ("--fresh",), settings: str = SETTINGS) -> None:
         with socket.socket(type=socket.SOCK_DGRAM) as probe:
             probe.bind(("127.0.0.1", 0))
             self.address = probe.getsockname()
@@ -93,17 +98,17 @@ class Converter:
         self.text.flush()
         words = [sys.executable, str(EXAMPLE), program, self.text.name, f"127.0.0.1:{self.address[1]}", *more]
         words += [f"{eui.hex()}={number}" for number, eui in EUIS.items()]
-        pipes = {"stdin": subprocess.PIPE, "stdout": subprocess.PIPE, "text": True}
-        self.child = subprocess.Popen(words, start_new_session=True, **pipes)
-        self.log = []
+        pipes: dict[str, Any] = {"stdin": subprocess.PIPE, "stdout": subprocess.PIPE, "text": True}
+        self.child: subprocess.Popen[str] = subprocess.Popen(words, start_new_session=True, **pipes)
+        self.log: list[str] = []
         self.reading = threading.Thread(target=self.read, daemon=True)
         self.reading.start()
 
-    def read(self):
+    def read(self) -> None:
         for line in self.child.stdout:
             self.log.append(line.rstrip("\n"))
 
-    def line(self, begin):
+    def line(self, begin: str) -> str:
         """The first line of the log that begins so."""
         ends = time.monotonic() + SECONDS
         while time.monotonic() < ends:
@@ -113,11 +118,11 @@ class Converter:
             time.sleep(0.005)
         raise Failed(f"no line {begin!r} in the log {self.log}")
 
-    def __enter__(self):
+    def __enter__(self) -> tuple[Converter, Forwarder, Forwarder]:
         self.line("floor 2")
         return self, Forwarder(1, self.address), Forwarder(2, self.address)
 
-    def __exit__(self, *_):
+    def __exit__(self, *_: object) -> None:
         self.child.terminate()
         try:
             self.child.wait(SECONDS)
@@ -130,20 +135,20 @@ class Converter:
         self.text.close()
 
 
-def entry(tmst, counter, snr=5.5, confirmed=True, **other):
+def entry(tmst: int, counter: int, snr: float = 5.5, confirmed: bool = True, **other: object) -> Entry:
     """A packet as a packet forwarder tells it."""
     data = lorawan.uplink(confirmed, DEVICE, counter, KEYS)
     told = {"tmst": tmst, "freq": 868.1, "chan": 0, "rfch": 1, "stat": 1, "modu": "LORA", "datr": "SF7BW125", "codr": "4/5"}
     return told | {"rssi": -90, "lsnr": snr, "size": len(data), "data": base64.b64encode(data).decode()} | other
 
 
-def response(forwarder):
+def response(forwarder: Forwarder) -> tuple[int, dict[str, Any]]:
     """The token of a PULL_RESP, and what is to be sent."""
     datagram = forwarder.wanted(PULL_RESP)
     return int.from_bytes(datagram[1:3], "big"), json.loads(datagram[4:])["txpk"]
 
 
-def the_best_gateway_answers(program):
+def the_best_gateway_answers(program: str) -> None:
     with Converter(program) as (_, one, two):
         one.pull()
         two.pull()
@@ -161,7 +166,7 @@ def the_best_gateway_answers(program):
         one.is_quiet()
 
 
-def the_clock_goes_on_where_tmst_wraps(program):
+def the_clock_goes_on_where_tmst_wraps(program: str) -> None:
     with Converter(program) as (converter, one, _):
         one.pull()
         one.push(entry(4_294_900_000, 1))
@@ -172,10 +177,11 @@ def the_clock_goes_on_where_tmst_wraps(program):
         expect(1_100_000, ends[1] - ends[0], "how far the uplinks are apart")
 
 
-def what_is_no_uplink_is_passed_over(program):
+def what_is_no_uplink_is_passed_over(program: str) -> None:
     with Converter(program) as (converter, one, two):
         one.pull()
         one.push(entry(1, 1, stat=-1), entry(1, 1, modu="FSK"))
+        faults: list[Entry]
         faults = [{"datr": "SF7BW500"}, {"data": "%"}, {"data": "A" * 40_000}, {"freq": "a"}, {"tmst": None}, {"rssi": 1e999}]
         for other in faults:
             one.push(entry(1, 1) | other)
@@ -190,7 +196,7 @@ def what_is_no_uplink_is_passed_over(program):
         expect(1_000_001, response(one)[1]["tmst"], "when the answer is sent")
 
 
-def a_queued_payload_goes_along(program):
+def a_queued_payload_goes_along(program: str) -> None:
     with Converter(program) as (converter, one, _):
         one.pull()
         converter.child.stdin.write("queue 26011bda 9 0102\n")
@@ -203,7 +209,7 @@ def a_queued_payload_goes_along(program):
         expect("# TX_ACK 1 b'{\"txpk_ack\":{\"error\":\"TOO_LATE\"}}'", converter.line("# TX_ACK"), "what is told of the error")
 
 
-def nothing_is_sent_in_the_first_hour(program):
+def nothing_is_sent_in_the_first_hour(program: str) -> None:
     with Converter(program, more=()) as (converter, one, two):
         one.pull()
         one.push(entry(1, 1))
@@ -215,9 +221,9 @@ def nothing_is_sent_in_the_first_hour(program):
         two.is_quiet()
 
 
-def counters_are_carried_over(program):
+def counters_are_carried_over(program: str) -> None:
     """Two lives with one settings file use one counter for two payloads; with `down` of the first one's log they don't."""
-    frames = []
+    frames: list[bytes] = []
     for settings in (SETTINGS, SETTINGS, SETTINGS + "up = 1\ndown = 1\n"):
         with Converter(program, settings=settings) as (converter, one, _):
             one.pull()
@@ -242,7 +248,7 @@ TRIALS = [
 ]
 
 
-def main():
+def main() -> int:
     program, _ = asked_by("usage: forwarder.py PROGRAM")
     return tell([(trial.__name__, functools.partial(trial, program)) for trial in TRIALS])
 

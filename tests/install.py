@@ -7,6 +7,8 @@ It refuses a program that tests/gate.py did not leave, or that it left of other 
 the version, the toolchain's line, the commit and the program's sum. The status is 0 where both were written, 1 where there is no
 such program, 2 where something can't be read or written.
 """
+from __future__ import annotations
+
 import pathlib
 import shutil
 import subprocess
@@ -27,7 +29,7 @@ PAGES = {
 }
 
 
-def answer_of(*words):
+def answer_of(*words: str) -> str:
     """What a command writes; `unknown` where there is none, or it fails."""
     try:
         ran = subprocess.run(words, cwd=prover.TOP, stdin=subprocess.DEVNULL, capture_output=True, text=True)
@@ -36,13 +38,13 @@ def answer_of(*words):
     return ran.stdout.strip() if ran.returncode == 0 else "unknown"
 
 
-def commit():
+def commit() -> str:
     """The commit that stands here, and whether files that it has are changed."""
     changed = answer_of("git", "status", "--porcelain", "--untracked-files=no")
     return answer_of("git", "rev-parse", "HEAD") + (" with changes" if changed else "")
 
 
-def record():
+def record() -> list[str]:
     return [
         f"version {told_version.told()[0]}",
         f"toolchain {answer_of('rt', 'version')}",
@@ -51,7 +53,7 @@ def record():
     ]
 
 
-def put_program(folder):
+def put_program(folder: pathlib.Path) -> None:
     """The program, put in the place of another one at once."""
     (folder / "bin").mkdir(parents=True, exist_ok=True)
     made = folder / "bin" / f".{CRATE}.new"
@@ -60,7 +62,7 @@ def put_program(folder):
     made.rename(folder / "bin" / CRATE)
 
 
-def put_pages(folder):
+def put_pages(folder: pathlib.Path) -> None:
     """What is read beside the program."""
     for to, source in PAGES.items():
         (folder / to).parent.mkdir(parents=True, exist_ok=True)
@@ -74,7 +76,7 @@ def put_pages(folder):
     (folder / "share/man/man1/airbook.1").write_text(manual_page.page(prover.program(CRATE)))
 
 
-def main():
+def main() -> int:
     if len(sys.argv) != 2:
         print(__doc__.strip(), file=sys.stderr)
         return 2

@@ -7,12 +7,15 @@ What the gate would leave is written by hand: the program, and the sums of the s
 installed, with a BUILD that tells its sum; and not where the program is another, is missing, or a source of a crate below is
 another. A trial that goes wrong has a line; the last line is 'N passed, M failed'. The status is 0 where none failed, else 1.
 """
+from __future__ import annotations
+
 import hashlib
 import pathlib
 import shutil
 import subprocess
 import sys
 import tempfile
+from typing import Any, Iterator, Optional
 
 sys.dont_write_bytecode = True
 from lib.trials import Tally
@@ -29,7 +32,7 @@ prover.program_sum_file("airbook").write_text(prover.program_sum("airbook"))
 """
 
 
-def copied(room):
+def copied(room: pathlib.Path) -> None:
     """A copy of what the installation reads, with what the gate would leave."""
     for part in PARTS:
         if (TOP / part).is_dir():
@@ -42,22 +45,22 @@ def copied(room):
     subprocess.run([sys.executable, "-c", LEAVE], cwd=room, check=True)
 
 
-def is_installed(room):
+def is_installed(room: pathlib.Path) -> Optional[bool]:
     """Whether the installation was done, as make's status says."""
     to = room / "installed"
     shutil.rmtree(to, ignore_errors=True)
-    words = {"cwd": room, "stdin": subprocess.DEVNULL, "stdout": subprocess.DEVNULL, "stderr": subprocess.DEVNULL}
+    words: dict[str, Any] = {"cwd": room, "stdin": subprocess.DEVNULL, "stdout": subprocess.DEVNULL, "stderr": subprocess.DEVNULL}
     done = subprocess.run(["make", "install", f"PREFIX={to}", "DESTDIR="], **words).returncode == 0
     there = (to / "bin/airbook").exists(), (to / "share/airbook/BUILD").exists()
     return done if there == (done, done) else None
 
 
-def tells_sum(room):
+def tells_sum(room: pathlib.Path) -> bool:
     told = dict(line.split(" ", 1) for line in (room / "installed/share/airbook/BUILD").read_text().splitlines())
     return told["sha256"] == hashlib.sha256(PROGRAM).hexdigest() and {"version", "toolchain", "commit"} <= set(told)
 
 
-def tried(room):
+def tried(room: pathlib.Path) -> Iterator[tuple[str, bool]]:
     """A name, and whether it went as wanted."""
     program, source = room / "crates/airbook/out/airbook", room / "crates/lora_frame/src/lib.rt"
     yield "a proved program is installed", is_installed(room) is True
@@ -72,7 +75,7 @@ def tried(room):
     yield "no program is refused", is_installed(room) is False
 
 
-def main():
+def main() -> int:
     if len(sys.argv) > 1:
         print(__doc__.strip(), file=sys.stderr)
         return 2

@@ -12,6 +12,8 @@ Crowded. The book keeps 65,535 of 65,536 transmissions: a plan on it, its saved 
 room for one more. Every program that is started ends within a minute, or is stopped. A failing trial has a line; the last line
 is 'N passed, M failed'. The status is 0 where none failed, 1 where one did, 2 where nothing could be run.
 """
+from __future__ import annotations
+
 import contextlib
 import functools
 import socket
@@ -19,6 +21,7 @@ import subprocess
 import sys
 import tempfile
 import threading
+from typing import IO, Any, Iterable, Iterator, Optional, Sequence
 
 sys.dont_write_bytecode = True
 from lib.arguments import asked_by
@@ -46,9 +49,13 @@ STARTS = range(0, 65_535 * 420_000, 420_000)
 ON_AIR = 41_216
 SERVED = SETTINGS.encode() + b"---\n"
 NO_SENDS = "".join(line + "\n" for line in NO_REPORT).encode()
+# The faults with which runs stop, one for each size of an input; none where a run goes on to its end.
+Stops = Sequence[Optional[str]]
+# Runs on inputs of both sizes, as `rows` has them.
+Row = tuple[list[str], bytes, bytes, bytes, bytes, Stops]
 
 
-def blocks(front, line, size):
+def blocks(front: bytes, line: bytes, size: int) -> Iterator[bytes]:
     """An input of this size, block by block."""
     yield front
     block, left = line * (BLOCK // len(line)), size - len(front)
@@ -57,22 +64,22 @@ def blocks(front, line, size):
         left -= len(block)
 
 
-def bad_lines(front):
+def bad_lines(front: bytes) -> bytes:
     """The answers to the long lines that fill an input up to the limit; a part of one, at the end, has its answer, too."""
     count = -(-(LIMIT - len(front)) // len(LONG))
     return b"".join(b"bad %d Syntax\n" % number for number in range(1, count + 1))
 
 
-def feed(pipe, given):
+def feed(pipe: IO[bytes], given: Iterable[bytes]) -> None:
     """Writes all of this to a pipe, as long as somebody reads it."""
     with contextlib.suppress(BrokenPipeError), pipe:
         for block in given:
             pipe.write(block)
 
 
-def ended(program, words, given):
+def ended(program: str, words: Sequence[str], given: Iterable[bytes]) -> tuple[int, bytes, bytes]:
     """How a program ends that is given this: its status, standard output and standard error."""
-    pipes = {"stdin": subprocess.PIPE, "stdout": subprocess.PIPE}
+    pipes: dict[str, Any] = {"stdin": subprocess.PIPE, "stdout": subprocess.PIPE}
     with tempfile.TemporaryFile() as errors, subprocess.Popen([program, *words], stderr=errors, **pipes) as child:
         alarm = threading.Timer(SECONDS, child.kill)
         feeder = threading.Thread(target=feed, args=(child.stdin, given))
@@ -86,12 +93,14 @@ def ended(program, words, given):
         return status, written, errors.read()
 
 
-def is_front(written, answers):
+def is_front(written: bytes, answers: bytes) -> bool:
     """Whether this is all of the answers but the last ones at most."""
     return answers.startswith(written) and len(answers) - len(written) <= LOST
 
 
-def fault_of(program, words, front, line, answers, at_the_end, stops):
+def fault_of(
+    program: str, words: Sequence[str], front: bytes, line: bytes, answers: bytes, at_the_end: bytes, stops: Stops
+) -> Optional[str]:
     """What is wrong with how inputs of both sizes are answered; None where nothing is.
 
     Answers are what is written while lines are read, and then comes what is written at the end. Where a run stops before that its
@@ -109,7 +118,7 @@ def fault_of(program, words, front, line, answers, at_the_end, stops):
     return None
 
 
-def uplinks():
+def uplinks() -> Iterator[bytes]:
     """The input with so many uplinks and one more, round by round, each closed before the next one."""
     yield SERVED
     for first in range(0, UPLINKS, ROUND):
@@ -119,9 +128,9 @@ def uplinks():
     yield b"hear 1 0 868100000 5 0 -100 0 @u:26011bda:%d\n" % UPLINKS
 
 
-def gathered():
+def gathered() -> bytes:
     """What is answered to them."""
-    answers = []
+    answers: list[str] = []
     for first in range(1, UPLINKS + 1, ROUND):
         numbers = range(first, first + ROUND)
         answers += [f"opened {number}\n" for number in numbers] + [f"silent {number}\n" for number in numbers]
@@ -129,7 +138,7 @@ def gathered():
     return "".join(answers).encode() + b"no hear Crowded\n" + silent
 
 
-def fault_of_uplinks(program, words):
+def fault_of_uplinks(program: str, words: Sequence[str]) -> Optional[str]:
     """What is wrong with how a million uplinks and one more are answered; None where nothing is."""
     status, written, errors = ended(program, words, uplinks())
     if (status, written, errors) == (1, gathered(), b""):
@@ -137,7 +146,7 @@ def fault_of_uplinks(program, words):
     return f"{UPLINKS + 1} uplinks: status {status}, {len(written)} bytes that end {written[-160:]}, {errors}"
 
 
-def report_of(count, fullest):
+def report_of(count: int, fullest: int) -> bytes:
     """The report of a book of so many such transmissions, and of so many in its busiest hour."""
     airtime = count * ON_AIR
     lines = [f"booked {airtime}", "cancelled 0", "retired 0", f"kept {count} {airtime}", "floor 0"]
@@ -145,7 +154,7 @@ def report_of(count, fullest):
     return "".join(line + "\n" for line in lines).encode()
 
 
-def fault_of_books(program):
+def fault_of_books(program: str) -> Optional[str]:
     """What is wrong with how a book of so many transmissions is planned on, saved and read again; None where nothing is."""
     booked = b"".join(b"book %d %d 869525000 5 12\n" % (place, start) for place, start in enumerate(STARTS))
     told = b"".join(b"ok %d %d %d\n" % (place, start, start + ON_AIR) for place, start in enumerate(STARTS))
@@ -167,7 +176,7 @@ def fault_of_books(program):
     return None
 
 
-def rows(port):
+def rows(port: int) -> list[Row]:
     """The arguments, the front and the lines of the input, the answers, what is written at the end, and the faults."""
     long_run = bad_lines(SERVED) + NO_SENDS
     listen = ["listen", "--port", str(port), "--turns", "1"]
@@ -185,7 +194,7 @@ def rows(port):
     ]
 
 
-def main():
+def main() -> int:
     program, _ = asked_by(__doc__)
     with socket.socket(type=socket.SOCK_DGRAM) as other:
         other.bind(("127.0.0.1", 0))

@@ -10,6 +10,8 @@ count the threads, of which there have to be some where workers are asked for, a
 Every program that is started ends within a minute, or is stopped. A failing trial has a line; the last line is 'N passed, M
 failed'. The status is 0 where none failed, 1 where one did, 2 where nothing could be run.
 """
+from __future__ import annotations
+
 import os
 import pathlib
 import random
@@ -19,16 +21,20 @@ import subprocess
 import sys
 import tempfile
 import time
+from typing import Any, Optional, Sequence
 
 sys.dont_write_bytecode = True
 from lib import lorawan, plain_server
 from lib.arguments import asked_by
-from lib.drawn_turns import KEYS, NO_REPORT, SESSION, SETTINGS, STEPS, UPLINK, Alone, drawn_run, run_of_steps
+from lib.drawn_turns import KEYS, NO_REPORT, SESSION, SETTINGS, STEPS, UPLINK, Alone, Turn, drawn_run, run_of_steps
 from lib.places import TOP
+from lib.plain_server import Table
 from lib.preloaded import COUNTING, FAILING_RECEIVE, NO_RANDOM_BYTES, NO_THREADS, NO_TIME_LIMIT, Counter, library_of, over
 from lib.serving import LOOPBACK, free_port, is_bound
 from lib.trials import tell
 
+# Options of Popen.
+Options = dict[str, Any]
 SECONDS = 60
 EXAMPLE = TOP / "examples" / "settings.toml"
 # As many uplinks as several workers share out.
@@ -42,23 +48,25 @@ OWN_ANSWERS = ["no"] + ["opened"] * 4 + ["joined"] + ["send"] * 3 + ["unanswered
 class Server:
     """A program that listens, and two senders, who take turns."""
 
-    def __init__(self, program, turns, more=(), settings=SETTINGS, options=None):
+    def __init__(
+        self, program: str, turns: int, more: Sequence[str] = (), settings: str = SETTINGS, options: Optional[Options] = None
+    ) -> None:
         self.port = free_port()
         self.ends = time.monotonic() + SECONDS
         self.read = b""
         self.senders = [socket.socket(type=socket.SOCK_DGRAM) for _ in range(2)]
         words = [program, "listen", "--port", str(self.port), "--turns", str(turns), *more]
-        pipes = {"stdin": subprocess.PIPE, "stdout": subprocess.PIPE, "stderr": subprocess.PIPE}
-        self.child = subprocess.Popen(words, **(pipes | (options or {})))
+        pipes: Options = {"stdin": subprocess.PIPE, "stdout": subprocess.PIPE, "stderr": subprocess.PIPE}
+        self.child: subprocess.Popen[bytes] = subprocess.Popen(words, **(pipes | (options or {})))
         self.child.stdin.write(settings.encode())
         self.child.stdin.close()
 
-    def __enter__(self):
+    def __enter__(self) -> Server:
         while not is_bound(self.port, LOOPBACK) and self.child.poll() is None and time.monotonic() < self.ends:
             time.sleep(0.005)
         return self
 
-    def __exit__(self, *_):
+    def __exit__(self, *_: object) -> None:
         if self.child.poll() is None:
             self.child.kill()
         self.child.wait()
@@ -68,11 +76,11 @@ class Server:
             self.child.stdout.close()
         self.child.stderr.close()
 
-    def send(self, datagram):
+    def send(self, datagram: bytes) -> None:
         self.senders[0].sendto(datagram, ("127.0.0.1", self.port))
         self.senders.reverse()
 
-    def lines(self, count):
+    def lines(self, count: int) -> list[str]:
         """The next lines that are written, so many of them; fewer where no more come."""
         while self.read.count(b"\n") < count:
             left = self.ends - time.monotonic()
@@ -87,7 +95,7 @@ class Server:
         self.read = b"\n".join(parts[len(taken):])
         return [line.decode("utf-8", "backslashreplace") for line in taken]
 
-    def rest(self):
+    def rest(self) -> tuple[list[str], Optional[int], str]:
         """All lines that are still written, the status, and standard error."""
         lines = self.lines(1 << 30)
         try:
@@ -97,7 +105,10 @@ class Server:
         return lines, status, self.child.stderr.read().decode("utf-8", "backslashreplace")
 
 
-def exchange(program, turns, wanted_rest, wanted_status, more=(), options=None, settings=SETTINGS):
+def exchange(
+    program: str, turns: Sequence[Turn], wanted_rest: list[str], wanted_status: int, more: Sequence[str] = (),
+    options: Optional[Options] = None, settings: str = SETTINGS,
+) -> Optional[str]:
     """Sends each datagram once its turn has come. What differs from what is wanted, if anything."""
     with Server(program, len(turns), more, settings, options) as server:
         for turn, (datagram, answer) in enumerate(turns, 1):
@@ -111,9 +122,9 @@ def exchange(program, turns, wanted_rest, wanted_status, more=(), options=None, 
     return None
 
 
-def worked(program):
+def worked(program: str) -> Optional[str]:
     """Two gateways hear an uplink, and it is answered."""
-    turns = [
+    turns: list[Turn] = [
         (f"hear 1 5000000 868100000 5 55 -90 1000 {UPLINK}".encode(), ["opened 1"]),
         (f"hear 2 9000000 868100000 5 55 -80 1100 {UPLINK}\r\n".encode(), ["joined 1 2"]),
         (b"pass 201000", []),
@@ -128,13 +139,13 @@ def worked(program):
     return exchange(program, turns, report, 0) or exchange(program, turns, report, 0, ["--workers", "16"])
 
 
-def silent_uplinks():
+def silent_uplinks() -> list[str]:
     """As many as are shared out, to which no answer is owed."""
     keys = [bytes.fromhex(key) for key in SESSION]
     return [lorawan.uplink(False, 0x26011BDA, counter, keys).hex() for counter in range(SHARED)]
 
 
-def shared_out(program, workers, options):
+def shared_out(program: str, workers: int, options: Options) -> Optional[str]:
     """As many uplinks as are shared out are heard and closed. What differs from what is wanted, if anything."""
     heard = [f"hear 1 0 868100000 5 0 -100 0 {uplink}".encode() for uplink in silent_uplinks()]
     turns = [(line, [f"opened {number}"]) for number, line in enumerate(heard, 1)]
@@ -143,7 +154,7 @@ def shared_out(program, workers, options):
     return exchange(program, turns, report, 0, ["--workers", str(workers)], options)
 
 
-def threads_started(program):
+def threads_started(program: str) -> Optional[str]:
     """Two workers are two threads where they have enough to do, of sixteen three have. Hashes are keyed at random."""
     with tempfile.TemporaryDirectory() as folder:
         library = library_of(COUNTING, pathlib.Path(folder))
@@ -156,7 +167,7 @@ def threads_started(program):
     return None
 
 
-def threads_refused(program):
+def threads_refused(program: str) -> Optional[str]:
     """Where no thread can be started, the one that listens answers all."""
     with tempfile.TemporaryDirectory() as folder:
         counter = Counter(library_of(NO_THREADS, pathlib.Path(folder)))
@@ -165,10 +176,10 @@ def threads_refused(program):
     return fault or (None if calls.threads else "no thread was asked for")
 
 
-def own_settings(program):
+def own_settings(program: str) -> Optional[str]:
     """Caps, a gap and a device that differ from what they are where nothing is said: the answers are those of a plain model."""
-    gateways = [{"id": 1, "cap": 2, "gap": 100_000}, {"id": 2, "cap": 1, "gap": 0}]
-    device = {"addr": 0x26011BDA, "delay": 2, "offset": 1, "rx2_freq": 868_500_000, "rx2_dr": 3, "up": 6, "down": 5}
+    gateways: list[Table] = [{"id": 1, "cap": 2, "gap": 100_000}, {"id": 2, "cap": 1, "gap": 0}]
+    device: Table = {"addr": 0x26011BDA, "delay": 2, "offset": 1, "rx2_freq": 868_500_000, "rx2_dr": 3, "up": 6, "down": 5}
     rows = [f"[[{name}]]\n" + "".join(f"{key} = {value}\n" for key, value in one.items()) for name, one in
             [("gateway", gateways[0]), ("gateway", gateways[1]), ("device", device | {"addr": '"26011bda"'})]]
     keys = [bytes.fromhex(key) for key in SESSION]
@@ -188,7 +199,7 @@ def own_settings(program):
     return exchange(program, turns, model.report(), 1, settings="".join(rows) + KEYS)
 
 
-def turns_above_16_bits(program):
+def turns_above_16_bits(program: str) -> Optional[str]:
     """A program that was asked for more turns than 16 bits hold takes a third one."""
     with Server(program, (1 << 16) + 2) as server:
         for moment in (1, 2, 3):
@@ -199,7 +210,7 @@ def turns_above_16_bits(program):
     return None
 
 
-def receive_failed(program):
+def receive_failed(program: str) -> Optional[str]:
     """A receive that fails takes a turn, which is answered, and a warning goes to standard error; the next one is as ever."""
     with over(FAILING_RECEIVE) as options, Server(program, 2, options=options) as server:
         first = server.lines(1)
@@ -211,7 +222,7 @@ def receive_failed(program):
     return f"{first}, then {lines}, status {status}, {errors!r}"
 
 
-def write_failed(program):
+def write_failed(program: str) -> Optional[str]:
     """An output that takes nothing, and one that nobody reads, end it at the first answer."""
     found = []
     with open("/dev/full", "wb") as full, Server(program, 2, options={"stdout": full}) as one, Server(program, 2) as other:
@@ -222,25 +233,25 @@ def write_failed(program):
     return None if found == [(2, b"airbook: Write\n")] * 2 else f"a full device and a closed pipe: {found}"
 
 
-def waits_for_ever(program):
+def waits_for_ever(program: str) -> Optional[str]:
     """No time is set in which a datagram has to come: who sets one is stopped."""
     with over(NO_TIME_LIMIT) as options:
         return exchange(program, [(b"tick 1 5", ["floor 1 5"])], NO_REPORT, 0, options=options)
 
 
-def no_random_bytes(program):
+def no_random_bytes(program: str) -> Optional[str]:
     """Hashes can't be keyed."""
     with over(NO_RANDOM_BYTES) as options:
         return refused(program, SETTINGS, "Read", options)
 
 
-def run_of_turns(program, settings, turns, report, more=()):
+def run_of_turns(program: str, settings: str, turns: Sequence[Turn], report: list[str], more: Sequence[str] = ()) -> Optional[str]:
     """The lines of a run, a datagram each, with one worker or with those that are asked for."""
     refused = any(answer.split()[0] in ("no", "bad") for _, answers in turns for answer in answers)
     return exchange(program, turns, report, int(refused), more, settings=settings)
 
 
-def steps(program, case):
+def steps(program: str, case: str) -> Optional[str]:
     """A case's lines: what is booked is cancelled, and a payload sent, beside a gathering that is open; signals decide."""
     run = run_of_steps(case)
     if run is None:
@@ -248,7 +259,7 @@ def steps(program, case):
     return run_of_turns(program, *run) or run_of_turns(program, *run, ["--workers", "16"])
 
 
-def drawn_runs(program, seed):
+def drawn_runs(program: str, seed: int) -> Optional[str]:
     """Runs as tests/random_runs.py draws them: the answers are those of a plain model. Every second one has two workers."""
     for one in range(seed, seed + RUNS):
         fault = run_of_turns(program, *drawn_run(one), ["--workers", "2"] * (one % 2))
@@ -257,13 +268,13 @@ def drawn_runs(program, seed):
     return None
 
 
-def at_random(program, datagrams, seed):
+def at_random(program: str, datagrams: int, seed: int) -> Optional[str]:
     """Random datagrams, each answered by itself."""
     alone = Alone(random.Random(seed))
     return exchange(program, [alone.turn(turn) for turn in range(1, datagrams + 1)], NO_REPORT, 1)
 
 
-def example(program):
+def example(program: str) -> Optional[str]:
     """The example of README.md."""
     with Server(program, 1, settings=EXAMPLE.read_text()) as server:
         server.send(b"tick 1 5")
@@ -271,7 +282,7 @@ def example(program):
     return None if got == (["floor 1 5", *NO_REPORT], 0, "") else f"got {got}"
 
 
-def example_of_help(program):
+def example_of_help(program: str) -> Optional[str]:
     """The example of the help, in which bash sends the datagram."""
     with Server(program, 1, settings=EXAMPLE.read_text()) as server:
         subprocess.run(["bash", "-c", f"echo tick 1 5 > /dev/udp/127.0.0.1/{server.port}"], check=True, timeout=SECONDS)
@@ -279,14 +290,14 @@ def example_of_help(program):
     return None if got == (["floor 1 5", *NO_REPORT], 0, "") else f"got {got}"
 
 
-def refused(program, settings, name, options=None):
+def refused(program: str, settings: str, name: str, options: Optional[Options] = None) -> Optional[str]:
     """A program that doesn't begin to listen, for a fault of this name."""
     with Server(program, 1, settings=settings, options=options) as server:
         got = server.rest()
     return None if got == ([], 2, f"airbook: {name}\n") else f"wanted {name}, got {got}"
 
 
-def port_taken(program):
+def port_taken(program: str) -> Optional[str]:
     """A port that another socket has."""
     with Server(program, 1) as first:
         words = [program, "listen", "--port", str(first.port), "--turns", "1"]
@@ -298,9 +309,9 @@ def port_taken(program):
     return None if answered[:2] == (["floor 1 5"] + NO_REPORT, 0) else f"the first program: {answered}"
 
 
-def told_in_notes(program):
+def told_in_notes(program: str) -> Optional[str]:
     """With notes: that it listens, why a datagram was refused, and what was never closed. Answers and status stay as they are."""
-    turns = [
+    turns: list[Turn] = [
         (f"hear 1 5000000 868100000 5 55 -90 1000 {UPLINK}".encode(), ["opened 1"]),
         (f"hear 9 5000000 868100000 5 55 -90 1000 {UPLINK}\r\n".encode(), ["no hear UnknownGateway"]),
         (b"", []),
@@ -323,7 +334,7 @@ def told_in_notes(program):
     return None
 
 
-def why_not_bound(program):
+def why_not_bound(program: str) -> Optional[str]:
     """With notes a port that another socket has is told with the system's reason, and settings at fault with their place."""
     with Server(program, 1) as first:
         words = [program, "listen", "--port", str(first.port), "--turns", "1", "--notes"]
@@ -338,7 +349,7 @@ def why_not_bound(program):
     return None
 
 
-def main():
+def main() -> int:
     program, (datagrams, seed) = asked_by(__doc__, 5_000, 1)
     trials = [
         ("the example", lambda: example(program)),

@@ -5,6 +5,8 @@ Usage: tests/lorawan.py     (scripts that use it make these checks first)
 
 What differs has a line. The last line is 'N passed, M failed'; the status is 0 where none failed, 1 where one did.
 """
+from __future__ import annotations
+
 import sys
 
 sys.dont_write_bytecode = True
@@ -12,7 +14,7 @@ from lib import lorawan
 from lib.trials import Tally
 
 
-def main():
+def main() -> int:
     tally = Tally()
     for name, want, found in lorawan.published():
         tally.take(want == found, f"{name}: wanted {want}, found {found}")

@@ -11,12 +11,15 @@ A file tests/misuse/NAME.txt has lines
 The compiler has to give each error that is wanted, and no other; nothing is proved. The last line is 'N passed, M failed'; the
 status is 0 where none failed, 1 where one did, 2 where nothing could be run.
 """
+from __future__ import annotations
+
 import functools
 import pathlib
 import re
 import subprocess
 import sys
 import tempfile
+from typing import Sequence
 
 sys.dont_write_bytecode = True
 import prover
@@ -27,7 +30,7 @@ SECONDS = 120
 CRATE = "misuse"
 
 
-def parts_of(path):
+def parts_of(path: pathlib.Path) -> tuple[list[str], list[str], str]:
     """The libraries, the errors that are wanted, and the source."""
     head, source = path.read_text().split("source:\n", 1)
     named = [line.split(": ", 1) for line in head.splitlines()]
@@ -35,7 +38,7 @@ def parts_of(path):
     return uses, [text for name, text in named if name == "wants"], source
 
 
-def errors_of(uses, source):
+def errors_of(uses: Sequence[str], source: str) -> list[str]:
     """The errors that the compiler gives of a crate with this source."""
     with tempfile.TemporaryDirectory(prefix="misuse-") as room:
         root = pathlib.Path(room, "src", "lib.rt")
@@ -49,7 +52,7 @@ def errors_of(uses, source):
     return [line for line in ran.stdout.splitlines() if re.search(r"\berror(\[|:)", line)]
 
 
-def faults_of(path):
+def faults_of(path: pathlib.Path) -> list[str]:
     uses, wants, source = parts_of(path)
     if not wants:
         return ["the file wants no error"]
@@ -62,7 +65,7 @@ def faults_of(path):
     return missing + others
 
 
-def main():
+def main() -> int:
     names = sys.argv[1:] or sorted(path.stem for path in FILES.glob("*.txt"))
     missing = [name for name in names if not (FILES / f"{name}.txt").is_file()]
     if missing or not names:

@@ -12,19 +12,25 @@ What differs has a line. Then comes how many of each kind were drawn, and of eac
 common kind that never came is one failure. The last line is 'N passed, M failed', of the books. The status is 0 where none failed,
 1 where one did, 2 where there is no program.
 """
+from __future__ import annotations
+
 import collections
 import random
 import sys
 import xml.etree.ElementTree
+from typing import Iterator, Optional, Sequence, Union
 
 sys.dont_write_bytecode = True
 from lib import lorawan
 from lib.drawn_books import book_of, damaged, lines_behind
 from lib.lorawan import HOUR
-from lib.model_trials import compared
+from lib.model_trials import Tried, compared
 from lib.places import CASES
+from lib.plain_book import PlainBook
 from lib.plain_saved import Fault, reader, saved
 
+# A transmission: its start, its end, its sub-band and its data rate.
+Member = tuple[int, int, str, int]
 BOOKS = 200
 ROWS = "KLMNPQ"
 RIGHT = ' class="right"'
@@ -34,26 +40,26 @@ COMMON = """no marks;marks;floor in the hour;floor elsewhere;nothing is kept;a f
 asked for;the latest hour;Syntax;Version;Unlawful""".replace("\n", " ")
 
 
-def always():
+def always() -> list[str]:
     """The lines that are the same in each picture."""
     lines = EMPTY.read_text().splitlines()
     first = next(at for at, line in enumerate(lines) if line.startswith("<desc>"))
     return lines[first:next(at for at, line in enumerate(lines) if line.startswith('<rect class="bar"'))]
 
 
-def members_of(book):
+def members_of(book: PlainBook) -> Iterator[Member]:
     """Of each transmission its start, its end, its sub-band and its data rate."""
     for start, end, *_ in book.members:
         frequency, rate, _ = book.asks[start]
         yield start, end, lorawan.band_of(frequency, rate), rate
 
 
-def airtime_in(members, band, opening):
+def airtime_in(members: Sequence[Member], band: str, opening: int) -> int:
     """What begins of a sub-band in the hour that opens there."""
     return sum(end - start for start, end, of, _ in members if of == band and opening <= start < opening + HOUR)
 
 
-def busiest_of(members, band):
+def busiest_of(members: Sequence[Member], band: str) -> str:
     """The words of a sub-band's busiest hour; the first of equal ones."""
     hours = [(-airtime_in(members, band, start), start) for start, _, of, _ in members if of == band]
     if not hours:
@@ -62,11 +68,11 @@ def busiest_of(members, band):
     return f"busiest hour {-airtime} us from {start} us"
 
 
-def text(x, y, words, kind=""):
+def text(x: int, y: int, words: str, kind: str = "") -> str:
     return f'<text{kind} transform="scale(1000)" x="{x}" y="{y}">{words}</text>'
 
 
-def picture(book, asked):
+def picture(book: PlainBook, asked: Optional[int]) -> tuple[list[str], list[str]]:
     """All that is written of a book, and what is drawn."""
     members = list(members_of(book))
     opening = max(max((end for _, end, *_ in members), default=0) - HOUR, 0) if asked is None else asked
@@ -95,7 +101,7 @@ def picture(book, asked):
     return lines + ["</svg>"], drawn + ["no marks"] * ("marks" not in drawn)
 
 
-def faults_of(told):
+def faults_of(told: str) -> Optional[str]:
     """What an XML reader has against a picture: a line, or none."""
     root = xml.etree.ElementTree.fromstring(told)
     if root.tag != SVG + "svg" or [child.tag for child in root][:1] != [SVG + "title"] or root.find(SVG + "desc") is None:
@@ -108,16 +114,17 @@ def faults_of(told):
     return None if marks == lines else f"{marks} marks in {lines} lines"
 
 
-def asked_of(chance, book):
+def asked_of(chance: random.Random, book: PlainBook) -> Optional[int]:
     """The hour that is asked for; none in two of five."""
     near = [start for start, *_ in book.members] or [0]
     start = chance.choice(near)
-    far = [0, lorawan.END, lorawan.END + 1, (1 << 64) - 1, chance.randrange(1 << 64)]
+    far: list[Optional[int]] = [0, lorawan.END, lorawan.END + 1, (1 << 64) - 1, chance.randrange(1 << 64)]
+    drawn: list[Optional[int]]
     drawn = [start, start, start + 1, max(start - HOUR, 0), max(start + 1 - HOUR, 0), max(book.floor - HOUR, 0), book.floor]
     return chance.choice([None] * 8 + drawn * 2 + far)
 
 
-def tried(seed, _is_last):
+def tried(seed: int, _is_last: bool) -> Tried:
     """The arguments and the input of a run, what is wanted of it, what is drawn, and what the XML reader says of that."""
     chance = random.Random(seed)
     book, rates = book_of(chance)
@@ -130,6 +137,7 @@ def tried(seed, _is_last):
         found, _ = reader(given)
     except Fault as fault:
         return words, given, (b"", f"airbook: {fault.args[0]}\n".encode(), 2), [fault.args[0]], " ".join(words)
+    told: Union[list[str], str]
     told, drawn = picture(found, asked)
     told = "".join(line + "\n" for line in told)
     fault = faults_of(told)
@@ -138,7 +146,7 @@ def tried(seed, _is_last):
     return words, given, wanted, drawn, f"{' '.join(words)}: {fault or 'taken by the XML reader'}"
 
 
-def main(words):
+def main(words: Sequence[str]) -> int:
     return compared(words, BOOKS, COMMON, tried)
 
 

@@ -8,13 +8,16 @@ found by going over it. A quarter of the commands each is given to a book of few
 wide ones (P), of both beside M with a gap, and to one with a small cap. Each answer that differs has a line; the last line is 'N
 passed, M failed', of the books. The status is 0 where none failed, 1 where one did, 2 where there is no program.
 """
+from __future__ import annotations
+
 import random
 import sys
+from typing import Iterator, Sequence
 
 sys.dont_write_bytecode = True
 from lib.arguments import asked_for
 from lib.model_trials import answers_alike
-from lib.plain_book import HOUR, K, M, P, Book
+from lib.plain_book import HOUR, K, M, P, Book, Channel
 from lib.trials import last_line
 
 # A name, the channels, the cap, the gap, and how far ahead of the floor is booked.
@@ -26,7 +29,7 @@ BOOKS = [
 ]
 
 
-def commands(chance, channels, plain, ahead, count):
+def commands(chance: random.Random, channels: Sequence[Channel], plain: Book, ahead: int, count: int) -> Iterator[tuple[str, str]]:
     """So many lines, with what the list answers to each."""
     for number in range(count):
         kind = chance.random()
@@ -47,12 +50,12 @@ def commands(chance, channels, plain, ahead, count):
             yield f"book {number} {start} {channel[0]} {rate} {length}", plain.book(number, start, channel, airtime)
 
 
-def compared(program, name, channels, cap, gap, ahead, count, seed):
+def compared(program: str, name: str, channels: Sequence[Channel], cap: int, gap: int, ahead: int, count: int, seed: int) -> bool:
     """Whether the program answers as the list does."""
     plain = Book(cap, gap)
     told = list(commands(random.Random(seed), channels, plain, ahead, count))
     wanted = [answer for _, answer in told] + plain.report()
-    kinds = {}
+    kinds: dict[str, int] = {}
     for _, answer in told:
         word = answer.split()[2] if answer.startswith("no") else answer.split()[0]
         kinds[word] = kinds.get(word, 0) + 1
@@ -60,7 +63,7 @@ def compared(program, name, channels, cap, gap, ahead, count, seed):
     return answers_alike(program, name, plain, [line for line, _ in told], wanted)
 
 
-def main(words):
+def main(words: Sequence[str]) -> int:
     asked = asked_for(words, 100_000)
     if asked is None:
         return 2

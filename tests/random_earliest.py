@@ -9,23 +9,29 @@ found by trying each start in the bounds on a plain list (lib/plain_book.py). Ea
 where no earliest start of all stands right behind a transmission, or behind a full hour; the last line is 'N passed, M failed',
 of the books. The status is 0 where none failed, 1 where one did, 2 where there is no program.
 """
+from __future__ import annotations
+
 import collections
 import random
 import sys
+from typing import Sequence
 
 sys.dont_write_bytecode = True
 from lib.arguments import asked_for
 from lib.model_trials import answers_alike
-from lib.plain_book import HOUR, K, M, P, Book
+from lib.plain_book import HOUR, K, M, P, Book, Channel
 from lib.trials import last_line
 
+# A line, and what answers it.
+Turn = tuple[str, str]
 ASKS, WIDTH = 4, 60
 ENOUGH = 1_000      # so many books have each kind of start
 
 
-def drawn(chance):
+def drawn(chance: random.Random) -> tuple[Book, list[Channel], list[Turn]]:
     """A book with a gap, the channels that it is used on, and the lines that made it, each with its answer."""
     book = Book(chance.choice([3, 4096, 4096]), chance.choice([0, 0, 1, 1_000, 100_000]))
+    lines: list[Turn]
     channels, spread, lines = chance.choice([[K], [K, M, P]]), chance.choice([3_000_000, 60_000_000]), []
     for number in range(chance.randrange(1, 13)):
         if chance.random() < 0.1:
@@ -40,7 +46,7 @@ def drawn(chance):
     return book, channels, lines
 
 
-def turns(book, airtime):
+def turns(book: Book, airtime: int) -> list[int]:
     """Moments about which the earliest start can lie; more of them stand where an hour opens no more than behind a member, since
     few of those hours are full."""
     found = [book.floor]
@@ -49,7 +55,7 @@ def turns(book, airtime):
     return found
 
 
-def question(chance, book, channels, number):
+def question(chance: random.Random, book: Book, channels: Sequence[Channel], number: int) -> tuple[str, str, str]:
     """A line that asks for the earliest start in narrow bounds, with the answer of a search that tries each start; and why the
     start before that is refused, if it is looked at."""
     channel = chance.choice(channels)
@@ -62,7 +68,7 @@ def question(chance, book, channels, number):
     return f"earliest {number} {low} {high} {channel[0]} {rate} {length}", told, before.split(" ")[0]
 
 
-def compared(program, seed):
+def compared(program: str, seed: int) -> tuple[bool, int, collections.Counter[str]]:
     """Whether the program answers as the search does, how many starts were found, and what refuses the starts before these."""
     chance = random.Random(seed)
     book, channels, told = drawn(chance)
@@ -73,13 +79,13 @@ def compared(program, seed):
     return alike, sum(answer.startswith("at") for _, answer in told), collections.Counter(before for *_, before in asked)
 
 
-def main(words):
+def main(words: Sequence[str]) -> int:
     asked = asked_for(words, 10_000)
     if asked is None:
         return 2
     program, count, seed = asked
     done = [compared(program, seed + i) for i in range(count)]
-    behind = sum((before for *_, before in done), collections.Counter())
+    behind: collections.Counter[str] = sum((before for *_, before in done), collections.Counter())
     print(f"{count * ASKS} asks, {sum(found for _, found, _ in done)} with a start, {behind['Taken']} of these right behind a "
           f"transmission and {behind['DutyFull']} behind a full hour")
     untried = [name for name in ("Taken", "DutyFull") if count >= ENOUGH and not behind[name]]

@@ -15,15 +15,20 @@ that never came is one failure. TooManyCopies never comes, as there are no more 
 NoMemory here. The last line is 'N passed, M failed', of the runs. The status is 0 where none failed, 1 where one did, 2 where
 there is no program.
 """
+from __future__ import annotations
+
 import random
 import sys
+from typing import Iterator, Sequence
 
 sys.dont_write_bytecode = True
 from lib.drawn_settings import rows_of, settings_of, spoiled, table_text
 from lib.drawn_traffic import Traffic
-from lib.model_trials import compared
-from lib.plain_server import JOINS, OPEN_AT_MOST, played
+from lib.model_trials import Tried, compared
+from lib.plain_server import JOINS, OPEN_AT_MOST, Table, played
 
+# The input of a run, and what is wanted: output, standard error, status.
+Run = tuple[bytes, bytes, bytes, int]
 RUNS = 200
 COMMON = """queued;no queue UnknownDevice;no queue Port;no queue Long;no queue QueueFull;opened;opened repeat;joined;no hear Short
 no hear Long;no hear NotData;no hear Major;no hear OptionsCut;no hear UnknownGateway;no hear NoRate;no hear NoBand
@@ -32,7 +37,7 @@ frame;unanswered Passed;unanswered Taken;unanswered DutyFull;unanswered Full;no 
 cancelled;no cancel Begun;no cancel NotHere;bad Syntax;gateway;busiest;answered;refused Kind;refused Range"""
 
 
-def trial(seed):
+def trial(seed: int) -> Run:
     """The input of a run, and what is wanted: output, standard error, status."""
     chance = random.Random(seed)
     gateways, devices = settings_of(chance)
@@ -48,16 +53,16 @@ def trial(seed):
     return wanted_of(text, played(gateways, devices, events))
 
 
-def wanted_of(text, told):
+def wanted_of(text: bytes, told: Sequence[str]) -> Run:
     """An input, with what is wanted where these lines are written."""
     refused = any(line.split(" ")[0] in ("no", "bad") for line in told)
     return text, "".join(line + "\n" for line in told).encode(), b"", int(refused)
 
 
-def crowded():
+def crowded() -> Run:
     """As many uplinks as are gathered at a time, and more; then some are closed."""
     keys = (bytes(16), bytes(range(16)))
-    device = {"addr": 0x26011BDA, "keys": keys, "delay": 1, "offset": 0, "rx2_freq": 869_525_000, "rx2_dr": 0}
+    device: Table = {"addr": 0x26011BDA, "keys": keys, "delay": 1, "offset": 0, "rx2_freq": 869_525_000, "rx2_dr": 0}
     device |= {"up": None, "down": 0}
     gateway = {"id": 1, "cap": 4_096, "gap": 0}
     heard = [f"hear 1 {place} 868100000 5 0 0 {place // 4} @u:26011bda:{place}" for place in range(OPEN_AT_MOST + 2)]
@@ -67,7 +72,7 @@ def crowded():
     return wanted_of(table_text(rows).encode() + b"---\n" + events, played([gateway], [device], events))
 
 
-def kinds_of(out, err):
+def kinds_of(out: bytes, err: bytes) -> Iterator[str]:
     """The kind of each answer: its first word, with the words behind it that are no number and no bytes."""
     for line in out.decode().splitlines():
         words = line.split()
@@ -77,13 +82,13 @@ def kinds_of(out, err):
         yield "refused " + err.decode().split()[-1]
 
 
-def tried(seed, is_last):
+def tried(seed: int, is_last: bool) -> Tried:
     text, *wanted = crowded() if is_last else trial(seed)
     words = ["run", *["--workers", "1"] * (seed % 2)]
     return words, text, tuple(wanted), kinds_of(*wanted[:2]), " ".join(words)
 
 
-def main(words):
+def main(words: Sequence[str]) -> int:
     return compared(words, RUNS, COMMON, tried)
 
 

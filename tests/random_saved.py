@@ -13,14 +13,17 @@ What differs has a line. Then comes how many of each answer were wanted, and of 
 fault; where 500 books or more were asked for, a common kind that never came is one failure. The last line is 'N passed, M
 failed', of the books. The status is 0 where none failed, 1 where one did, 2 where there is no program.
 """
+from __future__ import annotations
+
 import random
 import sys
+from typing import Iterable, Optional, Sequence
 
 sys.dont_write_bytecode = True
 from lib import lorawan
 from lib.drawn_books import book_of, damaged, lines_behind
-from lib.model_trials import compared
-from lib.plain_book import HOUR
+from lib.model_trials import Tried, compared
+from lib.plain_book import HOUR, PlainBook
 from lib.plain_saved import Fault, reader, saved
 from lib.plain_server import Malformed, lines_of, unsigned
 
@@ -30,7 +33,7 @@ no NoStart;bad;booked;busiest;airbook;gateway;r;end;Syntax of the version;Syntax
 Syntax of the end;Version of the version;Unlawful of the gateway;Unlawful of a member"""
 
 
-def earliest(book, number, low, last, frequency, rate, length):
+def earliest(book: PlainBook, number: int, low: int, last: int, frequency: int, rate: int, length: int) -> str:
     """The least start in the bounds that is accepted: one of those at which a refusal can end (docs/MODEL.md)."""
     tried = [max(low, book.floor)]
     for start, end, *_ in book.members:
@@ -43,14 +46,14 @@ def earliest(book, number, low, last, frequency, rate, length):
     return f"no {number} NoStart"
 
 
-def data_rate(word):
+def data_rate(word: bytes) -> int:
     rate = unsigned(word, 8)
     if rate > 6:
         raise Malformed
     return rate
 
 
-def answer(book, line):
+def answer(book: PlainBook, line: bytes) -> Optional[str]:
     """What answers a line behind a saved book, if it asks for something."""
     words = [word for word in line.replace(b"\t", b" ").split(b" ") if word]
     if len(line) <= 1024 and (not words or line.startswith(b"#")):
@@ -67,7 +70,7 @@ def answer(book, line):
     return book.ask(*asked) if words[0] == b"book" else earliest(book, *asked)
 
 
-def continued(book, lines, is_saved):
+def continued(book: PlainBook, lines: Iterable[bytes], is_saved: bool) -> list[str]:
     """All that is written for lines behind a saved book."""
     told = []
     for place, line in enumerate(lines, 1):
@@ -81,14 +84,14 @@ def continued(book, lines, is_saved):
 # What is drawn: a book, what is damaged of its text, and the lines behind it.
 
 
-def padded(chance, text):
+def padded(chance: random.Random, text: bytes) -> bytes:
     """The text with a zero before a number, which only the lines behind a saved book may have."""
     places = [at for at in range(1, len(text)) if text[at - 1:at] == b" " and text[at:at + 1].isdigit()]
     at = chance.choice(places or [len(text)])
     return text[:at] + b"0" + text[at:]
 
 
-def trial(seed):
+def trial(seed: int) -> tuple[list[str], bytes, bytes, bytes, int, Optional[tuple[str, int]]]:
     """The arguments and the input of a run; what is wanted: output, standard error, status; and the fault, with its place."""
     chance = random.Random(seed)
     book, rates = book_of(chance)
@@ -115,19 +118,19 @@ def trial(seed):
     return words, text, "".join(line + "\n" for line in told).encode(), b"", int(refused), None
 
 
-def kind_of_answer(line):
+def kind_of_answer(line: str) -> str:
     words = line.split()
     return f"no {words[2]}" if words[0] == "no" else words[0]
 
 
-def tried(seed, _is_last):
+def tried(seed: int, _is_last: bool) -> Tried:
     arguments, text, *wanted, fault = trial(seed)
     came = [kind_of_answer(line) for line in wanted[0].decode().splitlines()] + ([fault[0]] if fault else [])
     told = f"{fault[0]}, in line {fault[1]}" if fault else "none"
     return arguments, text, tuple(wanted), came, f"{' '.join(arguments)}; the first fault: {told}"
 
 
-def main(words):
+def main(words: Sequence[str]) -> int:
     return compared(words, BOOKS, COMMON, tried)
 
 

@@ -13,24 +13,31 @@ What differs has a line. Then comes how many of each kind were drawn; where 300 
 never came is one failure. The last line is 'N passed, M failed', of the journals. The status is 0 where none failed, 1 where one
 did, 2 where there is no program.
 """
+from __future__ import annotations
+
 import random
 import sqlite3
 import sys
+from typing import Iterable, Iterator, Optional, Sequence
 
 sys.dont_write_bytecode = True
 from lib.drawn_books import frame_of
-from lib.model_trials import compared
+from lib.model_trials import Tried, compared
 from lib.plain_book import HOUR, PlainBook
-from lib.plain_journal import Fault, State, entry, reader, sql
+from lib.plain_journal import Fault, State, Value, entry, reader, sql
 from lib.plain_saved import saved
 from lib.plain_server import Malformed
 
+# Of each table its rows.
+Rows = dict[str, list[tuple[Value, ...]]]
+# The lines of each batch.
+Batches = list[list[str]]
 JOURNALS = 300
 COMMON = """a book;SQL;rows in SQLite;a number above what SQLite has room for;NoGateway;whole;cut off;a torn batch
 a line without an end;no batch;no head;another version;a malformed line;a line that can't be there"""
 
 
-def in_database(lines):
+def in_database(lines: Iterable[str]) -> Rows:
     """The rows that SQLite has of it."""
     database = sqlite3.connect(":memory:")
     try:
@@ -41,12 +48,12 @@ def in_database(lines):
         database.close()
 
 
-def by_key(rows):
+def by_key(rows: Rows) -> Rows:
     """The rows as SQLite orders them: those of a table by their first number."""
     return {table: sorted(own, key=lambda row: row[0]) for table, own in rows.items()}
 
 
-def kept_by_sqlite(state):
+def kept_by_sqlite(state: State) -> tuple[str, Optional[str]]:
     """What kind of SQL it is, and what SQLite has against it."""
     rows = state.rows()
     if any(isinstance(one, int) and one >> 63 for own in rows.values() for row in own for one in row):
@@ -58,7 +65,7 @@ def kept_by_sqlite(state):
 # What is drawn: the batches of a journal, and what is damaged of its text.
 
 
-def first_batch(chance, gateways, devices):
+def first_batch(chance: random.Random, gateways: Iterable[int], devices: Iterable[int]) -> Iterator[str]:
     """The gateways and the devices."""
     for number in gateways:
         eui = chance.randbytes(8).hex()
@@ -67,17 +74,17 @@ def first_batch(chance, gateways, devices):
         yield counters(chance, addr)
 
 
-def counters(chance, addr):
+def counters(chance: random.Random, addr: int) -> str:
     up, down = chance.choice(["-", 0, chance.randrange(1 << 32), (1 << 32) - 1]), chance.choice([0, chance.randrange(1 << 32), 1 << 32])
     return f"device {addr:08x} {chance.choice([bytes(4), chance.randbytes(4)]).hex()} {up} {down}"
 
 
-def waiting(chance, addr):
+def waiting(chance: random.Random, addr: int) -> str:
     payload = chance.randbytes(chance.choice([0, 1, 12, 51, 242])).hex() or "-"
     return f"queue {addr:08x} {chance.choice([1, 10, 223])} {payload}"
 
 
-def drawn_line(chance, state, gateways, devices):
+def drawn_line(chance: random.Random, state: State, gateways: Sequence[int], devices: Sequence[int]) -> str:
     """A line that may come next."""
     number, addr = chance.choice(gateways), chance.choice(devices)
     _, _, book = state.gateways[number]
@@ -95,9 +102,10 @@ def drawn_line(chance, state, gateways, devices):
     return f"taken {addr:08x}" if kind > 0.9 else waiting(chance, addr)
 
 
-def journal_of(chance):
+def journal_of(chance: random.Random) -> Batches:
     """The batches of a journal: lines, most of which can be there."""
     gateways, devices = chance.sample([0, 1, 2, 7, 65_535], chance.randrange(1, 4)), [chance.randrange(1 << 32) for _ in range(3)]
+    batches: Batches
     state, batches = State(), []
     lines = list(first_batch(chance, gateways, devices))
     for _ in range(chance.randrange(1, 6)):
@@ -109,7 +117,7 @@ def journal_of(chance):
     return batches
 
 
-def more_lines(chance, state, gateways, devices):
+def more_lines(chance: random.Random, state: State, gateways: Sequence[int], devices: Sequence[int]) -> Iterator[str]:
     """Some lines that can be there."""
     trial = State()
     trial.gateways = {number: [eui, high, copied(book)] for number, (eui, high, book) in state.gateways.items()}
@@ -124,18 +132,18 @@ def more_lines(chance, state, gateways, devices):
         yield line
 
 
-def copied(book):
+def copied(book: PlainBook) -> PlainBook:
     other = PlainBook(book.cap, book.gap, book.gateway)
     other.floor, other.members, other.asks = book.floor, list(book.members), dict(book.asks)
     return other
 
 
-def text_of(batches):
+def text_of(batches: Batches) -> bytes:
     lines = ["airbook journal 1"] + [line for batch in batches for line in [*batch, "."]]
     return "".join(line + "\n" for line in lines).encode()
 
 
-def spoiled(chance, line):
+def spoiled(chance: random.Random, line: bytes) -> bytes:
     """A line that is spelled otherwise, or says something else."""
     words = line.split(b" ")
     place = chance.randrange(len(words))
@@ -144,7 +152,7 @@ def spoiled(chance, line):
     return b" ".join(words)
 
 
-def damaged(chance, batches):
+def damaged(chance: random.Random, batches: Batches) -> bytes:
     """The text of a journal that was damaged."""
     text = text_of(batches)
     kind = chance.random()
@@ -167,7 +175,7 @@ def damaged(chance, batches):
     return b"\n".join(lines)
 
 
-def kinds_of(given, is_torn):
+def kinds_of(given: bytes, is_torn: bool) -> list[str]:
     """What kind of journal it is."""
     if is_torn:
         return ["a torn batch"]
@@ -177,7 +185,7 @@ def kinds_of(given, is_torn):
     return ["whole"] if lines[-2] == b"." else ["cut off"]
 
 
-def tried(seed, _is_last):
+def tried(seed: int, _is_last: bool) -> Tried:
     """The arguments and the input of a run, what is wanted of it, its kinds, and what SQLite says of it."""
     chance = random.Random(seed)
     batches = journal_of(chance)
@@ -201,7 +209,7 @@ def tried(seed, _is_last):
     return words, given, (told.encode(), b"", 0), kinds + kinds_of(given, is_torn), " ".join(words)
 
 
-def main(words):
+def main(words: Sequence[str]) -> int:
     return compared(words, JOURNALS, COMMON, tried)
 
 

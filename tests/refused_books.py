@@ -12,17 +12,20 @@ behind it. Of the growths of a book just as many as its row says change the answ
 booking. The last line is 'N passed, M failed', of the rows; the status is 0 where none failed, 1 where one did, 2 where
 nothing could be run.
 """
+from __future__ import annotations
+
 import functools
 import os
 import pathlib
 import re
 import sys
 import tempfile
+from typing import Optional, Sequence
 
 sys.dont_write_bytecode = True
 from lib.places import CASES, PROGRAM
 from lib.preloaded import library_of
-from lib.refusing import ALL, MOST, REFUSING, run_on
+from lib.refusing import ALL, MOST, REFUSING, Ended, run_on
 from lib.trials import tell
 
 # Refuses `airtime_planner` `answer_to` (`plan_text` calls it): as `GatewayBook::book`.
@@ -30,6 +33,8 @@ from lib.trials import tell
 # Refuses `book_texts` `picture_text`: 1 for each member of the saved book.
 # Refuses `book_texts` `plan_text`: as `book_text`; 1 for the list of the book, and chunks of an arena by size.
 
+# The arguments, the input, the answers, and how many growths change what is answered where each of them alone is refused.
+Row = tuple[list[str], bytes, list[bytes], Optional[int]]
 BOOKINGS = b"book 1 10000000 868100000 5 12\nbook 2 10041216 868100000 5 12\n"
 SAVED = b"airbook 1\ngateway 1 4096 0\nr 1 10000000 868100000 5 12\nend 1\nbook 2 10041216 868100000 5 12\n"
 PLAN = b"".join([
@@ -41,21 +46,21 @@ NO_1, NO_2 = b"no 1 NoMemory\n", b"no 2 NoMemory\n"
 HEAD, R_1, R_2 = b"airbook 2\ngateway 1 4096 0 0\n", b"r 1 10000000 868100000 5 12\n", b"r 2 10041216 868100000 5 12\n"
 
 
-def report(count, start):
+def report(count: int, start: int) -> bytes:
     """The report of so many transmissions of 12 bytes at DR5, of which the first begins there."""
     airtime = 41216 * count
     head = f"booked {airtime}\ncancelled 0\nretired 0\nkept {count} {airtime}\nfloor 0\n"
     return (head + f"busiest M {start} {airtime}\n" * (count > 0)).encode()
 
 
-def planned(count, is_copied=True):
+def planned(count: int, is_copied: bool = True) -> bytes:
     """What is written of the plan where so many of its four bookings find memory, the first ones."""
     lines = [b"if ok %d %d0000000 %d0041216\n" % (n, n, n) for n in range(2, 2 + count)]
     lines += [b"if no %d NoMemory\n" % n for n in range(2 + count, 6)]
     return OK_1 + b"".join(lines) + (b"if at 6 10041216\n" if is_copied else b"if no 6 NoMemory\n") + report(1, 10000000)
 
 
-def planned_on_nothing(count):
+def planned_on_nothing(count: int) -> bytes:
     """The same where the booking before the plan finds no memory."""
     lines = planned(count).splitlines(keepends=True)[1:6]
     return NO_1 + b"".join(lines).replace(b"if at 6 10041216", b"if at 6 10000000") + report(0, 0)
@@ -63,7 +68,7 @@ def planned_on_nothing(count):
 
 # The arguments, the input, the answers by what they have of it, least first, and how many growths change what is answered where
 # each of them alone is refused, and the program goes on; None where an arena decides.
-ROWS = [
+ROWS: list[Row] = [
     (["book"], BOOKINGS, [
         NO_1 + NO_2 + report(0, 0), NO_1 + OK_2 + report(1, 10041216), OK_1 + NO_2 + report(1, 10000000),
         OK_1 + OK_2 + report(2, 10000000),
@@ -83,7 +88,7 @@ ROWS = [
 PARTLY = [planned(count) for count in range(4)]
 
 
-def place_of(how, answers):
+def place_of(how: Ended, answers: Sequence[bytes]) -> Optional[int]:
     """Which answer a run gave; -1 where it named want of memory and wrote nothing, None where it ended otherwise."""
     if how.status == 2 and not how.out and re.search(rb"(?m)^(airbook: NoMemory|error: out of memory)$", how.err):
         return -1
@@ -92,10 +97,11 @@ def place_of(how, answers):
     return answers.index(how.out)
 
 
-def faults_of(program, library, folder, row):
+def faults_of(program: pathlib.Path, library: pathlib.Path, folder: pathlib.Path, row: Row) -> list[str]:
     """What is wrong with the answers of a row, a line each."""
     words, text, answers, wanted_alone = row
     (folder / "input").write_bytes(text)
+    seen: set[int]
     seen, so_far, alone = set(), -1, 0
     for number in range(1, MOST):
         for last in (number, ALL):
@@ -118,7 +124,7 @@ def faults_of(program, library, folder, row):
     return ["no end of growths"]
 
 
-def main(words):
+def main(words: Sequence[str]) -> int:
     program = pathlib.Path(words[0] if words else PROGRAM).resolve()
     if not program.is_file():
         print(f"refused_books.py: no program at {program}", file=sys.stderr)

@@ -18,20 +18,24 @@ Prints a line for each run that ends otherwise, and one for each case with the n
 came. A case in which no growth was refused, or in which there is no end of them, has failed, and so has one that finds no memory
 though none is refused. The status is 0 where none has failed or ended otherwise, 1 where one has, 2 where nothing could be run.
 """
+from __future__ import annotations
+
 import collections
 import os
 import pathlib
 import re
 import sys
 import tempfile
+from typing import Optional, Sequence
 
 sys.dont_write_bytecode = True
 from lib.case_files import input_of, words_in
 from lib.drawn_settings import said_in
 from lib.drawn_turns import SETTINGS
 from lib.places import CASES as FOLDER, PROGRAM
+from lib.plain_server import Table
 from lib.preloaded import library_of
-from lib.refusing import ALL, DATAGRAMS, MOST, REFUSING, run_on
+from lib.refusing import ALL, DATAGRAMS, MOST, REFUSING, Ended, Opened, run_on
 from lib.serving import free_port
 from lib.starved_server import is_followed
 
@@ -62,6 +66,8 @@ from lib.starved_server import is_followed
 # Refuses `serve_turns` `Serving::open` (`serve`): by size.
 # Refuses `serve_turns` `Serving::new` (`serve`): by size.
 
+# The name of a case, and more arguments.
+Case = tuple[str, str]
 CASES = [
     ("run_two_gateways", ""), ("run_two_gateways", "--workers 1"), ("run_two_gateways", "--workers 2"),
     ("run_three_devices_at_once", ""), ("run_three_devices_at_once", "--workers 1"), ("run_payload_in_rx1", "--workers 1"),
@@ -76,7 +82,7 @@ CASES = [
 UNSEEN = {("run_three_devices_at_once", "--workers 1"): 9, ("run_payload_in_rx1", "--workers 1"): 9}
 
 
-def opened(name, more, folder):
+def opened(name: str, more: str, folder: pathlib.Path) -> Opened:
     """The arguments of a case, its standard input, and the port that it listens to, if it does."""
     if name != "listen":
         return [*words_in(FOLDER / name / "args"), *more.split()], input_of(FOLDER / name, [], folder), None
@@ -86,16 +92,16 @@ def opened(name, more, folder):
     return words, os.open(folder / "settings", os.O_RDONLY), port
 
 
-def run(program, library, folder, case, first, last):
+def run(program: pathlib.Path, library: pathlib.Path, folder: pathlib.Path, case: Case, first: int, last: int) -> tuple[int, Ended]:
     """The same on a case."""
     return run_on(program, library, folder, opened(*case, folder), first, last)
 
 
-def report_of(out):
+def report_of(out: bytes) -> list[bytes]:
     return [line for line in out.splitlines() if line.startswith((b"gateway ", b"busiest ", b"answered "))]
 
 
-def asked_in(name):
+def asked_in(name: str) -> Optional[tuple[list[Table], list[Table], bytes]]:
     """The gateways, the devices and the events of a case; nothing where it is no run."""
     if name == "listen":
         return *said_in(SETTINGS), "\n".join(DATAGRAMS).encode()
@@ -105,7 +111,7 @@ def asked_in(name):
     return *said_in(settings.decode()), events
 
 
-def answer(case, how, ordinary):
+def answer(case: Case, how: Ended, ordinary: Ended) -> Optional[str]:
     """What a run answered, in a word or two; nothing where it had to end otherwise."""
     if how == ordinary:
         return "as with memory"
@@ -122,7 +128,7 @@ def answer(case, how, ordinary):
     return "in another order" if is_moved else None
 
 
-def too_few(case, unseen):
+def too_few(case: Case, unseen: int) -> int:
     """1 where fewer growths that are refused alone go unseen than there have to be, which is told; or else 0."""
     if unseen >= UNSEEN.get(case, 0):
         return 0
@@ -130,9 +136,12 @@ def too_few(case, unseen):
     return 1
 
 
-def refuse_each(program, library, folder, case):
+def refuse_each(
+    program: pathlib.Path, library: pathlib.Path, folder: pathlib.Path, case: Case
+) -> tuple[int, collections.Counter[str], int]:
     """Refuses each growth of a case: how many there are, how often each answer came, and how many runs ended otherwise."""
     _, ordinary = run(program, library, folder, case, ALL, ALL)
+    answers: collections.Counter[str]
     answers, wrong, unseen = collections.Counter(), 0, 0
     if ordinary.status not in (0, 1, 2) or b"NoMemory" in ordinary.err:
         print(f"{' '.join(case)}: with memory: {ordinary}", flush=True)
@@ -155,7 +164,7 @@ def refuse_each(program, library, folder, case):
     return MOST, answers, wrong + 1
 
 
-def main(words):
+def main(words: Sequence[str]) -> int:
     program = pathlib.Path(words[0] if words else PROGRAM).resolve()
     if not program.is_file():
         print(f"refused_growths.py: no program at {program}", file=sys.stderr)

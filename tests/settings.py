@@ -10,16 +10,21 @@ Then come large settings, for their time: 100,000 unknown keys, as many unknown 
 10 MB in one key. A failing row has a line, and under it what differs. The last line is 'N passed, M failed'. The status is 0 where
 none failed, 1 where one did, 2 where there is no program.
 """
+from __future__ import annotations
+
 import difflib
 import functools
 import pathlib
 import subprocess
 import sys
+from typing import Optional, Union
 
 sys.dont_write_bytecode = True
 from lib.places import PROGRAM
 from lib.trials import tell
 
+# A name, the settings, the lines of the findings, and the name of the fault for which a run refuses them, if it does.
+Row = tuple[str, bytes, list[str], Optional[str]]
 SECONDS = 60
 
 GATEWAY = "[[gateway]]\nid = 1\ngap = 45000\n"
@@ -29,15 +34,15 @@ BOTH = GATEWAY + DEVICE
 # The first line behind BOTH.
 NEXT = 8
 
-ROWS = []
+ROWS: list[Row] = []
 
 
-def row(name, settings, *findings, refused=None):
+def row(name: str, settings: Union[str, bytes], *findings: str, refused: Optional[str] = None) -> None:
     """One row: its settings, the lines of its findings, and the name that a run prints."""
     ROWS.append((name, settings if isinstance(settings, bytes) else settings.encode(), list(findings), refused))
 
 
-def device(name, line, *findings, refused=None):
+def device(name: str, line: str, *findings: str, refused: Optional[str] = None) -> None:
     """A row of a device with one more line, where a finding begins with its severity and the place is that line's."""
     placed = []
     for finding in findings:
@@ -143,6 +148,7 @@ row("a table that lacks all", GATEWAY + "[[device]]\n",
 
 # Values one beyond their range, and of another kind.
 WHOLE = ", allowed: a whole number"
+value: Union[int, str]
 for name, value, low, high, fault in [
     ("delay", 0, 1, 15, "Range"), ("delay", 16, 1, 15, "Range"), ("delay", 255, 1, 15, "Range"), ("delay", 256, 1, 15, "Kind"),
     ("delay", -1, 1, 15, "Kind"), ("offset", 6, 0, 5, "Range"), ("offset", -1, 0, 5, "Kind"), ("rx2_dr", 7, 0, 6, "Kind"),
@@ -206,10 +212,9 @@ row("faults of each kind", "[[gateway]]\nid = 0\ngap = 45000\n[[gateway]]\ngap =
     f"error Range 10:1 device 1 delay: 99{WHOLE} 1 to 15", refused="Missing")
 
 # What is no TOML. The words and places are the parser's, as docs/FORMATS.md says.
-NO_TOML = []
 
 
-def no_toml(name, settings, place, words):
+def no_toml(name: str, settings: Union[str, bytes], place: str, words: str) -> None:
     row(name, settings, f"error NotToml {place} {words}", refused="NotToml")
 
 
@@ -234,19 +239,19 @@ no_toml("bytes that are no text", bytes(range(128, 256)), "1:1", "bytes that are
 no_toml("a zero byte", BOTH.encode() + b"\0", "8:1", "invalid key, expected letters, numbers, `-`, `_` or a quoted key")
 
 
-def ran(program, command, settings):
+def ran(program: str, command: str, settings: bytes) -> tuple[int, str, str]:
     """Status, standard output and standard error."""
     made = subprocess.run([program, command], input=settings, capture_output=True, timeout=SECONDS)
     return made.returncode, made.stdout.decode(), made.stderr.decode()
 
 
-def wanted(findings, refused):
+def wanted(findings: list[str], refused: Optional[str]) -> tuple[int, list[str]]:
     status = 2 if refused else 1 if findings else 0
     errors = sum(finding.startswith("error ") for finding in findings)
     return status, findings + [f"found errors {errors} warnings {len(findings) - errors}"]
 
 
-def faults_of(program, settings, findings, refused):
+def faults_of(program: str, settings: bytes, findings: list[str], refused: Optional[str]) -> list[str]:
     """What a row gets wrong."""
     want, lines = wanted(findings, refused)
     status, output, errors = ran(program, "check", settings)
@@ -263,7 +268,7 @@ def faults_of(program, settings, findings, refused):
     return told
 
 
-def large():
+def large() -> list[tuple[str, str, int, int]]:
     """Settings that are large: the status and how many findings are wanted."""
     count = 100_000
     return [
@@ -277,7 +282,7 @@ def large():
     ]
 
 
-def fault_of_large(program, settings, want, found):
+def fault_of_large(program: str, settings: str, want: int, found: int) -> Optional[str]:
     """What a row of those gets wrong."""
     status, output, errors = ran(program, "check", settings.encode())
     lines = [line for line in output.splitlines() if line.startswith(("error ", "warning "))]
@@ -285,7 +290,7 @@ def fault_of_large(program, settings, want, found):
     return None if good else f"status {status}, {len(lines)} findings, {errors!r}; wanted {want}, {found}"
 
 
-def main():
+def main() -> int:
     program = sys.argv[1] if sys.argv[1:] else str(PROGRAM)
     if len(sys.argv) > 2 or not pathlib.Path(program).is_file():
         print(__doc__.strip(), file=sys.stderr)

@@ -8,16 +8,21 @@ so all have to write the same. Libraries that are loaded before the C library co
 failing trial has a line; the last line is 'N passed, M failed'. The status is 0 where none failed, 1 where one did, 2 where
 nothing could be run.
 """
+from __future__ import annotations
+
 import pathlib
 import subprocess
 import sys
 import tempfile
+from typing import Any, Callable, Iterable, Optional, Sequence
 
 sys.dont_write_bytecode = True
 from lib.arguments import asked_by
 from lib.preloaded import COUNTING, NO_RANDOM_BYTES, NO_THREADS, Counter, library_of, over
 from lib.trials import tell
 
+# Status, lines of standard output, and standard error.
+Wrote = tuple[int, list[str], str]
 SECONDS = 120
 DEVICES = 1_000
 GATEWAYS = 4
@@ -41,20 +46,20 @@ KEYS = 'nwkskey = "2b7e151628aed2a6abf7158809cf4f3c"\nappskey = "000102030405060
 LONG_AGO = 1 << 41
 
 
-def addr(device):
+def addr(device: int) -> str:
     return f"{0x26010000 + device:08x}"
 
 
-def settings(gateways, devices, cap=OPEN_AT_MOST):
+def settings(gateways: int, devices: int, cap: int = OPEN_AT_MOST) -> str:
     rows = [f"[[gateway]]\nid = {gateway}\ncap = {cap}\ngap = 100000\n" for gateway in range(1, gateways + 1)]
     return "".join(rows + [f'[[device]]\naddr = "{addr(device)}"\n{KEYS}' for device in range(devices)]) + "---\n"
 
 
-def hear(device, gateway, at, counter=0, snr=0, arrived=0):
+def hear(device: int, gateway: int, at: int, counter: int = 0, snr: int = 0, arrived: int = 0) -> str:
     return f"hear {gateway} {LONG_AGO + at} 868100000 5 {snr} -100 {LONG_AGO + arrived} @c:{addr(device)}:{counter}"
 
 
-def apart():
+def apart() -> str:
     """Each device is heard once, by one gateway, and is answered in RX1. One more is open then, is heard a second time, better,
     after that, and is answered last. Before it four are heard whose RX1 begins in the gap behind a transmission, so that they are
     answered in RX2; and what was booked is cancelled, in part, and retired. A line that is none stands at the end, behind most of
@@ -71,24 +76,24 @@ def apart():
     return settings(GATEWAYS, DEVICES + 1) + "\n".join([*lines, "hear"]) + "\n"
 
 
-def one_pass():
+def one_pass() -> str:
     """Uplinks to which no answer is owed, all closed by one `pass`; one thread makes the events, and the lines of the answers."""
     lines = [hear(device, 1, 0).replace("@c", "@u") for device in range(ONCE)] + [f"pass {LONG_AGO + 1_000_000}"]
     return settings(1, ONCE) + "\n".join(lines) + "\n"
 
 
-def commented():
+def commented() -> str:
     """Comments and lines that end in CR LF stand in front of a line that is none, whose number counts them all; then comes one
     that is longer than a line may be, without an end, so that no line feed stands behind most of the text."""
     return settings(1, 1) + "# c\r\n\r\n" * COMMENTS * 4 + "hear\r\n" + "#" * LONG
 
 
-def one_line():
+def one_line() -> str:
     """There is no line feed at all."""
     return settings(1, 1) + "#" * LONG
 
 
-def crammed():
+def crammed() -> str:
     """One gateway, whose book keeps more than one does where nobody says so, hears each device once in each of its rounds."""
     lines = []
     for turn in range(ROUNDS):
@@ -97,7 +102,7 @@ def crammed():
     return settings(1, DEVICES, ROUNDS * DEVICES) + "\n".join(lines) + "\n"
 
 
-def twice():
+def twice() -> str:
     """Each device is heard with two uplinks, each answered in RX1; one `pass` closes them all. Which of the two has the first
     downlink counter depends on which worker is first."""
     lines = [
@@ -107,32 +112,34 @@ def twice():
     return settings(GATEWAYS, DEVICES) + "\n".join([*lines, f"pass {LONG_AGO + 1_000_000}"]) + "\n"
 
 
-def crowded():
+def crowded() -> str:
     """One device is heard with more uplinks than are gathered at a time, none owed an answer; one `pass` closes them all."""
     lines = [hear(0, 1, 0, counter).replace("@c", "@u") for counter in range(OPEN_AT_MOST + 2)]
     return settings(1, 1) + "\n".join([*lines, f"pass {LONG_AGO + 1_000_000}"]) + "\n"
 
 
-def written(program, text, workers, options=None):
+def written(program: str, text: str, workers: int, options: Optional[dict[str, Any]] = None) -> Wrote:
     words = [program, "run", "--workers", str(workers)]
     ran = subprocess.run(words, input=text.encode(), capture_output=True, timeout=SECONDS, **(options or {}))
     return ran.returncode, ran.stdout.decode().splitlines(), ran.stderr.decode()
 
 
-def first_difference(wanted, got):
+def first_difference(wanted: Sequence[str], got: Sequence[str]) -> str:
     for place, (want, line) in enumerate(zip(wanted, got), 1):
         if want != line:
             return f"line {place}: wanted {want}, got {line}"
     return f"wanted {len(wanted)} lines, got {len(got)}"
 
 
-def without_frames(wrote):
+def without_frames(wrote: Wrote) -> Wrote:
     """What was written but for the bytes of frames."""
     status, lines, errors = wrote
     return status, [" ".join(line.split()[:2]) if line.startswith("frame ") else line for line in lines], errors
 
 
-def alike(program, text, is_wanted, seen=lambda wrote: wrote):
+def alike(
+    program: str, text: str, is_wanted: Callable[[Wrote], bool], seen: Callable[[Wrote], Wrote] = lambda wrote: wrote
+) -> Optional[str]:
     """What differs from what one thread writes, or is not wanted of it, if anything, by what is seen of it."""
     wanted = seen(written(program, text, 0))
     if not is_wanted(wanted):
@@ -144,7 +151,7 @@ def alike(program, text, is_wanted, seen=lambda wrote: wrote):
     return None
 
 
-def threads_started(program):
+def threads_started(program: str) -> Optional[str]:
     """With no worker and with one all is done by the thread that runs; two or more are threads. Each run keys its hashes at
     random."""
     with tempfile.TemporaryDirectory() as folder:
@@ -158,7 +165,7 @@ def threads_started(program):
     return None
 
 
-def threads_by(program, trials, wanted_status):
+def threads_by(program: str, trials: Iterable[tuple[int, str, int]], wanted_status: int) -> Optional[str]:
     """Runs of so many workers on a text start so many threads. What differs, if anything."""
     with tempfile.TemporaryDirectory() as folder:
         library = library_of(COUNTING, pathlib.Path(folder))
@@ -171,17 +178,17 @@ def threads_by(program, trials, wanted_status):
     return None
 
 
-def threads_of_a_pass(program):
+def threads_of_a_pass(program: str) -> Optional[str]:
     """As many threads start for one `pass` as workers were asked for, where there is work for them."""
     return threads_by(program, [(workers, one_pass(), workers) for workers in (2, 4, 16)], 0)
 
 
-def threads_of_a_full_pass(program):
+def threads_of_a_full_pass(program: str) -> Optional[str]:
     """So do they where as many gatherings are closed as may be open at a time; with those that make events and lines."""
     return threads_by(program, [(workers, crowded(), THREADS[workers]) for workers in (2, 4)], 1)
 
 
-def thread_of_events(program):
+def thread_of_events(program: str) -> Optional[str]:
     """One thread more makes events of the lines behind the first quarter, where there are enough of them and two workers or more
     were asked for; a text of comments has nothing else to do."""
     text = settings(1, 1) + "# nothing is asked for here\n" * COMMENTS
@@ -191,13 +198,13 @@ def thread_of_events(program):
     return threads_by(program, trials + [(2, lines[0], 0), (2, lines[1], 1)], 0)
 
 
-def threads_of_lines(program):
+def threads_of_lines(program: str) -> Optional[str]:
     """Where there are enough answers one thread more makes the lines of half of them; here they answer lines that ask nothing."""
     texts = [settings(1, 1) + "hear\n" * count for count in (IN_HALVES - 1, IN_HALVES)]
     return threads_by(program, [(16, texts[0], 0), (16, texts[1], 1), (1, texts[1], 0)], 1)
 
 
-def threads_refused(program):
+def threads_refused(program: str) -> Optional[str]:
     """Where no thread can be started, one does it all; with two workers or more a thread was asked for."""
     wanted = written(program, apart(), 0)
     with tempfile.TemporaryDirectory() as folder:
@@ -212,7 +219,7 @@ def threads_refused(program):
     return None
 
 
-def no_random_bytes(program):
+def no_random_bytes(program: str) -> Optional[str]:
     """Hashes can't be keyed."""
     with over(NO_RANDOM_BYTES) as options:
         for workers in (0, 1, 2):
@@ -222,49 +229,49 @@ def no_random_bytes(program):
     return None
 
 
-def sent(wanted):
+def sent(wanted: Wrote) -> list[list[str]]:
     """What is sent: by which gateway, and in which window."""
     return [line.split()[2:4] for line in wanted[1] if line.startswith("send ")]
 
 
-def windows(wanted):
+def windows(wanted: Wrote) -> list[str]:
     """The windows in which uplinks are answered."""
     return [window for _, window in sent(wanted)]
 
 
-def is_answered(wanted):
+def is_answered(wanted: Wrote) -> bool:
     """Every uplink is answered, all in RX1 but four, the last one by the gateway that heard it better."""
     wanted_windows = ["RX1"] * DEVICES + ["RX2"] * GATEWAYS + ["RX1"]
     return windows(wanted) == wanted_windows and sent(wanted)[-1] == ["2", "RX1"]
 
 
-def is_full(wanted):
+def is_full(wanted: Wrote) -> bool:
     """Every uplink is answered in RX1."""
     return windows(wanted) == ["RX1"] * (ROUNDS * DEVICES)
 
 
-def is_twice(wanted):
+def is_twice(wanted: Wrote) -> bool:
     """Every uplink is answered in RX1."""
     return windows(wanted) == ["RX1"] * (2 * DEVICES)
 
 
-def is_crowded(wanted):
+def is_crowded(wanted: Wrote) -> bool:
     """As many gatherings open as may, and no more, and as many are closed."""
     opened, silent = ([f"{word} {number}" for number in range(1, OPEN_AT_MOST + 1)] for word in ("opened", "silent"))
     return wanted[1][: 2 * OPEN_AT_MOST + 2] == opened + ["no hear Crowded"] * 2 + silent
 
 
-def is_numbered(wanted):
+def is_numbered(wanted: Wrote) -> bool:
     """The two lines behind the comments are named by their numbers."""
     return wanted[1][:2] == [f"bad {8 * COMMENTS + more} Syntax" for more in (1, 2)]
 
 
-def is_long(wanted):
+def is_long(wanted: Wrote) -> bool:
     """The one line is named."""
     return wanted[1][:1] == ["bad 1 Syntax"]
 
 
-def main():
+def main() -> int:
     program, _ = asked_by(__doc__)
     trials = [
         (f"{DEVICES} uplinks apart", lambda: alike(program, apart(), is_answered)),
