@@ -31,4 +31,5 @@ mod WorkedLives
 mod Paired
 mod NewDesks
 mod SettingsStay
+mod NewDeskLaws
 mod WorkedDesks

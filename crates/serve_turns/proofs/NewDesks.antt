@@ -27,7 +27,7 @@ use Rattle.serve_renewal.specs.State.{waiting_of}
 use Rattle.serve_turns.specs.declared.answerer.Answerer.{Answerer}
 use Rattle.serve_turns.specs.Devices.{settings_of, without_counters}
 use Rattle.serve_turns.specs.Life.{Life, IsAlive, IsReady, Makes}
-use Rattle.serve_turns.specs.NewDesk.{HasNewDesk, accepted, after_desk, all_waiting, are_accepted, has_open, is_desk_due, is_spent, reopened, serve_limits, set_as_book, set_now, set_with, settings_now, waits_for, waits_with, with_counters, with_new_desk}
+use Rattle.serve_turns.specs.NewDesk.{HasNewDesk, accepted, after_desk, all_waiting, are_accepted, has_open, is_desk_due, is_spent, reopened, serve_limits, set_as_book, set_now, set_with, settings_now, waits_for, with_counters, with_new_desk}
 use Rattle.serve_turns.specs.Queues.{after_queues}
 use Rattle.serve_turns.proofs.Counters.{found_once}
 
@@ -46,6 +46,10 @@ set_again [] = refl
 set_again (d ∷ ds) = ap (λ l. without_counters d.setting ∷ l) (set_again ds)
 
 -- What a server tells of the devices, one after another by how it was set, is what is known of them.
+
+-- what waits for a device, each payload with its address
+abbrev pub waits_with : List Device → DeviceSetting → List (ℕ × Waiting)
+waits_with devices s = map (λ q. (s.addr, q)) (flat_map waiting_of (waiting_for (device_with s.addr devices)))
 
 flat_by_map : {X Y Z : Type 0} (f : X → List Z) (g : Y → List Z) (xs : List X) (ys : List Y) → map f xs ≡ map g ys
     → flat_map f xs ≡ flat_map g ys

@@ -1,6 +1,7 @@
 -- What a desk keeps that is made anew, and when that is.
-use Rattle.std.proofs.Common.{ℕ, ◌≡◌, ◌∙◌, Bool, true, false, List, [], ◌∷◌, Option, Some, None, ap, cond, map, refl}
-use Rattle.std.specs.Prelude.{◌&&◌, not}
+use Rattle.std.proofs.Common.{ℕ, ◌≡◌, ◌∙◌, Bool, true, false, List, [], ◌∷◌, Option, Some, None, ap, cond, map, refl, sym}
+use Rattle.std.specs.Prelude.{◌++◌, ◌&&◌, All, not}
+use Rattle.std.proofs.lemmas.Simd.{map-map}
 use Rattle.radio_airtime.specs.declared.data_rate.DataRate.TheVariants.{Dr0}
 use Rattle.radio_bands.specs.Band.{band_of}
 use Rattle.gateway_book.specs.Book.{Book}
@@ -8,16 +9,22 @@ use Rattle.gateway_book.specs.Kept.{kept}
 use Rattle.uplink_gather.specs.Gatherings.{Gathering, due_of}
 use Rattle.forwarder_sessions.specs.declared.session.Forwarder.{Forwarder}
 use Rattle.forwarder_sessions.specs.Sessions.{Known, joined_by, may_answer, opened_session, pulled_by}
+use Rattle.server_core.specs.Entries.{kept_gateway}
 use Rattle.server_core.specs.Opened.{AreBooksFor}
 use Rattle.server_core.specs.Schedule.{event_steps}
 use Rattle.server_core.specs.Steps.{run_from, step}
-use Rattle.server_desk.specs.Register.{Device}
+use Rattle.server_desk.specs.declared.device.Counters.{Counters}
+use Rattle.server_desk.specs.declared.setting.DeviceSetting.{DeviceSetting}
+use Rattle.server_desk.specs.Register.{Device, counters_of}
 use Rattle.server_desk.specs.Settings.{AreSettings, SettingLists, settings_fault}
 use Rattle.server_desk.specs.World.{Gateway, opening}
 use Rattle.serve_journal.specs.Payload.{Waiting}
 use Rattle.serve_turns.specs.Control.{Arrival}
+use Rattle.serve_turns.specs.CounterLaw.{HaveOwnAddresses}
+use Rattle.serve_turns.specs.Devices.{settings_of}
 use Rattle.serve_turns.specs.Life.{Life}
-use Rattle.serve_turns.specs.NewDesk.{after_desk, are_accepted, has_open, is_desk_due, is_spent, serve_limits, settings_now, with_new_desk}
+use Rattle.serve_turns.specs.NewDesk.{after_desk, all_waiting, are_accepted, has_open, is_desk_due, is_spent, serve_limits, set_now, settings_now, waits_for, with_new_desk}
+use Rattle.serve_turns.specs.NewDeskLaw.{HasQueue, NewDeskKeeps, opened_so}
 use Rattle.serve_turns.specs.Opening.{no_counts, resumed_life}
 use Rattle.serve_turns.specs.Queues.{after_queues}
 use Rattle.serve_turns.specs.SettingsLaw.{IsAccepted, SettingsStayAccepted}
@@ -132,7 +139,39 @@ pub first_may_be_answered : map (may_answer 1) then.known ≡ true ∷ []
 unfolding event_steps run_from step
 first_may_be_answered = refl
 
--- What the law says of turns, from the law alone.
+-- What the law on what a new desk keeps says, from the law alone.
+
+module _ (A : Type 0) (law : (l : Life) → NewDeskKeeps A l) (l : Life) where
+  abbrev new_desk : Life
+  new_desk = with_new_desk A l
+
+  pub books_go_on : new_desk.world.gateways ≡ map kept_gateway l.world.gateways
+  books_go_on = (law l).books
+
+  -- no device loses a counter, or has one given again
+  pub counters_go_on : map counters_of new_desk.world.reg.devices ≡ map counters_of l.world.reg.devices
+  counters_go_on = sym (of_set new_desk.world.reg.devices) ∙ ap (map set_to) (law l).devices ∙ of_set l.world.reg.devices
+    where
+      set_to : DeviceSetting → Counters
+      set_to s = record { up = s.up; down = s.down }
+
+      of_set : (ds : List Device) → map set_to (map set_now ds) ≡ map counters_of ds
+      of_set ds = map-map set_to set_now ds
+
+  -- nothing that waits is lost, or comes behind what it stood before
+  pub all_wait_on : HaveOwnAddresses (settings_of l.world.reg.devices) → All HasQueue l.world.reg.devices
+      → all_waiting new_desk.world.reg.devices ≡ all_waiting l.world.reg.devices
+  all_wait_on own queues = ap all_waiting ((law l).waiting own queues) ∙ again l.world.reg.devices
+    where
+      again : (ds : List Device) → all_waiting (map opened_so ds) ≡ all_waiting ds
+      again [] = refl
+      again (d ∷ ds) = ap (λ qs. waits_for d ++ qs) (again ds)
+
+  -- the report goes on
+  pub counts_go_on : new_desk.counts ≡ l.counts
+  counts_go_on = ap (λ (m : Life). m.counts) (law l).others
+
+-- What the law on settings says of turns, from the law alone.
 
 module _ (A : Type 0) (law : SettingsStayAccepted A) where
   module _ (now : ℕ) (came : Option Arrival) (r : Answered) (l : Life) (set : IsAccepted l.world) where

@@ -53,7 +53,6 @@ pub record HasDevicesOn (A : Type 0) (now : ℕ) (came : Option Arrival) (r : An
       → GoOn (behind_pass A now came l).world.reg.devices (after_turn A now came r l).world.reg.devices
 
 -- the law: no turn changes which devices there are, nor how one is set but for the counters with which its desk opened, and no next
--- downlink counter falls, in a turn as a whole and
--- from its pass on
+-- downlink counter falls, in a turn as a whole and from its pass on
 abbrev pub DevicesGoOn : Type 0 → Type 0
 DevicesGoOn A = (now : ℕ) (came : Option Arrival) (r : Answered) (l : Life) → HasDevicesOn A now came r l

@@ -17,6 +17,7 @@ pub mod Turn
 pub mod SendLaw
 pub mod CounterLaw
 pub mod SettingsLaw
+pub mod NewDeskLaw
 pub mod LifeLaw
 pub mod CounterLives
 pub mod Forwarders

@@ -10,7 +10,7 @@ use Rattle.server_desk.specs.declared.setting.DeviceSetting.{DeviceSetting}
 use Rattle.server_desk.specs.declared.setting.GatewaySetting.{GatewaySetting}
 use Rattle.server_desk.specs.Passing.{pass_answer}
 use Rattle.server_desk.specs.declared.device.Counters.{Counters}
-use Rattle.server_desk.specs.Register.{Device, counters_of, device_with, waiting_for}
+use Rattle.server_desk.specs.Register.{Device, counters_of, device_with}
 use Rattle.server_desk.specs.Settings.{SettingLists, settings_fault}
 use Rattle.server_desk.specs.World.{World, opening}
 use Rattle.serve_journal.specs.Payload.{Waiting}
@@ -85,9 +85,6 @@ with_counters s (Some counters) = record s { up = counters.up; down = counters.d
 
 abbrev pub set_with : List Device → DeviceSetting → DeviceSetting
 set_with devices s = with_counters s (option_map (λ found. counters_of found.1) (device_with s.addr devices))
-
-abbrev pub waits_with : List Device → DeviceSetting → List (ℕ × Waiting)
-waits_with devices s = map (λ q. (s.addr, q)) (flat_map waiting_of (waiting_for (device_with s.addr devices)))
 
 abbrev pub set_as_book : Book → GatewaySetting
 set_as_book b = record { id = b.id; cap = b.rules.cap; gap = b.rules.gap }

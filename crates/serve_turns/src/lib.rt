@@ -14,6 +14,7 @@ mod keeping;
 mod life_law;
 mod names;
 mod new_desk;
+mod new_desk_law;
 mod renewing;
 mod replies;
 mod send_law;
@@ -32,6 +33,7 @@ pub use life_law::{
     law_devices_go_on, law_each_downlink_is_counted, law_every_served_life_keeps_duty,
     law_every_served_life_raises_counters,
 };
+pub use new_desk_law::law_new_desk_keeps;
 pub use send_law::{law_each_downlink_is_sent_once, law_every_send_is_kept};
 pub use serving::{Resumed, Serving};
 pub use settings_law::law_settings_stay_accepted;

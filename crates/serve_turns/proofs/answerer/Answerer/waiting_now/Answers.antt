@@ -2,8 +2,7 @@ use Rattle.std.proofs.Common.{◌∙◌, ap, arith}
 use Rattle.std.proofs.lemmas.List.{take_all}
 use Rattle.std.specs.List.{flat_map}
 use Rattle.server_core.specs.Server.{seen}
-use Rattle.serve_turns.specs.NewDesk.{waits_with}
-use Rattle.serve_turns.proofs.NewDesks.{waiting_next, waiting_of_life}
+use Rattle.serve_turns.proofs.NewDesks.{waiting_next, waiting_of_life, waits_with}
 use Rattle.serve_turns.proofs.answerer.Answerer.waiting_now.Goals as goal
 
 pub loop-setting-preserved : goal.loop-setting-preserved

@@ -1,7 +1,7 @@
 use Rattle.std.proofs.Common.{◌≡◌, take}
 use Rattle.std.specs.List.{flat_map}
 use Rattle.server_core.specs.Server.{seen}
-use Rattle.serve_turns.specs.NewDesk.{waits_with}
+use Rattle.serve_turns.proofs.NewDesks.{waits_with}
 use Rattle.serve_turns.proofs.answerer.Answerer.waiting_now.Given as goal
 
 abbrev pub invariant-loop-setting : goal.invariant-loop-setting
