@@ -1,14 +1,15 @@
 // What a station hears, and what it is asked.
 
-use crate::posts::{Post, text};
-use server_core::Heard1;
-use server_workers::Ledger;
+use crate::posts::Post;
+use gateway_book::{CancelFault, Totals};
+use server_core::{DeskFault, DeskHeard, Heard1, QueueFault};
+use server_workers::{Ledger, TotalsFault};
 use std::sync::Wait;
 use std::test::Fail;
-use test_asserts::equal;
+use test_asserts::equal_at;
 use worked_inputs::{COPY, uplink};
 
-/// What a station hears: confirmed uplinks, until 5,000,000 us where nothing else is said.
+/// What a station hears: a copy of a confirmed uplink, until 5,000,000 us where nothing else is said.
 #[derive(Clone, Copy)]
 pub(crate) enum Heard {
     /// Gateway 1 heard the uplink of the device with this address and this counter.
@@ -17,47 +18,36 @@ pub(crate) enum Heard {
     By(u32, u16, i16),
     /// Gateway 1 heard the first uplink of the device with this address, and the station is told at this moment.
     At(u32, u64),
-    /// The gateway `1 + addr mod 2` heard the first uplink of each of so many devices, until a million microseconds for each
-    /// address. All are closed, in this order: the number of the last.
-    All(u32),
 }
 
-/// What a station is asked.
+/// What a station is asked, and what it is to answer.
 #[derive(Clone, Copy)]
 pub(crate) enum Ask {
-    /// To close the least gathering that is due at this moment.
-    Pass(u64),
-    /// To queue this payload for the device with this address.
-    Queue(u32, &'static [u8]),
+    /// To close the least gathering that is due at this moment: its number.
+    Pass(u64, Option<u64>),
+    /// To queue this payload for the device with this address: how many wait then.
+    Queue(u32, &'static [u8], Result<usize, QueueFault>),
     /// For the totals of this gateway, by someone who saw so much booked there.
-    Totals(u16, u64),
-    /// To raise the floor of this gateway.
-    Tick(u16, u64),
-    /// To cancel what the receipt at this place names.
-    Cancel(usize),
+    Totals(u16, u64, Result<Totals, TotalsFault>),
+    /// To raise the floor of this gateway: what it is then.
+    Tick(u16, u64, Option<u64>),
+    /// To cancel what the receipt at this place names: its airtime.
+    Cancel(usize, Result<u64, CancelFault>),
     /// Nothing: the receipt at this place is as if it were of this gateway.
     Readdress(usize, u16),
     /// Nothing: a till is split from the last one, which has so many parts then.
-    Split,
+    Split(u32),
 }
 
-/// What is told of the copies that open the gatherings 1 to 5.
-pub(crate) const OPENED_1: &str = "Ok(Opened { n: 1, repeat: false })";
-
-pub(crate) const OPENED_2: &str = "Ok(Opened { n: 2, repeat: false })";
-
-pub(crate) const OPENED_3: &str = "Ok(Opened { n: 3, repeat: false })";
-
-pub(crate) const OPENED_4: &str = "Ok(Opened { n: 4, repeat: false })";
-
-pub(crate) const OPENED_5: &str = "Ok(Opened { n: 5, repeat: false })";
+/// What a station answers to a copy of an uplink.
+type Answered = Result<DeskHeard, DeskFault>;
 
 impl<B: Ledger, R: Wait> Post<'_, B, R> {
-    /// What is told of uplinks.
-    pub(crate) fn told_of_air(&self, heard: Heard) -> Result<String, Fail> {
+    /// What is answered to a copy of an uplink.
+    pub(crate) fn hear(&self, heard: Heard) -> Result<Answered, Fail> {
         match heard {
-            Heard::Of(addr, counter) => self.hear(addr, counter, COPY, 0),
-            Heard::By(addr, gateway, snr) => self.hear(
+            Heard::Of(addr, counter) => self.hear_copy(addr, counter, COPY, 0),
+            Heard::By(addr, gateway, snr) => self.hear_copy(
                 addr,
                 0,
                 Heard1 {
@@ -67,32 +57,45 @@ impl<B: Ledger, R: Wait> Post<'_, B, R> {
                 },
                 0,
             ),
-            Heard::At(addr, arrived) => self.hear(addr, 0, COPY, arrived),
-            Heard::All(count) => self.hear_all(count),
+            Heard::At(addr, arrived) => self.hear_copy(addr, 0, COPY, arrived),
         }
     }
 
     /// A copy of an uplink is heard.
-    fn hear(&self, addr: u32, counter: u32, copy: Heard1, arrived: u64) -> Result<String, Fail> {
+    fn hear_copy(
+        &self,
+        addr: u32,
+        counter: u32,
+        copy: Heard1,
+        arrived: u64,
+    ) -> Result<Answered, Fail> {
         let bytes = uplink(self.alloc, true, addr, counter)?;
-        text(
-            self.alloc,
-            &self.station.hear(self.rt, bytes.as_slice(), copy, arrived),
-        )
+        Ok(self.station.hear(self.rt, bytes.as_slice(), copy, arrived))
     }
 
-    /// An uplink of each of so many devices is heard, and closed.
-    fn hear_all(&self, count: u32) -> Result<String, Fail> {
+    /// An uplink of each of so many devices is heard, and closed: that with the device's address as its number.
+    pub(crate) fn hear_all(&self, place: usize, count: u32) -> Result<(), Fail> {
         for before in 0..count {
-            self.hear(before + 1, 0, copy_of(before + 1), 0)?;
+            self.hear_first(place, before + 1)?;
         }
         for before in 0..count {
-            equal(
-                &self.station.pass(self.rt, 200_001),
-                &Some(before as u64 + 1),
-            )?;
+            let passed = self.station.pass(self.rt, 200_001);
+            equal_at(&place, &passed, &Some(before as u64 + 1))?;
         }
-        text(self.alloc, &count)
+        Ok(())
+    }
+
+    /// The first uplink of the device with this address opens the gathering with that number.
+    fn hear_first(&self, place: usize, addr: u32) -> Result<(), Fail> {
+        let opened = DeskHeard::Opened {
+            n: addr as u64,
+            repeat: false,
+        };
+        equal_at(
+            &place,
+            &self.hear_copy(addr, 0, copy_of(addr), 0)?,
+            &Ok(opened),
+        )
     }
 }
 
@@ -106,44 +109,41 @@ pub(crate) fn copy_of(addr: u32) -> Heard1 {
 }
 
 impl<B: Ledger, R: Wait> Post<'_, B, R> {
-    /// What is told where a station is asked.
-    pub(crate) fn told_of_ask(&mut self, ask: Ask) -> Result<String, Fail> {
+    /// A station is asked, by the step at this place: its answer is compared.
+    pub(crate) fn ask(&mut self, place: usize, ask: Ask) -> Result<(), Fail> {
+        let station = &self.station;
         match ask {
-            Ask::Pass(now) => text(self.alloc, &self.station.pass(self.rt, now)),
-            Ask::Queue(addr, payload) => self.queue(addr, payload),
-            Ask::Totals(gateway, seen) => self.totals(gateway, seen),
-            Ask::Tick(gateway, now) => text(self.alloc, &self.station.tick(self.rt, gateway, now)),
-            Ask::Cancel(place) => self.cancel(place),
-            Ask::Readdress(place, gateway) => self.readdress(place, gateway),
-            Ask::Split => self.split(),
+            Ask::Pass(now, wanted) => equal_at(&place, &station.pass(self.rt, now), &wanted),
+            Ask::Queue(addr, payload, wanted) => {
+                equal_at(&place, &station.queue(self.rt, addr, 9, payload), &wanted)
+            }
+            Ask::Totals(gateway, seen, wanted) => {
+                equal_at(&place, &station.totals(self.rt, gateway, seen), &wanted)
+            }
+            Ask::Tick(gateway, now, wanted) => {
+                equal_at(&place, &station.tick(self.rt, gateway, now), &wanted)
+            }
+            Ask::Cancel(receipt, wanted) => equal_at(&place, &self.cancel(receipt)?, &wanted),
+            Ask::Readdress(receipt, gateway) => self.readdress(receipt, gateway),
+            Ask::Split(wanted) => equal_at(&place, &self.split()?, &wanted),
         }
     }
 
-    /// A payload is queued.
-    fn queue(&self, addr: u32, payload: &[u8]) -> Result<String, Fail> {
-        text(self.alloc, &self.station.queue(self.rt, addr, 9, payload))
-    }
-
-    /// The totals of a gateway.
-    fn totals(&self, gateway: u16, seen: u64) -> Result<String, Fail> {
-        text(self.alloc, &self.station.totals(self.rt, gateway, seen))
-    }
-
     /// What a receipt names is cancelled.
-    fn cancel(&self, place: usize) -> Result<String, Fail> {
+    fn cancel(&self, place: usize) -> Result<Result<u64, CancelFault>, Fail> {
         let receipt = self.receipts.get(place).ok_or("there is a receipt")?;
-        text(self.alloc, &self.station.cancel(self.rt, receipt))
+        Ok(self.station.cancel(self.rt, receipt))
     }
 
     /// A receipt becomes another gateway's.
-    fn readdress(&mut self, place: usize, gateway: u16) -> Result<String, Fail> {
+    fn readdress(&mut self, place: usize, gateway: u16) -> Result<(), Fail> {
         let receipt = self.receipts.get_mut(place).ok_or("there is a receipt")?;
         receipt.gateway = gateway;
-        text(self.alloc, &receipt.gateway)
+        Ok(())
     }
 
-    /// A till is split off.
-    fn split(&mut self) -> Result<String, Fail> {
+    /// A till is split off: how many parts the other has then.
+    fn split(&mut self) -> Result<u32, Fail> {
         let till = self.tills.last_mut().ok_or("there is a till")?;
         if till.parts() < 2 {
             return Err(Fail::from("it has one part"));
@@ -151,6 +151,6 @@ impl<B: Ledger, R: Wait> Post<'_, B, R> {
         let part = till.split();
         let parts = till.parts();
         self.tills.push(part)?;
-        text(self.alloc, &parts)
+        Ok(parts)
     }
 }

@@ -1,6 +1,6 @@
 // A station is finished, in one try or in several.
 
-use crate::posts::{Post, text, totals_at};
+use crate::posts::{Post, totals_at};
 use answer_ticket::Receipt;
 use server_workers::{Closing, FinishCause, FinishFault, Ledger, Till};
 use std::alloc::Global;
@@ -11,7 +11,7 @@ use worked_inputs::WorkedHasher;
 
 /// With how many of the tills and with how many of the receipts a station is to be finished, the first of each, and why it
 /// can't be, if so.
-pub(crate) type Try = (usize, usize, &'static str);
+pub(crate) type Try = (usize, usize, Option<FinishCause>);
 
 /// Why something isn't finished, if so, and what comes of it then: what it was, or what it is when it is finished.
 type Tried<X, D> = (Option<FinishCause>, Result<D, X>);
@@ -25,16 +25,11 @@ pub(crate) trait Finish: Drop + Sized {
 }
 
 /// Has something be finished, and compares why it can't be: what comes of it, once it can.
-pub(crate) fn finished<X: Finish>(
-    alloc: Global,
-    open: X,
-    tries: &[(usize, usize, &str)],
-) -> Result<Option<X::Done>, Fail> {
+pub(crate) fn finished<X: Finish>(open: X, tries: &[Try]) -> Result<Option<X::Done>, Fail> {
     let mut open = open;
     for (place, (tills, receipts, wanted)) in tries.iter().enumerate() {
         let (cause, left) = open.finish(*tills, *receipts)?;
-        let told = text(alloc, &cause)?;
-        equal_at(&place, &told.as_str(), wanted)?;
+        equal_at(&place, &cause, wanted)?;
         match left {
             Ok(done) => return Ok(Some(done)),
             Err(same) => open = same,

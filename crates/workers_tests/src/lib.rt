@@ -10,6 +10,8 @@ mod busy;
 #[cfg(test)]
 mod day_tests;
 #[cfg(test)]
+mod done;
+#[cfg(test)]
 mod finish_tests;
 #[cfg(test)]
 mod finishing;
@@ -37,5 +39,7 @@ mod steps;
 mod tickets;
 #[cfg(test)]
 mod untouched_tests;
+#[cfg(test)]
+mod wanted;
 #[cfg(test)]
 mod work_tests;

@@ -1,53 +1,69 @@
 // What is seen of a station that is finished.
 
 use crate::plans::Plan;
-use crate::posts::text;
-use server_core::{Book, DeskHeard, Heard1, TakeFault};
+use gateway_book::Totals;
+use server_core::{Book, DataRate, DeskFault, DeskHeard, Heard1, QueueFault, TakeFault};
 use server_workers::Closing;
 use std::alloc::Global;
 use std::test::Fail;
 use test_asserts::{equal_at, holds};
 use worked_inputs::{
-    COPY, WorkedBook, WorkedDesk, WorkedHasher, answered, book_of, booked, copy_at, passed,
+    COPY, WorkedBook, WorkedDesk, WorkedHasher, answered, book_of, booked, copy_at, passed, queued,
     settled, taken, tried_on, uplink,
 };
 
-/// Where one looks.
+/// Where one looks, and what is seen there.
 #[derive(Clone, Copy)]
 pub(crate) enum Look {
     /// What was booked by the tills.
-    Booked,
+    Booked(u64),
     /// At the desk.
     Desk(AtDesk),
     /// The reservation of the book at the one place that is at the other place, by start.
-    Kept(usize, usize),
+    Kept(usize, usize, Option<Member>),
     /// The totals of the book at this place.
-    Totals(usize),
+    Totals(usize, Totals),
 }
 
-/// What a desk is asked.
+/// What a desk is asked, and what it answers.
 #[derive(Clone, Copy)]
 pub(crate) enum AtDesk {
     /// What was sent for this number.
-    Sent(u64),
+    Sent(u64, Option<OnAir>),
     /// How long this gateway was on air for settled answers.
-    Answered(u16),
+    Answered(u16, Option<u64>),
     /// Why this number isn't taken, if it isn't; it is given up.
-    Take(u64),
+    Take(u64, Option<TakeFault>),
     /// Where the first uplink of the device with this address goes, as gateway 2 heard it until 5,000,000 us.
-    Hear(u32, u64),
+    Hear(u32, u64, Result<DeskHeard, DeskFault>),
     /// Which number one more pass closes.
-    Pass(u64),
+    Pass(u64, Option<u64>),
     /// How many payloads wait for the device with this address when this one is queued.
-    Queue(u32, &'static [u8]),
+    Queue(u32, &'static [u8], Result<usize, QueueFault>),
     /// What becomes of an uplink of the device with this address and this counter that is heard late, when one more payload is
-    /// queued and the uplink answered on an empty book: how many payloads waited before; whether its last uplink had this
-    /// counter; and the counter of the answer, the length of its frame, and its FCtrl.
-    Probe(u32, u32),
+    /// queued and the uplink answered on an empty book.
+    Probe(u32, u32, Late),
 }
 
-/// A look and what is seen.
-pub(crate) type Sight = (Look, &'static str);
+/// A reservation that a book keeps.
+#[derive(Clone, Copy, Debug, PartialEq)]
+pub(crate) struct Member {
+    pub(crate) number: u64,
+    pub(crate) start: u64,
+    pub(crate) freq_hz: u32,
+    pub(crate) rate: DataRate,
+    pub(crate) len: u8,
+}
+
+/// By which gateway something was sent, from when on and for how long, both in microseconds.
+pub(crate) type OnAir = (u16, u64, u64);
+
+/// What becomes of an uplink that is heard late: how many payloads waited before; whether its device's last uplink had its
+/// counter; and its answer, or why no ticket is given.
+pub(crate) type Late = (usize, bool, Result<Shown, TakeFault>);
+
+/// What is shown of an answer: its counter, the length of its frame, and its FCtrl.
+pub(crate) type Shown = (u32, usize, u8);
 
 /// Compares what is seen of a station, if there is to be something.
 pub(crate) fn see_all(
@@ -63,55 +79,67 @@ pub(crate) fn see_all(
 
 /// Compares what is seen of a station.
 fn see_each(alloc: Global, closing: &mut Closing<WorkedHasher>, plan: &Plan) -> Result<(), Fail> {
-    for (place, sight) in plan.sights.iter().enumerate() {
-        let (look, wanted) = changed(plan.changes, place).unwrap_or(*sight);
-        let seen = seen(alloc, closing, look)?;
-        equal_at(&place, &seen.as_str(), &wanted)?;
+    for (place, look) in plan.sights.iter().enumerate() {
+        see(
+            alloc,
+            closing,
+            place,
+            changed(plan.changes, place).unwrap_or(*look),
+        )?;
     }
     Ok(())
 }
 
-/// What is seen in place of the sight at this place, if something else is.
-fn changed(changes: &[(usize, Sight)], place: usize) -> Option<Sight> {
-    for (other, sight) in changes {
+/// Where one looks in place of the look at this place, if elsewhere.
+fn changed(changes: &[(usize, Look)], place: usize) -> Option<Look> {
+    for (other, look) in changes {
         if *other == place {
-            return Some(*sight);
+            return Some(*look);
         }
     }
     None
 }
 
-/// What is seen at a look.
-fn seen(alloc: Global, closing: &mut Closing<WorkedHasher>, look: Look) -> Result<String, Fail> {
+/// Compares what is seen at the look at this place.
+fn see(
+    alloc: Global,
+    closing: &mut Closing<WorkedHasher>,
+    place: usize,
+    look: Look,
+) -> Result<(), Fail> {
     match look {
-        Look::Booked => text(alloc, &closing.booked),
-        Look::Desk(asked) => told(alloc, &mut closing.desk, asked),
-        Look::Kept(book, place) => kept(alloc, &closing.books, book, place),
-        Look::Totals(book) => totals(alloc, &closing.books, book),
+        Look::Booked(wanted) => equal_at(&place, &closing.booked, &wanted),
+        Look::Desk(asked) => ask(alloc, &mut closing.desk, place, asked),
+        Look::Kept(book, member, wanted) => {
+            equal_at(&place, &kept(alloc, &closing.books, book, member)?, &wanted)
+        }
+        Look::Totals(book, wanted) => equal_at(&place, &totals(&closing.books, book)?, &wanted),
     }
 }
 
-/// What a desk tells.
-fn told(alloc: Global, desk: &mut WorkedDesk, asked: AtDesk) -> Result<String, Fail> {
+/// Compares what a desk tells at the look at this place.
+fn ask(alloc: Global, desk: &mut WorkedDesk, place: usize, asked: AtDesk) -> Result<(), Fail> {
     match asked {
-        AtDesk::Sent(number) => sent(alloc, desk, number),
-        AtDesk::Answered(gateway) => text(alloc, &answered(desk, gateway)),
-        AtDesk::Take(number) => text(alloc, &not_taken(desk, number)),
-        AtDesk::Hear(addr, arrived) => heard(alloc, desk, addr, arrived),
-        AtDesk::Pass(now) => text(alloc, &passed(desk, now)),
-        AtDesk::Queue(addr, payload) => queued(alloc, desk, addr, payload),
-        AtDesk::Probe(addr, counter) => probed(alloc, desk, addr, counter),
+        AtDesk::Sent(number, wanted) => equal_at(&place, &sent(desk, number), &wanted),
+        AtDesk::Answered(gateway, wanted) => equal_at(&place, &answered(desk, gateway), &wanted),
+        AtDesk::Take(number, wanted) => equal_at(&place, &not_taken(desk, number), &wanted),
+        AtDesk::Hear(addr, arrived, wanted) => {
+            equal_at(&place, &heard(alloc, desk, addr, arrived)?, &wanted)
+        }
+        AtDesk::Pass(now, wanted) => equal_at(&place, &passed(desk, now), &wanted),
+        AtDesk::Queue(addr, payload, wanted) => {
+            equal_at(&place, &queued(desk, addr, 9, payload), &wanted)
+        }
+        AtDesk::Probe(addr, counter, wanted) => {
+            equal_at(&place, &probed(alloc, desk, addr, counter)?, &wanted)
+        }
     }
 }
 
 /// What was sent for a number.
-fn sent(alloc: Global, desk: &WorkedDesk, number: u64) -> Result<String, Fail> {
-    text(alloc, &desk.sent(number))
-}
-
-/// A payload is queued.
-fn queued(alloc: Global, desk: &mut WorkedDesk, addr: u32, payload: &[u8]) -> Result<String, Fail> {
-    text(alloc, &desk.queue(addr, 9, payload))
+fn sent(desk: &WorkedDesk, number: u64) -> Option<OnAir> {
+    let sent = desk.sent(number)?;
+    Some((sent.gateway, sent.start, sent.airtime))
 }
 
 /// Why a number isn't taken, if it isn't; else it is given up and settled.
@@ -126,19 +154,23 @@ fn not_taken(desk: &mut WorkedDesk, number: u64) -> Option<TakeFault> {
 }
 
 /// Where a device's first uplink goes, as gateway 2 heard it.
-fn heard(alloc: Global, desk: &mut WorkedDesk, addr: u32, arrived: u64) -> Result<String, Fail> {
+fn heard(
+    alloc: Global,
+    desk: &mut WorkedDesk,
+    addr: u32,
+    arrived: u64,
+) -> Result<Result<DeskHeard, DeskFault>, Fail> {
     let bytes = uplink(alloc, true, addr, 0)?;
-    text(alloc, &desk.hear(bytes.as_slice(), copy_at(2), arrived))
+    Ok(desk.hear(bytes.as_slice(), copy_at(2), arrived))
 }
 
 /// What becomes of an uplink that is heard late.
-fn probed(alloc: Global, desk: &mut WorkedDesk, addr: u32, counter: u32) -> Result<String, Fail> {
+fn probed(alloc: Global, desk: &mut WorkedDesk, addr: u32, counter: u32) -> Result<Late, Fail> {
     let (number, repeat) = opened_late(alloc, desk, addr, counter)?;
     desk.pass(6_000_000);
     let waiting = desk.queue(addr, 9, &[0; 9])?.saturating_sub(1);
     let mut book = book_of(alloc, 1)?;
-    let answer = booked_on(desk, &mut book, number)?;
-    text(alloc, &(waiting, repeat, answer))
+    Ok((waiting, repeat, booked_on(desk, &mut book, number)?))
 }
 
 /// The number of the gathering that an uplink opens late, and whether its device's last had its counter.
@@ -159,12 +191,12 @@ fn opened_late(
     }
 }
 
-/// The counter of an answer that is booked on this book, the length of its frame, and its FCtrl; or why no ticket is given.
+/// What is shown of an answer that is booked on this book, or why no ticket is given.
 fn booked_on(
     desk: &mut WorkedDesk,
     book: &mut WorkedBook,
     number: u64,
-) -> Result<Result<(u32, usize, u8), TakeFault>, Fail> {
+) -> Result<Result<Shown, TakeFault>, Fail> {
     let ticket = match taken(desk, number) {
         Ok(ticket) => ticket,
         Err(fault) => return Ok(Err(fault)),
@@ -178,13 +210,25 @@ fn booked_on(
 }
 
 /// A reservation of a book.
-fn kept(alloc: Global, books: &[Book<Global>], book: usize, place: usize) -> Result<String, Fail> {
+fn kept(
+    alloc: Global,
+    books: &[Book<Global>],
+    book: usize,
+    place: usize,
+) -> Result<Option<Member>, Fail> {
     let list = books.get(book).ok_or("there is a book")?.list(alloc)?;
-    text(alloc, &list.get(place))
+    Ok(
+        list.get(place).map(|kept| Member {
+            number: kept.number,
+            start: kept.start,
+            freq_hz: kept.freq_hz,
+            rate: kept.rate,
+            len: kept.len,
+        }),
+    )
 }
 
 /// The totals of a book.
-fn totals(alloc: Global, books: &[Book<Global>], book: usize) -> Result<String, Fail> {
-    let totals = books.get(book).ok_or("there is a book")?.totals();
-    text(alloc, &totals)
+fn totals(books: &[Book<Global>], book: usize) -> Result<Totals, Fail> {
+    Ok(books.get(book).ok_or("there is a book")?.totals())
 }

@@ -2,9 +2,9 @@
 ghost use Rattle.std.specs.Prelude.{◌≡◌};
 
 use crate::finishing::{Try, finished};
-use crate::looks::{Sight, see_all};
+use crate::looks::{Look, see_all};
 use crate::posts::opened;
-use crate::steps::{Row, take_steps};
+use crate::steps::{Step, take_steps};
 use server_workers::{Blank, Ledger, PARTS};
 use std::alloc::Global;
 use std::marker::Brand;
@@ -19,14 +19,14 @@ pub(crate) struct Plan<'a> {
     /// It has the devices from address 1 on, so many of them.
     pub(crate) devices: u32,
     /// What comes before the steps.
-    pub(crate) before: &'a [Row],
-    pub(crate) steps: &'a [Row],
+    pub(crate) before: &'a [Step],
+    pub(crate) steps: &'a [Step],
     /// How it is finished, if it is.
     pub(crate) tries: &'a [Try],
     /// What is seen of it then.
-    pub(crate) sights: &'a [Sight],
+    pub(crate) sights: &'a [Look],
     /// What is seen in place of the sights with these places.
-    pub(crate) changes: &'a [(usize, Sight)],
+    pub(crate) changes: &'a [(usize, Look)],
 }
 
 /// Compares what the steps tell, at a station of the gateways 1 and 2 that isn't finished.
@@ -34,7 +34,7 @@ pub(crate) fn tells<R: Threads + Wait + Sync>(
     rt: &R,
     alloc: Global,
     devices: u32,
-    steps: &[Row],
+    steps: &[Step],
 ) -> Result<(), Fail> {
     let plan = Plan {
         gateways: &[2, 1],
@@ -72,6 +72,6 @@ fn run<B: Ledger + Send + Sync, R: Threads + Wait + Sync>(
     let mut post = opened::<B, R>(rt, alloc, plan.gateways, plan.devices, blank)?;
     take_steps(&mut post, plan.before)?;
     take_steps(&mut post, plan.steps)?;
-    let closing = finished(alloc, post, plan.tries)?;
+    let closing = finished(post, plan.tries)?;
     see_all(alloc, closing, plan)
 }

@@ -6,7 +6,6 @@ use gateway_book::Totals;
 use server_core::{DeviceSetting, GatewaySetting, Settings};
 use server_workers::{Blank, Ledger, PARTS, Station, Till};
 use std::alloc::{Allocator, Global};
-use std::fmt::Debug;
 use std::sync::Wait;
 use std::test::Fail;
 use worked_inputs::{WorkedHasher, device, hasher};
@@ -86,9 +85,4 @@ pub(crate) fn totals_at<B: Ledger, A: Allocator + Copy, R: Wait>(
     station: &Station<B, WorkedHasher, A>,
 ) -> [Option<Totals>; 2] {
     [station.totals(rt, 1, 0).ok(), station.totals(rt, 2, 0).ok()]
-}
-
-/// A value as a text.
-pub(crate) fn text<T: Debug>(alloc: Global, told: &T) -> Result<String, Fail> {
-    Ok(format!(in alloc; "{told:?}")?)
 }

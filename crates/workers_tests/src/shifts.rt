@@ -1,82 +1,84 @@
 // Workers at a station, and what they tell.
 
+use crate::done::{Done, DoneAlone, Told, done_alone, done_by};
 use crate::gates::{Narrow, Shut};
 use crate::meeting::Meeting;
-use crate::posts::{Post, text};
-use answer_ticket::{Ending, Outcome};
+use crate::posts::Post;
 use crossbeam_channel::{Receiver, bounded};
-use server_workers::{Gate, Ledger, NoGate, PARTS, ServeFault, Served, Worked, serve, work};
+use server_workers::{Gate, Ledger, NoGate, PARTS, Served, Worked, serve, work};
 use std::alloc::Global;
 use std::sync::Wait;
 use std::test::Fail;
 use std::thread::Threads;
+use test_asserts::equal_at;
 
-/// Who works.
+/// Who works, and what is told then.
 #[derive(Clone, Copy)]
 pub(crate) enum Shift {
-    /// So many workers, at the numbers from the one to the other.
-    Crew(u64, u64, u8),
-    /// So many workers, 2 or 3, who meet at as many gateways, at the numbers from the one to the other.
-    Meeting(u64, u64, u8),
-    /// So many workers at a gate where each takes its time, at the numbers from the one to the other.
-    Slow(u64, u64, u8),
-    /// So many workers whom no gate lets in, at the numbers from the one to the other.
-    ShutOut(u64, u64, u8),
-    /// One with room for so many numbers, at these.
-    Alone(u32, &'static [u64]),
-    /// One with room for so many numbers, at these and then at those of another channel, whom no gate lets in.
-    One(u32, &'static [u64], &'static [u64]),
+    /// Workers at no gate: what they did, or why nobody served.
+    Crew(Crew, Told<'static>),
+    /// Workers, 2 or 3, who meet at as many gateways: what they did, whether all were inside at once, and how many left each
+    /// gateway.
+    Meeting(Crew, Done<'static>, [u64; 4]),
+    /// Workers at a gate where each takes its time: what they did, and whether two asked at once.
+    Slow(Crew, Done<'static>, bool),
+    /// Workers whom no gate lets in: what they did.
+    ShutOut(Crew, Done<'static>),
+    /// One with room for so many numbers, at these: what it did.
+    Alone(u32, &'static [u64], DoneAlone<'static>),
+    /// One with room for so many numbers, at these and then at those of another channel, whom no gate lets in: what it did.
+    One(u32, (&'static [u64], &'static [u64]), DoneAlone<'static>),
 }
 
+/// The numbers from the one to the other, and how many workers take them up.
+pub(crate) type Crew = (u64, u64, u8);
+
 impl<B: Ledger + Send + Sync, R: Threads + Wait + Sync> Post<'_, B, R> {
-    /// What workers tell.
-    pub(crate) fn told_of_shift(&mut self, shift: Shift) -> Result<String, Fail> {
+    /// Workers answer, by the step at this place: what they tell is compared.
+    pub(crate) fn work(&mut self, place: usize, shift: Shift) -> Result<(), Fail> {
         match shift {
-            Shift::Crew(first, last, workers) => self.serve(first, last, workers, &NoGate),
-            Shift::Meeting(first, last, workers) => self.meet(first, last, workers),
-            Shift::Slow(first, last, workers) => self.ask_slowly(first, last, workers),
-            Shift::ShutOut(first, last, workers) => self.serve(first, last, workers, &Shut::new(0)),
-            Shift::Alone(room, numbers) => self.work(room, numbers, &[], &NoGate),
-            Shift::One(room, numbers, others) => self.work(room, numbers, others, &Shut::new(0)),
+            Shift::Crew(crew, told) => self.serve(place, crew, &NoGate, told),
+            Shift::Meeting(crew, done, met) => {
+                let meeting = Meeting::new(crew.2);
+                self.serve(place, crew, &meeting, Ok(done))?;
+                equal_at(&place, &meeting.told(), &met)
+            }
+            Shift::Slow(crew, done, is_crowded) => {
+                let narrow = Narrow::new();
+                self.serve(place, crew, &narrow, Ok(done))?;
+                equal_at(&place, &narrow.was_crowded(), &is_crowded)
+            }
+            Shift::ShutOut(crew, done) => self.serve(place, crew, &Shut::new(0), Ok(done)),
+            Shift::Alone(room, numbers, done) => {
+                self.work_alone(place, room, (numbers, &[]), &NoGate, done)
+            }
+            Shift::One(room, channels, done) => {
+                self.work_alone(place, room, channels, &Shut::new(0), done)
+            }
         }
     }
 
-    /// The same while a ticket is out.
-    pub(crate) fn told_of_shift_beside(
+    /// The same while a ticket for the uplink with this number is out.
+    pub(crate) fn work_beside(
         &mut self,
+        place: usize,
         number: u64,
         shift: Shift,
-    ) -> Result<String, Fail> {
+    ) -> Result<(), Fail> {
         let ticket = self.station.take(self.rt, number)?;
-        let told = self.told_of_shift(shift);
+        let worked = self.work(place, shift);
         let _ = self.ended(ticket.give_up(), true);
-        told
+        worked
     }
 
-    /// Workers meet: what they tell, whether all were inside at once, and how many left each gateway.
-    fn meet(&mut self, first: u64, last: u64, workers: u8) -> Result<String, Fail> {
-        let meeting = Meeting::new(workers);
-        let told = self.serve(first, last, workers, &meeting)?;
-        let met = meeting.told();
-        Ok(format!(in self.alloc; "{told} {met:?}")?)
-    }
-
-    /// Workers ask slowly: what they tell, and whether two asked at once.
-    fn ask_slowly(&mut self, first: u64, last: u64, workers: u8) -> Result<String, Fail> {
-        let narrow = Narrow::new();
-        let told = self.serve(first, last, workers, &narrow)?;
-        let was_crowded = narrow.was_crowded();
-        Ok(format!(in self.alloc; "{told} {was_crowded:?}")?)
-    }
-
-    /// Workers serve.
+    /// Workers serve at a gate, and their till and their receipts are kept: what they tell is compared.
     fn serve<G: Gate + Sync>(
         &mut self,
-        first: u64,
-        last: u64,
-        workers: u8,
+        place: usize,
+        (first, last, workers): Crew,
         gate: &G,
-    ) -> Result<String, Fail> {
+        told: Told<'static>,
+    ) -> Result<(), Fail> {
         let numbers = numbers_of(self.alloc, first, last)?;
         let till = self.tills.pop().ok_or("there is a till")?;
         if till.parts() <= 16 {
@@ -91,8 +93,14 @@ impl<B: Ledger + Send + Sync, R: Threads + Wait + Sync> Post<'_, B, R> {
             workers,
             gate,
         ) {
-            Ok(served) => self.keep(served, &numbers),
-            Err(fault) => self.take_back(fault),
+            Ok(served) => {
+                equal_at(&place, &Ok(done_by(&served, &numbers)), &told)?;
+                self.keep(served)
+            }
+            Err(fault) => {
+                equal_at(&place, &Err((fault.cause, fault.till.parts())), &told)?;
+                Ok(self.tills.push(fault.till)?)
+            }
         }
     }
 }
@@ -107,9 +115,8 @@ fn numbers_of(alloc: Global, first: u64, last: u64) -> Result<Vec<u64>, Fail> {
 }
 
 impl<B: Ledger, R: Wait> Post<'_, B, R> {
-    /// Keeps the till and the receipts of workers; what they tell.
-    fn keep(&mut self, served: Served<B>, numbers: &[u64]) -> Result<String, Fail> {
-        let told = told(self.alloc, &served, numbers)?;
+    /// Keeps the till and the receipts of workers.
+    fn keep(&mut self, served: Served<B>) -> Result<(), Fail> {
         let Served {
             till,
             mut receipts,
@@ -117,41 +124,25 @@ impl<B: Ledger, R: Wait> Post<'_, B, R> {
         } = served;
         self.tills.push(till)?;
         self.receipts.append(&mut receipts)?;
-        Ok(told)
+        Ok(())
     }
 
-    /// Takes a till back; why nobody served, and the parts of the till.
-    fn take_back(&mut self, fault: ServeFault<B>) -> Result<String, Fail> {
-        let ServeFault { cause, till } = fault;
-        let parts = till.parts();
-        self.tills.push(till)?;
-        text(self.alloc, &(cause, parts))
-    }
-
-    /// One worker with room for so many numbers works at these and then at those: how many outcomes there are, what was skipped
-    /// and what refused, how many tries the gate didn't let in, and which numbers are left first.
-    fn work<G: Gate>(
+    /// One worker with room for so many numbers works at those of one channel and then at those of another: what it did is
+    /// compared.
+    fn work_alone<G: Gate>(
         &mut self,
+        place: usize,
         room: u32,
-        numbers: &[u64],
-        others: &[u64],
+        (numbers, others): (&[u64], &[u64]),
         gate: &G,
-    ) -> Result<String, Fail> {
+        done: DoneAlone<'static>,
+    ) -> Result<(), Fail> {
         let worked = self.hired(room)?;
         let (worked, left) = self.worked_at(worked, numbers, gate)?;
         let (worked, left_of_others) = self.worked_at(worked, others, gate)?;
-        let told = text(
-            self.alloc,
-            &(
-                worked.outcomes.len(),
-                worked.skipped.as_slice(),
-                worked.refused.as_slice(),
-                worked.overrun,
-                [left, left_of_others],
-            ),
-        )?;
-        self.dismiss(worked)?;
-        Ok(told)
+        let told = done_alone(&worked, [left, left_of_others]);
+        equal_at(&place, &told, &done)?;
+        self.dismiss(worked)
     }
 
     /// A worker works at some numbers: what it has done so far, and the first number that is left.
@@ -200,47 +191,4 @@ fn channel_of<R: Wait>(rt: &R, alloc: Global, numbers: &[u64]) -> Result<Receive
         sender.send(rt, *number).ok().ok_or("there is room")?;
     }
     Ok(receiver)
-}
-
-/// What workers did: how many were started; how many answers were booked, and how many receipts there are; what was skipped,
-/// how many were refused, and how many are strays; how many tries the gate didn't let in; and whether the receipts and the
-/// outcomes are those of the numbers, in order.
-fn told<B: Ledger>(alloc: Global, served: &Served<B>, numbers: &[u64]) -> Result<String, Fail> {
-    text(
-        alloc,
-        &(
-            served.ran,
-            [answered(&served.outcomes), served.receipts.len()],
-            (
-                served.skipped.as_slice(),
-                served.refused.len(),
-                served.strays.len(),
-            ),
-            served.overrun,
-            are_in_order(served, numbers),
-        ),
-    )
-}
-
-/// How many answers were booked.
-fn answered(outcomes: &[Outcome]) -> usize {
-    let mut answered = 0usize;
-    for outcome in outcomes {
-        if let Ending::Answered { .. } = outcome.result {
-            answered = answered.saturating_add(1);
-        }
-    }
-    answered
-}
-
-/// Whether the receipts and the outcomes are those of the numbers, in order.
-fn are_in_order<B: Ledger>(served: &Served<B>, numbers: &[u64]) -> bool {
-    for (i, number) in numbers.iter().enumerate() {
-        let receipt = served.receipts.get(i).map(|receipt| receipt.number);
-        let outcome = served.outcomes.get(i).map(|outcome| outcome.number);
-        if receipt != Some(*number) || outcome != Some(*number) {
-            return false;
-        }
-    }
-    true
 }

@@ -1,13 +1,16 @@
 // A station on one thread.
 ghost use Rattle.std.specs.Prelude.{◌≡◌};
 
-use crate::asks::{Ask, Heard, OPENED_1};
+use crate::asks::{Ask, Heard};
 use crate::plans::tells;
 use crate::posts::{Post, opened};
-use crate::steps::{Row, Step, take_steps};
+use crate::steps::{Step, take_steps};
 use crate::tickets::Fate;
+use crate::wanted::{ONE_BOOKED, OPENED_1, RX1_ON_1};
 use answer_ticket::{Ending, Outcome};
-use server_workers::{Blank, Gate, Ledger, NoGate, PARTS};
+use gateway_book::CancelFault;
+use server_core::QueueFault;
+use server_workers::{Blank, Gate, Ledger, NoGate, PARTS, TotalsFault};
 use std::alloc::Global;
 use std::marker::Brand;
 use std::sync::Wait;
@@ -19,52 +22,31 @@ use worked_inputs::handed_back;
 /// An uplink is answered, and the gateways are asked: the totals by those who saw less than the 41,216 us that are booked
 /// there, just as much, and more; where nothing is booked; and those of a gateway that isn't there; the floors of both; and the
 /// answer is cancelled twice, and once on the other gateway. What is refused leaves the floor.
-static CALLS: [Row; 24] = [
-    (Step::Hear(Heard::Of(1, 0)), OPENED_1),
-    (Step::Ask(Ask::Pass(200_001)), "Some(1)"),
-    (Step::Ask(Ask::Split), "65535"),
-    (
-        Step::Take(1, Fate::Settled),
-        "(true, 1, Answered { gateway: 1, window: Rx1, start: 6000000, airtime: 41216, carried: false })",
-    ),
-    (
-        Step::Ask(Ask::Totals(1, 41_216)),
-        "Ok(Totals { booked: 41216, cancelled: 0, retired: 0, kept_airtime: 41216, kept: 1, floor: 0 })",
-    ),
-    (
-        Step::Ask(Ask::Totals(1, 1)),
-        "Ok(Totals { booked: 41216, cancelled: 0, retired: 0, kept_airtime: 41216, kept: 1, floor: 0 })",
-    ),
-    (
-        Step::Ask(Ask::Totals(1, 41_217)),
-        "Err(Behind { booked: 41216 })",
-    ),
-    (
-        Step::Ask(Ask::Totals(1, 1_000_000)),
-        "Err(Behind { booked: 41216 })",
-    ),
-    (
-        Step::Ask(Ask::Totals(1, u64::MAX)),
-        "Err(Behind { booked: 41216 })",
-    ),
-    (Step::Ask(Ask::Totals(2, 1)), "Err(Behind { booked: 0 })"),
-    (
-        Step::Ask(Ask::Totals(2, 1_000_000)),
-        "Err(Behind { booked: 0 })",
-    ),
-    (Step::Ask(Ask::Totals(9, 0)), "Err(UnknownGateway)"),
-    (Step::Ask(Ask::Tick(1, 1)), "Some(1)"),
-    (Step::Ask(Ask::Tick(1, 0)), "Some(1)"),
-    (Step::Ask(Ask::Tick(9, 5)), "None"),
-    (Step::Ask(Ask::Cancel(0)), "Ok(41216)"),
-    (Step::Ask(Ask::Cancel(0)), "Err(NotHere)"),
-    (Step::Ask(Ask::Tick(1, 0)), "Some(1)"),
-    (Step::Ask(Ask::Readdress(0, 9)), "9"),
-    (Step::Ask(Ask::Cancel(0)), "Err(NotHere)"),
-    (Step::Ask(Ask::Tick(1, 0)), "Some(1)"),
-    (Step::Ask(Ask::Queue(1, &[1])), "Ok(1)"),
-    (Step::Ask(Ask::Queue(1, &[2])), "Ok(2)"),
-    (Step::Ask(Ask::Queue(9, &[2])), "Err(UnknownDevice)"),
+static CALLS: [Step; 24] = [
+    Step::Hear(Heard::Of(1, 0), OPENED_1),
+    Step::Ask(Ask::Pass(200_001, Some(1))),
+    Step::Ask(Ask::Split(65_535)),
+    Step::Take(1, Fate::Settled, true, RX1_ON_1),
+    Step::Ask(Ask::Totals(1, 41_216, Ok(ONE_BOOKED))),
+    Step::Ask(Ask::Totals(1, 1, Ok(ONE_BOOKED))),
+    Step::Ask(Ask::Totals(1, 41_217, Err(TotalsFault::Behind { booked: 41_216 }))),
+    Step::Ask(Ask::Totals(1, 1_000_000, Err(TotalsFault::Behind { booked: 41_216 }))),
+    Step::Ask(Ask::Totals(1, u64::MAX, Err(TotalsFault::Behind { booked: 41_216 }))),
+    Step::Ask(Ask::Totals(2, 1, Err(TotalsFault::Behind { booked: 0 }))),
+    Step::Ask(Ask::Totals(2, 1_000_000, Err(TotalsFault::Behind { booked: 0 }))),
+    Step::Ask(Ask::Totals(9, 0, Err(TotalsFault::UnknownGateway))),
+    Step::Ask(Ask::Tick(1, 1, Some(1))),
+    Step::Ask(Ask::Tick(1, 0, Some(1))),
+    Step::Ask(Ask::Tick(9, 5, None)),
+    Step::Ask(Ask::Cancel(0, Ok(41_216))),
+    Step::Ask(Ask::Cancel(0, Err(CancelFault::NotHere))),
+    Step::Ask(Ask::Tick(1, 0, Some(1))),
+    Step::Ask(Ask::Readdress(0, 9)),
+    Step::Ask(Ask::Cancel(0, Err(CancelFault::NotHere))),
+    Step::Ask(Ask::Tick(1, 0, Some(1))),
+    Step::Ask(Ask::Queue(1, &[1], Ok(1))),
+    Step::Ask(Ask::Queue(1, &[2], Ok(2))),
+    Step::Ask(Ask::Queue(9, &[2], Err(QueueFault::UnknownDevice))),
 ];
 
 #[test]
@@ -73,9 +55,9 @@ fn answers_an_uplink_and_asks_the_gateways_that_it_has(rt: HostRuntime) -> Resul
 }
 
 /// A station hears an uplink, and closes it.
-static HEARD: [Row; 2] = [
-    (Step::Hear(Heard::Of(1, 0)), OPENED_1),
-    (Step::Ask(Ask::Pass(200_001)), "Some(1)"),
+static HEARD: [Step; 2] = [
+    Step::Hear(Heard::Of(1, 0), OPENED_1),
+    Step::Ask(Ask::Pass(200_001, Some(1))),
 ];
 
 /// A station without gateway 1 is given the ticket of one that has it.
@@ -107,15 +89,9 @@ fn strayed_to<B: Ledger, C: Ledger, R: Wait>(
     requires all { other.parts ≡ PARTS }
 {
     let mut elsewhere = opened::<C, R>(post.rt, post.alloc, &[2], 1, other)?;
-    equal(
-        &elsewhere.told_of_air(Heard::By(1, 2, 0))?.as_str(),
-        &OPENED_1,
-    )?;
+    equal(&elsewhere.hear(Heard::By(1, 2, 0))?, &OPENED_1)?;
     let ended = stray(post, &mut elsewhere)?;
-    equal(
-        &elsewhere.told_of_ask(Ask::Pass(200_001))?.as_str(),
-        &"Some(1)",
-    )?;
+    equal(&elsewhere.station.pass(post.rt, 200_001), &Some(1))?;
     Ok(ended)
 }
 

@@ -1,25 +1,30 @@
 // Tickets at a station, and what becomes of them.
 
 use crate::gates::{Log, Shut, audited};
-use crate::posts::{Post, TestStation, text};
+use crate::posts::{Post, TestStation};
 use answer_ticket::{Ending, Outcome, Stub, Ticket};
 use server_workers::{Gate, Handled, Ledger, NoGate, Till};
 use std::alloc::Global;
 use std::sync::Wait;
 use std::test::Fail;
+use test_asserts::equal_at;
 use worked_inputs::{booked, last_refused, next_refused};
 
-/// At which gate a station answers.
+/// How an answer ended that was settled, and how many tries the gate didn't let in.
+type End = (Option<Ending>, u64);
+
+/// At which gate a station answers, and what is told then.
 #[derive(Clone, Copy)]
 pub(crate) enum Answer {
-    /// At none.
-    Freely,
-    /// At one that notes who goes where.
-    Logged,
-    /// At one that lets in whoever asks for the time of this number, nobody where it is 0.
-    ShutOut(u64),
-    /// At one that asks the station when the worker has left.
-    Audited,
+    /// At none: how the answer ends.
+    Freely(End),
+    /// At one that notes who goes where: how the answer ends, and what was noted.
+    Logged(End, u64),
+    /// At one that lets in whoever asks for the time of this number, nobody where it is 0: how the answer ends, and how often the
+    /// gate was asked for each gateway.
+    ShutOut(u64, End, [u64; 2]),
+    /// At one that asks the station when the worker has left: what is booked then.
+    Audited(u64),
 }
 
 /// What becomes of a ticket.
@@ -41,49 +46,47 @@ pub(crate) enum Fate {
     RefusedTwice,
 }
 
-/// How an answer ended that was settled, and how many tries the gate didn't let in.
-type End = (Option<Ending>, u64);
+/// Whether a stub was settled, and the outcome.
+type Ended = (bool, Outcome);
 
 impl<B: Ledger, R: Wait> Post<'_, B, R> {
-    /// What is told of an answer.
-    pub(crate) fn told_of_answer(&mut self, number: u64, answer: Answer) -> Result<String, Fail> {
+    /// The uplink with this number is answered, by the step at this place: what is told then is compared.
+    pub(crate) fn answer(&mut self, place: usize, number: u64, answer: Answer) -> Result<(), Fail> {
         match answer {
-            Answer::Freely => self.answer_freely(number),
-            Answer::Logged => self.answer_logged(number),
-            Answer::ShutOut(opens) => self.answer_shut_out(number, opens),
-            Answer::Audited => self.answer_audited(number),
+            Answer::Freely(end) => equal_at(&place, &self.answer_at(number, &NoGate)?, &end),
+            Answer::Logged(end, calls) => {
+                equal_at(&place, &self.answer_logged(number)?, &(end, calls))
+            }
+            Answer::ShutOut(opens, end, asked) => {
+                equal_at(&place, &self.answer_shut_out(number, opens)?, &(end, asked))
+            }
+            Answer::Audited(booked) => equal_at(&place, &self.answer_audited(number)?, &booked),
         }
     }
 
-    /// How an answer ends.
-    fn answer_freely(&mut self, number: u64) -> Result<String, Fail> {
-        let end = self.answer(number, &NoGate)?;
-        text(self.alloc, &end)
-    }
-
     /// How an answer ends, and who went where meanwhile.
-    fn answer_logged(&mut self, number: u64) -> Result<String, Fail> {
+    fn answer_logged(&mut self, number: u64) -> Result<(End, u64), Fail> {
         let log = Log::new();
-        let end = self.answer(number, &log)?;
-        text(self.alloc, &(end, log.calls()))
+        let end = self.answer_at(number, &log)?;
+        Ok((end, log.calls()))
     }
 
     /// How an answer ends, and how often the gate was asked for each gateway.
-    fn answer_shut_out(&mut self, number: u64, opens: u64) -> Result<String, Fail> {
+    fn answer_shut_out(&mut self, number: u64, opens: u64) -> Result<(End, [u64; 2]), Fail> {
         let shut = Shut::new(opens);
-        let end = self.answer(number, &shut)?;
-        text(self.alloc, &(end, shut.asked()))
+        let end = self.answer_at(number, &shut)?;
+        Ok((end, shut.asked()))
     }
 
     /// What the station told the gate that is booked when the worker had left.
-    fn answer_audited(&mut self, number: u64) -> Result<String, Fail> {
+    fn answer_audited(&mut self, number: u64) -> Result<u64, Fail> {
         let till = self.tills.last_mut().ok_or("there is a till")?;
         let (_, [_, booked]) = audited(self.rt, &self.station, till, number);
-        text(self.alloc, &booked)
+        Ok(booked)
     }
 
     /// Answers at a gate.
-    fn answer<G: Gate>(&mut self, number: u64, gate: &G) -> Result<End, Fail> {
+    fn answer_at<G: Gate>(&mut self, number: u64, gate: &G) -> Result<End, Fail> {
         let till = self.tills.last_mut().ok_or("there is a till")?;
         let mut overrun = 0;
         let handled = self
@@ -106,8 +109,8 @@ impl<B: Ledger, R: Wait> Post<'_, B, R> {
 }
 
 impl<B: Ledger, R: Wait> Post<'_, B, R> {
-    /// What is told of a ticket: whether its stub was settled, and how it ended.
-    pub(crate) fn told_of_ticket(&mut self, number: u64, fate: Fate) -> Result<String, Fail> {
+    /// A ticket is taken for the uplink with this number: what becomes of it.
+    pub(crate) fn take(&mut self, number: u64, fate: Fate) -> Result<Ended, Fail> {
         match fate {
             Fate::Settled => self.book(number, true),
             Fate::Booked => self.book(number, false),
@@ -120,24 +123,24 @@ impl<B: Ledger, R: Wait> Post<'_, B, R> {
     }
 
     /// A ticket is booked at once.
-    fn book(&mut self, number: u64, is_settled: bool) -> Result<String, Fail> {
+    fn book(&mut self, number: u64, is_settled: bool) -> Result<Ended, Fail> {
         let ticket = self.station.take(self.rt, number)?;
         self.try_last(ticket, is_settled)
     }
 
     /// A ticket is booked once it was refused.
-    fn book_late(&mut self, number: u64) -> Result<String, Fail> {
+    fn book_late(&mut self, number: u64) -> Result<Ended, Fail> {
         let ticket = self.refused(number)?;
         self.try_last(ticket, true)
     }
 
     /// A ticket is booked, and its receipt kept.
-    fn try_last(&mut self, ticket: Ticket<Global>, is_settled: bool) -> Result<String, Fail> {
+    fn try_last(&mut self, ticket: Ticket<Global>, is_settled: bool) -> Result<Ended, Fail> {
         let tried = self.station.try_once(self.rt, ticket);
         let (stub, receipt) = booked(tried).ok_or("it is booked")?;
-        let (is_taken, outcome) = self.ended(stub, is_settled);
+        let ended = self.ended(stub, is_settled);
         self.receipts.push(receipt)?;
-        text(self.alloc, &(is_taken, outcome.number, outcome.result))
+        Ok(ended)
     }
 
     /// A ticket that was refused once.
@@ -149,30 +152,27 @@ impl<B: Ledger, R: Wait> Post<'_, B, R> {
     }
 
     /// A ticket is given up at once.
-    fn give_up(&mut self, number: u64, is_settled: bool) -> Result<String, Fail> {
+    fn give_up(&mut self, number: u64, is_settled: bool) -> Result<Ended, Fail> {
         let ticket = self.station.take(self.rt, number)?;
-        let (is_taken, outcome) = self.ended(ticket.give_up(), is_settled);
-        text(self.alloc, &(is_taken, outcome.number, outcome.result))
+        Ok(self.ended(ticket.give_up(), is_settled))
     }
 
     /// A ticket is given up once it was refused.
-    fn give_up_late(&mut self, number: u64) -> Result<String, Fail> {
+    fn give_up_late(&mut self, number: u64) -> Result<Ended, Fail> {
         let ticket = self.refused(number)?;
-        let (is_taken, outcome) = self.ended(ticket.give_up(), false);
-        text(self.alloc, &(is_taken, outcome.number, outcome.result))
+        Ok(self.ended(ticket.give_up(), false))
     }
 
     /// A ticket is refused twice, and has no try left then.
-    fn use_up(&mut self, number: u64) -> Result<String, Fail> {
+    fn use_up(&mut self, number: u64) -> Result<Ended, Fail> {
         let ticket = self.refused(number)?;
         let tried = self.station.try_once(self.rt, ticket);
         let (stub, _) = last_refused(tried).ok_or("it is refused to the last")?;
-        let (is_taken, outcome) = self.ended(stub, true);
-        text(self.alloc, &(is_taken, outcome.number, outcome.result))
+        Ok(self.ended(stub, true))
     }
 
     /// Ends a stub, by settling it if that is wanted and the station takes it: whether it did, and the outcome.
-    pub(crate) fn ended(&mut self, stub: Stub, is_settled: bool) -> (bool, Outcome) {
+    pub(crate) fn ended(&mut self, stub: Stub, is_settled: bool) -> Ended {
         if !is_settled {
             return (false, stub.end());
         }
@@ -189,7 +189,7 @@ fn settled<B: Ledger, R: Wait>(
     station: &TestStation<B>,
     stub: Stub,
     till: &mut Till<B>,
-) -> (bool, Outcome) {
+) -> Ended {
     match station.settle(rt, stub, till) {
         Ok(outcome) => (true, outcome),
         Err(stub) => (false, stub.end()),

@@ -1,16 +1,24 @@
 // Workers at a station of two gateways, and at one of three.
 
-use crate::asks::{Ask, Heard, OPENED_1, OPENED_2, OPENED_3};
+use crate::asks::{Ask, Heard};
+use crate::done::{Done, DoneAlone, NOTHING};
 use crate::plans::{Plan, runs, tells};
 use crate::shifts::Shift;
-use crate::steps::{Row, Step};
+use crate::steps::Step;
+use crate::wanted::{MANY_BOOKED, ONE_BOOKED, OPENED_1, OPENED_2, OPENED_3, TWO_BOOKED};
+use server_core::TakeFault;
+use server_workers::ServeCause;
 use std::test::Fail;
 
 /// One worker takes them up one after another; the station heard nothing.
-static UNHEARD: [Row; 1] = [(
-    Step::Work(Shift::Crew(0, 999, 1)),
-    "(1, [0, 0], ([], 1000, 0), 0, false)",
-)];
+static UNHEARD: [Step; 1] = [Step::Work(Shift::Crew(
+    (0, 999, 1),
+    Ok(Done {
+        ran: 1,
+        refused: 1_000,
+        ..NOTHING
+    }),
+))];
 
 #[test]
 fn a_thousand_numbers_wait_for_one_worker(rt: HostRuntime) -> Result<(), Fail> {
@@ -18,10 +26,14 @@ fn a_thousand_numbers_wait_for_one_worker(rt: HostRuntime) -> Result<(), Fail> {
 }
 
 /// As many as one pass may close wait for two, who begin once all of them were sent.
-static ALL_UNHEARD: [Row; 1] = [(
-    Step::Work(Shift::Crew(1, 4_096, 2)),
-    "(2, [0, 0], ([], 4096, 0), 0, false)",
-)];
+static ALL_UNHEARD: [Step; 1] = [Step::Work(Shift::Crew(
+    (1, 4_096, 2),
+    Ok(Done {
+        ran: 2,
+        refused: 4_096,
+        ..NOTHING
+    }),
+))];
 
 #[test]
 fn as_many_numbers_wait_as_a_pass_may_close(rt: HostRuntime) -> Result<(), Fail> {
@@ -29,20 +41,20 @@ fn as_many_numbers_wait_as_a_pass_may_close(rt: HostRuntime) -> Result<(), Fail>
 }
 
 /// Each gateway books half of the answers.
-static FIVE_HUNDRED: [Row; 4] = [
-    (Step::Hear(Heard::All(500)), "500"),
-    (
-        Step::Work(Shift::Crew(1, 500, 16)),
-        "(16, [500, 500], ([], 0, 0), 0, true)",
-    ),
-    (
-        Step::Ask(Ask::Totals(1, 0)),
-        "Ok(Totals { booked: 10304000, cancelled: 0, retired: 0, kept_airtime: 10304000, kept: 250, floor: 0 })",
-    ),
-    (
-        Step::Ask(Ask::Totals(2, 0)),
-        "Ok(Totals { booked: 10304000, cancelled: 0, retired: 0, kept_airtime: 10304000, kept: 250, floor: 0 })",
-    ),
+static FIVE_HUNDRED: [Step; 4] = [
+    Step::HearAll(500),
+    Step::Work(Shift::Crew(
+        (1, 500, 16),
+        Ok(Done {
+            ran: 16,
+            answered: 500,
+            receipts: 500,
+            are_in_order: true,
+            ..NOTHING
+        }),
+    )),
+    Step::Ask(Ask::Totals(1, 0, Ok(MANY_BOOKED))),
+    Step::Ask(Ask::Totals(2, 0, Ok(MANY_BOOKED))),
 ];
 
 #[test]
@@ -51,16 +63,30 @@ fn sixteen_workers_answer_five_hundred_devices(rt: HostRuntime) -> Result<(), Fa
 }
 
 /// Each worker goes on once it has asked the gate often enough, and tells so; so does one who works alone.
-static SHUT_OUT: [Row; 3] = [
-    (Step::Hear(Heard::All(4)), "4"),
-    (
-        Step::Work(Shift::ShutOut(1, 3, 2)),
-        "(2, [3, 3], ([], 0, 0), 3, true)",
-    ),
-    (
-        Step::Work(Shift::ShutOut(4, 4, 1)),
-        "(1, [1, 1], ([], 0, 0), 1, true)",
-    ),
+static SHUT_OUT: [Step; 3] = [
+    Step::HearAll(4),
+    Step::Work(Shift::ShutOut(
+        (1, 3, 2),
+        Done {
+            ran: 2,
+            answered: 3,
+            receipts: 3,
+            overrun: 3,
+            are_in_order: true,
+            ..NOTHING
+        },
+    )),
+    Step::Work(Shift::ShutOut(
+        (4, 4, 1),
+        Done {
+            ran: 1,
+            answered: 1,
+            receipts: 1,
+            overrun: 1,
+            are_in_order: true,
+            ..NOTHING
+        },
+    )),
 ];
 
 #[test]
@@ -69,9 +95,9 @@ fn workers_whom_no_gate_lets_in_go_on(rt: HostRuntime) -> Result<(), Fail> {
 }
 
 /// The till is handed back with all its parts.
-static TOO_FEW_AND_TOO_MANY: [Row; 2] = [
-    (Step::Work(Shift::Crew(1, 1, 0)), "(Workers, 65536)"),
-    (Step::Work(Shift::Crew(1, 1, 17)), "(Workers, 65536)"),
+static TOO_FEW_AND_TOO_MANY: [Step; 2] = [
+    Step::Work(Shift::Crew((1, 1, 0), Err((ServeCause::Workers, 65_536)))),
+    Step::Work(Shift::Crew((1, 1, 17), Err((ServeCause::Workers, 65_536)))),
 ];
 
 #[test]
@@ -81,24 +107,32 @@ fn one_to_sixteen_workers_serve(rt: HostRuntime) -> Result<(), Fail> {
 
 /// With room for one number it is given two; the second is left. No gate lets it in, and it goes on. With room for two it
 /// answers one of each of two channels, though it stopped at the end of the first. All three answers stay booked.
-static ONE_OF_TWO: [Row; 5] = [
-    (Step::Hear(Heard::All(4)), "4"),
-    (
-        Step::Work(Shift::One(1, &[1, 2], &[])),
-        "(1, [], [], 1, [Some(2), None])",
-    ),
-    (
-        Step::Work(Shift::One(2, &[3], &[4])),
-        "(2, [], [], 2, [None, None])",
-    ),
-    (
-        Step::Ask(Ask::Totals(1, 0)),
-        "Ok(Totals { booked: 41216, cancelled: 0, retired: 0, kept_airtime: 41216, kept: 1, floor: 0 })",
-    ),
-    (
-        Step::Ask(Ask::Totals(2, 0)),
-        "Ok(Totals { booked: 82432, cancelled: 0, retired: 0, kept_airtime: 82432, kept: 2, floor: 0 })",
-    ),
+static ONE_OF_TWO: [Step; 5] = [
+    Step::HearAll(4),
+    Step::Work(Shift::One(
+        1,
+        (&[1, 2], &[]),
+        DoneAlone {
+            outcomes: 1,
+            skipped: &[],
+            refused: &[],
+            overrun: 1,
+            left: [Some(2), None],
+        },
+    )),
+    Step::Work(Shift::One(
+        2,
+        (&[3], &[4]),
+        DoneAlone {
+            outcomes: 2,
+            skipped: &[],
+            refused: &[],
+            overrun: 2,
+            left: [None, None],
+        },
+    )),
+    Step::Ask(Ask::Totals(1, 0, Ok(ONE_BOOKED))),
+    Step::Ask(Ask::Totals(2, 0, Ok(TWO_BOOKED))),
 ];
 
 #[test]
@@ -108,17 +142,27 @@ fn a_worker_stops_without_room_and_goes_on_at_another_channel(rt: HostRuntime) -
 
 /// It is given both uplinks of a device whose first ticket is out, and a number that is unknown. An uplink that wasn't closed is
 /// open then as before.
-static PASSED_OVER: [Row; 7] = [
-    (Step::Hear(Heard::Of(1, 0)), OPENED_1),
-    (Step::Hear(Heard::Of(1, 1)), OPENED_2),
-    (Step::Ask(Ask::Pass(200_001)), "Some(1)"),
-    (Step::Ask(Ask::Pass(200_001)), "Some(2)"),
-    (Step::Hear(Heard::Of(2, 0)), OPENED_3),
-    (
-        Step::WorkBeside(1, Shift::One(3, &[1, 2, 9], &[])),
-        "(0, [2], [(1, Taken), (9, NotReady)], 0, [None, None])",
+static PASSED_OVER: [Step; 7] = [
+    Step::Hear(Heard::Of(1, 0), OPENED_1),
+    Step::Hear(Heard::Of(1, 1), OPENED_2),
+    Step::Ask(Ask::Pass(200_001, Some(1))),
+    Step::Ask(Ask::Pass(200_001, Some(2))),
+    Step::Hear(Heard::Of(2, 0), OPENED_3),
+    Step::WorkBeside(
+        1,
+        Shift::One(
+            3,
+            (&[1, 2, 9], &[]),
+            DoneAlone {
+                outcomes: 0,
+                skipped: &[2],
+                refused: &[(1, TakeFault::Taken), (9, TakeFault::NotReady)],
+                overrun: 0,
+                left: [None, None],
+            },
+        ),
     ),
-    (Step::Ask(Ask::Pass(200_001)), "Some(3)"),
+    Step::Ask(Ask::Pass(200_001, Some(3))),
 ];
 
 #[test]
@@ -127,14 +171,21 @@ fn a_worker_tells_whom_it_passed_over(rt: HostRuntime) -> Result<(), Fail> {
 }
 
 /// Two workers are given the second uplink of a device whose first ticket is out.
-static ENGAGED: [Row; 5] = [
-    (Step::Hear(Heard::Of(1, 0)), OPENED_1),
-    (Step::Hear(Heard::Of(1, 1)), OPENED_2),
-    (Step::Ask(Ask::Pass(200_001)), "Some(1)"),
-    (Step::Ask(Ask::Pass(200_001)), "Some(2)"),
-    (
-        Step::WorkBeside(1, Shift::Crew(2, 2, 2)),
-        "(2, [0, 0], ([2], 0, 0), 0, false)",
+static ENGAGED: [Step; 5] = [
+    Step::Hear(Heard::Of(1, 0), OPENED_1),
+    Step::Hear(Heard::Of(1, 1), OPENED_2),
+    Step::Ask(Ask::Pass(200_001, Some(1))),
+    Step::Ask(Ask::Pass(200_001, Some(2))),
+    Step::WorkBeside(
+        1,
+        Shift::Crew(
+            (2, 2, 2),
+            Ok(Done {
+                ran: 2,
+                skipped: &[2],
+                ..NOTHING
+            }),
+        ),
     ),
 ];
 
@@ -144,15 +195,22 @@ fn workers_skip_an_engaged_device(rt: HostRuntime) -> Result<(), Fail> {
 }
 
 /// Each lets the other go on: they are inside at once, and each leaves its gateway once.
-static MET: [Row; 5] = [
-    (Step::Hear(Heard::Of(1, 0)), OPENED_1),
-    (Step::Hear(Heard::By(2, 2, 0)), OPENED_2),
-    (Step::Ask(Ask::Pass(200_001)), "Some(1)"),
-    (Step::Ask(Ask::Pass(200_001)), "Some(2)"),
-    (
-        Step::Work(Shift::Meeting(1, 2, 2)),
-        "(2, [2, 2], ([], 0, 0), 0, true) [1, 1, 1, 0]",
-    ),
+static MET: [Step; 5] = [
+    Step::Hear(Heard::Of(1, 0), OPENED_1),
+    Step::Hear(Heard::By(2, 2, 0), OPENED_2),
+    Step::Ask(Ask::Pass(200_001, Some(1))),
+    Step::Ask(Ask::Pass(200_001, Some(2))),
+    Step::Work(Shift::Meeting(
+        (1, 2, 2),
+        Done {
+            ran: 2,
+            answered: 2,
+            receipts: 2,
+            are_in_order: true,
+            ..NOTHING
+        },
+        [1, 1, 1, 0],
+    )),
 ];
 
 #[test]
@@ -161,15 +219,22 @@ fn two_workers_are_at_two_gateways_at_once(rt: HostRuntime) -> Result<(), Fail> 
 }
 
 /// Two have the same gateway to ask, of whom the second is refused once.
-static ONE_GATEWAY: [Row; 5] = [
-    (Step::Hear(Heard::Of(1, 0)), OPENED_1),
-    (Step::Hear(Heard::Of(2, 0)), OPENED_2),
-    (Step::Ask(Ask::Pass(200_001)), "Some(1)"),
-    (Step::Ask(Ask::Pass(200_001)), "Some(2)"),
-    (
-        Step::Work(Shift::Slow(1, 2, 2)),
-        "(2, [2, 2], ([], 0, 0), 0, true) false",
-    ),
+static ONE_GATEWAY: [Step; 5] = [
+    Step::Hear(Heard::Of(1, 0), OPENED_1),
+    Step::Hear(Heard::Of(2, 0), OPENED_2),
+    Step::Ask(Ask::Pass(200_001, Some(1))),
+    Step::Ask(Ask::Pass(200_001, Some(2))),
+    Step::Work(Shift::Slow(
+        (1, 2, 2),
+        Done {
+            ran: 2,
+            answered: 2,
+            receipts: 2,
+            are_in_order: true,
+            ..NOTHING
+        },
+        false,
+    )),
 ];
 
 #[test]
@@ -178,17 +243,24 @@ fn a_worker_has_the_lock_while_it_asks_the_gate(rt: HostRuntime) -> Result<(), F
 }
 
 /// Each waits until all three are inside, which takes a thread for each.
-static ALL_MET: [Row; 7] = [
-    (Step::Hear(Heard::Of(1, 0)), OPENED_1),
-    (Step::Hear(Heard::By(2, 2, 0)), OPENED_2),
-    (Step::Hear(Heard::By(3, 3, 0)), OPENED_3),
-    (Step::Ask(Ask::Pass(200_001)), "Some(1)"),
-    (Step::Ask(Ask::Pass(200_001)), "Some(2)"),
-    (Step::Ask(Ask::Pass(200_001)), "Some(3)"),
-    (
-        Step::Work(Shift::Meeting(1, 3, 3)),
-        "(3, [3, 3], ([], 0, 0), 0, true) [1, 1, 1, 1]",
-    ),
+static ALL_MET: [Step; 7] = [
+    Step::Hear(Heard::Of(1, 0), OPENED_1),
+    Step::Hear(Heard::By(2, 2, 0), OPENED_2),
+    Step::Hear(Heard::By(3, 3, 0), OPENED_3),
+    Step::Ask(Ask::Pass(200_001, Some(1))),
+    Step::Ask(Ask::Pass(200_001, Some(2))),
+    Step::Ask(Ask::Pass(200_001, Some(3))),
+    Step::Work(Shift::Meeting(
+        (1, 3, 3),
+        Done {
+            ran: 3,
+            answered: 3,
+            receipts: 3,
+            are_in_order: true,
+            ..NOTHING
+        },
+        [1, 1, 1, 1],
+    )),
 ];
 
 #[test]
