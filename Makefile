@@ -86,9 +86,11 @@ cases:
 	@test -x $(PROGRAM) || { echo 'There is no proved program at $(PROGRAM): run make test first.' >&2; exit 1; }
 	python3 tests/cases.py $(PROGRAM)
 
-# The edits in mutants/, which make test leaves out: before a release.
+# The edits in mutants/, which make test leaves out: before a release. Of those that were refused over the same files, as
+# mutants/refused.txt has it, none is tried again.
 mutants:
 	python3 tests/gate.py
+	python3 tests/refused_mutants.py --read
 	python3 tests/edits.py mutants
 
 # The proved program as PREFIX/bin/airbook; below PREFIX/share its manual page, completions for bash, formats and examples, and
